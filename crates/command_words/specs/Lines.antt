@@ -1,13 +1,26 @@
 -- The command that the words spell.
-use Rattle.std.specs.Prelude.{ℕ, Bool, ◌&&◌, is_some, List, [], Option, Some, None, codes, map, option_map, if◌then◌else◌}
+use Rattle.std.specs.Prelude.{ℕ, Bool, ◌&&◌, is_some, List, Option, Some, None, codes, map, option_map, if◌then◌else◌}
 use Rattle.std.specs.Str.{bytes_eq}
 use Rattle.clap.specs.Words.{Row, Text}
+use Rattle.energy_report.specs.Words.{format_of, period_of, unit_of}
+use Rattle.energy_report.specs.declared.form.EnergyUnit.{EnergyUnit}
+use Rattle.energy_report.specs.declared.form.Format.{Format}
+use Rattle.energy_report.specs.declared.form.Period.{Period}
 use Rattle.command_words.specs.Values.Devices.{Place, devices_in, place_of}
 use Rattle.command_words.specs.Values.Given.{given}
 use Rattle.command_words.specs.ClapTable.Table.{texts}
-use Rattle.command_words.specs.Options.{is_set, number_at, number_if, number_or, text_at, text_or, texts_at}
+use Rattle.command_words.specs.Options.{if_some, is_set, number_at, number_if, number_or, text_at, text_or, texts_at}
 use Rattle.command_words.specs.declared.line.CommandLine.{CommandLine}
 use Rattle.command_words.specs.declared.line.CommandLine.TheVariants as line
+use Rattle.command_words.specs.declared.line.FormWords.{FormWords}
+
+-- in which form a report is asked for, as far as it is
+pub record Form : Type 0 where
+  pub from : Option Text
+  pub till : Option Text
+  pub period : Option Period
+  pub unit : Option EnergyUnit
+  pub format : Option Format
 
 -- a command with the values of its options
 pub data Line : Type 0 where
@@ -18,7 +31,7 @@ pub data Line : Type 0 where
   Enter : (db caller : Text) (only_read : Bool) → Line
   Serve : (db : Text) (port connections : ℕ) (hosts : List Text) → Line
   Round : (db device host : Text) (port : ℕ) → Line
-  Report : (db register : Text) → Line
+  Report : (db register : Text) (form : Form) → Line
   Backup : (db to : Text) → Line
   Scan : (host : Text) (port unit timeout : ℕ) (list : Bool) (setup : Option Text) → Line
   StandIn : (host : Text) (port connections : ℕ) → Line
@@ -27,6 +40,15 @@ pub data Line : Type 0 where
       (hosts : List Text) (verbose : Bool) → Line
   Explain : (what number : Text) → Line
   Completions : Line
+
+abbrev pub seen_form : FormWords → Form
+seen_form form = record {
+  from = option_map (λ text. text.now) form.from;
+  till = option_map (λ text. text.now) form.till;
+  period = form.period;
+  unit = form.unit;
+  format = form.format;
+}
 
 abbrev pub seen : CommandLine → Line
 seen (line.Replay zone) = Replay zone.now
@@ -37,7 +59,7 @@ seen (line.Enter db caller only_read) = Enter db.now caller.now only_read
 seen (line.Serve db port connections hosts) =
     Serve db.now port connections (texts hosts.items)
 seen (line.Round db device host port) = Round db.now device.now host.now port
-seen (line.Report db register) = Report db.now register.now
+seen (line.Report db register form) = Report db.now register.now (seen_form form)
 seen (line.Backup db to) = Backup db.now to.now
 seen (line.Scan host port unit timeout list setup) =
     Scan host.now port unit timeout list (option_map (λ text. text.now) setup)
@@ -95,10 +117,20 @@ round_in rows =
     given (text_at (codes "device") rows) (λ device.
     given (port_in rows) (λ port. Some (Round db device (host_in rows) port))))
 
+abbrev pub form_in : List Row → Option Form
+form_in rows =
+    let from = text_at (codes "from") rows in
+    let till = text_at (codes "till") rows in
+    given (if_some period_of (text_at (codes "by") rows)) (λ period.
+    given (if_some unit_of (text_at (codes "unit") rows)) (λ unit.
+    given (if_some format_of (text_at (codes "format") rows)) (λ format.
+    Some (record { from = from; till = till; period = period; unit = unit; format = format }))))
+
 abbrev pub report_in : List Row → Option Line
 report_in rows =
     given (db_in rows) (λ db.
-    given (text_at (codes "register") rows) (λ register. Some (Report db register)))
+    given (text_at (codes "register") rows) (λ register.
+    given (form_in rows) (λ form. Some (Report db register form))))
 
 abbrev pub backup_in : List Row → Option Line
 backup_in rows =

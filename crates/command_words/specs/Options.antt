@@ -52,6 +52,7 @@ IsDue fault.Memory due = ⊤
 IsDue (fault.Missing option) due = None ≡ due
 IsDue (fault.Number option word) due = None ≡ due
 IsDue (fault.Both one other) due = None ≡ due
+IsDue (fault.Choice option value choices word) due = None ≡ due
 IsDue (fault.Command name) due = None ≡ due
 IsDue (fault.Shell word) due = None ≡ due
 IsDue (fault.Device part fault) due = None ≡ due

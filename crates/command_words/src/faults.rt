@@ -22,6 +22,13 @@ pub enum ValueFault<'a> {
         one: &'a str,
         other: &'a str,
     },
+    /// The word is none of those that the option takes.
+    Choice {
+        option: &'a str,
+        value: &'a str,
+        choices: &'a [&'a str],
+        word: &'a str,
+    },
     /// No command has the name.
     Command {
         name: &'a str,
@@ -50,6 +57,16 @@ pub enum WordsFault {
     Memory,
 }
 
+// Words with commas between them, behind what was written.
+fn write_words<W: fmt::Write>(f: &mut Formatter<W>, words: &[&str]) -> fmt::Result {
+    let mut before = "";
+    for word in words {
+        write!(f, "{before} {word}")?;
+        before = ",";
+    }
+    Ok(())
+}
+
 // The text in the form of those that `clap` writes.
 impl<'a> Display for ValueFault<'a> {
     fn fmt<W: fmt::Write>(&self, f: &mut Formatter<W>) -> fmt::Result {
@@ -67,6 +84,18 @@ impl<'a> Display for ValueFault<'a> {
                 f,
                 "error: the argument '--{one}' cannot be used with '--{other}'"
             )?,
+            ValueFault::Choice {
+                option,
+                value,
+                choices,
+                word,
+            } => {
+                write!(
+                    f,
+                    "error: invalid value '{word}' for '--{option} <{value}>': none of"
+                )?;
+                write_words(f, choices)?
+            }
             ValueFault::Command { name } => write!(f, "error: unrecognized subcommand '{name}'")?,
             ValueFault::Shell { word } => write!(
                 f,

@@ -1,6 +1,7 @@
 //! The command line of the program: its commands and options, and what the words spell.
 #![tactic(auto)]
 
+mod choices;
 mod clap_table;
 mod faults;
 mod line;
@@ -13,7 +14,7 @@ mod words;
 pub use crate::values::Device;
 pub use clap_table::{CommandText, OptionText, ProgramText, Value};
 pub use faults::WordsFault;
-pub use line::CommandLine;
+pub use line::{CommandLine, FormWords};
 pub use table::program;
 pub use values::{DeviceFault, ListFault};
 pub use words::command_of;

@@ -1,5 +1,17 @@
 //! What the program is asked to do.
 use crate::values::Device;
+use energy_report::{EnergyUnit, Format, Period};
+
+/// In which form a report is asked for, as far as it is: from which day until which, as they stand in the words, by which
+/// periods, in which unit and format.
+#[derive(Clone, Copy, Debug, PartialEq, Eq)]
+pub struct FormWords<'a> {
+    pub from: Option<&'a str>,
+    pub till: Option<&'a str>,
+    pub period: Option<Period>,
+    pub unit: Option<EnergyUnit>,
+    pub format: Option<Format>,
+}
 
 /// A command with the values of its options, which are texts as they stand in the words, numbers in their ranges, and
 /// seconds.
@@ -39,10 +51,11 @@ pub enum CommandLine<'a> {
         host: &'a str,
         port: u16,
     },
-    /// The energy of a register by days.
+    /// The energy of a register by days, or in the form that is asked for.
     Report {
         db: &'a str,
         register: &'a str,
+        form: FormWords<'a>,
     },
     /// A whole copy of an office's file.
     Backup {

@@ -2,12 +2,13 @@
 ghost use Rattle.clap.specs.Words.{subcommand_rows_of};
 ghost use Rattle.command_words.specs.Values.Devices.{devices_in, places_of};
 ghost use Rattle.command_words.specs.Lines.{backup_in, command_in, completions_in, create_in, devices_at};
-ghost use Rattle.command_words.specs.Lines.{enter_in, explain_in, line_in, report_in, round_in, run_in, scan_in, seen};
-ghost use Rattle.command_words.specs.Lines.{serve_in, stand_in_in};
+ghost use Rattle.command_words.specs.Lines.{enter_in, explain_in, form_in, line_in, report_in, round_in, run_in, scan_in, seen};
+ghost use Rattle.command_words.specs.Lines.{seen_form, serve_in, stand_in_in};
 ghost use Rattle.command_words.specs.Options.{Reads, rows_in};
 
+use crate::choices::{format_if, period_if, unit_if};
 use crate::faults::ValueFault;
-use crate::line::CommandLine;
+use crate::line::{CommandLine, FormWords};
 use crate::options::{is_set, number, number_if, number_or, text, text_if, text_or, texts};
 use crate::table::{
     CONNECTIONS, EVERY, FIRST_UNIT, HOST, HOST_NAME, LASTS, LISTEN, PATIENCE, PORT, TIMEOUT, UNIT,
@@ -66,12 +67,28 @@ fn round_line<'a>(found: &ArgMatches<'a>) -> Result<CommandLine<'a>, ValueFault<
     })
 }
 
+fn form<'a>(found: &ArgMatches<'a>) -> Result<FormWords<'a>, ValueFault<'a>>
+    ensures { Reads seen_form (form_in (rows_in found.now)) result }
+{
+    let period = period_if(found)?;
+    let unit = unit_if(found)?;
+    let format = format_if(found)?;
+    Ok(FormWords {
+        from: text_if(found, "from"),
+        till: text_if(found, "till"),
+        period,
+        unit,
+        format,
+    })
+}
+
 fn report_line<'a>(found: &ArgMatches<'a>) -> Result<CommandLine<'a>, ValueFault<'a>>
     ensures { Reads seen (report_in (rows_in found.now)) result }
 {
     let db = text(found, "db")?;
     let register = text(found, "register")?;
-    Ok(CommandLine::Report { db, register })
+    let form = form(found)?;
+    Ok(CommandLine::Report { db, register, form })
 }
 
 fn backup_line<'a>(found: &ArgMatches<'a>) -> Result<CommandLine<'a>, ValueFault<'a>>

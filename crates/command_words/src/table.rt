@@ -64,6 +64,13 @@ pub const TIMEOUT: NumberOption<'static> = NumberOption {
     most: 60,
 };
 
+/// What a report adds days up to, in which unit it tells energies, and how it is written.
+pub const PERIODS: &[&str] = &["day", "month", "year"];
+
+pub const UNITS: &[&str] = &["mwh", "kwh"];
+
+pub const FORMATS: &[&str] = &["text", "csv", "json"];
+
 /// The unit where none is given.
 pub const FIRST_UNIT: u32 = 1;
 
@@ -219,9 +226,46 @@ const ROUND: CommandText<'static> = CommandText {
 
 const REPORT: CommandText<'static> = CommandText {
     name: "report",
-    about: "Prints a register's energy by days",
-    after: "Example: sunreg report --db office.db --register main",
-    options: &[DB, REGISTER],
+    about: "Prints a register's energy by days, months or years",
+    after: "Example:\n  sunreg report --db office.db --register main --by month --unit kwh --format csv",
+    options: &[
+        DB,
+        REGISTER,
+        OptionText {
+            name: "from",
+            value: Value::Optional("DAY"),
+            help: "First day, as 2026-11-25; from the beginning where it is left out",
+        },
+        OptionText {
+            name: "till",
+            value: Value::Optional("DAY"),
+            help: "Day behind the last; up to the end where it is left out",
+        },
+        OptionText {
+            name: "by",
+            value: Value::Chosen {
+                shown: "PERIOD",
+                choices: PERIODS,
+            },
+            help: "Period of a row: day, month or year; day where it is left out",
+        },
+        OptionText {
+            name: "unit",
+            value: Value::Chosen {
+                shown: "UNIT",
+                choices: UNITS,
+            },
+            help: "Unit of energies: mwh or kwh; mwh where it is left out",
+        },
+        OptionText {
+            name: "format",
+            value: Value::Chosen {
+                shown: "FORMAT",
+                choices: FORMATS,
+            },
+            help: "How rows are written: text, csv or json; text where it is left out",
+        },
+    ],
 };
 
 const BACKUP: CommandText<'static> = CommandText {

@@ -13,6 +13,7 @@ ghost use Rattle.device_scan.specs.Lines.{Garbles, HearsAnswer, HearsTurn, has_f
 
 use crate::fault::ScanFault;
 use crate::tries::Try;
+use crate::words::words_of_bytes;
 use mb_wire::{
     Frame, FrameReader, Framing, Link, LinkFailed, MAX_ADU, Reply, ReplyFault, Took, decode_reply,
 };
@@ -33,19 +34,6 @@ pub(crate) enum Turn {
     More,
     /// The reply.
     Settled(Answer),
-}
-
-// The words in bytes, the high byte first.
-fn words(alloc: Global, bytes: &[u8]) -> Result<Vec<u16>, AllocError>
-    ensures { IfOk result (λ words. words.items ≡ words_of bytes.now) }
-{
-    let mut words = Vec::new(alloc);
-    let mut left = bytes;
-    while let [high, low, rest @ ..] = left {
-        words.push(u16::from(*high) * 256 + u16::from(*low))?;
-        left = rest;
-    }
-    Ok(words)
 }
 
 // The bytes of the registers that a reply brings.
@@ -70,7 +58,7 @@ fn answer(alloc: Global, frame: &Frame<'_>, attempt: &Try) -> Result<Answer, All
         return Ok(None);
     }
     match registers(decode_reply(&attempt.span.request(), frame.pdu)) {
-        Some(bytes) => Ok(Some(words(alloc, bytes)?)),
+        Some(bytes) => Ok(Some(words_of_bytes(alloc, bytes)?)),
         None => Ok(None),
     }
 }

@@ -10,8 +10,10 @@ mod scan;
 mod scanning;
 mod stage;
 mod tries;
+mod words;
 
 pub use fault::ScanFault;
 pub use hearing::MOST_TAKES;
 pub use scan::Scan;
 pub use scanning::{MOST_READS, ScanObserver, scan_over};
+pub use words::words_of_bytes;

@@ -1,34 +1,34 @@
 -- Facts that are booked where calls may be refused.
-use Rattle.std.proofs.Common.{◌≡◌, ℕ, List, [], ◌∷◌, true, false, refl, sym, subst, Result, Ok, Err, arith}
+use Rattle.std.proofs.Common.{◌≡◌, List, [], ◌∷◌, true, false, refl, sym, subst, Result, Ok, Err}
 use Rattle.std.proofs.lemmas.List.Elements.{Contains-append_left, Contains-push}
 use Rattle.office_events.specs.declared.facts.Fact.{Fact}
 use Rattle.office_books.specs.declared.faults.BooksFault.{BooksFault}
-use Rattle.office_books.specs.declared.faults.BooksFault.TheVariants.{Store, Memory}
+use Rattle.office_books.specs.declared.faults.BooksFault.TheVariants.{Store}
 use Rattle.office_books.specs.declared.faults.StoreFault.TheVariants.{Refused}
-use Rattle.office_books.specs.Faults.{one_more}
+use Rattle.office_books.specs.declared.failures.Failures.{Failures}
+use Rattle.office_books.specs.Faults.{faults_after}
 use Rattle.office_books.specs.Ledgers.{Ledger, KeepsFacts, Books, with_facts}
 use Rattle.memory_books.specs.declared.list_books.ListBooks.{ListBooks}
 use Rattle.memory_books.specs.Listed.{ledger_of}
 use Rattle.failing_books.specs.Refusing.{refusing}
 
-pub keeps : (old new : Ledger) (n : ℕ) → KeepsFacts old new → KeepsFacts (refusing old n) (refusing new n)
-keeps old new n k = record {
+pub keeps : (old new : Ledger) (n m : Failures) → KeepsFacts old new → KeepsFacts (refusing old n) (refusing new m)
+keeps old new n m k = record {
   facts = k.facts;
-  left = λ left m. (m.0, k.facts m.0 m.1, m.2);
+  left = λ left known. (known.0, k.facts known.0 known.1, known.2);
 }
 
-beneath : (old new : Ledger) (n : ℕ) (facts : List Fact) (result : Result (Unit {0}) BooksFault)
-    → old.fault_count ≡ 0 → new.fault_count ≡ 0 → Books old new facts result
-    → Books (refusing old n) (refusing new n) facts result
-beneath old new n facts (Ok done) before after books = record {
+beneath : (old new : Ledger) (n : Failures) (facts : List Fact) (result : Result (Unit {0}) BooksFault) → Books old new facts result
+    → Books (refusing old n) (refusing new (faults_after result n)) facts result
+beneath old new n facts (Ok done) books = record {
   booked = books.booked;
   settled = λ more known holds lawful. (with_facts facts known, books.booked known holds lawful, Contains-push [] (with_facts facts known));
   refused = λ known holds. tt;
   under_way = λ known left holds lawful may. tt;
-  nothing = λ none. (refl, keeps old new n (books.nothing none).1);
+  nothing = λ none. (refl, keeps old new n n (books.nothing none).1);
   goes = record { clean = books.goes.clean; faults = refl; zone = books.goes.zone };
 }
-beneath old new n facts (Err Memory) before after books = record {
+beneath old new n facts (Err fault) books = record {
   booked = λ known holds lawful. tt;
   settled = λ more known holds lawful. tt;
   refused = books.refused;
@@ -37,23 +37,22 @@ beneath old new n facts (Err Memory) before after books = record {
   nothing = λ none. let wrong : false ≡ true = (books.nothing none).0 in absurd (cc);
   goes = record { clean = books.goes.clean; faults = refl; zone = books.goes.zone };
 }
-beneath old new n facts (Err (Store fault)) before after books =
-    let risen : new.fault_count ≡ one_more old.fault_count = books.goes.faults in
-    absurd (omega (arith, risen, before, after))
 
 -- the books beneath booked, or had no memory
-pub passed : (old between new : ListBooks) (n m : ℕ) (facts : List Fact) (result : Result (Unit {0}) BooksFault)
-    → between ≡ old → m ≡ n → Books (ledger_of between) (ledger_of new) facts result
+pub passed : (old between new : ListBooks) (n k m : Failures) (facts : List Fact) (done result : Result (Unit {0}) BooksFault)
+    → between ≡ old → k ≡ n → result ≡ done → m ≡ faults_after done k → Books (ledger_of between) (ledger_of new) facts done
     → Books (refusing (ledger_of old) n) (refusing (ledger_of new) m) facts result
-passed old between new n m facts result same stays books =
+passed old between new n k m facts done result same stays is noted books =
     let B : ListBooks → Type 0 = λ b. Books (refusing (ledger_of b) n) (refusing (ledger_of new) m) facts result in
-    let M : ℕ → Type 0 = λ k. Books (refusing (ledger_of between) n) (refusing (ledger_of new) k) facts result in
-    subst B same (subst M (sym stays) (beneath (ledger_of between) (ledger_of new) n facts result refl refl books))
+    let N : Failures → Type 0 = λ f. Books (refusing (ledger_of between) f) (refusing (ledger_of new) m) facts result in
+    let R : Result (Unit {0}) BooksFault → Type 0 = λ r. Books (refusing (ledger_of between) k) (refusing (ledger_of new) m) facts r in
+    let M : Failures → Type 0 = λ f. Books (refusing (ledger_of between) k) (refusing (ledger_of new) f) facts done in
+    subst B same (subst N stays (subst R (sym is) (subst M (sym noted) (beneath (ledger_of between) (ledger_of new) k facts done books))))
 
 -- the call was refused, and there was something to book
-refused_at : (ledger : Ledger) (n : ℕ) (facts : List Fact) → (facts ≡ [] → ⊥)
-    → Books (refusing ledger n) (refusing ledger (one_more n)) facts (Err (Store Refused))
-refused_at ledger n facts some = record {
+refused_at : (ledger : Ledger) (n : Failures) (facts : List Fact) (fault : BooksFault) → (facts ≡ [] → ⊥)
+    → Books (refusing ledger n) (refusing ledger (faults_after {T = Unit {0}} (Err fault) n)) facts (Err fault)
+refused_at ledger n facts fault some = record {
   booked = λ known holds lawful. tt;
   settled = λ more known holds lawful. tt;
   refused = λ known holds. holds;
@@ -63,11 +62,10 @@ refused_at ledger n facts some = record {
   goes = record { clean = λ c. c; faults = refl; zone = refl };
 }
 
-pub refused : (old new : ListBooks) (n m : ℕ) (facts : List Fact) (fault : BooksFault)
-    → new ≡ old → m ≡ one_more n → fault ≡ Store Refused → (facts ≡ [] → ⊥)
+pub refused : (old new : ListBooks) (n m : Failures) (facts : List Fact) (fault : BooksFault)
+    → new ≡ old → m ≡ faults_after {T = Unit {0}} (Err fault) n → (facts ≡ [] → ⊥)
     → Books (refusing (ledger_of old) n) (refusing (ledger_of new) m) facts (Err fault)
-refused old new n m facts fault same risen is some =
+refused old new n m facts fault same noted some =
     let B : ListBooks → Type 0 = λ b. Books (refusing (ledger_of old) n) (refusing (ledger_of b) m) facts (Err fault) in
-    let M : ℕ → Type 0 = λ k. Books (refusing (ledger_of old) n) (refusing (ledger_of old) k) facts (Err fault) in
-    let F : BooksFault → Type 0 = λ f. Books (refusing (ledger_of old) n) (refusing (ledger_of old) (one_more n)) facts (Err f) in
-    subst B (sym same) (subst M (sym risen) (subst F (sym is) (refused_at (ledger_of old) n facts some)))
+    let M : Failures → Type 0 = λ k. Books (refusing (ledger_of old) n) (refusing (ledger_of old) k) facts (Err fault) in
+    subst B (sym same) (subst M (sym noted) (refused_at (ledger_of old) n facts fault some))

@@ -1,12 +1,12 @@
 //! Books of which one call is refused.
-ghost use Rattle.std.specs.Prelude.{◌≡◌, IfErr, OnOk};
-ghost use Rattle.office_books.specs.Faults.{one_more};
+ghost use Rattle.std.specs.Prelude.{◌≡◌, IfErr};
+ghost use Rattle.office_books.specs.Faults.{faults_after, no_failures};
 ghost use Rattle.office_books.specs.declared.faults.BooksFault.TheVariants.{Store};
 ghost use Rattle.office_books.specs.declared.faults.StoreFault.TheVariants.{Refused};
 
 use interval_core::{Share, Zone};
 use memory_books::ListBooks;
-use office_books::{Books, BooksFault, Repeat, RowSink, StoreFault};
+use office_books::{Books, BooksFault, Failures, Repeat, RowSink, StoreFault};
 use office_events::{
     Device, EntryPlace, Fact, Installation, Name, PlannedList, Poll, PollRow, Register,
 };
@@ -17,7 +17,7 @@ pub struct FailingBooks {
     pub(crate) books: ListBooks,
     pub(crate) calls: u64,
     pub(crate) failing: u64,
-    pub(crate) faults: u64,
+    pub(crate) failures: Failures,
     /// Whether a call that hands rows on is refused only when all of them were handed on.
     pub(crate) rows_come_first: bool,
 }
@@ -32,13 +32,13 @@ impl FailingBooks {
         ensures holds { (known : List Fact) → (ledger_of books).holds known
             → (⟦<FailingBooks as Books>⟧.ledger result).holds known }
         ensures zone { (⟦<FailingBooks as Books>⟧.ledger result).zone ≡ (ledger_of books).zone }
-        ensures faults { (⟦<FailingBooks as Books>⟧.ledger result).fault_count ≡ 0 }
+        ensures failures { (⟦<FailingBooks as Books>⟧.ledger result).failures ≡ no_failures }
     {
         FailingBooks {
             books,
             calls: 0,
             failing,
-            faults: 0,
+            failures: Failures::new(),
             rows_come_first: false,
         }
     }
@@ -49,14 +49,13 @@ impl FailingBooks {
         ensures holds { (known : List Fact) → (ledger_of self.old.books).holds known
             → (ledger_of self.new.books).holds known }
         ensures zone { (ledger_of self.new.books).zone ≡ (ledger_of self.old.books).zone }
-        ensures ok { OnOk result (self.new.faults ≡ self.old.faults) }
-        ensures refused { IfErr result
-            (λ fault. (fault ≡ Store Refused) × (self.new.faults ≡ one_more self.old.faults)) }
+        ensures noted { self.new.failures ≡ faults_after result self.old.failures }
+        ensures refused { IfErr result (λ fault. fault ≡ Store Refused) }
     {
         self.calls = self.calls.saturating_add(1);
         if self.calls == self.failing {
-            self.faults = self.faults.saturating_add(1);
-            return Err(BooksFault::Store(StoreFault::Refused));
+            let refused = BooksFault::Store(StoreFault::Refused);
+            return self.failures.noted(Err(refused));
         }
         Ok(())
     }
@@ -66,10 +65,10 @@ impl Books for FailingBooks {
     ghost use Rattle.memory_books.specs.Listed.{ledger_of};
     ghost use Rattle.failing_books.specs.Refusing.{refusing};
 
-    ghost ledger = { λ failing. refusing (ledger_of failing.books) failing.faults };
+    ghost ledger = { λ failing. refusing (ledger_of failing.books) failing.failures };
 
     fn faults(&self) -> u64 {
-        self.faults
+        self.failures.count
     }
 
     fn zone(&self) -> Zone {
@@ -82,67 +81,80 @@ impl Books for FailingBooks {
 
     fn devices(&mut self) -> Result<Vec<Device>, BooksFault> {
         self.called()?;
-        self.books.devices()
+        let found = self.books.devices();
+        self.failures.noted(found)
     }
 
     fn list(&mut self, device: &Name) -> Result<Option<PlannedList>, BooksFault> {
         self.called()?;
-        self.books.list(device)
+        let found = self.books.list(device);
+        self.failures.noted(found)
     }
 
     fn register(&mut self, name: &Name) -> Result<Option<Register>, BooksFault> {
         self.called()?;
-        self.books.register(name)
+        let found = self.books.register(name);
+        self.failures.noted(found)
     }
 
     fn registers(&mut self, device: &Name) -> Result<Vec<Register>, BooksFault> {
         self.called()?;
-        self.books.registers(device)
+        let found = self.books.registers(device);
+        self.failures.noted(found)
     }
 
     fn register_count(&mut self, device: &Name) -> Result<usize, BooksFault> {
         self.called()?;
-        self.books.register_count(device)
+        let found = self.books.register_count(device);
+        self.failures.noted(found)
     }
 
     fn meter(&mut self, name: &Name) -> Result<Option<Installation>, BooksFault> {
         self.called()?;
-        self.books.meter(name)
+        let found = self.books.meter(name);
+        self.failures.noted(found)
     }
 
     fn installation(&mut self, register: &Name) -> Result<Option<Installation>, BooksFault> {
         self.called()?;
-        self.books.installation(register)
+        let found = self.books.installation(register);
+        self.failures.noted(found)
     }
 
     fn installation_count(&mut self) -> Result<usize, BooksFault> {
         self.called()?;
-        self.books.installation_count()
+        let found = self.books.installation_count();
+        self.failures.noted(found)
     }
 
     fn entry(&mut self, meter: &Name, place: u64) -> Result<Option<EntryPlace>, BooksFault> {
         self.called()?;
-        self.books.entry(meter, place)
+        let found = self.books.entry(meter, place);
+        self.failures.noted(found)
     }
 
     fn poll(&mut self, number: u64) -> Result<Option<PollRow>, BooksFault> {
         self.called()?;
-        self.books.poll(number)
+        let found = self.books.poll(number);
+        self.failures.noted(found)
     }
 
     fn poll_count(&mut self) -> Result<u64, BooksFault> {
         self.called()?;
-        self.books.poll_count()
+        let found = self.books.poll_count();
+        self.failures.noted(found)
     }
 
     fn pending(&mut self) -> Result<Vec<Poll>, BooksFault> {
         self.called()?;
-        self.books.pending()
+        let found = self.books.pending();
+        self.failures.noted(found)
     }
 
     fn latest(&mut self) -> Result<u64, BooksFault> {
         self.called()?;
-        self.books.latest()
+        let found = self.books.latest();
+        self.failures.noted(found)
     }
 
     fn repeat(
@@ -152,7 +164,8 @@ impl Books for FailingBooks {
         request: &[u8],
     ) -> Result<Option<Repeat>, BooksFault> {
         self.called()?;
-        self.books.repeat(caller, number, request)
+        let found = self.books.repeat(caller, number, request);
+        self.failures.noted(found)
     }
 
     fn intervals<K: RowSink<Share>>(
@@ -161,11 +174,13 @@ impl Books for FailingBooks {
         sink: &mut K,
     ) -> Result<(), BooksFault> {
         if self.rows_come_first {
-            self.books.intervals(meter, sink)?;
+            let handed = self.books.intervals(meter, sink);
+            self.failures.noted(handed)?;
             return self.called();
         }
         self.called()?;
-        self.books.intervals(meter, sink)
+        let found = self.books.intervals(meter, sink);
+        self.failures.noted(found)
     }
 
     fn register_intervals<K: RowSink<Share>>(
@@ -174,19 +189,25 @@ impl Books for FailingBooks {
         sink: &mut K,
     ) -> Result<(), BooksFault> {
         if self.rows_come_first {
-            self.books.register_intervals(register, sink)?;
+            let handed = self.books.register_intervals(register, sink);
+            self.failures.noted(handed)?;
             return self.called();
         }
         self.called()?;
-        self.books.register_intervals(register, sink)
+        let found = self.books.register_intervals(register, sink);
+        self.failures.noted(found)
     }
 
     fn book(&mut self, facts: Vec<Fact>) -> Result<(), BooksFault> {
         if facts.is_empty() {
-            return self.books.book(facts);
+            let done = self.books.book(facts);
+            return self.failures.noted(done);
         }
         match self.called() {
-            Ok(()) => self.books.book(facts),
+            Ok(()) => {
+                let done = self.books.book(facts);
+                self.failures.noted(done)
+            }
             Err(fault) => Err(fault),
         }
     }

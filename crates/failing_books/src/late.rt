@@ -1,5 +1,6 @@
 //! Books that fail after the last row.
 ghost use Rattle.std.specs.Prelude.{◌≡◌};
+ghost use Rattle.office_books.specs.Faults.{no_failures};
 
 use crate::books::FailingBooks;
 use memory_books::ListBooks;
@@ -15,7 +16,7 @@ impl FailingBooks {
         ensures holds { (known : List Fact) → (ledger_of books).holds known
             → (⟦<FailingBooks as Books>⟧.ledger result).holds known }
         ensures zone { (⟦<FailingBooks as Books>⟧.ledger result).zone ≡ (ledger_of books).zone }
-        ensures faults { (⟦<FailingBooks as Books>⟧.ledger result).fault_count ≡ 0 }
+        ensures failures { (⟦<FailingBooks as Books>⟧.ledger result).failures ≡ no_failures }
     {
         FailingBooks {
             rows_come_first: true,

@@ -1,7 +1,8 @@
 //! Commands over an office in a database that is closed and opened between, whatever makes the connections.
-use crate::day::{REPORTED, book_day};
+use crate::day::{MONTH, REPORTED, book_day};
 use crate::files::Connects;
 use command_io::ExitStatus;
+use energy_report::{EnergyUnit, Period, ReportForm};
 use office_program::NamedFiles;
 use office_store::{OpenFault, SqlBooks};
 use socket_link::FixedClock;
@@ -186,6 +187,25 @@ pub(crate) fn is_made_once<C: Connects>(
     Ok(true)
 }
 
+/// Whether it is reported by months in kWh.
+fn is_reported_by_months<C: Connects>(
+    rt: &HostRuntime,
+    connects: &C,
+    path: &str,
+) -> Result<bool, Fail> {
+    let form = ReportForm {
+        period: Period::Month,
+        unit: EnergyUnit::KilowattHours,
+        ..ReportForm::plain()
+    };
+    let task = Task::ReportRange {
+        register: "main",
+        form: &form,
+    };
+    let (end, printed) = carry_out(rt, connects, path, task, 5000)?;
+    Ok(end == Ok(ExitStatus::Fine) && printed.as_slice() == MONTH)
+}
+
 /// Whether what was booked is reported.
 pub(crate) fn is_reported<C: Connects>(
     rt: &HostRuntime,
@@ -193,7 +213,8 @@ pub(crate) fn is_reported<C: Connects>(
     path: &str,
 ) -> Result<bool, Fail> {
     fill(rt, connects, path)?;
-    are_reported(rt, connects, path, &KNOWN)
+    let by_days = are_reported(rt, connects, path, &KNOWN)?;
+    Ok(by_days && is_reported_by_months(rt, connects, path)?)
 }
 
 /// Whether a name that is no register's is refused, and an office of a version that isn't known is none.

@@ -20,6 +20,9 @@ const DAY: &str = "1000 device inv 1 5 1
 /// What is reported of the register `main` after that day: 300 Wh of the meter m1 and 45 Wh of m2, in four quarter hours.
 pub(crate) const REPORTED: &[u8] = b"1970-01-01   4                   345000\nend 1\n";
 
+/// The same by months, in kWh.
+pub(crate) const MONTH: &[u8] = b"1970-01    4                 0.345000\nend 1\n";
+
 fn start_of(given: &GivenStart) -> Result<Command, Fail> {
     Ok(Command::StartPoll(StartPoll {
         device: given.device,

@@ -23,6 +23,17 @@ fn wrong_words_are_said(rt: HostRuntime) -> Result<(), Fail> {
         (Ending::Wrong(text), "error: x\n"),
         (Ending::NoText, "error: the words are not in UTF-8\n"),
         (
+            Ending::NoDay {
+                option: "from",
+                word: "2023-02-29",
+            },
+            "error: invalid value '2023-02-29' for '--from <DAY>': no day, as 2026-11-25\n",
+        ),
+        (
+            Ending::Backward,
+            "error: '--till <DAY>' is before '--from <DAY>'\n",
+        ),
+        (
             Ending::NoZone("nowhere"),
             "error: invalid value 'nowhere' for '--zone <TEXT>': no POSIX time zone, as UTC0 or CET-1CEST,M3.5.0,M10.5.0/3\n",
         ),

@@ -12,6 +12,14 @@ fn each_ending_has_its_status(rt: HostRuntime) -> Result<(), Fail> {
         (Ending::Wrong(text), 2),
         (Ending::NoText, 2),
         (Ending::NoZone("nowhere"), 2),
+        (
+            Ending::NoDay {
+                option: "from",
+                word: "",
+            },
+            2,
+        ),
+        (Ending::Backward, 2),
         (Ending::Failed(Failure::Memory), 3),
     ];
     for (ending, status) in &endings {

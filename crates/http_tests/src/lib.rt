@@ -4,6 +4,8 @@
 #![tactic(auto)]
 
 #[cfg(test)]
+mod advice;
+#[cfg(test)]
 mod answers;
 #[cfg(test)]
 mod asks;
@@ -43,6 +45,8 @@ mod openings;
 mod program_commands;
 #[cfg(test)]
 mod replies;
+#[cfg(test)]
+mod report_forms;
 #[cfg(test)]
 mod reports;
 #[cfg(test)]

@@ -1,18 +1,20 @@
 -- Facts that are added after the others.
-use Rattle.std.proofs.Common.{◌≡◌, true, false, List, [], ◌∷◌, ◌++◌, reverse, inl, inr, refl, sym, ap, subst, ◌∙◌, Ok, Err}
+use Rattle.std.proofs.Common.{◌≡◌, true, false, List, [], ◌∷◌, ◌++◌, reverse, inl, inr, refl, sym, ap, subst, ◌∙◌, Result, Ok, Err}
 use Rattle.std.proofs.lemmas.List.{append-nil, reverse-append, reverse-reverse}
+use Rattle.std.specs.declared.alloc.AllocError.{AllocError}
 use Rattle.office_events.specs.declared.facts.Fact.{Fact}
 use Rattle.office_rules.specs.Lawful.{AreLawful}
 use Rattle.memory_books.specs.declared.tables.tables.Tables.{Tables}
 use Rattle.memory_books.specs.Tables.Whole.{HaveCome}
 use Rattle.memory_books.proofs.TablesLemmas.Wholes.{have_come_with}
 use Rattle.office_books.specs.declared.faults.BooksFault.{BooksFault}
-use Rattle.office_books.specs.declared.faults.BooksFault.TheVariants.{Store, Memory}
+use Rattle.office_books.specs.Faults.{faults_after}
 use Rattle.office_books.specs.Ledgers.{KeepsFacts, Books, with_facts}
 use Rattle.memory_books.specs.declared.list_books.ListBooks.{ListBooks}
 use Rattle.memory_books.specs.declared.figures.Figures.{Figures}
 use Rattle.memory_books.specs.Figures.{AreFigures}
 use Rattle.memory_books.specs.Listed.{AreListed, GoOn, HasOne, ledger_of}
+use Rattle.memory_books.specs.Looking.{failures_in, told}
 
 behind : (known facts : List Fact) → reverse known ++ facts ≡ reverse (with_facts facts known)
 behind known facts = sym (reverse-append (reverse facts) known ∙ ap (λ (xs : List Fact). reverse known ++ xs) (reverse-reverse facts))
@@ -54,8 +56,9 @@ figures_after_none old new facts known none figures listed =
 
 -- the facts were added, and the tables came further
 pub added : (old mid new : ListBooks) (facts : List Fact) → mid.facts.items ≡ old.facts.items ++ facts → mid.zone ≡ old.zone → mid.tables ≡ old.tables
-    → GoOn facts old mid → KeepsFacts (ledger_of mid) (ledger_of new) → new.zone ≡ mid.zone → Books (ledger_of old) (ledger_of new) facts (Ok tt)
-added old mid new facts is zone tables figures keeps still_zone = record {
+    → GoOn facts old mid → KeepsFacts (ledger_of mid) (ledger_of new) → new.zone ≡ mid.zone → new.last_failure ≡ old.last_failure
+    → Books (ledger_of old) (ledger_of new) facts (Ok tt)
+added old mid new facts is zone tables figures keeps still_zone none_failed = record {
   booked = λ known listed lawful. keeps.facts (with_facts facts known) (listed_on old mid known facts is tables figures listed lawful);
   settled = λ some known listed lawful. inl (keeps.facts (with_facts facts known) (listed_on old mid known facts is tables figures listed lawful));
   refused = λ known listed. tt;
@@ -65,14 +68,16 @@ added old mid new facts is zone tables figures keeps still_zone = record {
       let still : (known : List Fact) → AreListed old known → AreListed mid known =
       λ known listed. listed_still old mid known same tables (figures_after_none old mid facts known none figures listed) listed in
       (refl, record { facts = λ known listed. keeps.facts known (still known listed); left = λ left may. keeps.left left (one_still old mid still left may) });
-  goes = record { clean = λ c. c; faults = refl; zone = still_zone ∙ zone };
+  goes = record { clean = λ c. c; faults = ap failures_in none_failed; zone = still_zone ∙ zone };
 }
 
 -- there was no room for them
-pub not_added : (old new : ListBooks) (facts : List Fact) (why : BooksFault) → why ≡ Memory → new.facts.items ≡ old.facts.items → new.zone ≡ old.zone
-    → new.tables ≡ old.tables → new.figures ≡ old.figures → (facts ≡ [] → false ≡ true) → Books (ledger_of old) (ledger_of new) facts (Err why)
-not_added old new facts (Store fault) memory same zone tables figures some = absurd (cc)
-not_added old new facts Memory memory same zone tables figures some =
+pub not_added : (old new : ListBooks) (facts : List Fact) (lacks : AllocError) (result : Result (Unit {0}) BooksFault) → result ≡ told (Err lacks)
+    → new.facts.items ≡ old.facts.items → new.zone ≡ old.zone → new.tables ≡ old.tables → new.figures ≡ old.figures
+    → failures_in new.last_failure ≡ faults_after result (failures_in old.last_failure) → (facts ≡ [] → false ≡ true)
+    → Books (ledger_of old) (ledger_of new) facts result
+not_added old new facts lacks (Ok done) is same zone tables figures noted some = absurd (cc)
+not_added old new facts lacks (Err fault) is same zone tables figures noted some =
     let still : (known : List Fact) → AreListed old known → AreListed new known =
     λ known listed. listed_still old new known same tables (subst (λ (f : Figures). AreFigures f known) (sym figures) listed.figures) listed in
     record {
@@ -81,5 +86,5 @@ not_added old new facts Memory memory same zone tables figures some =
       refused = still;
       under_way = λ known left listed lawful may. one_among new left _ (one_still old new still left may);
       nothing = λ none. absurd (let never : false ≡ true = some none in cc);
-      goes = record { clean = λ c. c; faults = refl; zone = zone };
+      goes = record { clean = λ c. c; faults = noted; zone = zone };
     }

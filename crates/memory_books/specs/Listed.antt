@@ -4,6 +4,7 @@ use Rattle.memory_books.specs.Tables.Whole.{HaveCome}
 use Rattle.office_books.specs.Ledgers.{Ledger, with_facts}
 use Rattle.office_events.specs.declared.facts.Fact.{Fact}
 use Rattle.memory_books.specs.Figures.{AreFigures}
+use Rattle.memory_books.specs.Looking.{failures_in}
 use Rattle.memory_books.specs.declared.list_books.ListBooks.{ListBooks}
 use Rattle.office_rules.specs.Lawful.{AreLawful}
 
@@ -26,13 +27,14 @@ abbrev pub HasOne : ListBooks → List (List Fact) → Type 0
 HasOne books [] = ⊥
 HasOne books (known ∷ left) = AreListed books known ⊎ HasOne books left
 
--- Books in memory are always clean and open, and have no store that could fail. A stop leaves what they hold.
+-- Books in memory are always clean and open, and have no store that could fail: they note want of memory. A stop leaves what
+-- they hold.
 abbrev pub ledger_of : ListBooks → Ledger
 ledger_of books = record {
   holds = AreListed books;
   may_leave = HasOne books;
   is_clean = Unit {0};
   is_open = Unit {0};
-  fault_count = 0;
+  failures = failures_in books.last_failure;
   zone = books.zone;
 }

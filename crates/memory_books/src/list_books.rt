@@ -1,9 +1,10 @@
 //! Books in memory.
-ghost use Rattle.std.specs.Prelude.{◌≡◌, List, [], ◌++◌, OnOk, OnErr, IfErr, IsOk};
-ghost use Rattle.office_books.specs.declared.faults.BooksFault.TheVariants.{Memory};
+ghost use Rattle.std.specs.Prelude.{◌≡◌, List, [], ◌++◌, OnOk, OnErr, IsOk};
+ghost use Rattle.office_books.specs.Faults.{faults_after};
 ghost use Rattle.office_events.specs.declared.facts.Fact.{Fact};
 ghost use Rattle.memory_books.specs.Tables.Whole.{AreWhole};
 ghost use Rattle.memory_books.specs.Listed.{AreListed};
+ghost use Rattle.memory_books.specs.Looking.{failures_in, told};
 
 use crate::figures::Figures;
 use crate::lookups;
@@ -13,58 +14,75 @@ use office_books::{Books, BooksFault, Repeat, RowSink};
 use office_events::{
     Device, EntryPlace, Fact, Installation, Name, PlannedList, Poll, PollRow, Register,
 };
-use std::alloc::Global;
+use std::alloc::{AllocError, Global};
 
 /// Books in memory: a list of the facts, in the order in which they came, tables of what they say, and figures. They have no
-/// store, and so never answer `BooksFault::Store`: a call fails only for want of memory, and then changes nothing.
+/// store, and so never answer `BooksFault::Store`: a call fails only for want of memory, and then changes nothing but that it
+/// notes it.
 #[derive(Drop)]
 pub struct ListBooks {
     facts: Vec<Fact>,
     zone: Zone,
     tables: Tables,
     figures: Figures,
+    /// What the last failure was. It was want of memory, if there was any.
+    last_failure: Option<BooksFault>,
 }
 
 impl ListBooks {
-    ghost use Rattle.office_books.specs.Ledgers.{KeepsFacts};
+    ghost use Rattle.office_books.specs.Faults.{no_failures};
+    ghost use Rattle.office_books.specs.Ledgers.{KeepsFacts, OnlyReads};
     ghost use Rattle.memory_books.specs.Listed.{ledger_of, GoOn};
 
     /// Books that hold nothing yet.
     pub fn new(alloc: Global, zone: Zone) -> ListBooks
         ensures empty { AreListed result [] }
         ensures zone { result.zone ≡ zone }
+        ensures failures { (ledger_of result).failures ≡ no_failures }
     {
         ListBooks {
             facts: Vec::new(alloc),
             zone,
             tables: Tables::new(alloc),
             figures: Figures::new(),
+            last_failure: None,
         }
     }
 
     /// Adds to the tables what they lack. For want of memory they lack some yet.
-    fn catch_up(&mut self) -> Result<(), BooksFault>
+    fn catch_up(&mut self) -> Result<(), AllocError>
         ensures keeps { KeepsFacts (ledger_of self.old) (ledger_of self.new) }
         ensures whole { (known : List Fact) → AreListed self.old known
             → OnOk result (AreWhole self.new.tables known) }
         ensures facts { self.new.facts ≡ self.old.facts }
         ensures figures { self.new.figures ≡ self.old.figures }
         ensures zone { self.new.zone ≡ self.old.zone }
-        ensures memory { IfErr result (λ e. e ≡ Memory) }
+        ensures failure { self.new.last_failure ≡ self.old.last_failure }
     {
-        self.tables.catch_up(&self.facts)?;
-        Ok(())
+        self.tables.catch_up(&self.facts)
+    }
+
+    /// The same for a look-up, which fails where memory is wanting.
+    fn ready(&mut self) -> Result<(), BooksFault>
+        ensures reads { OnlyReads (ledger_of self.old) (ledger_of self.new) result }
+        ensures whole { (known : List Fact) → AreListed self.old known
+            → OnOk result (AreWhole self.new.tables known) }
+        ensures facts { self.new.facts ≡ self.old.facts }
+        ensures figures { self.new.figures ≡ self.old.figures }
+    {
+        let done = self.catch_up();
+        told(&mut self.last_failure, done)
     }
 
     /// Adds facts after the others: all of them or, where memory is wanting, none.
-    fn add(&mut self, facts: Vec<Fact>) -> Result<(), BooksFault>
+    fn add(&mut self, facts: Vec<Fact>) -> Result<(), AllocError>
         ensures ok { OnOk result (self.new.facts.items ≡ self.old.facts.items ++ facts.items) }
         ensures figures { OnOk result (GoOn facts.items self.old self.new) }
         ensures err { OnErr result (self.new.facts.items ≡ self.old.facts.items) }
         ensures same_figures { OnErr result (self.new.figures ≡ self.old.figures) }
         ensures zone { self.new.zone ≡ self.old.zone }
         ensures tables { self.new.tables ≡ self.old.tables }
-        ensures memory { IfErr result (λ e. e ≡ Memory) }
+        ensures failure { self.new.last_failure ≡ self.old.last_failure }
         ensures nothing { facts.items ≡ [] → IsOk result }
     {
         let figures = self.figures.after_all(&facts);
@@ -72,6 +90,23 @@ impl ListBooks {
         self.facts.append(&mut more)?;
         self.figures = figures;
         Ok(())
+    }
+}
+
+/// What a call answers that takes memory. Want of it is noted.
+fn told<T>(
+    last_failure: &mut Option<BooksFault>,
+    done: Result<T, AllocError>,
+) -> Result<T, BooksFault>
+    ensures answer { result ≡ told done }
+    ensures noted { failures_in last_failure.new ≡ faults_after result (failures_in last_failure.old) }
+{
+    match done {
+        Ok(answer) => Ok(answer),
+        Err(_) => {
+            *last_failure = Some(BooksFault::Memory);
+            Err(BooksFault::Memory)
+        }
     }
 }
 
@@ -92,37 +127,40 @@ impl Books for ListBooks {
 
     fn devices(&mut self) -> Result<Vec<Device>, BooksFault> {
         let alloc = *self.facts.allocator();
-        Ok(lookups::devices(alloc, &self.facts)?)
+        let found = lookups::devices(alloc, &self.facts);
+        told(&mut self.last_failure, found)
     }
 
     fn list(&mut self, device: &Name) -> Result<Option<PlannedList>, BooksFault> {
-        self.catch_up()?;
-        Ok(self.tables.list(&self.facts, device)?)
+        self.ready()?;
+        let found = self.tables.list(&self.facts, device);
+        told(&mut self.last_failure, found)
     }
 
     fn register(&mut self, name: &Name) -> Result<Option<Register>, BooksFault> {
-        self.catch_up()?;
+        self.ready()?;
         Ok(self.tables.register(&self.facts, name))
     }
 
     fn registers(&mut self, device: &Name) -> Result<Vec<Register>, BooksFault> {
-        self.catch_up()?;
+        self.ready()?;
         let alloc = *self.facts.allocator();
-        Ok(self.tables.registers(alloc, &self.facts, device)?)
+        let found = self.tables.registers(alloc, &self.facts, device);
+        told(&mut self.last_failure, found)
     }
 
     fn register_count(&mut self, device: &Name) -> Result<usize, BooksFault> {
-        self.catch_up()?;
+        self.ready()?;
         Ok(self.tables.register_count(device))
     }
 
     fn meter(&mut self, name: &Name) -> Result<Option<Installation>, BooksFault> {
-        self.catch_up()?;
+        self.ready()?;
         Ok(self.tables.meter(name))
     }
 
     fn installation(&mut self, register: &Name) -> Result<Option<Installation>, BooksFault> {
-        self.catch_up()?;
+        self.ready()?;
         Ok(self.tables.installation(&self.facts, register))
     }
 
@@ -131,24 +169,25 @@ impl Books for ListBooks {
     }
 
     fn entry(&mut self, meter: &Name, place: u64) -> Result<Option<EntryPlace>, BooksFault> {
-        self.catch_up()?;
+        self.ready()?;
         Ok(self.tables.entry(meter, place))
     }
 
     fn poll(&mut self, number: u64) -> Result<Option<PollRow>, BooksFault> {
-        self.catch_up()?;
+        self.ready()?;
         Ok(self.tables.poll(number))
     }
 
     fn poll_count(&mut self) -> Result<u64, BooksFault> {
-        self.catch_up()?;
+        self.ready()?;
         Ok(self.tables.poll_count())
     }
 
     fn pending(&mut self) -> Result<Vec<Poll>, BooksFault> {
-        self.catch_up()?;
+        self.ready()?;
         let alloc = *self.facts.allocator();
-        Ok(self.tables.pending(alloc)?)
+        let found = self.tables.pending(alloc);
+        told(&mut self.last_failure, found)
     }
 
     fn latest(&mut self) -> Result<u64, BooksFault> {
@@ -161,7 +200,7 @@ impl Books for ListBooks {
         number: u64,
         request: &[u8],
     ) -> Result<Option<Repeat>, BooksFault> {
-        self.catch_up()?;
+        self.ready()?;
         Ok(self.tables.repeat(&self.facts, caller, number, request))
     }
 
@@ -170,7 +209,7 @@ impl Books for ListBooks {
         meter: &Name,
         sink: &mut K,
     ) -> Result<(), BooksFault> {
-        self.catch_up()?;
+        self.ready()?;
         self.tables.intervals(meter, sink);
         Ok(())
     }
@@ -180,7 +219,7 @@ impl Books for ListBooks {
         register: &Name,
         sink: &mut K,
     ) -> Result<(), BooksFault> {
-        self.catch_up()?;
+        self.ready()?;
         self.tables.register_intervals(&self.facts, register, sink);
         Ok(())
     }
@@ -192,7 +231,7 @@ impl Books for ListBooks {
                 let _ = self.catch_up();
                 Ok(())
             }
-            Err(fault) => Err(fault),
+            Err(lacks) => told(&mut self.last_failure, Err(lacks)),
         }
     }
 }

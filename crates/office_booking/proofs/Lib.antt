@@ -1,3 +1,4 @@
+pub mod Consulting
 pub mod SessionsLemmas
 pub mod StartingLemmas
 pub mod SettlingLemmas

@@ -1,6 +1,5 @@
 pub mod Words
 pub mod Told
-pub mod Reading
 pub mod Overlays
 pub mod Growing
 pub mod Turning

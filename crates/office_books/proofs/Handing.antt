@@ -1,5 +1,5 @@
 -- Rows that a sink took one after the other.
-use Rattle.std.proofs.Common.{◌≡◌, List, [], ◌∷◌, ◌++◌, refl, sym, subst}
+use Rattle.std.proofs.Common.{List, [], ◌∷◌, ◌++◌, refl, subst}
 use Rattle.office_books.specs.Rows.{TakesAll}
 
 -- one row after those that it took

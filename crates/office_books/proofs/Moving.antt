@@ -1,55 +1,75 @@
 -- How calls on books follow one another.
-use Rattle.std.proofs.Common.{◌≡◌, ◌⊎◌, ℕ, List, [], ◌∷◌, inl, inr, refl, sym, ◌∙◌, Result, Ok, Err, ap}
+use Rattle.std.proofs.Common.{◌≡◌, ◌⊎◌, List, [], ◌∷◌, inl, inr, refl, subst, ◌∙◌, Result, Ok, Err, ap}
 use Rattle.office_events.specs.declared.facts.Fact.{Fact}
 use Rattle.office_rules.specs.Lawful.{AreLawful}
 use Rattle.office_books.specs.declared.faults.BooksFault.{BooksFault}
 use Rattle.office_books.specs.declared.faults.BooksFault.TheVariants.{Store, Memory}
-use Rattle.office_books.specs.Faults.{faults_after}
-use Rattle.office_books.specs.Ledgers.{Ledger, LedgerGoesOn, KeepsFacts, OnlyReads, Books, Moves, with_facts}
+use Rattle.office_books.specs.declared.failures.Failures.{Failures}
+use Rattle.office_books.specs.Faults.{FailuresGoOn}
+use Rattle.office_books.specs.Ledgers.{Ledger, LedgerGoesOn, LedgerPasses, KeepsFacts, OnlyReads, Consults, Books, Moves, with_facts}
 
--- a failure goes on as one, whatever was to be answered
-pub goes_failed : {T S : Type 0} (old new : Ledger) (why : BooksFault) → LedgerGoesOn {T = T} old new (Err why) → LedgerGoesOn {T = S} old new (Err why)
-goes_failed old new (Store fault) goes = record { clean = goes.clean; faults = goes.faults; zone = goes.zone }
-goes_failed old new Memory goes = record { clean = goes.clean; faults = goes.faults; zone = goes.zone }
+-- one call is some
+pub passes : {T : Type 0} (old new : Ledger) (result : Result T BooksFault) → LedgerGoesOn old new result → LedgerPasses old new result
+passes old new (Ok x) goes = record { clean = goes.clean; faults = goes.faults; zone = goes.zone }
+passes old new (Err (Store fault)) goes = record { clean = goes.clean; faults = goes.faults; zone = goes.zone }
+passes old new (Err Memory) goes = record { clean = goes.clean; faults = inl goes.faults; zone = goes.zone }
 
-pub goes_on_then : {T S : Type 0} (old between new : Ledger) (x : T) (result : Result S BooksFault)
-    → LedgerGoesOn old between (Ok x) → LedgerGoesOn between new result → LedgerGoesOn old new result
-goes_on_then old between new x (Ok y) first after = record {
+pub consults : {T : Type 0} (old new : Ledger) (result : Result T BooksFault) → OnlyReads old new result → Consults old new result
+consults old new result reads = record { goes = passes old new result reads.goes; keeps = reads.keeps }
+
+-- a success goes on as one, and a failure, whatever was to be answered
+pub passes_well : {T S : Type 0} (old new : Ledger) (x : T) (y : S) → LedgerPasses old new (Ok x) → LedgerPasses old new (Ok y)
+passes_well old new x y goes = record { clean = goes.clean; faults = goes.faults; zone = goes.zone }
+
+pub passes_failed : {T S : Type 0} (old new : Ledger) (why : BooksFault) → LedgerPasses {T = T} old new (Err why) → LedgerPasses {T = S} old new (Err why)
+passes_failed old new (Store fault) goes = record { clean = goes.clean; faults = goes.faults; zone = goes.zone }
+passes_failed old new Memory goes = record { clean = goes.clean; faults = goes.faults; zone = goes.zone }
+
+-- memory ran out after a success
+pub passes_without : {T S : Type 0} (old new : Ledger) (x : T) → LedgerPasses old new (Ok x) → LedgerPasses {T = S} old new (Err Memory)
+passes_without old new x goes = record { clean = goes.clean; faults = inr goes.faults; zone = goes.zone }
+
+pub passes_then : {T S : Type 0} (old between new : Ledger) (x : T) (result : Result S BooksFault)
+    → LedgerPasses old between (Ok x) → LedgerPasses between new result → LedgerPasses old new result
+passes_then old between new x result first after = record {
   clean = λ c. first.clean (after.clean c);
-  faults = after.faults ∙ first.faults;
+  faults = let P : Failures → Type 0 = λ failures. FailuresGoOn result failures new.failures in subst P first.faults after.faults;
   zone = after.zone ∙ first.zone;
 }
-goes_on_then {S = S} old between new x (Err (Store fault)) first after = record {
-  clean = λ c. first.clean (after.clean c);
-  faults = after.faults ∙ ap (faults_after {T = S} (Err (Store fault))) first.faults;
-  zone = after.zone ∙ first.zone;
-}
-goes_on_then old between new x (Err Memory) first after = record {
-  clean = λ c. first.clean (after.clean c);
-  faults = after.faults ∙ first.faults;
-  zone = after.zone ∙ first.zone;
+
+pub keeps_then : (old between new : Ledger) → KeepsFacts old between → KeepsFacts between new → KeepsFacts old new
+keeps_then old between new first after = record {
+  facts = λ known h. after.facts known (first.facts known h);
+  left = λ left may. after.left left (first.left left may);
 }
 
--- a look-up that fails moves nothing
-pub failed_reading : {T S : Type 0} (old new : Ledger) (known later : List Fact) (why : BooksFault) → OnlyReads {T = T} old new (Err why)
+pub consults_then : {T S : Type 0} (old between new : Ledger) (x : T) (result : Result S BooksFault)
+    → Consults old between (Ok x) → Consults between new result → Consults old new result
+consults_then old between new x result first after = record {
+  goes = passes_then old between new x result first.goes after.goes;
+  keeps = keeps_then old between new first.keeps after.keeps;
+}
+
+-- look-ups that fail move nothing
+pub failed_reading : {T S : Type 0} (old new : Ledger) (known later : List Fact) (why : BooksFault) → Consults {T = T} old new (Err why)
     → Moves {T = S} old new known later (Err why)
 failed_reading old new known later why reads = record {
   holds = λ h c. tt;
   refused = λ h. reads.keeps.facts known h;
   settled = λ left h c may. tt;
   under_way = λ left h c may. inl (reads.keeps.left left may);
-  goes = goes_failed old new why reads.goes;
+  goes = passes_failed old new why reads.goes;
 }
 
--- what moves after a look-up
+-- what moves after look-ups
 pub read_then : {T S : Type 0} (old between new : Ledger) (known later : List Fact) (x : T) (result : Result S BooksFault)
-    → OnlyReads old between (Ok x) → Moves between new known later result → Moves old new known later result
+    → Consults old between (Ok x) → Moves between new known later result → Moves old new known later result
 read_then old between new known later x result reads moves = record {
   holds = λ h c. moves.holds (reads.keeps.facts known h) c;
   refused = λ h. moves.refused (reads.keeps.facts known h);
   settled = λ left h c may. moves.settled left (reads.keeps.facts known h) c (reads.keeps.left left may);
   under_way = λ left h c may. moves.under_way left (reads.keeps.facts known h) c (reads.keeps.left left may);
-  goes = goes_on_then old between new x result reads.goes moves.goes;
+  goes = passes_then old between new x result reads.goes moves.goes;
 }
 
 -- From facts that were booked a stop leaves those; or there were none, and it leaves what it left.
@@ -70,21 +90,21 @@ settles old new known left facts x books h lawful may = elim (settled_or_none ol
 
 -- facts that are booked
 pub booked : (old new : Ledger) (known facts : List Fact) (result : Result (Unit {0}) BooksFault)
-    → ((known : List Fact) → old.holds known → AreLawful (with_facts facts known)) → Books old new facts result
+    → (old.holds known → AreLawful (with_facts facts known)) → Books old new facts result
     → Moves old new known (with_facts facts known) result
 booked old new known facts (Ok done) lawful books = record {
-  holds = λ h c. books.booked known h (lawful known h);
+  holds = λ h c. books.booked known h (lawful h);
   refused = λ h. tt;
-  settled = λ left h c may. settles old new known left facts done books h (lawful known h) may;
+  settled = λ left h c may. settles old new known left facts done books h (lawful h) may;
   under_way = λ left h c may. tt;
-  goes = books.goes;
+  goes = passes old new (Ok done) books.goes;
 }
 booked old new known facts (Err why) lawful books = record {
   holds = λ h c. tt;
   refused = λ h. books.refused known h;
   settled = λ left h c may. tt;
-  under_way = λ left h c may. inr (books.under_way known left h (lawful known h) may);
-  goes = books.goes;
+  under_way = λ left h c may. inr (books.under_way known left h (lawful h) may);
+  goes = passes old new (Err why) books.goes;
 }
 
 -- what is answered in the end is another value
@@ -94,7 +114,7 @@ answered old new known later x y moves = record {
   refused = λ h. tt;
   settled = moves.settled;
   under_way = λ left h c may. tt;
-  goes = record { clean = moves.goes.clean; faults = moves.goes.faults; zone = moves.goes.zone };
+  goes = passes_well old new x y moves.goes;
 }
 
 pub failed : {T S : Type 0} (old new : Ledger) (known later : List Fact) (why : BooksFault) → Moves {T = T} old new known later (Err why) → Moves {T = S} old new known later (Err why)
@@ -103,15 +123,5 @@ failed old new known later why moves = record {
   refused = moves.refused;
   settled = λ left h c may. tt;
   under_way = moves.under_way;
-  goes = goes_failed old new why moves.goes;
-}
-
--- want of memory before anything was asked
-pub unmoved : {S : Type 0} (ledger : Ledger) (known later : List Fact) → Moves {T = S} ledger ledger known later (Err Memory)
-unmoved ledger known later = record {
-  holds = λ h c. tt;
-  refused = λ h. h;
-  settled = λ left h c may. tt;
-  under_way = λ left h c may. inl may;
-  goes = record { clean = λ c. c; faults = refl; zone = refl };
+  goes = passes_failed old new why moves.goes;
 }

@@ -28,7 +28,7 @@ pub enum Repeat {
 /// Books hold lawful facts, the latest first. A look-up answers what the facts say, and changes none; `book` adds facts, all
 /// of them or none. What is said of an answer is said where `is_clean` holds after the call: where the store gave back what
 /// was written to it. Books in memory are always clean; of books that are not, only what a clause says without it holds: failures
-/// are counted, a look-up keeps what was known, the zone stays, an installation's numbers are in their ranges.
+/// are noted, a look-up keeps what was known, the zone stays, an installation's numbers are in their ranges.
 pub trait Books: Drop {
     ghost use Rattle.std.specs.Prelude.{◌≡◌, List, reverse, length};
     ghost use Rattle.office_events.specs.declared.facts.Fact.{Fact};
@@ -49,7 +49,7 @@ pub trait Books: Drop {
 
     /// How often the store failed. It stays at the greatest number.
     fn faults(&self) -> u64
-        ensures { result ≡ (ledger self.now).fault_count };
+        ensures { result ≡ (ledger self.now).failures.count };
 
     /// The zone of the civil days.
     fn zone(&self) -> Zone

@@ -2,6 +2,7 @@
 #![tactic(auto)]
 
 mod books;
+mod failures;
 mod faults;
 mod named;
 mod next_entry;
@@ -9,6 +10,7 @@ mod openings;
 mod soundness;
 
 pub use books::{Books, Repeat, RowSink};
+pub use failures::Failures;
 pub use faults::{BooksFault, StoreFault};
 pub use named::{list_at, meter_at};
 pub use next_entry::{enter, judge};

@@ -11,13 +11,13 @@ use Rattle.office_rules.specs.Lawfulness.{IsPast}
 use Rattle.office_booking.specs.declared.sessions.slots.Slot.{Slot}
 use Rattle.office_books.specs.declared.faults.BooksFault.{BooksFault}
 use Rattle.office_books.specs.declared.faults.BooksFault.TheVariants.{Store, Memory}
-use Rattle.office_books.specs.Faults.{as_refusal, faults_after}
+use Rattle.office_books.specs.Faults.{FailuresGoOn, as_refusal}
 use Rattle.office_books.specs.Ledgers.{Ledger, OnlyReads}
 use Rattle.office_booking.specs.Opening.OpenedOffice.{MayOpen, Opens}
 use Rattle.office_core.specs.Leaving.{BooksStand, Leaves, LeftByOpening, LeftOnceDone, LeftOnceFailed}
 use Rattle.office_core.specs.Reopening.{IsNotOpened, IsReopened}
 use Rattle.office_core.proofs.Left.{read_stand, moved_on, moved_not, done_left, failed_left, read_first}
-use Rattle.office_core.proofs.Taken.{failed_outside}
+use Rattle.office_core.proofs.Taken.{books_failed, failed_outside}
 
 opened_past : (past : History) (at : ℕ) → IsPast past → opening_refusal_of (facts_of past) at ≡ None → IsPast (Opened at ∷ past)
 opened_past past at is none = record { accepted = (none, is.accepted); planned = is.planned }
@@ -42,7 +42,7 @@ pub not_asked : {T : Type 0} (past : History) (at : ℕ) (old new : Ledger) (fau
     → BooksStand old past → why ≡ as_refusal fault → IsNotOpened past at old new why
 not_asked {T = T} past at old new fault why reads stand is =
     subst (IsNotOpened past at old new) (sym is)
-    (record { books = read_stand old new past (Err fault) reads stand; leaves = read_left old new past at (Err fault) (as_refusal fault) reads; reason = inr (failed_outside T _ _ fault reads.goes.faults) })
+    (record { books = read_stand old new past (Err fault) reads stand; leaves = read_left old new past at (Err fault) (as_refusal fault) reads; reason = inr (books_failed T (opening_refusal_of (facts_of past) at ≡ None) _ _ fault reads.goes.faults) })
 
 -- it is refused
 pub refused : {T : Type 0} (past : History) (at : ℕ) (old new : Ledger) (x : T) (why : Refusal) → OnlyReads old new (Ok x)
@@ -78,5 +78,7 @@ not_booked past at old between new x fault why reads stand none clean opens is =
           opening_failed old new past at fault
           (read_first old between new (Ok x) (LeftOnceFailed past (Opened at)) reads
           (failed_left between new (Opened at) past fault opened.books (opened_past past at stand.is_past (sym none)) clean kept));
-      reason = inr (failed_outside (Vec Slot Global) _ _ fault (subst (λ n. new.fault_count ≡ faults_after {T = Vec Slot Global} (Err fault) n) reads.goes.faults opened.books.goes.faults));
+      reason =
+          inr (failed_outside (Vec Slot Global) (opening_refusal_of (facts_of past) at ≡ None) _ _ fault
+          (subst (λ n. FailuresGoOn {T = Vec Slot Global} (Err fault) n new.failures) reads.goes.faults opened.books.goes.faults) (sym none));
     })

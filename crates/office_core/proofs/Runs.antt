@@ -10,6 +10,7 @@ use Rattle.office_events.specs.declared.refusals.Refusal.{Refusal}
 use Rattle.office_events.specs.declared.refusals.Refusal.TheVariants as refusal
 use Rattle.office_rules.specs.History.{History, Opened}
 use Rattle.office_rules.specs.Refusals.{with_answer}
+use Rattle.office_books.specs.declared.failures.Failures.{Failures}
 use Rattle.office_books.specs.Ledgers.{Ledger}
 use Rattle.office_core.specs.declared.office.Office.{Office}
 use Rattle.office_core.specs.Failing.{Counts, IsNotForWantOfDay, is_failure, stops}
@@ -47,7 +48,7 @@ history_push : (past : History) (fed : List Answered) (one : Answered)
 history_push past [] one = refl
 history_push past (f ∷ fed) one = history_push (with_answer past f.at f.event f.result) fed one
 
-answers_push : (past : History) (before between after : ℕ) (fed : List Answered) (one : Answered)
+answers_push : (past : History) (before between after : Failures) (fed : List Answered) (one : Answered)
     → AreAnswered past before between fed → IsAnswered (history_after past fed) between after one
     → AreAnswered past before after (fed ++ one ∷ [])
 answers_push past before between after [] one h k = (after, rw (sym h) k, refl)
@@ -84,7 +85,7 @@ stops_push : (before between : Bool) (fed : List Answered) (one : Answered)
 stops_push before between [] one h k = rw (sym h) (k, refl)
 stops_push before between (f ∷ fed) one h k = (h.0, stops_push (before || stops f.event f.result) between fed one h.1 k)
 
-counts_push : (before between after : ℕ) (fed : List Answered) (one : Answered)
+counts_push : (before between after : Failures) (fed : List Answered) (one : Answered)
     → CountInTurn before between fed → Counts between after one.result → CountInTurn before after (fed ++ one ∷ [])
 counts_push before between after [] one h k = (after, rw (sym h) k, refl)
 counts_push before between after (f ∷ fed) one h k = (h.0, h.1, counts_push h.0 between after fed one h.2 k)
@@ -101,14 +102,14 @@ pub record SoFar {B : Type 0} (ledger : B → Ledger) (books : B) (opened : ℕ)
   pub stands : (past : History) → BooksStand (ledger books) past → (ledger (books_in office)).is_clean
       → Stands ledger (history_after (Opened opened ∷ past) fed) office
   pub answers : (past : History) → BooksStand (ledger books) past → (ledger (books_in office)).is_clean
-      → AreAnswered (Opened opened ∷ past) (ledger books).fault_count (ledger (books_in office)).fault_count fed
+      → AreAnswered (Opened opened ∷ past) (ledger books).failures (ledger (books_in office)).failures fed
   pub leaves : (past : History) → BooksStand (ledger books) past → (ledger (books_in office)).is_clean
       → Leaves (ledger books) (ledger (books_in office)) (LeftByRun past opened fed)
   pub told : (past : History) → BooksStand (ledger books) past → (ledger (books_in office)).is_clean
       → TellsOfLast (Opened opened ∷ past) fed office
   pub stops : StopsInTurn false (is_stopped office) fed
   pub no_day : All HasItsDay fed
-  pub counts : CountInTurn (ledger books).fault_count (ledger (books_in office)).fault_count fed
+  pub counts : CountInTurn (ledger books).failures (ledger (books_in office)).failures fed
   pub clean : (ledger (books_in office)).is_clean → (ledger books).is_clean
   pub zone : (ledger (books_in office)).zone ≡ (ledger books).zone
 

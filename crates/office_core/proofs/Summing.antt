@@ -1,5 +1,5 @@
 -- Rows that a sink adds up to days, one after the other.
-use Rattle.std.proofs.Common.{◌≡◌, ℕ, ◌+◌, ◌≤◌, ◌<◌, List, [], ◌∷◌, ◌++◌, length, get_or, Option, Some, None, refl, sym, ap, subst, ◌∙◌, arith, append_assoc, length-append}
+use Rattle.std.proofs.Common.{◌≡◌, ℕ, ◌+◌, ◌≤◌, ◌<◌, List, [], ◌∷◌, ◌++◌, length, get_or, Option, Some, None, inr, refl, sym, ap, subst, ◌∙◌, arith, append_assoc, length-append}
 use Rattle.std.specs.Prelude.{MatchOption, MatchResult, Result, Ok, Err, map, unwrap_or}
 use Rattle.std.specs.declared.alloc.Global.{Global}
 use Rattle.std.specs.declared.vec.Vec.{Vec}
@@ -88,15 +88,15 @@ no_earlier zone rows fold latest row same taken may = after_latest rows latest r
 
 -- the days that the sink has in the end are those of the rows
 days_by : (failed : Option DayFault) (old new : Ledger) (zone : Zone) (rows : List Share) (fold : FoldState)
-    (result : Result (Vec DayTotal Global) Refusal) → new.fault_count ≡ old.fault_count → UnlessFailed failed (HasTaken zone rows fold)
+    (result : Result (Vec DayTotal Global) Refusal) → new.failures ≡ old.failures → UnlessFailed failed (HasTaken zone rows fold)
     → EndsAs failed fold.accounts result
-    → MatchResult result (λ days. AreAccounts zone rows (map account_of days.items) × (new.fault_count ≡ old.fault_count))
-    (IsOutside old.fault_count new.fault_count)
+    → MatchResult result (λ days. AreAccounts zone rows (map account_of days.items) × (new.failures ≡ old.failures))
+    (IsOutside (Unit {0}) old.failures new.failures)
 days_by None old new zone rows fold (Ok days) same added ends = (subst (AreAccounts zone rows) (sym ends) added.accounts, same)
 days_by None old new zone rows fold (Err why) same added ends = absurd ends
 days_by (Some f) old new zone rows fold (Ok days) same added ends = absurd ends
 days_by (Some fault.Memory) old new zone rows fold (Err why) same added ends =
-    subst (IsOutside old.fault_count new.fault_count) (sym ends) same
+    subst (IsOutside (Unit {0}) old.failures new.failures) (sym ends) (inr (tt, same))
 days_by (Some fault.Zone) old new zone rows fold (Err why) same added ends = absurd added
 
 pub adds_up : (old new : Ledger) (fresh after : DaySink) (register : List ℕ) (done : Unit {0}) (result : Result (Vec DayTotal Global) Refusal)

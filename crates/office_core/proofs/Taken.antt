@@ -15,7 +15,8 @@ use Rattle.office_rules.specs.Lawfulness.{IsPast, PutsPlanned}
 use Rattle.office_books.specs.declared.faults.BooksFault.{BooksFault}
 use Rattle.office_books.specs.declared.faults.BooksFault.TheVariants.{Store, Memory}
 use Rattle.office_books.specs.declared.faults.StoreFault.TheVariants.{Refused, Damaged}
-use Rattle.office_books.specs.Faults.{as_refusal, faults_after}
+use Rattle.office_books.specs.declared.failures.Failures.{Failures}
+use Rattle.office_books.specs.Faults.{FailuresGoOn, as_refusal, faults_after}
 use Rattle.office_rules.specs.Refusals.{with_answer}
 use Rattle.office_rules.specs.Notes.{notes_of, outgoing_of, notes_after, outgoing_after}
 use Rattle.office_booking.specs.Sessions.Keeping.{KeepsSlots}
@@ -81,11 +82,26 @@ pub refused_left : (old new : Ledger) (past : History) (at : ℕ) (e : Event) (w
 refused_left old new past at e why keeps = λ before may. (before, left_by_refused past at e why before, keeps.left before may)
 
 -- how failures of books are told and counted
-pub failed_outside : (T : Type 0) (before after : ℕ) (why : BooksFault) → after ≡ faults_after {T = T} (Err why) before
-    → IsOutside before after (as_refusal why)
-failed_outside T before after (Store Refused) is = is
-failed_outside T before after (Store Damaged) is = is
-failed_outside T before after Memory is = is
+pub failed_outside : (T takes_memory : Type 0) (before after : Failures) (why : BooksFault) → FailuresGoOn {T = T} (Err why) before after → takes_memory
+    → IsOutside takes_memory before after (as_refusal why)
+failed_outside T takes_memory before after (Store Refused) is takes = is
+failed_outside T takes_memory before after (Store Damaged) is takes = is
+failed_outside T takes_memory before after Memory (inl told) takes = inl told
+failed_outside T takes_memory before after Memory (inr same) takes = inr (takes, same)
+
+-- the office takes memory of its own in more cases
+pub outside_more : (few many : Type 0) (before after : Failures) (why : Refusal) → (few → many) → IsOutside few before after why → IsOutside many before after why
+outside_more few many before after (refusal.Store cause) more is = is
+outside_more few many before after refusal.Memory more (inl told) = inl told
+outside_more few many before after refusal.Memory more (inr own) = inr (more own.0, own.1)
+outside_more few many before after refusal.Stopped more is = is
+outside_more few many before after why more is = absurd is
+
+pub books_failed : (T takes_memory : Type 0) (before after : Failures) (why : BooksFault) → after ≡ faults_after {T = T} (Err why) before
+    → IsOutside takes_memory before after (as_refusal why)
+books_failed T takes_memory before after (Store Refused) is = is
+books_failed T takes_memory before after (Store Damaged) is = is
+books_failed T takes_memory before after Memory is = inl is
 
 -- an event of a device that fails stops the office, or is none that may settle polls
 pub goes_on_unsettling : (e : Event) (why : BooksFault) → stops e (Err (as_refusal why)) ≡ false → may_settle e ≡ false
@@ -180,7 +196,7 @@ pub not_taken : {B T : Type 0} (ledger : B → Ledger) (past : History) (at : �
 not_taken {T = T} ledger past at e old new fault why may accepted clean moves is goes notes outgoing =
     subst (λ w. Takes ledger past at e old new (Err w)) (sym is)
     (record {
-      answer = inr (failed_outside T _ _ fault moves.goes.faults);
+      answer = inr (failed_outside T (IsAccepted past at e) _ _ fault moves.goes.faults accepted);
       books = moved_not (ledger old.books) (ledger new.books) (Fed at e) past fault moves (one_more_past past at e may.books.is_past accepted may.planned) clean may.books;
       leaves =
           event_failed (ledger old.books) (ledger new.books) past at e fault

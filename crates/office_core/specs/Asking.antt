@@ -17,11 +17,12 @@ use Rattle.office_rules.specs.History.{History, facts_of}
 use Rattle.office_rules.specs.Intervals.{rows_of_opening, AreDaysOf}
 use Rattle.office_rules.specs.Lawful.{AreLawful}
 use Rattle.office_books.specs.declared.faults.BooksFault.{BooksFault}
-use Rattle.office_books.specs.Faults.{as_refusal, one_more}
+use Rattle.office_books.specs.declared.failures.Failures.{Failures}
+use Rattle.office_books.specs.Faults.{as_refusal}
 use Rattle.office_books.specs.Ledgers.{Ledger, KeepsFacts}
 use Rattle.office_books.specs.Rows.{TakesAll, TakesFirst}
 use Rattle.office_core.specs.declared.office.Office.{Office}
-use Rattle.office_core.specs.Failing.{FailsOutside, IsNotStopped, IsOutside}
+use Rattle.office_core.specs.Failing.{FailsOutside, IsNotStopped, IsOutside, MemoryLacked, StoreFailed}
 use Rattle.office_core.specs.Standing.{Stands, After, books_in, is_stopped, notes_in, outgoing_in}
 use Rattle.office_core.specs.Taking.{failures_of}
 
@@ -35,10 +36,12 @@ abbrev pub answered : {T : Type 0} → Result (Option T) BooksFault → Result T
 answered (Ok found) = or_not_found found
 answered (Err why) = Err (as_refusal why)
 
--- So a question is answered, and the count of the books' failures stays; or it failed outside.
-abbrev pub IsFound : {T : Type 0} → Option T → (before after : ℕ) → Result T Refusal → Type 0
-IsFound found before after result =
-    ((result ≡ or_not_found found) × (after ≡ before)) ⊎ FailsOutside before after result
+-- So a question is answered, and the books did not fail; or it failed outside.
+abbrev pub IsFound : {T : Type 0} → (takes_memory : Type 0) → Option T → (before after : Failures)
+    → Result T Refusal → Type 0
+IsFound takes_memory found before after result =
+    ((result ≡ or_not_found found) × (after ≡ before))
+    ⊎ FailsOutside takes_memory before after result
 
 -- that something is there, whatever it is
 abbrev pub is_there : {T : Type 0} → Option T → Option (Unit {0})
@@ -54,10 +57,15 @@ abbrev pub intervals_of : List Fact → (meter : Option (List ℕ)) → Option (
 intervals_of facts meter =
     option_map (rows_of_opening facts) (option_and_then (opening_of facts) meter)
 
+-- A question for a row takes no memory of the office's own.
+abbrev pub IsRowFound : {T : Type 0} → Option T → (before after : Failures) → Result T Refusal
+    → Type 0
+IsRowFound found before after result = IsFound ⊥ found before after result
+
 -- Rows are asked for. What the sink took begins those that are there, and at Ok is all of them.
 pub record HandsRows {S T : Type 0} (takes : S → T → S → Type 0) (rows : Option (List T))
-    (before after : ℕ) (from to : S) (result : Result (Unit {0}) Refusal) : Type 0 where
-  pub answer : IsFound (is_there rows) before after result
+    (before after : Failures) (from to : S) (result : Result (Unit {0}) Refusal) : Type 0 where
+  pub answer : IsRowFound (is_there rows) before after result
   pub begun : TakesFirst takes from (rows_in rows) to
   pub whole : OnOk result (TakesAll takes from (rows_in rows) to)
 
@@ -75,11 +83,13 @@ pub record TakesDays {S : Type 0} (takes : S → DayTotal → S → Type 0) (zon
   pub few : length days < 2 ^ 64
   pub took : TakesAll takes from days to
 
--- Days are asked for. The sink took all of them at Ok, and else none.
+-- Days are asked for. The sink took all of them at Ok, and else none. Where there is a register of the name, they take memory
+-- of the office's own.
 pub record HandsDays {S : Type 0} (takes : S → DayTotal → S → Type 0) (zone : Zone)
-    (facts : List Fact) (register : Option (List ℕ)) (before after : ℕ) (from to : S)
+    (facts : List Fact) (register : Option (List ℕ)) (before after : Failures) (from to : S)
     (result : Result (Unit {0}) Refusal) : Type 0 where
-  pub answer : IsFound (is_there (option_and_then (register_of facts) register)) before after result
+  pub answer : let there = is_there (option_and_then (register_of facts) register) in
+      IsFound (there ≡ Some tt) there before after result
   pub whole : OnOk result (TakesDays takes zone facts register from to)
   pub none : OnErr result (to ≡ from)
 
@@ -88,19 +98,19 @@ abbrev pub FoundIn : {T : Type 0} → (old new : Ledger) → Result T Refusal �
     → Type 0
 FoundIn old new result row =
     (known : List Fact) → old.holds known → new.is_clean
-    → IsFound (row known) old.fault_count new.fault_count result
+    → IsRowFound (row known) old.failures new.failures result
 
 abbrev pub RowsIn : {S T : Type 0} → (S → T → S → Type 0) → (old new : Ledger) → (from to : S)
     → Result (Unit {0}) Refusal → (List Fact → Option (List T)) → Type 0
 RowsIn takes old new from to result rows =
     (known : List Fact) → old.holds known → new.is_clean
-    → HandsRows takes (rows known) old.fault_count new.fault_count from to result
+    → HandsRows takes (rows known) old.failures new.failures from to result
 
 abbrev pub DaysIn : {S : Type 0} → (S → DayTotal → S → Type 0) → (old new : Ledger) → (from to : S)
     → Result (Unit {0}) Refusal → (register : Option (List ℕ)) → Type 0
 DaysIn takes old new from to result register =
     (known : List Fact) → AreLawful known → old.holds known → new.is_clean
-    → HandsDays takes old.zone known register old.fault_count new.fault_count from to result
+    → HandsDays takes old.zone known register old.failures new.failures from to result
 
 -- the days of a register, as a list, where the facts are lawful; or it failed outside
 abbrev pub ListsDays : (old new : Ledger) → (register : List ℕ)
@@ -109,14 +119,14 @@ ListsDays old new register result =
     (known : List Fact) → AreLawful known → old.holds known → new.is_clean
     → MatchResult result
     (λ days. AreDaysOf old.zone known register (map account_of days.items)
-    × (new.fault_count ≡ old.fault_count))
-    (IsOutside old.fault_count new.fault_count)
+    × (new.failures ≡ old.failures))
+    (IsOutside (Unit {0}) old.failures new.failures)
 
 -- So does the office, by the facts of what it accepted.
 abbrev pub TellsRow : {B T : Type 0} → (B → Ledger) → (old new : Office B) → Result T Refusal
     → (List Fact → Option T) → Type 0
 TellsRow ledger old new result row = After ledger old new (λ past.
-    IsFound (row (facts_of past)) (failures_of ledger old) (failures_of ledger new) result)
+    IsRowFound (row (facts_of past)) (failures_of ledger old) (failures_of ledger new) result)
 
 abbrev pub TellsRows : {B S T : Type 0} → (S → T → S → Type 0) → (B → Ledger)
     → (old new : Office B) → (from to : S) → Result (Unit {0}) Refusal
@@ -137,20 +147,20 @@ abbrev pub TakesRows : {S T : Type 0} → (S → T → S → Type 0) → (from t
 TakesRows {S} {T} takes from to = (rows : List T) × TakesAll takes from rows to
 
 -- Of the store's causes, that a row has no civil day is no failure of the books.
-abbrev pub CountsCause : (before after : ℕ) → StoreCause → Type 0
+abbrev pub CountsCause : (before after : Failures) → StoreCause → Type 0
 CountsCause before after store.NoDay = after ≡ before
-CountsCause before after _ = after ≡ one_more before
+CountsCause before after why = StoreFailed why before after
 
 -- A question is refused where nothing is found, the books or memory failed, or the office had stopped, and for no other
--- reason; the count of the books' failures rises by those alone, whatever the books hold.
-abbrev pub CountsWhy : (before after : ℕ) → Refusal → Type 0
+-- reason. It tells of the books' failures, and of no others, whatever they hold; days may take memory of the office's own.
+abbrev pub CountsWhy : (before after : Failures) → Refusal → Type 0
 CountsWhy before after refusal.NotFound = after ≡ before
 CountsWhy before after (refusal.Store cause) = CountsCause before after cause
-CountsWhy before after refusal.Memory = after ≡ before
+CountsWhy before after refusal.Memory = MemoryLacked (Unit {0}) before after
 CountsWhy before after refusal.Stopped = after ≡ before
 CountsWhy before after _ = ⊥
 
-abbrev pub CountsAsked : {T : Type 0} → (before after : ℕ) → Result T Refusal → Type 0
+abbrev pub CountsAsked : {T : Type 0} → (before after : Failures) → Result T Refusal → Type 0
 CountsAsked before after (Ok x) = after ≡ before
 CountsAsked before after (Err why) = CountsWhy before after why
 
@@ -158,7 +168,7 @@ CountsAsked before after (Err why) = CountsWhy before after why
 -- wrong answer of a store was taken as true.
 pub record Asks {T : Type 0} (old new : Ledger) (result : Result T Refusal) : Type 0 where
   pub keeps : KeepsFacts old new
-  pub counts : CountsAsked old.fault_count new.fault_count result
+  pub counts : CountsAsked old.failures new.failures result
   pub not_stopped : IfErr result IsNotStopped
   pub clean : new.is_clean → old.is_clean
   pub zone : new.zone ≡ old.zone

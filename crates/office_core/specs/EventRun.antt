@@ -1,5 +1,5 @@
 -- A run of events: where it leaves the office, what each event was answered, and what is recorded in the end.
-use Rattle.std.specs.Prelude.{◌≡◌, ◌↔◌, ◌||◌, ℕ, Bool, true, false}
+use Rattle.std.specs.Prelude.{◌≡◌, ◌⊎◌, ◌↔◌, ◌||◌, ℕ, Bool, true, false}
 use Rattle.std.specs.Prelude.{List, [], ◌∷◌, length, Result, Err, IfOk, IfErr, All}
 use Rattle.office_events.specs.declared.answers.Answer.{Answer}
 use Rattle.office_events.specs.declared.events.Event.{Event}
@@ -9,11 +9,13 @@ use Rattle.office_events.specs.declared.facts.Fact.{Fact}
 use Rattle.office_rules.specs.History.{History, Opened, facts_of}
 use Rattle.office_rules.specs.Refusals.{with_answer}
 use Rattle.office_rules.specs.Lawfulness.{IsPast, AreTrue}
+use Rattle.office_books.specs.declared.failures.Failures.{Failures}
 use Rattle.office_books.specs.Ledgers.{Ledger}
 use Rattle.office_core.specs.declared.office.Office.{Office}
 use Rattle.office_core.specs.declared.results.Run.{Run}
 use Rattle.office_core.specs.Failing.{Counts, IsNotForWantOfDay, is_failure, stops}
 use Rattle.office_core.specs.Headline.{HeadlineHolds}
+use Rattle.office_core.specs.Reopening.{HandsBackUnopened}
 use Rattle.office_core.specs.Leaving.{BooksStand, Leaves, LeftByEvent, LeftOnceDone}
 use Rattle.office_core.specs.Standing.{Stands, books_in, notes_in, outgoing_in, is_stopped}
 use Rattle.office_core.specs.Taking.{IsAnswer, IsTold, SettlesNothing}
@@ -44,17 +46,17 @@ history_after past (fed ∷ later) =
 abbrev pub accepted_by : {B : Type 0} → History → (opened : ℕ) → List (ℕ × Event) → Run B → History
 accepted_by past opened events run = history_after (Opened opened ∷ past) (events_of events run)
 
--- An event is answered as its definition says, and the count of the books' failures stays; or it failed outside. One
+-- An event is answered as its definition says, and the books did not fail; or it failed outside. One
 -- that settles nothing does not fail.
-pub record IsAnswered (past : History) (before after : ℕ) (fed : Answered) : Type 0 where
+pub record IsAnswered (past : History) (before after : Failures) (fed : Answered) : Type 0 where
   pub answer : IsAnswer past fed.at fed.event before after fed.result
   pub quiet : SettlesNothing past fed.at fed.event → is_failure fed.result ≡ false
 
 -- Each event is answered after what was accepted before it.
-abbrev pub AreAnswered : History → (before after : ℕ) → List Answered → Type 0
+abbrev pub AreAnswered : History → (before after : Failures) → List Answered → Type 0
 AreAnswered past before after [] = after ≡ before
 AreAnswered past before after (fed ∷ later) =
-    (between : ℕ) × IsAnswered past before between fed
+    (between : Failures) × IsAnswered past before between fed
     × AreAnswered (with_answer past fed.at fed.event fed.result) between after later
 
 -- What the office tells in the end is of the last event alone; where none came, it is nothing.
@@ -71,11 +73,11 @@ StopsInTurn before after (fed ∷ later) =
     ((fed.result ≡ Err refusal.Stopped) ↔ (before ≡ true))
     × StopsInTurn (before || stops fed.event fed.result) after later
 
--- The count of the books' failures goes on with each answer.
-abbrev pub CountInTurn : (before after : ℕ) → List Answered → Type 0
+-- How the books failed goes on with each answer.
+abbrev pub CountInTurn : (before after : Failures) → List Answered → Type 0
 CountInTurn before after [] = after ≡ before
 CountInTurn before after (fed ∷ later) =
-    (between : ℕ) × Counts before between fed.result × CountInTurn between after later
+    (between : Failures) × Counts before between fed.result × CountInTurn between after later
 
 -- What a stop leaves goes on with each event: by the facts with those of this one, or it stays.
 abbrev pub LeftInTurn : History → List Answered → (before after : List (List Fact)) → Type 0
@@ -103,6 +105,14 @@ pub record StandsAfter {B : Type 0} (ledger : B → Ledger)
   pub office : Stands ledger (history_after begun (events_of events run)) run.office
   pub told : TellsOfLast begun (events_of events run) run.office
 
+-- Books are handed back with the reason: there was no room for the answers, and they are as they were; or the opening was
+-- refused, or failed.
+abbrev pub HandsBack : {B : Type 0} → (B → Ledger) → (books : B) → (opened : ℕ) → History
+    → B × Refusal → Type 0
+HandsBack ledger books opened past back =
+    ((back.1 ≡ refusal.Memory) × (back.0 ≡ books))
+    ⊎ HandsBackUnopened ledger books opened past back
+
 -- What a stop leaves in its end is by its events alone, and by what it left of the books that were handed in.
 abbrev pub LeavesInTurn : {B : Type 0} → (B → Ledger) → (books : B) → (opened : ℕ)
     → List (ℕ × Event) → History → Run B → Type 0
@@ -110,12 +120,12 @@ LeavesInTurn ledger books opened events past run =
     Leaves (ledger books) (ledger (books_in run.office))
     (LeftByRun past opened (events_of events run))
 
--- Its answers: the count of the books' failures goes on with them.
+-- Its answers: how the books failed goes on with them.
 abbrev pub AnswersEach : {B : Type 0} → (B → Ledger) → (books : B)
     → History → List (ℕ × Event) → Run B → Type 0
 AnswersEach ledger books begun events run =
-    AreAnswered begun (ledger books).fault_count
-    (ledger (books_in run.office)).fault_count (events_of events run)
+    AreAnswered begun (ledger books).failures
+    (ledger (books_in run.office)).failures (events_of events run)
 
 -- The books hold the facts of what was accepted, and of these the headline holds. And more: what was voided leaves no
 -- trace; where a meter tells the truth and is read often enough, its energy and interval rows are the true ones.
@@ -149,7 +159,7 @@ pub record EndsInTurn {B : Type 0} (ledger : B → Ledger)
   pub each : length run.results.items ≡ length events
   pub no_day : All (λ fed. IfErr fed.result IsNotForWantOfDay) (events_of events run)
   pub stops : StopsInTurn false (is_stopped run.office) (events_of events run)
-  pub counts : CountInTurn (ledger books).fault_count
-      (ledger (books_in run.office)).fault_count (events_of events run)
+  pub counts : CountInTurn (ledger books).failures
+      (ledger (books_in run.office)).failures (events_of events run)
   pub clean : (ledger (books_in run.office)).is_clean → (ledger books).is_clean
   pub zone : (ledger (books_in run.office)).zone ≡ (ledger books).zone

@@ -1,41 +1,59 @@
 -- What a failure outside is answered, and what it leaves.
-use Rattle.std.specs.Prelude.{◌≡◌, ◌⊎◌, ℕ, Bool, true, false, ◌&&◌, Result, Ok, Err}
+use Rattle.std.specs.Prelude.{◌≡◌, ◌⊎◌, Bool, true, false, ◌&&◌, Result, Ok, Err}
 use Rattle.office_events.specs.declared.answers.Answer.{Answer}
 use Rattle.office_events.specs.declared.events.Event.{Event}
 use Rattle.office_events.specs.declared.refusals.Refusal.{Refusal}
 use Rattle.office_events.specs.declared.refusals.Refusal.TheVariants as refusal
 use Rattle.office_events.specs.declared.refusals.StoreCause.{StoreCause}
 use Rattle.office_events.specs.declared.refusals.StoreCause.TheVariants as store
-use Rattle.office_books.specs.Faults.{one_more}
+use Rattle.office_books.specs.declared.faults.BooksFault.TheVariants as fault
+use Rattle.office_books.specs.declared.faults.StoreFault.TheVariants as kind
+use Rattle.office_books.specs.declared.failures.Failures.{Failures}
+use Rattle.office_books.specs.Faults.{failed_by}
 use Rattle.office_core.specs.Events.{may_settle}
 
--- A refusal for what does not lie in what was asked, over the count of the books' failures before and after: the books
--- failed, and it is one more; or there was no memory, or the office had stopped, and it is the same.
-abbrev pub IsOutside : (before after : ℕ) → Refusal → Type 0
-IsOutside before after (refusal.Store why) = after ≡ one_more before
-IsOutside before after refusal.Memory = after ≡ before
-IsOutside before after refusal.Stopped = after ≡ before
-IsOutside before after _ = ⊥
+-- The store failed so, by one failure more of that very kind. No failure of it is that a row has no civil day.
+abbrev pub StoreFailed : StoreCause → (before after : Failures) → Type 0
+StoreFailed store.Refused before after = after ≡ failed_by (fault.Store kind.Refused) before
+StoreFailed store.Damaged before after = after ≡ failed_by (fault.Store kind.Damaged) before
+StoreFailed store.NoDay before after = ⊥
 
-abbrev pub FailsOutside : {T : Type 0} → (before after : ℕ) → Result T Refusal → Type 0
-FailsOutside before after (Ok x) = ⊥
-FailsOutside before after (Err why) = IsOutside before after why
+-- There was no memory: the books told so; or the office lacked some of its own, of which it takes any only where this is so.
+abbrev pub MemoryLacked : (takes_memory : Type 0) → (before after : Failures) → Type 0
+MemoryLacked takes_memory before after =
+    (after ≡ failed_by fault.Memory before) ⊎ (takes_memory × (after ≡ before))
 
--- The count goes up by one exactly where the books failed.
-abbrev pub CountsFailures : {T : Type 0} → (before after : ℕ) → Result T Refusal → Type 0
+-- A refusal for what does not lie in what was asked, over how the books failed before and after: the store failed, memory
+-- was lacking, or the office had stopped.
+abbrev pub IsOutside : (takes_memory : Type 0) → (before after : Failures) → Refusal → Type 0
+IsOutside takes_memory before after (refusal.Store why) = StoreFailed why before after
+IsOutside takes_memory before after refusal.Memory = MemoryLacked takes_memory before after
+IsOutside takes_memory before after refusal.Stopped = after ≡ before
+IsOutside takes_memory before after _ = ⊥
+
+abbrev pub FailsOutside : {T : Type 0} → (takes_memory : Type 0) → (before after : Failures)
+    → Result T Refusal → Type 0
+FailsOutside takes_memory before after (Ok x) = ⊥
+FailsOutside takes_memory before after (Err why) = IsOutside takes_memory before after why
+
+-- An opening tells of a failure exactly where there was one, whatever the books hold.
+abbrev pub CountsFailures : {T : Type 0} → (before after : Failures) → Result T Refusal → Type 0
 CountsFailures before after (Ok x) = after ≡ before
-CountsFailures before after (Err (refusal.Store why)) = after ≡ one_more before
+CountsFailures before after (Err (refusal.Store why)) = StoreFailed why before after
+CountsFailures before after (Err refusal.Memory) = MemoryLacked (Unit {0}) before after
 CountsFailures before after (Err _) = after ≡ before
 
 -- Of the store's causes, that it can number no more polls may lie in the event.
-abbrev pub StoreCounts : (before after : ℕ) → StoreCause → Type 0
-StoreCounts before after store.Refused = (after ≡ one_more before) ⊎ (after ≡ before)
-StoreCounts before after _ = after ≡ one_more before
+abbrev pub StoreCounts : (before after : Failures) → StoreCause → Type 0
+StoreCounts before after store.Refused =
+    StoreFailed store.Refused before after ⊎ (after ≡ before)
+StoreCounts before after why = StoreFailed why before after
 
--- So the count goes on where an event was answered, whatever the books hold.
-abbrev pub Counts : {T : Type 0} → (before after : ℕ) → Result T Refusal → Type 0
+-- So it is of an event, whatever the books hold.
+abbrev pub Counts : {T : Type 0} → (before after : Failures) → Result T Refusal → Type 0
 Counts before after (Ok x) = after ≡ before
 Counts before after (Err (refusal.Store why)) = StoreCounts before after why
+Counts before after (Err refusal.Memory) = MemoryLacked (Unit {0}) before after
 Counts before after (Err _) = after ≡ before
 
 -- a reason other than that the office had stopped

@@ -1,5 +1,5 @@
 -- What the opening of an office over books leaves.
-use Rattle.std.specs.Prelude.{◌≡◌, ◌⊎◌, ℕ, List, ◌∷◌, Some, Result, Ok, Err, IfErr}
+use Rattle.std.specs.Prelude.{◌≡◌, ◌⊎◌, ℕ, List, ◌∷◌, None, Some, Result, Ok, Err, IfErr}
 use Rattle.std.specs.declared.alloc.Global.{Global}
 use Rattle.std.specs.declared.vec.Vec.{Vec}
 use Rattle.office_events.specs.declared.refusals.Refusal.{Refusal}
@@ -13,14 +13,15 @@ use Rattle.office_core.specs.declared.office.Office.{Office}
 use Rattle.office_core.specs.Leaving.{BooksStand, Leaves, LeftByOpening}
 use Rattle.office_core.specs.Standing.{books_in}
 
--- An opening is refused as its definition says, or it failed outside; the books stand as they did. A stop then leaves
+-- An opening is refused as its definition says, or it failed outside, and takes memory of its own only where nothing speaks
+-- against it; the books stand as they did. A stop then leaves
 -- what it left, or, where the opening failed, also the facts with all that it would have recorded.
 pub record IsNotOpened (past : History) (at : ℕ) (old new : Ledger) (why : Refusal) : Type 0 where
   pub books : BooksStand new past
   pub leaves : Leaves old new (LeftByOpening {T = Unit {0}} past at (Err why))
   pub reason :
-      ((opening_refusal_of (facts_of past) at ≡ Some why) × (new.fault_count ≡ old.fault_count))
-      ⊎ IsOutside old.fault_count new.fault_count why
+      ((opening_refusal_of (facts_of past) at ≡ Some why) × (new.failures ≡ old.failures))
+      ⊎ IsOutside (opening_refusal_of (facts_of past) at ≡ None) old.failures new.failures why
 
 -- So it is of books that are handed back with the reason, if no wrong answer of a store was taken as true.
 abbrev pub HandsBackUnopened : {B : Type 0} → (B → Ledger) → (books : B) → (at : ℕ) → History
@@ -46,11 +47,11 @@ abbrev pub Reopens : History → (at : ℕ) → (old new : Ledger) → Result (V
 Reopens past at old new (Ok slots) = IsReopened past at old new slots.items
 Reopens past at old new (Err why) = IsNotOpened past at old new why
 
--- Whatever the books hold: the count of their failures goes up by those alone, a wrong answer of a store that was taken
+-- Whatever the books hold: their failures are told, and no others; a wrong answer of a store that was taken
 -- as true stays one, and so does the zone. It isn't refused since an office had stopped, nor since a row has no civil
 -- day.
 pub record Passed {T : Type 0} (old new : Ledger) (result : Result T Refusal) : Type 0 where
-  pub counts : CountsFailures old.fault_count new.fault_count result
+  pub counts : CountsFailures old.failures new.failures result
   pub clean : new.is_clean → old.is_clean
   pub zone : new.zone ≡ old.zone
   pub not_stopped : IfErr result IsNotStopped

@@ -9,6 +9,7 @@ use Rattle.office_rules.specs.Refusals.{IsAccepted, decision_of, refusal_of, wit
 use Rattle.office_rules.specs.Notes.{notes_after, outgoing_after}
 use Rattle.office_rules.specs.Sessions.{command_in}
 use Rattle.office_rules.specs.Lawfulness.{PutsPlanned}
+use Rattle.office_books.specs.declared.failures.Failures.{Failures}
 use Rattle.office_books.specs.Ledgers.{Ledger}
 use Rattle.office_booking.specs.Settling.Settling.{SettleNothing}
 use Rattle.office_core.specs.declared.office.Office.{Office}
@@ -17,17 +18,19 @@ use Rattle.office_core.specs.Failing.{Counts, FailsOutside, IsNotStopped, IsNotF
 use Rattle.office_core.specs.Leaving.{BooksStand, Leaves, LeftByEvent}
 use Rattle.office_core.specs.Standing.{Goes, books_in, is_stopped, notes_in, outgoing_in}
 
--- how often the books of an office failed
-abbrev pub failures_of : {B : Type 0} → (B → Ledger) → Office B → ℕ
-failures_of ledger office = (ledger office.books).fault_count
+-- how the books of an office failed so far
+abbrev pub failures_of : {B : Type 0} → (B → Ledger) → Office B → Failures
+failures_of ledger office = (ledger office.books).failures
 
--- An event is answered as its definition says, and the count of the books' failures stays; or it failed outside.
-abbrev pub IsAnswer : History → (at : ℕ) → Event → (before after : ℕ) → Result Answer Refusal
-    → Type 0
+-- An event is answered as its definition says, and the books did not fail; or it failed outside. Only an event that is new,
+-- and against which nothing speaks, takes memory of the office's own.
+abbrev pub IsAnswer : History → (at : ℕ) → Event → (before after : Failures)
+    → Result Answer Refusal → Type 0
 IsAnswer past at e before after result =
-    ((result ≡ decision_of past at e) × (after ≡ before)) ⊎ FailsOutside before after result
+    ((result ≡ decision_of past at e) × (after ≡ before))
+    ⊎ FailsOutside (IsAccepted past at e) before after result
 
--- So an office answers an event, by how often its books had failed before and have after it.
+-- So an office answers an event, by how its books had failed before and have after it.
 abbrev pub AnswersEvent : {B : Type 0} → (B → Ledger) → (at : ℕ) → Event → (old new : Office B)
     → Result Answer Refusal → History → Type 0
 AnswersEvent ledger at e old new result past =
@@ -46,14 +49,15 @@ pub record IsTold {B : Type 0} (past : History) (at : ℕ) (e : Event)
   pub outgoing : outgoing_in office ≡ outgoing_after past at e result
 
 -- Whatever the books hold, the office refuses since it stopped exactly where it had, and never since a row has no civil
--- day; it stops where an event that may settle polls fails; the books' count of failures rises by those alone; a wrong answer of a
+-- day; it stops where an event that may settle polls fails; it tells of the books' failures, and of
+-- no others; a wrong answer of a
 -- store that was taken as true stays one, and so does the zone.
 pub record Ends {B : Type 0} (ledger : B → Ledger) (old new : Office B) (e : Event)
     (result : Result Answer Refusal) : Type 0 where
   pub stopped : (result ≡ Err refusal.Stopped) ↔ (is_stopped old ≡ true)
   pub no_day : IfErr result IsNotForWantOfDay
   pub stops : is_stopped new ≡ (is_stopped old || stops e result)
-  pub counts : Counts (ledger (books_in old)).fault_count (ledger (books_in new)).fault_count result
+  pub counts : Counts (ledger (books_in old)).failures (ledger (books_in new)).failures result
   pub clean : (ledger (books_in new)).is_clean → (ledger (books_in old)).is_clean
   pub zone : (ledger (books_in new)).zone ≡ (ledger (books_in old)).zone
 
@@ -81,7 +85,7 @@ pub record MayTake {B : Type 0} (ledger : B → Ledger) (past : History) (e : Ev
 pub record Takes {B : Type 0} (ledger : B → Ledger) (past : History) (at : ℕ) (e : Event)
     (old new : Office B) (result : Result Answer Refusal) : Type 0 where
   pub answer : IsAnswer past at e
-      (ledger (books_in old)).fault_count (ledger (books_in new)).fault_count result
+      (ledger (books_in old)).failures (ledger (books_in new)).failures result
   pub books : BooksStand (ledger (books_in new)) (with_answer past at e result)
   pub leaves : LeavesEvent ledger at e old new result past
   pub goes : stops e result ≡ false → Goes (with_answer past at e result) new
@@ -101,12 +105,12 @@ TakesAccepted ledger at e old new result =
     → (ledger (books_in new)).is_clean
     → Takes ledger past at e old new result
 
--- The count of the books' failures rises by those alone, whatever they hold; a wrong answer of a store that was taken
+-- The books' failures are told, and no others, whatever they hold; a wrong answer of a store that was taken
 -- as true stays one, and so do the zone and that the office goes on. It isn't refused since the office had stopped, nor
 -- since a row has no civil day.
 pub record Passes {B : Type 0} (ledger : B → Ledger) (old new : Office B)
     (result : Result Answer Refusal) : Type 0 where
-  pub counts : Counts (ledger (books_in old)).fault_count (ledger (books_in new)).fault_count result
+  pub counts : Counts (ledger (books_in old)).failures (ledger (books_in new)).failures result
   pub clean : (ledger (books_in new)).is_clean → (ledger (books_in old)).is_clean
   pub zone : (ledger (books_in new)).zone ≡ (ledger (books_in old)).zone
   pub stopped : is_stopped new ≡ is_stopped old

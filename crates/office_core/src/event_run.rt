@@ -2,8 +2,8 @@
 ghost use Rattle.std.specs.Prelude.{◌∷◌, Err, IfOk, IfErr};
 ghost use Rattle.office_rules.specs.History.{History, Opened};
 ghost use Rattle.office_core.specs.Leaving.{BooksStand};
-ghost use Rattle.office_core.specs.Reopening.{HandsBackUnopened, Passed};
-ghost use Rattle.office_core.specs.EventRun.{AnswersEach, EndsInTurn, LeavesInTurn, Ran};
+ghost use Rattle.office_core.specs.Reopening.{Passed};
+ghost use Rattle.office_core.specs.EventRun.{AnswersEach, EndsInTurn, HandsBack, LeavesInTurn, Ran};
 ghost use Rattle.office_core.specs.EventRun.{RecordsAccepted, StandsAfter};
 
 use crate::office::Office;
@@ -31,7 +31,7 @@ pub fn run<B: Books>(
         (λ past run. AnswersEach B.ledger books (Opened opened ∷ past) events.now run) }
     ensures ends { IfOk result (λ run. EndsInTurn B.ledger books events.now run) }
     ensures refused { (past : History) → BooksStand (B.ledger books) past
-        → IfErr result (HandsBackUnopened B.ledger books opened past) }
+        → IfErr result (HandsBack B.ledger books opened past) }
     ensures counted { IfErr result
         (λ e. Passed {T = B} (B.ledger books) (B.ledger e.0) (Err e.1)) }
 {

@@ -32,6 +32,7 @@ use Rattle.office_http.proofs.RowsLemmas.Reports.{first_put}
 use Rattle.office_http.specs.Wants.Wanting.{AsksNothing}
 use Rattle.office_http.specs.Answering.{AnswersAt, IsRegister}
 use Rattle.office_http.specs.Serving.{Puts}
+use Rattle.office_core.proofs.Taken.{outside_more}
 use Rattle.office_http.proofs.Served.{StandsStill}
 
 abbrev most : ℕ
@@ -168,16 +169,16 @@ module _ {B : Type 0} (ledger : B → Ledger) (past : History) (at : ℕ) (read 
       })
 
   -- one for which the books failed before the first row
-  failed_served : (why : Refusal) (from out : Outgoing) (cut : Option Refusal) → IsOutside (failures_of ledger old) (failures_of ledger new) why → Told why
+  failed_served : (takes_memory : Type 0) (why : Refusal) (from out : Outgoing) (cut : Option Refusal) → IsOutside takes_memory (failures_of ledger old) (failures_of ledger new) why → Told why
       → StandsStill ledger past old new → sending.Puts from out (reply_bytes (refused why)) × (cut ≡ None) → Puts ledger past at read old new from out cut
-  failed_served why from out cut outside told stands put =
+  failed_served takes_memory why from out cut outside told stands put =
       subst (Puts ledger past at read old new from out) (sym put.1) (record {
         put = reply_bytes (refused why);
         serves = record {
           reply = reply_bytes (refused why);
           is_put = refl;
           later = past;
-          served = inr record { why = why; stopped = told; outside = outside; tells = refl; unchanged = refl };
+          served = inr record { why = why; stopped = told; outside = outside_more takes_memory (Unit {0}) _ _ why (λ takes. tt) outside; tells = refl; unchanged = refl };
           stands = stands.stands;
           leaves = inr (refl, stands.keeps);
         };
@@ -185,7 +186,7 @@ module _ {B : Type 0} (ledger : B → Ledger) (past : History) (at : ℕ) (read 
       })
 
   -- one for which they failed later
-  cut_served : (why : Refusal) (text put rows : List ℕ) (count : ℕ) (from to out : Outgoing) (cut : Option Refusal) → IsOutside (failures_of ledger old) (failures_of ledger new) why
+  cut_served : (why : Refusal) (text put rows : List ℕ) (count : ℕ) (from to out : Outgoing) (cut : Option Refusal) → IsOutside ⊥ (failures_of ledger old) (failures_of ledger new) why
       → AsksNothing routes read
       → ((office : Office) → AnswersAt (ledger (books_in old)).zone past at office → IsReply office routes read text)
       → StandsStill ledger past old new → text ≡ put ++ (rows ++ end_line count) → sending.Puts from to put → (out ≡ to) × (cut ≡ Some why) → Puts ledger past at read old new from out cut
@@ -206,11 +207,11 @@ module _ {B : Type 0} (ledger : B → Ledger) (past : History) (at : ℕ) (read 
   -- the books failed after these rows
   after_rows : {T : Type 0} (line : T → List ℕ) (rows first : List T) (n : ℕ) (start lines : Report) (why : Refusal) (out : Outgoing) (cut : Option Refusal)
       → first ≡ take n rows → TakesAll (takes_lines line) start first lines → start.count ≡ 0 → EndsReport lines (Err why) out cut
-      → IsOutside (failures_of ledger old) (failures_of ledger new) why → Told why → AsksNothing routes read
+      → IsOutside ⊥ (failures_of ledger old) (failures_of ledger new) why → Told why → AsksNothing routes read
       → ((office : Office) → AnswersAt (ledger (books_in old)).zone past at office → IsReply office routes read (text_head ++ report_text line rows))
       → StandsStill ledger past old new → Puts ledger past at read old new start.out out cut
   after_rows line rows [] n start lines why out cut is took none ends outside told nothing replies stands =
-      failed_served why start.out out cut outside told stands (ended_refused start lines why out cut took none ends)
+      failed_served ⊥ why start.out out cut outside told stands (ended_refused start lines why out cut took none ends)
   after_rows line rows (row ∷ rest) n start lines why out cut is took none ends outside told nothing replies stands =
       let first = row ∷ rest in
       let begun = first_put line start lines first none took in
@@ -237,7 +238,7 @@ module _ {B : Type 0} (ledger : B → Ledger) (past : History) (at : ℕ) (read 
       let put = ended_refused start lines why out cut same none ends in
       elim hands.answer [
         | inl is ↦ unknown_served why start.out out cut is.1 nothing (λ office answers. subst (λ w. IsReply office routes read (reply_bytes (refused w))) (unknown why is.0) (replies office answers)) stands put
-        | inr fails ↦ failed_served why start.out out cut fails (λ is. told (ap Err is)) stands put
+        | inr fails ↦ failed_served ⊥ why start.out out cut fails (λ is. told (ap Err is)) stands put
       ]
   rows_told line (Some rows) start lines (Err why) out cut hands none ends few nothing replies stands told = elim hands.answer [
     | inl is ↦ absurd (found_not why is.0)
@@ -250,7 +251,7 @@ module _ {B : Type 0} (ledger : B → Ledger) (past : History) (at : ℕ) (read 
       → start.count ≡ 0 → EndsReport lines (Ok x) out cut → AsksNothing routes read
       → ((office : Office) → IsReply office routes read (reply_bytes (lines_reply days_text (office.days name))))
       → StandsStill ledger past old new → (found : Option (Unit {0})) → is_there (option_and_then (register_of (facts_of past)) name) ≡ found
-      → IsFound found (failures_of ledger old) (failures_of ledger new) (Ok x) → Puts ledger past at read old new start.out out cut
+      → IsFound (found ≡ Some tt) found (failures_of ledger old) (failures_of ledger new) (Ok x) → Puts ledger past at read old new start.out out cut
   days_whole name start lines x out cut hands none ends nothing replies stands found is (inr fails) = absurd fails
   days_whole name start lines x out cut hands none ends nothing replies stands None is (inl so) = absurd (not_found x so.0)
   days_whole name start lines x out cut hands none ends nothing replies stands (Some u) is (inl so) =
@@ -264,9 +265,9 @@ module _ {B : Type 0} (ledger : B → Ledger) (past : History) (at : ℕ) (read 
       → lines ≡ start → start.count ≡ 0 → EndsReport lines (Err why) out cut → AsksNothing routes read
       → ((office : Office) → IsReply office routes read (reply_bytes (lines_reply days_text (office.days name))))
       → StandsStill ledger past old new → Told why → (found : Option Register) → option_and_then (register_of (facts_of past)) name ≡ found
-      → IsFound (is_there found) (failures_of ledger old) (failures_of ledger new) (Err why) → Puts ledger past at read old new start.out out cut
+      → IsFound (is_there found ≡ Some tt) (is_there found) (failures_of ledger old) (failures_of ledger new) (Err why) → Puts ledger past at read old new start.out out cut
   days_refused name start lines why out cut same none ends nothing replies stands told found is (inr fails) =
-      failed_served why start.out out cut fails told stands (ended_refused start lines why out cut same none ends)
+      failed_served (is_there found ≡ Some tt) why start.out out cut fails told stands (ended_refused start lines why out cut same none ends)
   days_refused name start lines why out cut same none ends nothing replies stands told (Some r) is (inl so) = absurd (found_not why so.0)
   days_refused name start lines why out cut same none ends nothing replies stands told None is (inl so) =
       unknown_served why start.out out cut so.1 nothing

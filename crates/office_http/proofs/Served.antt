@@ -7,12 +7,13 @@ use Rattle.office_events.specs.declared.events.Event.TheVariants as event
 use Rattle.office_events.specs.declared.refusals.Refusal.{Refusal}
 use Rattle.office_events.specs.declared.refusals.Refusal.TheVariants as refusal
 use Rattle.office_rules.specs.History.{History}
-use Rattle.office_rules.specs.Refusals.{with_answer}
+use Rattle.office_rules.specs.Refusals.{IsAccepted, with_answer}
 use Rattle.office_books.specs.Ledgers.{Ledger, KeepsFacts}
-use Rattle.office_core.specs.Asking.{IsFound, OnlyAsks, or_not_found}
+use Rattle.office_core.specs.Asking.{IsRowFound, OnlyAsks, or_not_found}
 use Rattle.office_core.specs.Standing.{Stands, books_in, is_stopped}
 use Rattle.office_core.specs.Taking.{Ends, IsAnswer, LeavesEvent, failures_of}
 use Rattle.office_core.specs.declared.office.Office.{Office as Run}
+use Rattle.office_core.proofs.Taken.{outside_more}
 use Rattle.http_commands.specs.declared.fault.CommandFault.{CommandFault}
 use Rattle.http_request.specs.Routing.Routes.{routes}
 use Rattle.http_answer.specs.Kinds.{done_text}
@@ -60,14 +61,14 @@ no_memory ledger past at read old new same stands = record {
   reply = reply_bytes (refused refusal.Memory);
   is_put = refl;
   later = past;
-  served = inr record { why = refusal.Memory; stopped = λ is. absurd (not_stopped is); outside = ap (failures_of ledger) same; tells = refl; unchanged = refl };
+  served = inr record { why = refusal.Memory; stopped = λ is. absurd (not_stopped is); outside = inr (tt, ap (failures_of ledger) same); tells = refl; unchanged = refl };
   stands = subst (Stands ledger past) (sym same) stands;
   leaves = inr (refl, keeps_same ledger old new same);
 }
 
 -- the answer to a question for one row
 pub row_told : {B T : Type 0} (ledger : B → Ledger) (past : History) (at : ℕ) (read : List ℕ) (old new : Run B) (text : T → List ℕ)
-    (found : Option T) (answer : Result T Refusal) → IsFound found (failures_of ledger old) (failures_of ledger new) answer
+    (found : Option T) (answer : Result T Refusal) → IsRowFound found (failures_of ledger old) (failures_of ledger new) answer
     → AsksNothing routes read → ((office : Office) → AnswersAt (ledger (books_in old)).zone past at office → IsReply office routes read (reply_bytes (row_reply text (or_not_found found))))
     → StandsStill ledger past old new → (answer ≡ Err refusal.Stopped → is_stopped old ≡ true)
     → Serves ledger past at read old new None (reply_bytes (row_reply text answer))
@@ -92,7 +93,7 @@ row_told ledger past at read old new text found (Err why) (inr fails) nothing re
   reply = reply_bytes (refused why);
   is_put = refl;
   later = past;
-  served = inr record { why = why; stopped = λ is. stopped (ap Err is); outside = fails; tells = refl; unchanged = refl };
+  served = inr record { why = why; stopped = λ is. stopped (ap Err is); outside = outside_more ⊥ (Unit {0}) _ _ why (λ none. tt) fails; tells = refl; unchanged = refl };
   stands = stands.stands;
   leaves = inr (refl, stands.keeps);
 }
@@ -126,7 +127,7 @@ command_told ledger past at read old new asked (Err why) wanted (inr fails) stan
   reply = reply_bytes (refused why);
   is_put = refl;
   later = past;
-  served = inr record { why = why; stopped = λ is. stopped (ap Err is); outside = fails; tells = refl; unchanged = refl };
+  served = inr record { why = why; stopped = λ is. stopped (ap Err is); outside = outside_more (IsAccepted past at (event.Asked asked)) (Unit {0}) _ _ why (λ accepted. tt) fails; tells = refl; unchanged = refl };
   stands = stands;
   leaves = inl (record { asked = asked; asks = wanted.asks; answer = Err why; accepts = refl; leaves = leaves });
 }

@@ -8,6 +8,7 @@ use Rattle.office_events.specs.declared.refusals.Refusal.{Refusal}
 use Rattle.office_events.specs.declared.refusals.Refusal.TheVariants as refusal
 use Rattle.office_rules.specs.History.{History}
 use Rattle.office_rules.specs.Refusals.{decision_of, with_answer}
+use Rattle.office_books.specs.declared.failures.Failures.{Failures}
 use Rattle.office_books.specs.Ledgers.{Ledger, KeepsFacts}
 use Rattle.office_core.specs.Failing.{IsOutside}
 use Rattle.office_core.specs.Leaving.{Leaves, LeftByEvent}
@@ -46,23 +47,23 @@ pub record IsAnswered (zone : Zone) (past : History) (at : ℕ) (read reply : Li
 
 -- The store or memory failed, or the office had stopped: the reply tells so, and nothing is accepted. That it had stopped
 -- is told only where it had.
-pub record IsUnavailable (past : History) (had_stopped : Bool) (before after : ℕ)
+pub record IsUnavailable (past : History) (had_stopped : Bool) (before after : Failures)
     (reply : List ℕ) (later : History) : Type 0 where
   pub why : Refusal
   pub stopped : why ≡ refusal.Stopped → had_stopped ≡ true
-  pub outside : IsOutside before after why
+  pub outside : IsOutside (Unit {0}) before after why
   pub tells : reply ≡ reply_bytes (refused why)
   pub unchanged : later ≡ past
 
--- What is replied, over the count of the books' failures before and after. A reply is cut off where the books fail while
+-- What is replied, over how the books failed before and after. A reply is cut off where the books fail while
 -- its rows are handed on.
 abbrev pub IsServed : Zone → (past : History) → (at : ℕ) → (read : List ℕ) → (had_stopped : Bool)
-    → (before after : ℕ) → (cut : Option Refusal) → (reply : List ℕ) → (later : History) → Type 0
+    → (before after : Failures) → (cut : Option Refusal) → (reply : List ℕ) → (later : History) → Type 0
 IsServed zone past at read had_stopped before after None reply later =
     (IsAnswered zone past at read reply later × (after ≡ before))
     ⊎ IsUnavailable past had_stopped before after reply later
 IsServed zone past at read had_stopped before after (Some why) reply later =
-    IsAnswered zone past at read reply later × IsOutside before after why
+    IsAnswered zone past at read reply later × IsOutside ⊥ before after why
 
 -- A reply that is cut off lacks rows, or none of them, and its last line, which counts them.
 pub record IsCutOff (put reply : List ℕ) : Type 0 where

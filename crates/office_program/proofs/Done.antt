@@ -11,6 +11,9 @@ use Rattle.office_program.specs.Texts.OpenedOffice.{Opens}
 use Rattle.office_program.specs.Texts.Reports.{Asks, ReportPrints}
 use Rattle.office_program.specs.Texts.EndTexts.{TellsEnd}
 use Rattle.office_program.specs.Report.{TellsReport}
+use Rattle.energy_report.specs.declared.form.ReportForm.{ReportForm}
+use Rattle.office_program.specs.RangedReport.{TellsRange}
+use Rattle.office_program.specs.Texts.RangedReports.{RangePrints}
 use Rattle.office_program.specs.HttpPort.{Port, ServesPort, TellsServing}
 use Rattle.office_program.specs.declared.http_port.ServeEnd.{ServeEnd}
 use Rattle.office_program.specs.declared.http_port.ServeEnd.TheVariants.{Served, Unopened, NoPort, Broken}
@@ -39,6 +42,36 @@ reported {W = W} ledger contents past register name moments later books back ope
     let P : W → Type 0 = λ w. TellsEnd (ReportPrints (ledger (books_in opened)).zone (Opened behind.at ∷ past) name
     (failures_of ledger opened) (failures_of ledger left)) status (contents w) holds in
     let Q : Option (List ℕ) → Type 0 = λ n. TellsEnd (ReportPrints (ledger (books_in opened)).zone (Opened behind.at ∷ past) n
+    (failures_of ledger opened) (failures_of ledger left)) status (contents before) holds in
+    inr (record {
+      then = later;
+      opened = opened;
+      opens = behind;
+      left = left;
+      does = record {
+        prints = subst Q names (subst P same (prints _ behind.stands whole));
+        stands = asks.only.stands _ behind.stands;
+        once = refl;
+      };
+      handed = is;
+    })
+
+pub range_reported : {B W : Type 0} (ledger : B → Ledger) (contents : W → Option (List ℕ)) (past : History) (register : List ℕ)
+    (name : Option (List ℕ)) (form : ReportForm) (moments later : Option (List ℕ)) (books back : B) (opened left : Office B) (before silent : W)
+    (holds : Option (List ℕ)) (status : ExitStatus)
+    → name ≡ named register
+    → ((ledger (books_in opened)).is_clean → Opens ledger past moments later opened)
+    → silent ≡ before
+    → After ledger opened left (λ behind. TellsEnd (RangePrints (ledger (books_in opened)).zone behind name form
+    (failures_of ledger opened) (failures_of ledger left)) status (contents silent) holds)
+    → Asks ledger opened left → back ≡ books_in left → (ledger back).is_clean
+    → TellsRange ledger past register form moments later books back (contents before) holds status
+range_reported {W = W} ledger contents past register name form moments later books back opened left before silent holds status names opens same prints asks is clean =
+    let whole = kept ledger left back is clean in
+    let behind = opens (asks.only.clean whole) in
+    let P : W → Type 0 = λ w. TellsEnd (RangePrints (ledger (books_in opened)).zone (Opened behind.at ∷ past) name form
+    (failures_of ledger opened) (failures_of ledger left)) status (contents w) holds in
+    let Q : Option (List ℕ) → Type 0 = λ n. TellsEnd (RangePrints (ledger (books_in opened)).zone (Opened behind.at ∷ past) n form
     (failures_of ledger opened) (failures_of ledger left)) status (contents before) holds in
     inr (record {
       then = later;

@@ -3,4 +3,5 @@ pub mod Passing
 pub mod OpenedOffice
 pub mod Lines
 pub mod Reports
+pub mod RangedReports
 pub mod Rounds

@@ -5,6 +5,7 @@ mod command_end;
 mod entering;
 mod http_port;
 mod port_round;
+mod ranged_report;
 mod report;
 mod texts;
 
@@ -14,5 +15,6 @@ pub use entering::{
 };
 pub use http_port::{ServeEnd, serve_books};
 pub use port_round::{PATIENCE, PollEnd, poll_books};
+pub use ranged_report::report_range_books;
 pub use report::report_books;
-pub use texts::{open_office, poll_round, report_days, round_status};
+pub use texts::{open_office, poll_round, report_days, report_range, round_status};

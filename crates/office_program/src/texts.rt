@@ -3,9 +3,11 @@
 mod end_texts;
 mod lines;
 mod opened_office;
+mod ranged_report;
 mod report;
 mod round;
 
 pub use opened_office::{Unopened, open_office};
+pub use ranged_report::report_range;
 pub use report::report_days;
 pub use round::{poll_round, round_status};

@@ -12,8 +12,9 @@ use Rattle.office_events.specs.declared.refusals.Refusal.TheVariants as refusal
 use Rattle.office_rules.specs.Facts.{is_named, moment_limit}
 use Rattle.office_rules.specs.PollEndings.{waiting}
 use Rattle.office_rules.specs.History.{History, Fed, facts_of, latest_of, slots_of, next_poll}
-use Rattle.office_rules.specs.Refusals.{comes_wrongly, is_mistimed, reasons, refusal_of, refuses, unless_refused, with_answer}
+use Rattle.office_rules.specs.Refusals.{IsAccepted, comes_wrongly, is_mistimed, reasons, refusal_of, refuses, unless_refused, with_answer}
 use Rattle.office_rules.specs.Sessions.{Slot, slot_of, slot_after, slot_reached, with_happenings}
+use Rattle.office_books.specs.declared.failures.Failures.{Failures}
 use Rattle.office_core.specs.Failing.{FailsOutside}
 use Rattle.office_core.specs.Taking.{IsAnswer}
 use Rattle.office_rounds.specs.Rounds.{NoneWaits}
@@ -106,15 +107,15 @@ gone_or_absent history at given c (Some why) reply is on_time within told =
     rw told (none_waits given history (λ slot found. absent_by history at given c why slot slot.present refl on_time within found is))
 
 -- Once it was fed in time that a device is gone, none of its polls waits, unless the books or memory failed.
-pub gone : (history : History) (at : ℕ) (given : Option (List ℕ)) (c : Closing) (before after : ℕ) (reply : Result Answer Refusal)
+pub gone : (history : History) (at : ℕ) (given : Option (List ℕ)) (c : Closing) (before after : Failures) (reply : Result Answer Refusal)
     → nat_lt at (latest_of history) ≡ false → nat_lt moment_limit at ≡ false → IsAnswer history at (event.Gone given c) before after reply
-    → NoneWaits given (with_answer history at (event.Gone given c) reply) ⊎ FailsOutside before after reply
+    → NoneWaits given (with_answer history at (event.Gone given c) reply) ⊎ FailsOutside (IsAccepted history at (event.Gone given c)) before after reply
 gone history at given c before after reply on_time within (inl told) =
     inl (gone_or_absent history at given c (refusal_of history at (event.Gone given c)) reply refl on_time within told.0)
 gone history at given c before after reply on_time within (inr fails) = inr fails
 
 -- and so it is where that was accepted
-pub gone_accepted : (history : History) (at : ℕ) (given : Option (List ℕ)) (c : Closing) (before after : ℕ) (told : Answer)
+pub gone_accepted : (history : History) (at : ℕ) (given : Option (List ℕ)) (c : Closing) (before after : Failures) (told : Answer)
     → with_answer history at (event.Gone given c) (Ok told) ≡ Fed at (event.Gone given c) ∷ history
     → NoneWaits given (with_answer history at (event.Gone given c) (Ok told))
 gone_accepted history at given c before after told is =

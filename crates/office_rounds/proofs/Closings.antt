@@ -14,7 +14,8 @@ use Rattle.office_events.specs.declared.refusals.Refusal.{Refusal}
 use Rattle.office_events.specs.declared.refusals.Refusal.TheVariants as refusal
 use Rattle.office_rules.specs.History.{History, latest_of}
 use Rattle.office_rules.specs.Facts.{moment_limit}
-use Rattle.office_rules.specs.Refusals.{with_answer}
+use Rattle.office_rules.specs.Refusals.{IsAccepted, with_answer}
+use Rattle.office_books.specs.declared.failures.Failures.{Failures}
 use Rattle.office_books.specs.Ledgers.{Ledger}
 use Rattle.office_core.specs.Failing.{FailsOutside, stops}
 use Rattle.office_core.specs.EventRun.{Answered}
@@ -35,39 +36,39 @@ or_true : (a b : Bool) → b ≡ true → (a || b) ≡ true
 or_true true b h = refl
 or_true false b h = h
 
-stopped_by : (was now : Bool) (d : Option (List ℕ)) (c : Closing) (before after : ℕ) (reply : Result Answer Refusal)
-    → Stops was (event.Gone d c) reply now → FailsOutside before after reply → now ≡ true
-stopped_by was now d c before after (Ok given) stops fails = absurd fails
-stopped_by was now d c before after (Err (refusal.Store why)) stops fails = stops.after ∙ or_true was true refl
-stopped_by was now d c before after (Err refusal.Memory) stops fails = stops.after ∙ or_true was true refl
-stopped_by was now d c before after (Err refusal.Stopped) stops fails = stops.after ∙ ap (λ b. b || false) (stops.before refl)
-stopped_by was now d c before after (Err refusal.NotFound) stops fails = absurd fails
-stopped_by was now d c before after (Err refusal.Exists) stops fails = absurd fails
-stopped_by was now d c before after (Err refusal.ClockBack) stops fails = absurd fails
-stopped_by was now d c before after (Err refusal.BadScale) stops fails = absurd fails
-stopped_by was now d c before after (Err refusal.NegativeStep) stops fails = absurd fails
-stopped_by was now d c before after (Err refusal.NotLater) stops fails = absurd fails
-stopped_by was now d c before after (Err refusal.SpanTooLong) stops fails = absurd fails
-stopped_by was now d c before after (Err refusal.TotalFull) stops fails = absurd fails
-stopped_by was now d c before after (Err refusal.Ended) stops fails = absurd fails
-stopped_by was now d c before after (Err refusal.Busy) stops fails = absurd fails
-stopped_by was now d c before after (Err refusal.Reused) stops fails = absurd fails
-stopped_by was now d c before after (Err refusal.Limit) stops fails = absurd fails
-stopped_by was now d c before after (Err refusal.NotVoidable) stops fails = absurd fails
-stopped_by was now d c before after (Err (refusal.NotPlausible why)) stops fails = absurd fails
+stopped_by : (was now : Bool) (d : Option (List ℕ)) (c : Closing) (takes_memory : Type 0) (before after : Failures) (reply : Result Answer Refusal)
+    → Stops was (event.Gone d c) reply now → FailsOutside takes_memory before after reply → now ≡ true
+stopped_by was now d c takes_memory before after (Ok given) stops fails = absurd fails
+stopped_by was now d c takes_memory before after (Err (refusal.Store why)) stops fails = stops.after ∙ or_true was true refl
+stopped_by was now d c takes_memory before after (Err refusal.Memory) stops fails = stops.after ∙ or_true was true refl
+stopped_by was now d c takes_memory before after (Err refusal.Stopped) stops fails = stops.after ∙ ap (λ b. b || false) (stops.before refl)
+stopped_by was now d c takes_memory before after (Err refusal.NotFound) stops fails = absurd fails
+stopped_by was now d c takes_memory before after (Err refusal.Exists) stops fails = absurd fails
+stopped_by was now d c takes_memory before after (Err refusal.ClockBack) stops fails = absurd fails
+stopped_by was now d c takes_memory before after (Err refusal.BadScale) stops fails = absurd fails
+stopped_by was now d c takes_memory before after (Err refusal.NegativeStep) stops fails = absurd fails
+stopped_by was now d c takes_memory before after (Err refusal.NotLater) stops fails = absurd fails
+stopped_by was now d c takes_memory before after (Err refusal.SpanTooLong) stops fails = absurd fails
+stopped_by was now d c takes_memory before after (Err refusal.TotalFull) stops fails = absurd fails
+stopped_by was now d c takes_memory before after (Err refusal.Ended) stops fails = absurd fails
+stopped_by was now d c takes_memory before after (Err refusal.Busy) stops fails = absurd fails
+stopped_by was now d c takes_memory before after (Err refusal.Reused) stops fails = absurd fails
+stopped_by was now d c takes_memory before after (Err refusal.Limit) stops fails = absurd fails
+stopped_by was now d c takes_memory before after (Err refusal.NotVoidable) stops fails = absurd fails
+stopped_by was now d c takes_memory before after (Err (refusal.NotPlausible why)) stops fails = absurd fails
 
-stopped_as : {B : Type 0} (office : Office B) (was : Bool) (d : Option (List ℕ)) (c : Closing) (before after : ℕ) (reply : Result Answer Refusal)
-    → RefusedStops was (event.Gone d c) reply (is_stopped office) → FailsOutside before after reply → is_stopped office ≡ true
-stopped_as office was d c before after (Ok given) stops fails = absurd fails
-stopped_as office was d c before after (Err why) stops fails =
-    stopped_by was (is_stopped office) d c before after (Err why) (stops why refl) fails
+stopped_as : {B : Type 0} (office : Office B) (was : Bool) (d : Option (List ℕ)) (c : Closing) (takes_memory : Type 0) (before after : Failures) (reply : Result Answer Refusal)
+    → RefusedStops was (event.Gone d c) reply (is_stopped office) → FailsOutside takes_memory before after reply → is_stopped office ≡ true
+stopped_as office was d c takes_memory before after (Ok given) stops fails = absurd fails
+stopped_as office was d c takes_memory before after (Err why) stops fails =
+    stopped_by was (is_stopped office) d c takes_memory before after (Err why) (stops why refl) fails
 
-settled_or : {B : Type 0} (d : Option (List ℕ)) (c : Closing) (history : History) (office : Office B) (was : Bool) (before after at : ℕ)
+settled_or : {B : Type 0} (d : Option (List ℕ)) (c : Closing) (history : History) (office : Office B) (was : Bool) (takes_memory : Type 0) (before after : Failures) (at : ℕ)
     (reply : Result Answer Refusal) → RefusedStops was (event.Gone d c) reply (is_stopped office)
-    → NoneWaits d (with_answer history at (event.Gone d c) reply) ⊎ FailsOutside before after reply
+    → NoneWaits d (with_answer history at (event.Gone d c) reply) ⊎ FailsOutside takes_memory before after reply
     → IsSettled d (with_answer history at (event.Gone d c) reply) office
-settled_or d c history office was before after at reply stops (inl none) = inr none
-settled_or d c history office was before after at reply stops (inr fails) = inl (stopped_as office was d c before after reply stops fails)
+settled_or d c history office was takes_memory before after at reply stops (inl none) = inr none
+settled_or d c history office was takes_memory before after at reply stops (inr fails) = inl (stopped_as office was d c takes_memory before after reply stops fails)
 
 abbrev pub gone_one : (device : Option (List ℕ)) → (at : ℕ) → Result Answer Refusal → Answered
 gone_one device at reply = record { at = at; event = event.Gone device closing.Failed; result = reply }
@@ -92,7 +93,7 @@ closes ledger device past begun was now before office earlier round cause fault 
       leaves = record { stands = taken.stands; answered = (was.failures, broken.leaves.answered, taken.answer) };
       timed = record { between = was.moments; timed = broken.timed; moment = moment; told = tells; is = when };
       printed = printed;
-      settled = settled_or device closing.Failed history office (is_stopped before) was.failures now.failures at reply stops
+      settled = settled_or device closing.Failed history office (is_stopped before) (IsAccepted history at (event.Gone device closing.Failed)) was.failures now.failures at reply stops
           (gone history at device closing.Failed was.failures now.failures reply (ap (λ n. nat_lt n (latest_of history)) when ∙ times.0)
           (ap (λ n. nat_lt moment_limit n) when ∙ times.1) taken.answer);
     }

@@ -34,6 +34,7 @@ use Rattle.office_rules.proofs.EndOnce.{all_agree}
 use Rattle.office_rules.proofs.EndedFacts.{polls-with_settled}
 use Rattle.office_rules.proofs.LawfulChanges.{not_refused}
 use Rattle.office_rules.proofs.SessionLaws.{SessionLaws}
+use Rattle.office_books.specs.declared.failures.Failures.{Failures}
 use Rattle.office_core.specs.EventRun.{Answered}
 use Rattle.office_core.specs.Taking.{IsAnswer}
 use Rattle.office_rounds.specs.Course.{Does, IsTaken, Leave, Next, StartFrom, Take, endings_of, first_by, first_poll, is_ending, next_after, next_behind, next_in, polls_ended, reads_planned, reads_started, start_from}
@@ -425,14 +426,14 @@ started_as laws device past fed at polls started planned sum way accepted is_pas
       };
     })
 
-start_given : (history : History) (at : ℕ) (device : Option (List ℕ)) (from before after : ℕ) (given : Answer)
+start_given : (history : History) (at : ℕ) (device : Option (List ℕ)) (from : ℕ) (before after : Failures) (given : Answer)
     → IsAnswer history at (start_from device from) before after (Ok given)
     → let c = command.StartRound (record { device = device; from = from }) in
     given ≡ answer.Started (next_poll (facts_of history)) (sent_count (slots_of history) (facts_of history) at c) (reads_in_all (facts_of history) c)
 start_given history at device from before after given (inl told) = given_by (refusal_of history at (start_from device from)) _ given told.0
 start_given history at device from before after given (inr fails) = absurd fails
 
-started_round : (laws : Laws) (device : Option (List ℕ)) (past : History) (fed : List Answered) (at before after : ℕ) (given : Answer) (polls : List ℕ)
+started_round : (laws : Laws) (device : Option (List ℕ)) (past : History) (fed : List Answered) (at : ℕ) (before after : Failures) (given : Answer) (polls : List ℕ)
     (started planned : ℕ) (sum : Sum) → IsUnderWay device past fed (round_at device Starting polls started planned sum)
     → IsAnswer (history_behind past fed) at (start_from device started) before after (Ok given)
     → IsPast (Fed at (start_from device started) ∷ history_behind past fed)
@@ -449,7 +450,7 @@ started_round laws device past fed at before after given polls started planned s
     (record { accepted = is_past.accepted.1; planned = is_past.planned.1 }))
 
 -- What is taken from the link.
-pub noted_by : (history : History) (at : ℕ) (device : Option (List ℕ)) (e : Event) (before after : ℕ) (given : Answer) → IsTaken device e
+pub noted_by : (history : History) (at : ℕ) (device : Option (List ℕ)) (e : Event) (before after : Failures) (given : Answer) → IsTaken device e
     → IsAnswer history at e before after (Ok given) → given ≡ answer.Noted
 noted_by history at device (event.Connected d) before after given taken told = absurd taken
 noted_by history at device (event.Bytes d piece) before after given taken (inl told) = given_by (refusal_of history at (event.Bytes d piece)) answer.Noted given told.0
@@ -485,12 +486,12 @@ taken_round laws device past fed at (event.Gone d cause) polls started planned s
 taken_round laws device past fed at (event.Command c) polls started planned sum way taken accepted = absurd taken
 taken_round laws device past fed at (event.Asked asked) polls started planned sum way taken accepted = absurd taken
 
-connected_given : (history : History) (at : ℕ) (device : Option (List ℕ)) (e : Event) (before after : ℕ) (given : Answer) → e ≡ event.Connected device
+connected_given : (history : History) (at : ℕ) (device : Option (List ℕ)) (e : Event) (before after : Failures) (given : Answer) → e ≡ event.Connected device
     → IsAnswer history at e before after (Ok given) → given ≡ answer.Noted
 connected_given history at device e before after given is told =
     connected_noted history at device before after given (subst (λ x. IsAnswer history at x before after (Ok given)) is told)
 
-by_stage : (laws : Laws) (device : Option (List ℕ)) (past : History) (fed : List Answered) (at : ℕ) (e : Event) (before after : ℕ) (given : Answer)
+by_stage : (laws : Laws) (device : Option (List ℕ)) (past : History) (fed : List Answered) (at : ℕ) (e : Event) (before after : Failures) (given : Answer)
     (stage : Stage) (polls : List ℕ) (started planned : ℕ) (sum : Sum) → StandsAt stage device past fed (round_at device stage polls started planned sum)
     → Does device (next_at stage started) e → IsAnswer (history_behind past fed) at e before after (Ok given)
     → IsPast (Fed at e ∷ history_behind past fed) → HoldsAfter device past fed at e (round_at device stage polls started planned sum) given
@@ -518,7 +519,7 @@ by_stage laws device past fed at e before after given (Leaving cause) polls star
     (record { device_is = refl; next = refl; stands = tt })
 
 -- One event more: the round that stood still stands.
-pub holds_on : (laws : Laws) (device : Option (List ℕ)) (past : History) (fed : List Answered) (round : Round) (at : ℕ) (e : Event) (before after : ℕ)
+pub holds_on : (laws : Laws) (device : Option (List ℕ)) (past : History) (fed : List Answered) (round : Round) (at : ℕ) (e : Event) (before after : Failures)
     (given : Answer) → Holds device past fed round → Does device (next_in past fed) e
     → IsAnswer (history_behind past fed) at e before after (Ok given) → IsPast (Fed at e ∷ history_behind past fed)
     → HoldsAfter device past fed at e round given

@@ -7,6 +7,7 @@ use Rattle.office_events.specs.declared.events.Event.TheVariants as event
 use Rattle.office_events.specs.declared.refusals.Refusal.{Refusal}
 use Rattle.office_rules.specs.History.{History}
 use Rattle.office_rules.specs.Refusals.{with_answer}
+use Rattle.office_books.specs.declared.failures.Failures.{Failures}
 use Rattle.office_books.specs.Ledgers.{Ledger}
 use Rattle.office_core.specs.EventRun.{Answered}
 use Rattle.office_core.specs.Taking.{IsAnswer}
@@ -50,7 +51,7 @@ of_this device given c Leave h = cc
 of_this device given c Take h = h.0
 of_this device given c Over h = absurd h
 
-gone_so : (device given : Option (List ℕ)) (c : Closing) (past : History) (at : ℕ) (e : Event) (reply : Result Answer Refusal) (before after : ℕ)
+gone_so : (device given : Option (List ℕ)) (c : Closing) (past : History) (at : ℕ) (e : Event) (reply : Result Answer Refusal) (before after : Failures)
     → e ≡ event.Gone given c → given ≡ device → IsOk reply → IsAnswer past at e before after reply → NoneWaits device (with_answer past at e reply)
 gone_so device given c past at e (Err why) before after is same ok told = absurd (cc)
 gone_so device given c past at e (Ok answer) before after is same ok told =
@@ -62,7 +63,7 @@ gone_so device given c past at e (Ok answer) before after is same ok told =
     (subst R same (gone_accepted past at given c before after answer (one_accepted past at (event.Gone given c) before after answer tt mine)))
 
 -- none of the device's polls waits then
-pub over_settled : (device : Option (List ℕ)) (past : History) (fed : List Answered) (before after : ℕ) → next_in past fed ≡ Over
+pub over_settled : (device : Option (List ℕ)) (past : History) (fed : List Answered) (before after : Failures) → next_in past fed ≡ Over
     → AreNext device past fed → AreAnswered past before after fed → NoneWaits device (history_behind past fed)
 over_settled device past [] before after over next told = absurd (cc)
 over_settled device past (one ∷ earlier) before after over next told =

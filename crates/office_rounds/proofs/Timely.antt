@@ -12,6 +12,7 @@ use Rattle.office_events.specs.declared.refusals.Refusal.TheVariants as refusal
 use Rattle.office_rules.specs.Facts.{latest_in, moment_limit}
 use Rattle.office_rules.specs.History.{History, Opened, Fed, facts_of, latest_of}
 use Rattle.office_rules.specs.Refusals.{AreAccepted, refusal_of, unless_refused, with_answer}
+use Rattle.office_books.specs.declared.failures.Failures.{Failures}
 use Rattle.office_core.specs.Taking.{IsAnswer}
 use Rattle.office_rules.proofs.LawfulChanges.{not_refused}
 use Rattle.office_rounds.specs.Course.{Connect, Does, IsTaken, Leave, Next, Over, StartFrom, Take}
@@ -96,7 +97,7 @@ started : (history : History) (at : ℕ) (e : Event) (given : Answer) (first cou
     → with_answer history at e (Ok given) ≡ Fed at e ∷ history
 started history at e given first count of is = rw is refl
 
-started_one : (history : History) (at : ℕ) (c : Command) (before after : ℕ) (given : Answer) → IsStart c
+started_one : (history : History) (at : ℕ) (c : Command) (before after : Failures) (given : Answer) → IsStart c
     → IsAnswer history at (event.Command c) before after (Ok given)
     → with_answer history at (event.Command c) (Ok given) ≡ Fed at (event.Command c) ∷ history
 started_one history at (command.AddDevice c) before after given start told = absurd start
@@ -115,7 +116,7 @@ started_one history at (command.StartRound c) before after given start (inl told
 started_one history at (command.StartRound c) before after given start (inr fails) = absurd fails
 
 -- an event of a round that is accepted is one more that was
-pub one_accepted : (history : History) (at : ℕ) (e : Event) (before after : ℕ) (given : Answer) → IsOfRound e
+pub one_accepted : (history : History) (at : ℕ) (e : Event) (before after : Failures) (given : Answer) → IsOfRound e
     → IsAnswer history at e before after (Ok given) → with_answer history at e (Ok given) ≡ Fed at e ∷ history
 one_accepted history at (event.Connected d) before after given kind (inl told) = noted history at _ given (given_is (refusal_of history at (event.Connected d)) _ given told.0)
 one_accepted history at (event.Connected d) before after given kind (inr fails) = absurd fails
@@ -129,7 +130,7 @@ one_accepted history at (event.Command c) before after given kind told = started
 one_accepted history at (event.Asked asked) before after given kind told = absurd kind
 
 -- a connection that is accepted is noted
-pub connected_noted : (history : History) (at : ℕ) (d : Option (List ℕ)) (before after : ℕ) (given : Answer)
+pub connected_noted : (history : History) (at : ℕ) (d : Option (List ℕ)) (before after : Failures) (given : Answer)
     → IsAnswer history at (event.Connected d) before after (Ok given) → given ≡ answer.Noted
 connected_noted history at d before after given (inl told) = given_is (refusal_of history at (event.Connected d)) _ given told.0
 connected_noted history at d before after given (inr fails) = absurd fails

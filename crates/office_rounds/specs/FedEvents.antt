@@ -10,6 +10,7 @@ use Rattle.office_events.specs.declared.refusals.Refusal.{Refusal}
 use Rattle.office_rules.specs.History.{History}
 use Rattle.office_rules.specs.Notes.{notes_after, outgoing_after}
 use Rattle.office_rules.specs.Refusals.{with_answer}
+use Rattle.office_books.specs.declared.failures.Failures.{Failures}
 use Rattle.office_core.specs.EventRun.{Answered}
 use Rattle.office_core.specs.Taking.{IsAnswer}
 
@@ -20,10 +21,10 @@ history_behind past (one ∷ earlier) =
     with_answer (history_behind past earlier) one.at one.event one.result
 
 -- Each event is answered as its definition says after those before it, or it failed outside, which is counted.
-abbrev pub AreAnswered : (past : History) → (before after : ℕ) → List Answered → Type 0
+abbrev pub AreAnswered : (past : History) → (before after : Failures) → List Answered → Type 0
 AreAnswered past before after [] = after ≡ before
 AreAnswered past before after (one ∷ earlier) =
-    (between : ℕ) × AreAnswered past before between earlier
+    (between : Failures) × AreAnswered past before between earlier
     × IsAnswer (history_behind past earlier) one.at one.event between after one.result
 
 -- What is printed of an answer: of an accepted event what a script prints, of a refused one nothing.

@@ -13,6 +13,7 @@ use Rattle.office_rules.specs.Lawfulness.{IsPast}
 use Rattle.office_rules.specs.Notes.{notes_after}
 use Rattle.office_rules.specs.PollEndings.{polls_on_present}
 use Rattle.office_rules.specs.Sessions.{Slot, slot_of}
+use Rattle.office_books.specs.declared.failures.Failures.{Failures}
 use Rattle.office_core.specs.EventRun.{Answered}
 use Rattle.office_core.specs.Taking.{IsAnswer}
 use Rattle.office_rounds.specs.Course.{Connect, Does, Leave, Next, Over, StartFrom, Take, first_poll, next_in, polls_ended, reads_planned, reads_started}
@@ -124,7 +125,7 @@ is_over (Leaving cause) = false
 -- A round that stands so, and feeds what is next, stands so after it was accepted.
 abbrev pub RoundsHold : Type 0
 RoundsHold = (device : Option (List ℕ)) (past : History) (fed : List Answered) (round : Round)
-    (at : ℕ) (e : Event) (before after : ℕ) (given : Answer)
+    (at : ℕ) (e : Event) (before after : Failures) (given : Answer)
     → Holds device past fed round → Does device (next_in past fed) e
     → IsAnswer (history_behind past fed) at e before after (Ok given)
     → IsPast (Fed at e ∷ history_behind past fed)

@@ -10,6 +10,7 @@ use Rattle.office_rules.specs.Facts.{moment_limit}
 use Rattle.office_rules.specs.PollEndings.{pending_on}
 use Rattle.office_rules.specs.History.{History, latest_of, slots_of}
 use Rattle.office_rules.specs.Sessions.{Slot, slot_of}
+use Rattle.office_books.specs.declared.failures.Failures.{Failures}
 use Rattle.office_books.specs.Ledgers.{Ledger}
 use Rattle.office_core.specs.EventRun.{Answered}
 use Rattle.office_core.specs.Standing.{Stands, is_stopped}
@@ -20,13 +21,13 @@ use Rattle.office_rounds.specs.FedEvents.{AreAnswered, AreTimed, frames_after, h
 use Rattle.office_rounds.specs.declared.fault.RoundFault.{RoundFault}
 use Rattle.office_rounds.specs.declared.fault.RoundFault.TheVariants.{Refused, Link, Output, TurnsUsed}
 
--- what is known of the writer and the clock, and how often the books have failed
+-- what is known of the writer and the clock, and how the books failed so far
 pub record RoundState : Type 0 where
   pub printed : Option (List ℕ)
   pub moments : Option (List ℕ)
-  pub failures : ℕ
+  pub failures : Failures
 
-abbrev pub round_state : (printed moments : Option (List ℕ)) → (failures : ℕ) → RoundState
+abbrev pub round_state : (printed moments : Option (List ℕ)) → (failures : Failures) → RoundState
 round_state printed moments failures = record { printed = printed; moments = moments; failures = failures }
 
 -- what is known of the link

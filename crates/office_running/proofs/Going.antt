@@ -6,6 +6,7 @@ use Rattle.office_events.specs.declared.events.Event.{Event}
 use Rattle.office_events.specs.declared.refusals.Refusal.{Refusal}
 use Rattle.office_rules.specs.History.{History, Opened}
 use Rattle.office_rules.specs.Refusals.{with_answer}
+use Rattle.office_books.specs.declared.failures.Failures.{Failures}
 use Rattle.office_books.specs.Ledgers.{KeepsFacts, Ledger}
 use Rattle.office_core.specs.Leaving.{BooksStand}
 use Rattle.office_core.specs.EventRun.{Answered}
@@ -159,7 +160,7 @@ opened_is (Closed place closing) rounds = tt
 opened_is Tick rounds = tt
 
 pub goes_turn : {B V : Type 0} (names : List (List ℕ)) (ledger : B → Ledger) (sees : V → Shown → V → Type 0) (at : ℕ) (old new : Office B) (begun : Start V)
-    (failures : ℕ) (turned : List Round) (observer : V) → IsWishedOfRound begun.table.first
+    (failures : Failures) (turned : List Round) (observer : V) → IsWishedOfRound begun.table.first
     → After ledger old new (λ past. TakesDeviceTurn ledger sees past begun at (scene new failures turned observer))
     → rounds.Lasts ledger old new → Goes names at ledger old new
 goes_turn names ledger sees at old new begun failures turned observer opened turns lasts = record {

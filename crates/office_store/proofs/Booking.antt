@@ -7,6 +7,7 @@ use Rattle.interval_core.specs.declared.zone.Zone.{Zone}
 use Rattle.office_events.specs.declared.facts.Fact.{Fact}
 use Rattle.office_rules.specs.Lawful.{AreLawful}
 use Rattle.office_books.specs.declared.faults.BooksFault.{BooksFault}
+use Rattle.office_books.specs.declared.failures.Failures.{Failures}
 use Rattle.office_books.specs.Faults.{faults_after}
 use Rattle.office_books.specs.Ledgers.{Books, KeepsFacts, with_facts}
 use Rattle.office_books.specs.Same.{AreSame}
@@ -26,12 +27,12 @@ known_in tell g zone other h facts others a b clean still =
     let P : List ℕ → Type 0 = λ z. HasFacts z facts (state g h).committed in
     subst P one has
 
-same : {S : Type 0} (g : Ghosts S) (old new : Held S) (n : ℕ) (zone : Zone) → new ≡ old → KeepsFacts (ledger_of g old n zone) (ledger_of g new n zone)
+same : {S : Type 0} (g : Ghosts S) (old new : Held S) (n : Failures) (zone : Zone) → new ≡ old → KeepsFacts (ledger_of g old n zone) (ledger_of g new n zone)
 same {S} g old new n zone is =
     let P : Held S → Type 0 = λ h. KeepsFacts (ledger_of g old n zone) (ledger_of g h n zone) in
     subst P (sym is) (record { facts = λ content h. h; left = λ left h. h })
 
-all_booked : {S : Type 0} → DatabasesTellTheirFacts → (g : Ghosts S) (old new : Held S) (n : ℕ) (zone : Zone) (facts : List Fact) (done : Result (Unit {0}) RowFault)
+all_booked : {S : Type 0} → DatabasesTellTheirFacts → (g : Ghosts S) (old new : Held S) (n : Failures) (zone : Zone) (facts : List Fact) (done : Result (Unit {0}) RowFault)
     → ((text : List ℕ) → BooksFacts g text facts old new done)
     → Books (ledger_of g old n zone) (ledger_of g new (faults_after (answer_of done) n) zone) facts (answer_of done)
 all_booked tell g old new n zone facts (Ok x) books = record {
@@ -62,13 +63,13 @@ all_booked tell g old new n zone facts (Err e) books = record {
 }
 
 -- what is booked in the tables is booked
-pub booked : {S : Type 0} → DatabasesTellTheirFacts → (g : Ghosts S) (old new : Held S) (n m : ℕ) (zone : Zone) (facts given : List Fact) → given ≡ facts
+pub booked : {S : Type 0} → DatabasesTellTheirFacts → (g : Ghosts S) (old new : Held S) (n m : Failures) (zone : Zone) (facts given : List Fact) → given ≡ facts
     → (done : Result (Unit {0}) RowFault) (answer : Result (Unit {0}) BooksFault) → answer ≡ answer_of done → m ≡ faults_after answer n
     → ((text : List ℕ) → BooksFacts g text given old new done)
     → Books (ledger_of g old n zone) (ledger_of g new m zone) facts answer
 booked tell g old new n m zone facts given these done answer is count books =
     let F : List Fact → Type 0 = λ fs. Books (ledger_of g old n zone) (ledger_of g new m zone) fs answer in
-    let M : ℕ → Type 0 = λ k. Books (ledger_of g old n zone) (ledger_of g new k zone) given answer in
+    let M : Failures → Type 0 = λ k. Books (ledger_of g old n zone) (ledger_of g new k zone) given answer in
     let P : Result (Unit {0}) BooksFault → Type 0 = λ a. Books (ledger_of g old n zone) (ledger_of g new (faults_after a n) zone) given a in
     subst F these (subst M (sym count) (subst P (sym is) (all_booked tell g old new n zone given done books)))
 

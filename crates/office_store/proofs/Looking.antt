@@ -8,6 +8,7 @@ use Rattle.interval_core.specs.declared.shares.Share.{Share}
 use Rattle.interval_core.specs.declared.zone.Zone.{Zone}
 use Rattle.office_events.specs.declared.facts.Fact.{Fact}
 use Rattle.office_books.specs.declared.faults.BooksFault.{BooksFault}
+use Rattle.office_books.specs.declared.failures.Failures.{Failures}
 use Rattle.office_books.specs.Faults.{faults_after}
 use Rattle.office_books.specs.Ledgers.{KeepsFacts, OnlyReads, Finds}
 use Rattle.office_books.specs.Rows.{TakesAll, HandsOn}
@@ -29,7 +30,7 @@ unfolding LeavesFacts
 left_on g zone old new facts left looks holds leaves clean trees may =
     leaves (looks.clean clean) trees (looks.left facts holds clean trees may)
 
-keeps : {S : Type 0} (g : Ghosts S) (old new : Held S) (n m : ℕ) (zone : Zone)
+keeps : {S : Type 0} (g : Ghosts S) (old new : Held S) (n m : Failures) (zone : Zone)
     → ((text : List ℕ) → OnlyLooks g text old new) → KeepsFacts (ledger_of g old n zone) (ledger_of g new m zone)
 keeps g old new n m zone looks = record {
   facts = λ content h. record { zone = h.zone; holds = still_on g h.zone old new content (looks h.zone) h.holds };
@@ -41,8 +42,8 @@ keeps g old new n m zone looks = record {
   };
 }
 
--- a look-up changes nothing but the count of failures
-pub reads : {S T : Type 0} (g : Ghosts S) (old new : Held S) (n m : ℕ) (zone : Zone) (answer : Result T BooksFault)
+-- a look-up changes nothing but that its failure is noted
+pub reads : {S T : Type 0} (g : Ghosts S) (old new : Held S) (n m : Failures) (zone : Zone) (answer : Result T BooksFault)
     → m ≡ faults_after answer n → ((text : List ℕ) → OnlyLooks g text old new)
     → OnlyReads (ledger_of g old n zone) (ledger_of g new m zone) answer
 reads g old new n m zone answer count looks = record {
@@ -54,7 +55,7 @@ told : {T : Type 0} (Says : T → Type 0) (found : Result T RowFault) → IfOk f
 told Says (Ok x) says = says
 told Says (Err e) says = tt
 
-tells : {S T : Type 0} (g : Ghosts S) (old new : Held S) (n m : ℕ) (zone : Zone) (Says : List Fact → T → Type 0)
+tells : {S T : Type 0} (g : Ghosts S) (old new : Held S) (n m : Failures) (zone : Zone) (Says : List Fact → T → Type 0)
     (found : Result T RowFault) (answer : Result T BooksFault) → answer ≡ answer_of found
     → ((text : List ℕ) (facts : List Fact) → HoldsFacts g text old facts → HasCleanDisk (state g new) → IfOk found (Says facts))
     → Finds (ledger_of g old n zone) (ledger_of g new m zone) answer Says
@@ -63,7 +64,7 @@ tells {T = T} g old new n m zone Says found answer is says content h clean =
     subst P (sym is) (told (Says content) found (says h.zone content h.holds clean))
 
 -- it answers what the tables answer
-pub finds : {S T : Type 0} {Says : List Fact → T → Type 0} {AreSound : List Fact → Type 0} (g : Ghosts S) (old new : Held S) (n m : ℕ) (zone : Zone)
+pub finds : {S T : Type 0} {Says : List Fact → T → Type 0} {AreSound : List Fact → Type 0} (g : Ghosts S) (old new : Held S) (n m : Failures) (zone : Zone)
     (found : Result T RowFault) (answer : Result T BooksFault) → answer ≡ answer_of found
     → finding.Finds g old new found Says AreSound → Finds (ledger_of g old n zone) (ledger_of g new m zone) answer Says
 finds {Says = Says} g old new n m zone found answer is it = tells g old new n m zone Says found answer is it.answer
@@ -80,7 +81,7 @@ told_on Q (Ok x) q = q
 told_on Q (Err e) q = tt
 
 -- rows are handed on as the tables hand them on
-pub hands_on : {S K : Type 0} {AreSound : List Fact → Type 0} (g : Ghosts S) (old new : Held S) (n m : ℕ) (zone : Zone) (takes : K → Share → K → Type 0) (before after : K)
+pub hands_on : {S K : Type 0} {AreSound : List Fact → Type 0} (g : Ghosts S) (old new : Held S) (n m : Failures) (zone : Zone) (takes : K → Share → K → Type 0) (before after : K)
     (rows : List Fact → List Share) (found : Result (Unit {0}) RowFault) (answer : Result (Unit {0}) BooksFault) → answer ≡ answer_of found
     → metering.HandsOn g old new takes before after found rows AreSound
     → HandsOn takes (ledger_of g old n zone) (ledger_of g new m zone) before after answer rows

@@ -1,5 +1,5 @@
 -- What books answer of what their tables answered.
-use Rattle.std.specs.Prelude.{ℕ, Result, Ok, Err}
+use Rattle.std.specs.Prelude.{Result, Ok, Err}
 use Rattle.sqlite.specs.declared.error.ErrorCode.TheVariants.{OutOfMemory}
 use Rattle.sqlite.specs.declared.error.Error.TheVariants.{SqliteFailure}
 use Rattle.store_tables.specs.declared.faults.RowFault.{RowFault}
@@ -7,7 +7,6 @@ use Rattle.store_tables.specs.declared.faults.RowFault.TheVariants as row
 use Rattle.office_books.specs.declared.faults.StoreFault.TheVariants.{Refused, Damaged}
 use Rattle.office_books.specs.declared.faults.BooksFault.{BooksFault}
 use Rattle.office_books.specs.declared.faults.BooksFault.TheVariants.{Store, Memory}
-use Rattle.office_books.specs.Faults.{one_more}
 
 -- A value that none of the tables may have is damage, want of memory is told as such, and any other error is a refusal.
 abbrev pub fault_of : RowFault → BooksFault
@@ -18,8 +17,3 @@ fault_of (row.Sql _) = Store Refused
 abbrev pub answer_of : {T : Type 0} → Result T RowFault → Result T BooksFault
 answer_of (Ok answer) = Ok answer
 answer_of (Err fault) = Err (fault_of fault)
-
--- each failure of the store counts one
-abbrev pub count_after : BooksFault → ℕ → ℕ
-count_after (Store fault) n = one_more n
-count_after Memory n = n

@@ -5,6 +5,7 @@ use Rattle.sqlite.specs.Held.{Held, state}
 use Rattle.sqlite.specs.State.{HasCleanDisk}
 use Rattle.interval_core.specs.declared.zone.Zone.{Zone}
 use Rattle.office_events.specs.declared.facts.Fact.{Fact}
+use Rattle.office_books.specs.declared.failures.Failures.{Failures}
 use Rattle.office_books.specs.Ledgers.{Ledger}
 use Rattle.store_facts.specs.Holding.{HoldsFacts, LeavesFacts}
 
@@ -23,12 +24,12 @@ module _ {S : Type 0} (g : Ghosts S) where
     pub leaves : LeavesFacts g zone h left
 
   -- Books are clean while their store gave back what was written to it, and open while their connection is.
-  abbrev pub ledger_of : Held S → (faults : ℕ) → Zone → Ledger
-  ledger_of h faults zone = record {
+  abbrev pub ledger_of : Held S → Failures → Zone → Ledger
+  ledger_of h failures zone = record {
     holds = IsStored h;
     may_leave = MayBeLeft h;
     is_clean = HasCleanDisk (state g h);
     is_open = IsTrue (state g h).is_open;
-    fault_count = faults;
+    failures = failures;
     zone = zone;
   }

@@ -1,7 +1,8 @@
-//! Books in a SQLite database: the connection to it, the zone of its days, and how often it failed.
+//! Books in a SQLite database: the connection to it, the zone of its days, and how they failed so far.
 ghost use Rattle.std.specs.Prelude.{◌≡◌, false};
 
 use interval_core::Zone;
+use office_books::Failures;
 use sqlite::{Alter, Connection};
 use std::alloc::Global;
 use store_files::OpenFault;
@@ -11,8 +12,7 @@ use store_files::OpenFault;
 pub struct SqlBooks<S: Alter> {
     pub(crate) connection: Connection<S>,
     pub(crate) zone: Zone,
-    /// How often the store failed. It stays at the greatest number.
-    pub(crate) faults: u64,
+    pub(crate) failures: Failures,
     pub(crate) alloc: Global,
     ghost idle: { connection.in_transaction ≡ false },
 }

@@ -4,20 +4,20 @@ ghost use Rattle.sqlite.specs.Held.{state};
 ghost use Rattle.sqlite.specs.State.{HasCleanDisk};
 ghost use Rattle.interval_core.specs.Zone.{HasRule};
 ghost use Rattle.office_events.specs.declared.facts.Fact.{Fact};
-ghost use Rattle.store_tables.specs.Content.{Content, AreTablesIn};
 ghost use Rattle.store_tables.specs.Steps.{TransactsTo};
 ghost use Rattle.store_files.specs.declared.layouts.Layout.{Layout as TheLayout};
-ghost use Rattle.store_files.specs.Upgrade.{IsFile, OpensFile};
-ghost use Rattle.store_files.specs.Layouts.{no_schema, schema_of, version_of, IsNamedAs};
+ghost use Rattle.store_files.specs.Upgrade.{OpensAnyFile};
+ghost use Rattle.store_files.specs.Layouts.{no_schema, IsNamedAs};
 ghost use Rattle.store_files.specs.NewFile.{Makes};
-ghost use Rattle.store_files.specs.Meta.{Meta, IsMarked};
-ghost use Rattle.store_files.specs.OpenedFile.{TellsOpening};
+ghost use Rattle.store_files.specs.OpenedFile.{TellsOfFile};
 ghost use Rattle.store_files.specs.Zones.{IsZone};
+ghost use Rattle.office_books.specs.Faults.{no_failures};
 ghost use Rattle.office_store.specs.Made.{HandsBackUntouched, connection_in, told_by};
 ghost use Rattle.office_store.specs.Database.{HasFile, HoldsAlone, KeepsFile};
 
 use crate::books::{SqlBooks, Unopened};
 use crate::laws::{new_files_have_none, opened_files_keep_theirs};
+use office_books::Failures;
 use sqlite::{Alter, Connection};
 use std::alloc::Global;
 use store_files::OpenFault;
@@ -40,7 +40,7 @@ impl<S: Alter> SqlBooks<S> {
             → IfErr result (λ e. (e.fault ≡ OpenFault.Store) ⊎ (e.fault ≡ OpenFault.Memory)) }
         ensures refused { IfErr result (HandsBackUntouched connection) }
         ensures zone { IfOk result (λ books. HasRule zone.now books.zone) }
-        ensures faults { IfOk result (λ books. books.faults ≡ 0) }
+        ensures failures { IfOk result (λ books. books.failures ≡ no_failures) }
         ensures none { IfOk result (λ books. HoldsAlone S.Store zone.now books.connection []) }
         ensures does { TransactsTo (state S.Store connection)
             (state S.Store (connection_in result)) (told_by result) (Makes zone.now) }
@@ -51,7 +51,7 @@ impl<S: Alter> SqlBooks<S> {
             Ok(zone) => Ok(SqlBooks {
                 connection,
                 zone,
-                faults: 0,
+                failures: Failures::new(),
                 alloc,
             }),
             Err(fault) => Err(Unopened { connection, fault }),
@@ -69,19 +69,14 @@ impl<S: Alter> SqlBooks<S> {
             → (told_by result ≡ Err OpenFault.NotOurs) × (connection_in result ≡ connection) }
         ensures clean { HasCleanDisk (state S.Store (connection_in result))
             → HasCleanDisk (state S.Store connection) }
-        ensures faults { IfOk result (λ books. books.faults ≡ 0) }
+        ensures failures { IfOk result (λ books. books.failures ≡ no_failures) }
         ensures told { HasCleanDisk (state S.Store (connection_in result))
             → connection.in_transaction ≡ false → IsTrue (state S.Store connection).is_open
-            → (layout : TheLayout) (content : Content)
-            → AreTablesIn (schema_of layout) (state S.Store connection).committed content
-            → (m : Meta) → IsMarked m content → TellsOpening (version_of layout) m
-            (state S.Store connection) (state S.Store (connection_in result)) (told_by result) }
+            → TellsOfFile (state S.Store connection) (state S.Store (connection_in result))
+            (told_by result) }
         ensures opened { HasCleanDisk (state S.Store (connection_in result))
-            → (layout : TheLayout) (zone : List ℕ) (content : Content)
-            → (IsTrue (state S.Store connection).is_open
-            → IsFile layout zone (state S.Store connection).committed content)
-            → OpensFile layout zone content (state S.Store connection)
-            (state S.Store (connection_in result)) (told_by result) }
+            → OpensAnyFile (state S.Store connection) (state S.Store (connection_in result))
+            (told_by result) }
         ensures again { (zone : List ℕ) (facts : List Fact) → HasFile S.Store zone connection facts
             → IfOk result (λ books. HoldsAlone S.Store zone books.connection facts) }
         ensures yet { (zone : List ℕ) (facts : List Fact) → HasFile S.Store zone connection facts
@@ -93,7 +88,7 @@ impl<S: Alter> SqlBooks<S> {
             Ok(zone) => Ok(SqlBooks {
                 connection,
                 zone,
-                faults: 0,
+                failures: Failures::new(),
                 alloc,
             }),
             Err(fault) => Err(Unopened { connection, fault }),

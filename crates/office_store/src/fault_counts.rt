@@ -1,9 +1,9 @@
-//! Faults of the tables, as books tell and count them.
+//! Faults of the tables, as books tell and note them.
 ghost use Rattle.std.specs.Prelude.{◌≡◌};
 ghost use Rattle.office_books.specs.Faults.{faults_after};
-ghost use Rattle.office_store.specs.Answers.{answer_of, count_after, fault_of};
+ghost use Rattle.office_store.specs.Answers.{answer_of, fault_of};
 
-use office_books::{BooksFault, StoreFault};
+use office_books::{BooksFault, Failures, StoreFault};
 use sqlite::{Error, ErrorCode};
 use store_tables::RowFault;
 
@@ -18,30 +18,16 @@ fn fault_of(fault: RowFault) -> BooksFault
     }
 }
 
-/// The count after a fault.
-fn counted(faults: u64, fault: BooksFault) -> u64
-    ensures { result ≡ count_after fault faults }
-{
-    match fault {
-        BooksFault::Store(_) => faults.saturating_add(1),
-        BooksFault::Memory => faults,
-    }
-}
-
-/// What the books answer of what the tables answered. A failure of the store is counted.
+/// What the books answer of what the tables answered. A failure is noted.
 pub(crate) fn answered<T: Drop>(
-    faults: &mut u64,
+    failures: &mut Failures,
     found: Result<T, RowFault>,
 ) -> Result<T, BooksFault>
     ensures answer { result ≡ answer_of found }
-    ensures count { faults.new ≡ faults_after result faults.old }
+    ensures noted { failures.new ≡ faults_after result failures.old }
 {
     match found {
         Ok(answer) => Ok(answer),
-        Err(fault) => {
-            let fault = fault_of(fault);
-            *faults = counted(*faults, fault);
-            Err(fault)
-        }
+        Err(fault) => failures.noted(Err(fault_of(fault))),
     }
 }

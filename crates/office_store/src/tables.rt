@@ -12,10 +12,10 @@ use sqlite::Alter;
 impl<S: Alter + Drop> Books for SqlBooks<S> {
     ghost use Rattle.office_store.specs.Stored.{ledger_of};
 
-    ghost ledger = { λ books. ledger_of S.Store books.connection books.faults books.zone };
+    ghost ledger = { λ books. ledger_of S.Store books.connection books.failures books.zone };
 
     fn faults(&self) -> u64 {
-        self.faults
+        self.failures.count
     }
 
     fn zone(&self) -> Zone {
@@ -28,67 +28,67 @@ impl<S: Alter + Drop> Books for SqlBooks<S> {
 
     fn devices(&mut self) -> Result<Vec<Device>, BooksFault> {
         let found = store_queries::devices(&mut self.connection);
-        answered(&mut self.faults, found)
+        answered(&mut self.failures, found)
     }
 
     fn list(&mut self, device: &Name) -> Result<Option<PlannedList>, BooksFault> {
         let found = store_queries::list(self.alloc, &mut self.connection, device);
-        answered(&mut self.faults, found)
+        answered(&mut self.failures, found)
     }
 
     fn register(&mut self, name: &Name) -> Result<Option<Register>, BooksFault> {
         let found = store_queries::register(&mut self.connection, name);
-        answered(&mut self.faults, found)
+        answered(&mut self.failures, found)
     }
 
     fn registers(&mut self, device: &Name) -> Result<Vec<Register>, BooksFault> {
         let found = store_queries::registers(&mut self.connection, device);
-        answered(&mut self.faults, found)
+        answered(&mut self.failures, found)
     }
 
     fn register_count(&mut self, device: &Name) -> Result<usize, BooksFault> {
         let found = store_queries::register_count(&mut self.connection, device);
-        answered(&mut self.faults, found)
+        answered(&mut self.failures, found)
     }
 
     fn meter(&mut self, name: &Name) -> Result<Option<Installation>, BooksFault> {
         let found = store_queries::meter(&mut self.connection, name);
-        answered(&mut self.faults, found)
+        answered(&mut self.failures, found)
     }
 
     fn installation(&mut self, register: &Name) -> Result<Option<Installation>, BooksFault> {
         let found = store_queries::installation(&mut self.connection, register);
-        answered(&mut self.faults, found)
+        answered(&mut self.failures, found)
     }
 
     fn installation_count(&mut self) -> Result<usize, BooksFault> {
         let found = store_queries::installation_count(&mut self.connection);
-        answered(&mut self.faults, found)
+        answered(&mut self.failures, found)
     }
 
     fn entry(&mut self, meter: &Name, place: u64) -> Result<Option<EntryPlace>, BooksFault> {
         let found = store_queries::entry(self.alloc, &mut self.connection, meter, place);
-        answered(&mut self.faults, found)
+        answered(&mut self.failures, found)
     }
 
     fn poll(&mut self, number: u64) -> Result<Option<PollRow>, BooksFault> {
         let found = store_queries::poll(&mut self.connection, number);
-        answered(&mut self.faults, found)
+        answered(&mut self.failures, found)
     }
 
     fn poll_count(&mut self) -> Result<u64, BooksFault> {
         let found = store_queries::poll_count(&mut self.connection);
-        answered(&mut self.faults, found)
+        answered(&mut self.failures, found)
     }
 
     fn pending(&mut self) -> Result<Vec<Poll>, BooksFault> {
         let found = store_queries::pending(&mut self.connection);
-        answered(&mut self.faults, found)
+        answered(&mut self.failures, found)
     }
 
     fn latest(&mut self) -> Result<u64, BooksFault> {
         let found = store_queries::latest(&mut self.connection);
-        answered(&mut self.faults, found)
+        answered(&mut self.failures, found)
     }
 
     fn repeat(
@@ -98,7 +98,7 @@ impl<S: Alter + Drop> Books for SqlBooks<S> {
         request: &[u8],
     ) -> Result<Option<Repeat>, BooksFault> {
         let found = store_queries::repeat(&mut self.connection, caller, number, request);
-        answered(&mut self.faults, found)
+        answered(&mut self.failures, found)
     }
 
     fn intervals<K: RowSink<Share>>(
@@ -107,7 +107,7 @@ impl<S: Alter + Drop> Books for SqlBooks<S> {
         sink: &mut K,
     ) -> Result<(), BooksFault> {
         let found = store_queries::intervals(&mut self.connection, meter, sink);
-        answered(&mut self.faults, found)
+        answered(&mut self.failures, found)
     }
 
     fn register_intervals<K: RowSink<Share>>(
@@ -116,12 +116,12 @@ impl<S: Alter + Drop> Books for SqlBooks<S> {
         sink: &mut K,
     ) -> Result<(), BooksFault> {
         let found = store_queries::register_intervals(&mut self.connection, register, sink);
-        answered(&mut self.faults, found)
+        answered(&mut self.failures, found)
     }
 
     fn book(&mut self, facts: Vec<Fact>) -> Result<(), BooksFault> {
         databases_tell_their_facts();
         let done = crate::bookings::book_facts(self.alloc, &mut self.connection, &facts);
-        answered(&mut self.faults, done)
+        answered(&mut self.failures, done)
     }
 }

@@ -92,7 +92,8 @@ fn fact(booked: &Booked) -> Option<Fact> {
     }
 }
 
-fn facts(alloc: Global, history: &[Booked]) -> Option<Vec<Fact>> {
+/// What is booked, as facts.
+pub(crate) fn facts(alloc: Global, history: &[Booked]) -> Option<Vec<Fact>> {
     let mut facts = Vec::new(alloc);
     for booked in history {
         facts.push(fact(booked)?).ok()?;

@@ -23,13 +23,19 @@ mod fault_texts;
 #[cfg(test)]
 mod headline;
 #[cfg(test)]
+mod kept_books;
+#[cfg(test)]
 mod kept_rows;
 #[cfg(test)]
 mod links;
 #[cfg(test)]
 mod list_books;
 #[cfg(test)]
+mod look_ups;
+#[cfg(test)]
 mod names;
+#[cfg(test)]
+mod noted_failures;
 #[cfg(test)]
 mod observer;
 #[cfg(test)]

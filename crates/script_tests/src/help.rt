@@ -48,7 +48,7 @@ Commands:
   enter        Sets an office up by lines of standard input, which act once
   serve        Answers HTTP on 127.0.0.1, one connection after the other
   round        Polls the whole plan of one device once
-  report       Prints a register's energy by days
+  report       Prints a register's energy by days, months or years
   backup       Makes one whole file of an office
   stand-in     Plays a Modbus device, with a bank from standard input
   loop         Runs a script whose devices are a stand-in in this process

@@ -7,6 +7,7 @@ mod answers;
 #[cfg(test)]
 mod bank;
 #[cfg(test)]
+#[cfg(test)]
 mod commands;
 #[cfg(test)]
 mod connections;

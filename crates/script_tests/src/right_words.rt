@@ -1,7 +1,8 @@
 //! Words that spell a command.
-use command_words::{CommandLine, Device, command_of};
+use command_words::{CommandLine, Device, FormWords, command_of};
+use energy_report::{EnergyUnit, Format, Period};
 
-const RIGHT: [(&[&str], CommandLine<'static>); 20] = [
+const RIGHT: [(&[&str], CommandLine<'static>); 21] = [
     // no word is replay
     (&[], CommandLine::Replay { zone: "UTC0" }),
     (&["replay"], CommandLine::Replay { zone: "UTC0" }),
@@ -66,6 +67,43 @@ const RIGHT: [(&[&str], CommandLine<'static>); 20] = [
         CommandLine::Report {
             db: "o.db",
             register: "Main,=1 \u{3bc}",
+            form: FormWords {
+                from: None,
+                till: None,
+                period: None,
+                unit: None,
+                format: None,
+            },
+        },
+    ),
+    // days stay as they stand
+    (
+        &[
+            "report",
+            "--db",
+            "o.db",
+            "--register",
+            "main",
+            "--from",
+            "2024-02-30",
+            "--till=",
+            "--by",
+            "year",
+            "--unit",
+            "kwh",
+            "--format",
+            "json",
+        ],
+        CommandLine::Report {
+            db: "o.db",
+            register: "main",
+            form: FormWords {
+                from: Some("2024-02-30"),
+                till: Some(""),
+                period: Some(Period::Year),
+                unit: Some(EnergyUnit::KilowattHours),
+                format: Some(Format::Json),
+            },
         },
     ),
     // unit 1 and five seconds where none are given

@@ -1,7 +1,7 @@
 //! Words that spell no command.
 use command_words::{WordsFault, command_of};
 
-static WRONG: [&[&str]; 40] = [
+static WRONG: [&[&str]; 43] = [
     &["bogus"],
     &[""],
     &["Plan"],
@@ -36,6 +36,9 @@ static WRONG: [&[&str]; 40] = [
     &["round", "--db", "x", "--port", "1"],
     &["round", "--db", "x", "--device", "d"],
     &["report", "--db", "x"],
+    &["report", "--db", "x", "--register", "r", "--by", "week"],
+    &["report", "--db", "x", "--register", "r", "--unit", "wh"],
+    &["report", "--db", "x", "--register", "r", "--format", "xml"],
     &["scan", "--host", "h"],
     &["scan", "--port", "1", "--unit", "256"],
     &["scan", "--port", "1", "--timeout", "61"],
@@ -101,6 +104,21 @@ fn another_shell_is_named(rt: HostRuntime) {
         panic!(rt; "not wrong");
     };
     assert_eq!(rt; text.as_str(), SHELL_TEXT);
+}
+
+static WEEK: [&str; 7] = ["report", "--db", "x", "--register", "r", "--by", "week"];
+
+static WEEK_TEXT: &str = "error: invalid value 'week' for '--by <PERIOD>': none of day, month, year
+
+For more information, try '--help'.
+";
+
+#[test]
+fn a_word_that_is_no_choice_is_told(rt: HostRuntime) {
+    let Err(WordsFault::Wrong(text)) = command_of(rt.alloc(), &WEEK) else {
+        panic!(rt; "not wrong");
+    };
+    assert_eq!(rt; text.as_str(), WEEK_TEXT);
 }
 
 static BOGUS_TEXT: &str = "error: unrecognized subcommand 'bogus'

@@ -11,7 +11,7 @@ pub use devices::{
     replace_points,
 };
 pub use polls::{
-    HoldRow, OutcomeRow, Poll, PollRow, Repeat, ReplyKind, insert_hold, insert_outcome,
-    insert_poll, insert_reply, last_hold_rows, last_poll, latest_hold, latest_outcome,
-    latest_reply, latest_start, outcome_of, pending_rows, poll_at, read_poll, repeat_of,
+    HoldRow, OutcomeRow, Poll, PollRow, Repeat, insert_hold, insert_outcome, insert_poll,
+    insert_reply, last_hold_rows, last_poll, latest_hold, latest_outcome, latest_reply,
+    latest_start, outcome_of, pending_rows, poll_at, read_poll, repeat_of,
 };

@@ -2,6 +2,7 @@
 
 mod columns;
 mod holds;
+mod kinds;
 mod latest;
 mod outcomes;
 mod polls;
@@ -14,4 +15,4 @@ pub use latest::{latest_hold, latest_outcome, latest_reply, latest_start};
 pub use outcomes::{insert_outcome, outcome_of};
 pub use polls::{insert_poll, last_poll, pending_rows, poll_at};
 pub use replies::{insert_reply, repeat_of};
-pub use rows::{HoldRow, OutcomeRow, Poll, PollRow, Repeat, ReplyKind};
+pub use rows::{HoldRow, OutcomeRow, Poll, PollRow, Repeat};

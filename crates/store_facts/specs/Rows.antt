@@ -12,8 +12,6 @@ use Rattle.meter_journal.specs.declared.lines.EntryKind as journal_kind
 use Rattle.meter_journal.specs.declared.lines.EntryKind.TheVariants as from
 use Rattle.point_list.specs.declared.point.ListedPoint.{ListedPoint}
 use Rattle.point_list.specs.RowTexts.{type_text, scale_text}
-use Rattle.office_events.specs.declared.answers.CommandKind.{CommandKind}
-use Rattle.office_events.specs.declared.answers.CommandKind.TheVariants as command
 use Rattle.office_events.specs.declared.facts.Device.{Device}
 use Rattle.office_events.specs.declared.facts.DeviceList.{DeviceList}
 use Rattle.office_events.specs.declared.facts.Register.{Register}
@@ -44,8 +42,6 @@ use Rattle.store_tables.specs.declared.entries.rows.EntryKind.TheVariants as kin
 use Rattle.store_tables.specs.Entries.Rows.{Entered, Voided}
 use Rattle.store_facts.specs.Intervals.Rows.{Interval}
 use Rattle.store_devices.specs.declared.polls.rows.OutcomeRow.{OutcomeRow}
-use Rattle.store_devices.specs.declared.polls.rows.ReplyKind.{ReplyKind}
-use Rattle.store_devices.specs.declared.polls.rows.ReplyKind.TheVariants as reply
 use Rattle.store_devices.specs.Polls.Rows.{Started, Held, Kept}
 
 -- Of a list, the latest first, each has its place, which counts from 1.
@@ -262,24 +258,11 @@ held_row place reading = record {
   };
 }
 
-abbrev pub reply_kind : CommandKind → ReplyKind
-reply_kind command.Device = reply.Device
-reply_kind command.List = reply.List
-reply_kind command.Register = reply.Register
-reply_kind command.Install = reply.Install
-reply_kind command.Exchange = reply.Exchange
-reply_kind command.Reset = reply.Reset
-reply_kind command.Rescale = reply.Rescale
-reply_kind command.Manual = reply.Manual
-reply_kind command.Close = reply.Close
-reply_kind command.Void = reply.Void
-reply_kind command.Start = reply.Start
-
 abbrev pub kept : Reply → Kept
 kept given = record {
   caller = given.caller;
   number = given.number;
   request = given.request;
-  kind = reply_kind given.kind;
+  kind = given.kind;
   moment = given.at;
 }

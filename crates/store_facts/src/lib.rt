@@ -11,5 +11,5 @@ pub use names::{name, text};
 pub use points::points_at;
 pub use rows::{
     begun_row, device_row, entry_row, hold_row, is_sound_opening, last_row, opening_row,
-    outcome_row, poll_row, register_row, reply_kind,
+    outcome_row, poll_row, register_row,
 };

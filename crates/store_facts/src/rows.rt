@@ -13,11 +13,9 @@ ghost use Rattle.store_facts.specs.Rows as rows;
 use energy_core::{Entry, Last, MAX_CEILING, MAX_RANGE, MIN_RANGE};
 use meter_journal::EntryKind;
 use office_events::{
-    CommandKind, Device, EndedPoll, HeldReading, LAST_COUNTER, Opening, Poll, Register, ScaleSource,
+    Device, EndedPoll, HeldReading, LAST_COUNTER, Opening, Poll, Register, ScaleSource,
 };
-use store_devices::{
-    DeviceRow, HoldRow, OutcomeRow, PollRow, RegisterRow, RegisterScale, ReplyKind,
-};
+use store_devices::{DeviceRow, HoldRow, OutcomeRow, PollRow, RegisterRow, RegisterScale};
 use store_tables::{EntryRow, InstallationRow, LATEST_MOMENT, LastRow};
 
 /// A device at a place.
@@ -203,24 +201,5 @@ pub fn hold_row(held: HeldReading, place: u64) -> HoldRow
         raw: held.raw,
         sf: held.sf,
         cause: held.cause,
-    }
-}
-
-/// What was done by a command.
-pub fn reply_kind(kind: CommandKind) -> ReplyKind
-    ensures { result ≡ rows.reply_kind kind }
-{
-    match kind {
-        CommandKind::Device => ReplyKind::Device,
-        CommandKind::List => ReplyKind::List,
-        CommandKind::Register => ReplyKind::Register,
-        CommandKind::Install => ReplyKind::Install,
-        CommandKind::Exchange => ReplyKind::Exchange,
-        CommandKind::Reset => ReplyKind::Reset,
-        CommandKind::Rescale => ReplyKind::Rescale,
-        CommandKind::Manual => ReplyKind::Manual,
-        CommandKind::Close => ReplyKind::Close,
-        CommandKind::Void => ReplyKind::Void,
-        CommandKind::Start => ReplyKind::Start,
     }
 }

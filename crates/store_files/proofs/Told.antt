@@ -63,6 +63,7 @@ tells_fault version m a b e own kept =
       zone = tt;
       rule = λ text is_zone. no_zone;
       none = λ out. (tt, λ same. inr own);
+      sound = λ same last text zone. own;
       kept = kept;
     }
 
@@ -71,9 +72,9 @@ tells_err version m a b e (Ok z) fails it = absurd fails
 tells_err version m a b e (Err d) fails it = subst (λ f. TellsOpening version m a b (Err f)) (sym fails) it
 
 -- the file was told to be ours, and then the store failed
-pub tells_later : (version : ℕ) (m : Meta) (a b c : State) (z : Zone) (e : OpenFault) (r : Result Zone OpenFault) → TellsOpening version m a b (Ok z) → (e ≡ Store) ⊎ (e ≡ Memory) → IsErrAnd r (λ d. d ≡ e) → KeepsCommit a c → TellsOpening version m a c r
-tells_later version m a b c z e (Ok y) it is fails kept = absurd fails
-tells_later version m a b c z e (Err d) it is fails kept =
+pub tells_later : (version : ℕ) (m : Meta) (a b c : State) (z : Zone) (e : OpenFault) (r : Result Zone OpenFault) → (version ≡ 3 → ⊥) → TellsOpening version m a b (Ok z) → (e ≡ Store) ⊎ (e ≡ Memory) → IsErrAnd r (λ d. d ≡ e) → KeepsCommit a c → TellsOpening version m a c r
+tells_later version m a b c z e (Ok y) earlier it is fails kept = absurd fails
+tells_later version m a b c z e (Err d) earlier it is fails kept =
     let kind : (d ≡ Store) ⊎ (d ≡ Memory) = subst (λ f. (f ≡ Store) ⊎ (f ≡ Memory)) (sym fails) is in
     record {
       other = λ off. absurd (it.other off).0;
@@ -81,6 +82,7 @@ tells_later version m a b c z e (Err d) it is fails kept =
       zone = tt;
       rule = λ text is_zone. apart_from d Store Memory NoZone kind (λ s. absurd cc) (λ s. absurd cc);
       none = λ out. absurd (it.none out).0;
+      sound = λ same last text zone. absurd (earlier last);
       kept = kept;
     }
 
@@ -91,6 +93,7 @@ tells_well version m a b c z it = record {
   zone = it.zone;
   rule = λ text is_zone. tt;
   none = λ out. ((it.none out).0, λ same. tt);
+  sound = λ same last text zone. tt;
   kept = tt;
 }
 
@@ -102,6 +105,7 @@ tells_since version m a b c (Ok z) goes kept it = record {
   zone = it.zone;
   rule = λ text is_zone. tt;
   none = λ out. ((it.none out).0, λ same. tt);
+  sound = λ same last text zone. tt;
   kept = tt;
 }
 tells_since version m a b c (Err e) goes kept it = record {
@@ -110,6 +114,7 @@ tells_since version m a b c (Err e) goes kept it = record {
   zone = tt;
   rule = it.rule;
   none = λ out. (tt, λ same. elim ((it.none out).1 same) [ inl is ↦ inl is | inr own ↦ inr (later_own a b c e goes own) ]);
+  sound = λ same last text zone. later_own a b c e goes (it.sound same last text zone);
   kept = kept_then a b c kept it.kept;
 }
 
@@ -125,6 +130,7 @@ tells_meta version m a b (Ok z) kept it = record {
   zone = it.zone;
   rule = λ text is_zone. tt;
   none = λ out. (it.none out, λ same. tt);
+  sound = λ same last text zone. tt;
   kept = tt;
 }
 tells_meta version m a b (Err e) kept it = record {
@@ -133,6 +139,7 @@ tells_meta version m a b (Err e) kept it = record {
   zone = tt;
   rule = it.rule;
   none = λ out. (tt, λ same. memory_or a b e (it.ours same));
+  sound = λ same last text zone. elim (it.ours same) [ inl is ↦ absurd (it.rule text zone is) | inr is ↦ subst (IsOwnFault a b) (sym is) tt ];
   kept = kept;
 }
 
@@ -157,6 +164,12 @@ any_ok (Err e) p = tt
 
 pub unchanged_kept : (a b : State) → IsUnchanged a b → KeepsCommit a b
 unchanged_kept a b same = record { was_open = λ _. same.0.was_open; committed = λ _. same.0.committed_is }
+
+-- one layout alone has version 3
+pub is_third : (layout : Layout) → version_of layout ≡ 3 → layout ≡ Third
+is_third First is = absurd (omega (arith, is))
+is_third Second is = absurd (omega (arith, is))
+is_third Third is = refl
 
 -- a layout has its own count of tables
 pub one_layout : (l k : Layout) → names_of (schema_of l) ≡ names_of (schema_of k) → l ≡ k

@@ -115,3 +115,10 @@ pub record IsOpenTo (layout : Layout) (zone : List ℕ) (content : Content) (s :
   pub is_open : IsTrue s.is_open
   pub settled : s.now ≡ s.committed
   pub file : IsFile layout zone s.committed content
+
+-- what an opening leaves, whichever layout an open file has
+abbrev pub OpensAnyFile : {X E : Type 0} → (old new : State) → Result X E → Type 0
+OpensAnyFile old new result =
+    (layout : Layout) (zone : List ℕ) (content : Content)
+    → (IsTrue old.is_open → IsFile layout zone old.committed content)
+    → OpensFile layout zone content old new result

@@ -1,16 +1,17 @@
 //! How a file is opened.
 ghost use Rattle.std.specs.Prelude.{◌≡◌, ◌≢◌, ◌⊎◌, ◌↔◌, false, [], ◌∷◌, IsTrue, IfOk, IfErr};
-ghost use Rattle.std.specs.Prelude.{IsUtf8, Err};
+ghost use Rattle.std.specs.Prelude.{IsUtf8, Err, OnErr};
 ghost use Rattle.sqlite.specs.State.{HasCleanDisk, KeepsCommit, Survives};
 ghost use Rattle.sqlite.specs.Held.{state};
 ghost use Rattle.interval_core.specs.Zone.{HasRule};
 ghost use Rattle.store_tables.specs.Content.{Content, AreTablesIn};
 ghost use Rattle.store_files.specs.declared.layouts.Layout.{Layout as TheLayout};
-ghost use Rattle.store_files.specs.Layouts.{version_of, schema_of, IsNamedAs};
-ghost use Rattle.store_files.specs.Meta.{Meta, meta_shown, IsMarked};
+ghost use Rattle.store_files.specs.Layouts.{schema_of, IsNamedAs};
+ghost use Rattle.store_files.specs.Meta.{Meta, meta_shown};
 ghost use Rattle.store_files.specs.Zones.{IsZone};
-ghost use Rattle.store_files.specs.Upgrade.{IsFile, OpensFile, IsOpenTo};
-ghost use Rattle.store_files.specs.OpenedFile.{ShowsMeta, ReadsMeta, TellsOpening, FindsZone};
+ghost use Rattle.store_files.specs.Upgrade.{OpensFile, OpensAnyFile, IsOpenTo};
+ghost use Rattle.store_files.specs.OpenedFile.{ShowsMeta, ReadsMeta, FindsZone};
+ghost use Rattle.store_files.specs.OpenedFile.{TellsOfLayout, TellsOfFile};
 ghost use Rattle.store_tables.specs.Failing.{IsStoreError};
 
 use crate::faults::{OpenFault, fault_of};
@@ -100,6 +101,7 @@ fn brought<S: Alter>(conn: &mut Connection<S>, layout: Layout) -> Result<(), Ope
     ensures autocommit { conn.new.in_transaction ≡ false }
     ensures clean { HasCleanDisk (state S.Store conn.new) → HasCleanDisk (state S.Store conn.old) }
     ensures fault { IfErr result (λ e. (e ≡ OpenFault.Store) ⊎ (e ≡ OpenFault.Memory)) }
+    ensures third { layout ≡ Layout.Third → OnErr result ⊥ }
     ensures opened { HasCleanDisk (state S.Store conn.new) → (zone : _) (content : Content)
         → IsOpenTo layout zone content (state S.Store conn.old)
         → OpensFile layout zone content (state S.Store conn.old) (state S.Store conn.new) result }
@@ -115,12 +117,8 @@ fn open_settled<S: Alter>(conn: &mut Connection<S>, layout: Layout) -> Result<Zo
     requires autocommit { conn.old.in_transaction ≡ false }
     ensures autocommit { conn.new.in_transaction ≡ false }
     ensures clean { HasCleanDisk (state S.Store conn.new) → HasCleanDisk (state S.Store conn.old) }
-    ensures told { HasCleanDisk (state S.Store conn.new) → (content : Content)
-        → IsTrue (state S.Store conn.old).is_open
-        → (state S.Store conn.old).now ≡ (state S.Store conn.old).committed
-        → AreTablesIn (schema_of layout) (state S.Store conn.old).now content
-        → (m : Meta) → IsMarked m content → TellsOpening (version_of layout) m
-        (state S.Store conn.old) (state S.Store conn.new) result }
+    ensures told { HasCleanDisk (state S.Store conn.new)
+        → TellsOfLayout layout (state S.Store conn.old) (state S.Store conn.new) result }
     ensures opened { HasCleanDisk (state S.Store conn.new) → (zone : _) (content : Content)
         → IsOpenTo layout zone content (state S.Store conn.old)
         → OpensFile layout zone content (state S.Store conn.old) (state S.Store conn.new) result }
@@ -139,15 +137,9 @@ fn open_as<S: Alter>(conn: &mut Connection<S>, found: Layout) -> Result<Zone, Op
     ensures autocommit { conn.new.in_transaction ≡ false }
     ensures clean { HasCleanDisk (state S.Store conn.new) → HasCleanDisk (state S.Store conn.old) }
     ensures told { HasCleanDisk (state S.Store conn.new) → IsTrue (state S.Store conn.old).is_open
-        → (layout : TheLayout) (content : Content)
-        → AreTablesIn (schema_of layout) (state S.Store conn.old).committed content
-        → (m : Meta) → IsMarked m content → TellsOpening (version_of layout) m
-        (state S.Store conn.old) (state S.Store conn.new) result }
+        → TellsOfFile (state S.Store conn.old) (state S.Store conn.new) result }
     ensures opened { HasCleanDisk (state S.Store conn.new)
-        → (layout : TheLayout) (zone : _) (content : Content)
-        → (IsTrue (state S.Store conn.old).is_open
-        → IsFile layout zone (state S.Store conn.old).committed content)
-        → OpensFile layout zone content (state S.Store conn.old) (state S.Store conn.new) result }
+        → OpensAnyFile (state S.Store conn.old) (state S.Store conn.new) result }
 {
     match check_open(conn) {
         Ok(()) => open_settled(conn, found),
@@ -169,15 +161,9 @@ pub fn open<S: Alter>(conn: &mut Connection<S>) -> Result<Zone, OpenFault>
     ensures clean { HasCleanDisk (state S.Store conn.new) → HasCleanDisk (state S.Store conn.old) }
     ensures told { HasCleanDisk (state S.Store conn.new) → conn.old.in_transaction ≡ false
         → IsTrue (state S.Store conn.old).is_open
-        → (layout : TheLayout) (content : Content)
-        → AreTablesIn (schema_of layout) (state S.Store conn.old).committed content
-        → (m : Meta) → IsMarked m content → TellsOpening (version_of layout) m
-        (state S.Store conn.old) (state S.Store conn.new) result }
+        → TellsOfFile (state S.Store conn.old) (state S.Store conn.new) result }
     ensures opened { HasCleanDisk (state S.Store conn.new)
-        → (layout : TheLayout) (zone : _) (content : Content)
-        → (IsTrue (state S.Store conn.old).is_open
-        → IsFile layout zone (state S.Store conn.old).committed content)
-        → OpensFile layout zone content (state S.Store conn.old) (state S.Store conn.new) result }
+        → OpensAnyFile (state S.Store conn.old) (state S.Store conn.new) result }
 {
     if !conn.is_autocommit() {
         return Err(OpenFault::NotOurs);

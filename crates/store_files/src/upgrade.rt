@@ -1,5 +1,5 @@
 //! How a file of an earlier version is brought to version 3.
-ghost use Rattle.std.specs.Prelude.{◌≡◌, false, IfOk, string_bytes};
+ghost use Rattle.std.specs.Prelude.{◌≡◌, false, IfOk, OnErr, string_bytes};
 ghost use Rattle.sqlite.specs.Order.{column};
 ghost use Rattle.sqlite.specs.declared.types.Value.TheVariants.{Text};
 ghost use Rattle.sqlite.specs.State.{HasCleanDisk, KeepsCommit, Survives};
@@ -114,6 +114,7 @@ fn open_first<S: Alter>(conn: &mut Connection<S>) -> Result<(), Error>
 pub(crate) fn bring<S: Alter>(conn: &mut Connection<S>, layout: Layout) -> Result<(), Error>
     requires autocommit { conn.old.in_transaction ≡ false }
     ensures autocommit { conn.new.in_transaction ≡ false }
+    ensures third { layout ≡ Layout.Third → OnErr result ⊥ }
     ensures clean { HasCleanDisk (state S.Store conn.new) → HasCleanDisk (state S.Store conn.old) }
     ensures opened { HasCleanDisk (state S.Store conn.new) → (zone : _) (content : Content)
         → IsOpenTo layout zone content (state S.Store conn.old)

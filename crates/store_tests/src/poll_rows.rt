@@ -2,14 +2,15 @@
 use crate::one_meter::one_meter;
 use energy_core::Cause;
 use mb_wire::ReadFunction;
+use office_events::CommandKind;
 use poll_core::{LostCause, Outcome};
 use sqlite::{Connection, Error, MemStore, Row, Transaction};
 use std::alloc::Global;
 use std::test::Fail;
 use store_devices::{
-    HoldRow, OutcomeRow, Poll, PollRow, Repeat, ReplyKind, insert_hold, insert_outcome,
-    insert_poll, insert_reply, last_hold_rows, last_poll, outcome_of, pending_rows, poll_at,
-    read_poll, repeat_of,
+    HoldRow, OutcomeRow, Poll, PollRow, Repeat, insert_hold, insert_outcome, insert_poll,
+    insert_reply, last_hold_rows, last_poll, outcome_of, pending_rows, poll_at, read_poll,
+    repeat_of,
 };
 use store_tables::{GREATEST_PLACE, RowFault, first_whole};
 
@@ -103,7 +104,7 @@ fn polls_without_an_outcome_are_pending(rt: HostRuntime) -> Result<(), Fail> {
 fn keep_in(tx: &mut Transaction<'_, MemStore>) -> Result<Vec<Row>, Error> {
     insert_hold(tx, "m1", HELD)?;
     let request = b"exchange main";
-    insert_reply(tx, "home", 7, request, ReplyKind::Exchange, 1900)?;
+    insert_reply(tx, "home", 7, request, CommandKind::Exchange, 1900)?;
     last_hold_rows(tx)
 }
 
@@ -124,7 +125,7 @@ static REQUESTS: [(&str, u64, &[u8], Option<Repeat>); 4] = [
         "home",
         7,
         b"exchange main",
-        Some(Repeat::Same(ReplyKind::Exchange)),
+        Some(Repeat::Same(CommandKind::Exchange)),
     ),
     ("home", 7, b"exchange", Some(Repeat::Other)),
     ("home", 8, b"exchange main", None),

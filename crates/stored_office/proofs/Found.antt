@@ -1,21 +1,36 @@
 -- What is done over books that were found to hold what was accepted before.
-use Rattle.std.proofs.Common.{ℕ, List}
+use Rattle.std.proofs.Common.{◌≡◌, ℕ, List, sym, subst}
 use Rattle.sqlite.specs.Store.{Ghosts}
 use Rattle.office_rules.specs.History.{History, facts_of}
 use Rattle.office_rules.specs.Lawfulness.{IsPast}
+use Rattle.office_books.specs.Ledgers.{Ledger}
 use Rattle.office_core.specs.Leaving.{BooksStand}
 use Rattle.office_store.specs.Database.{HoldsAlone}
 use Rattle.office_store.specs.declared.books.SqlBooks.{SqlBooks}
+use Rattle.kept_books.specs.declared.kept.KeptBooks.{KeptBooks}
+use Rattle.kept_books.specs.Keeping.{StandsAs, beneath}
 use Rattle.stored_office.proofs.RunsLemmas.Standing.{stands_alone}
-use Rattle.stored_office.specs.BooksFound.{OverBooks, ledger_in}
+use Rattle.stored_office.specs.BooksFound.{OverBooks, ledger_beneath, ledger_in}
 
-pub over : {S : Type 0} (g : Ghosts S) (past : History) (found left : SqlBooks S g) (Does : (found left : SqlBooks S g) → Type 0)
-    (zone : List ℕ) → IsPast past → HoldsAlone g zone found.connection (facts_of past)
+-- books that stand as others stand after what was accepted
+stands_so : (before after : Ledger) (past : History) → StandsAs before after → BooksStand before past → BooksStand after past
+stands_so before after past meant stand = record {
+  is_past = stand.is_past;
+  holds = meant.facts (facts_of past) stand.holds;
+  leaves = record { left = stand.leaves.left; may = meant.left stand.leaves.left stand.leaves.may; each = stand.leaves.each };
+}
+
+pub over : {S : Type 0} (g : Ghosts S) (past : History) (books : SqlBooks S g) (found left : KeptBooks (SqlBooks S g))
+    (Does : (found left : KeptBooks (SqlBooks S g)) → Type 0) (zone : List ℕ) → IsPast past
+    → HoldsAlone g zone books.connection (facts_of past)
+    → beneath found ≡ books → StandsAs (ledger_beneath g books) (ledger_in g found)
     → (BooksStand (ledger_in g found) past → (ledger_in g left).is_clean → Does found left) → OverBooks g past Does
-over g past found left Does zone is alone tells = record {
+over {S = S} g past books found left Does zone is alone same meant tells = record {
   zone = zone;
   found = found;
-  holds = alone;
+  holds = subst (λ (b : SqlBooks S g). HoldsAlone g zone b.connection (facts_of past)) (sym same) alone;
   left = left;
-  does = λ clean. tells (stands_alone g zone found.connection found.faults found.zone past is alone) clean;
+  does = λ clean.
+      tells (stands_so (ledger_beneath g books) (ledger_in g found) past meant
+      (stands_alone g zone books.connection books.failures books.zone past is alone)) clean;
 }

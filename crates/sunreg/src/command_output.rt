@@ -3,12 +3,13 @@ use command_io::Buffered;
 use std::alloc::Global;
 use std::io::{self, LineWriter, Write};
 
-/// A writer that gives out what it is given in pieces of some 8 KiB, or each line at its end. It is one type, so that what is done over an
+/// A writer that gives out what it is given in pieces of some 8 KiB, or each line at its end; then it may keep it too. It is one type, so that what is done over an
 /// office in a file is compiled once, and not for each way of printing.
 #[derive(Drop)]
 pub(crate) enum CommandOutput<W: Write + Drop> {
     Pieces(Buffered<W>),
     Lines(LineWriter<W>),
+    Kept(LineWriter<W>, Vec<u8>),
 }
 
 impl<W: Write + Drop> CommandOutput<W> {
@@ -19,6 +20,19 @@ impl<W: Write + Drop> CommandOutput<W> {
     pub(crate) fn by_lines(alloc: Global, output: W) -> io::Result<CommandOutput<W>> {
         Ok(CommandOutput::Lines(LineWriter::new(alloc, output)?))
     }
+
+    /// By lines, and all that was given out is kept, as far as there is memory.
+    pub(crate) fn keeping(alloc: Global, output: W) -> io::Result<CommandOutput<W>> {
+        Ok(CommandOutput::Kept(LineWriter::new(alloc, output)?, Vec::new(alloc)))
+    }
+
+    /// What was kept.
+    pub(crate) fn kept(&self) -> &[u8] {
+        match self {
+            CommandOutput::Pieces(_) | CommandOutput::Lines(_) => &[],
+            CommandOutput::Kept(_, kept) => kept.as_slice(),
+        }
+    }
 }
 
 impl<W: Write + Drop> Write for CommandOutput<W> {
@@ -26,13 +40,18 @@ impl<W: Write + Drop> Write for CommandOutput<W> {
         match self {
             CommandOutput::Pieces(output) => output.write(bytes),
             CommandOutput::Lines(output) => output.write(bytes),
+            CommandOutput::Kept(output, kept) => {
+                let count = output.write(bytes)?;
+                let _kept = kept.extend_from_slice(bytes.get(..count).unwrap_or(bytes));
+                Ok(count)
+            }
         }
     }
 
     fn flush(&mut self) -> io::Result<()> {
         match self {
             CommandOutput::Pieces(output) => output.flush(),
-            CommandOutput::Lines(output) => output.flush(),
+            CommandOutput::Lines(output) | CommandOutput::Kept(output, _) => output.flush(),
         }
     }
 }

@@ -4,6 +4,7 @@ use crate::completions::completions;
 use crate::entering::enter;
 use crate::explain::explain;
 use crate::offices::{Files, OWN_HOST, create, over_office, run};
+use crate::reports::report;
 use crate::run_words::settings_of;
 use crate::scans::{Target, scan};
 use command_io::{Buffered, ExitStatus};
@@ -73,12 +74,7 @@ pub(crate) fn carry_out<'a>(rt: &HostRuntime, line: &CommandLine<'a>) -> Ending<
             };
             ending_of_done(over_office(rt, &Files { rt }, *db, task), *host, *port)
         }
-        CommandLine::Report { db, register } => {
-            let task = Task::Report {
-                register: *register,
-            };
-            ending_of_done(over_office(rt, &Files { rt }, *db, task), OWN_HOST, 0)
-        }
+        CommandLine::Report { db, register, form } => report(rt, *db, *register, form),
         CommandLine::Run {
             db,
             listen,

@@ -23,7 +23,7 @@ complete -F _sunreg sunreg
 fn value_of<'a>(value: Value<'a>) -> Option<&'a str> {
     match value {
         Value::Required(shown) | Value::Optional(shown) | Value::Repeated(shown) => Some(shown),
-        Value::Absent | Value::Letter(_) | Value::Word { .. } => None,
+        Value::Absent | Value::Letter(_) | Value::Chosen { .. } | Value::Word { .. } => None,
     }
 }
 
@@ -38,8 +38,24 @@ fn write_names<W: Write>(commands: &[CommandText<'_>], output: &mut W) -> io::Re
     output.write_all(b"help")
 }
 
-// Where a command's option stands before the word that is completed: its value is a file, or is not known here.
+// The words that may stand behind a command's option.
+fn write_chosen<W: Write>(
+    command: &str,
+    option: &str,
+    choices: &[&str],
+    output: &mut W,
+) -> io::Result<()> {
+    write!(output, "    '{command} --{option}') words='")?;
+    write_choices(choices, output)?;
+    output.write_all(b"' ;;\n")
+}
+
+// Where a command's option stands before the word that is completed: its value is one of some words, is a file, or is not
+// known here.
 fn write_value<W: Write>(command: &str, option: &OptionText<'_>, output: &mut W) -> io::Result<()> {
+    if let Value::Chosen { choices, .. } = option.value {
+        return write_chosen(command, option.name, choices, output);
+    }
     match value_of(option.value) {
         Some(shown) if is_file(shown) => write!(
             output,
@@ -69,9 +85,11 @@ fn write_option<W: Write>(option: &OptionText<'_>, output: &mut W) -> io::Result
     match option.value {
         Value::Word { choices, .. } => write_choices(choices, output),
         Value::Letter(letter) => write!(output, "-{letter} --{} ", option.name),
-        Value::Required(_) | Value::Optional(_) | Value::Repeated(_) | Value::Absent => {
-            write!(output, "--{} ", option.name)
-        }
+        Value::Required(_)
+        | Value::Optional(_)
+        | Value::Chosen { .. }
+        | Value::Repeated(_)
+        | Value::Absent => write!(output, "--{} ", option.name),
     }
 }
 
@@ -89,18 +107,17 @@ fn write_all_values<W: Write>(commands: &[CommandText<'_>], output: &mut W) -> i
     for command in commands {
         write_values(command, output)?;
     }
-    output.write_all(b"    esac\n")
+    output.write_all(b"    *) case ${COMP_WORDS[1]} in\n")
 }
 
 // For each command, its options and the words that may stand behind it.
 fn write_all_options<W: Write>(commands: &[CommandText<'_>], output: &mut W) -> io::Result<()> {
-    output.write_all(b"    case ${COMP_WORDS[1]} in\n")?;
     for command in commands {
         write_options(command, output)?;
     }
     output.write_all(b"    help) words='")?;
     write_names(commands, output)?;
-    output.write_all(b"' ;;\n    esac ;;\n")
+    output.write_all(b"' ;;\n    esac ;;\n    esac ;;\n")
 }
 
 fn write_script<W: Write>(commands: &[CommandText<'_>], output: &mut W) -> io::Result<()> {

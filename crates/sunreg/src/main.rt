@@ -13,6 +13,7 @@ mod entering;
 mod escaped;
 mod explain;
 mod offices;
+mod reports;
 mod run_words;
 mod scans;
 mod version;

@@ -9,6 +9,7 @@ use command_words::Device;
 use interval_core::Zone;
 use office_running::Settings;
 use office_store::OpenFault;
+use round_advice::say_remarks;
 use socket_link::SystemClock;
 use sqlite::{Alter, Connection, FileFrom, FileStore, Unknown};
 use std::fs::{self, Permissions};
@@ -184,7 +185,8 @@ fn open_in<'a, D: Databases>(
     }
 }
 
-/// Carries a task out over the office in the database at a path, and gives out all that it printed.
+/// Carries a task out over the office in the database at a path, and gives out all that it printed. What the refusals and held readings
+/// of a round mean is said behind it.
 pub(crate) fn over_office<'a, D: Databases>(
     rt: &HostRuntime,
     databases: &D,
@@ -211,24 +213,29 @@ pub(crate) fn over_office<'a, D: Databases>(
     );
     match (output.flush(), done) {
         (Err(_), _) => Err(Failure::Streams),
-        (Ok(()), Ok(done)) => Ok(done),
+        (Ok(()), Ok(done)) => {
+            if let (Task::Round { device, .. }, Done::Polled(end)) = (task, done) {
+                say_remarks(rt.alloc(), device, end, output.kept(), &mut errors);
+            }
+            Ok(done)
+        }
         (Ok(()), Err(fault)) => Err(Failure::Unopened { path, fault }),
     }
 }
 
-// Where a task prints: a round and a run each line at its end, the others in pieces.
+// Where a task prints: a round and a run each line at its end, the others in pieces. What a round prints is kept, to say what it means.
 fn output_of<'r>(
     rt: &'r HostRuntime,
     task: Task<'_>,
 ) -> io::Result<CommandOutput<Printer<'r, HostRuntime>>> {
     match task {
-        Task::Report { .. } | Task::Serve { .. } | Task::Enter { .. } | Task::Check { .. } => Ok(
-            CommandOutput::in_pieces(io::writer(rt)),
-        ),
-        Task::Round { .. } | Task::Run { .. } => CommandOutput::by_lines(
-            rt.alloc(),
-            io::writer(rt),
-        ),
+        Task::Report { .. }
+        | Task::ReportRange { .. }
+        | Task::Serve { .. }
+        | Task::Enter { .. }
+        | Task::Check { .. } => Ok(CommandOutput::in_pieces(io::writer(rt))),
+        Task::Round { .. } => CommandOutput::keeping(rt.alloc(), io::writer(rt)),
+        Task::Run { .. } => CommandOutput::by_lines(rt.alloc(), io::writer(rt)),
     }
 }
 

@@ -54,6 +54,7 @@ program_with name commands =
 abbrev pub rule_by : Text → Value → Rule
 rule_by name (value.Required shown) = required_option name
 rule_by name (value.Optional shown) = optional_option name
+rule_by name (value.Chosen shown choices) = optional_option name
 rule_by name (value.Repeated shown) = repeated_option name
 rule_by name value.Absent = flag name
 rule_by name (value.Letter letter) = lettered_flag letter name

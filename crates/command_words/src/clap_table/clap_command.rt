@@ -18,6 +18,7 @@ fn argument<'a>(alloc: Global, option: OptionText<'a>) -> Arg<'a>
     match option.value {
         Value::Required(shown) => argument.long(option.name).value_name(shown).required(true),
         Value::Optional(shown) => argument.long(option.name).value_name(shown),
+        Value::Chosen { shown, .. } => argument.long(option.name).value_name(shown),
         Value::Repeated(shown) => argument
             .long(option.name)
             .value_name(shown)

@@ -7,6 +7,11 @@ pub enum Value<'a> {
     Required(&'a str),
     /// The option may lack; where it stands it has a value.
     Optional(&'a str),
+    /// So it is, and the value is one of some words.
+    Chosen {
+        shown: &'a str,
+        choices: &'a [&'a str],
+    },
     /// The option may lack, or stand several times; each time it has a value.
     Repeated(&'a str),
     /// The option is a flag, which has no value and may lack.

@@ -7,7 +7,6 @@ use Rattle.energy_core.specs.Account.{last_of}
 use Rattle.meter_journal.specs.declared.lines.EntryRow.{EntryRow}
 use Rattle.meter_journal.specs.Journal as journal
 use Rattle.meter_journal.specs.Lists.{AreNumbered}
-use Rattle.office_rules.specs.Meters.{rows_of}
 
 rolled_place : (last : Last) (row : EntryRow) → (journal.rolled last row).place ≡ row.place
 rolled_place last row =

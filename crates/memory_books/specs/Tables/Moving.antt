@@ -1,5 +1,5 @@
 -- What one more fact makes of a meter.
-use Rattle.std.specs.Prelude.{◌≡◌, ◌+◌, ◌≤◌, ◌<◌, ℕ, false, List, [], ◌∷◌, ◌++◌, length, Ok}
+use Rattle.std.specs.Prelude.{◌≡◌, ◌+◌, ◌≤◌, ◌<◌, ℕ, List, [], ◌∷◌, ◌++◌, length, Ok}
 use Rattle.energy_core.specs.declared.entries.Entry.{Entry}
 use Rattle.energy_core.specs.declared.entries.Last.{Last}
 use Rattle.energy_core.specs.Account.{after, step_to}

@@ -4,7 +4,7 @@ use Rattle.office_events.specs.declared.facts.Fact.{Fact}
 use Rattle.office_rules.specs.Lawful.{AreLawful}
 use Rattle.office_books.specs.declared.faults.BooksFault.{BooksFault}
 use Rattle.office_books.specs.Ledgers.{Ledger, Books, Moves, with_facts}
-use Rattle.office_books.proofs.Moving.{settles}
+use Rattle.office_books.proofs.Moving.{passes, settles}
 use Rattle.office_booking.specs.Commands.Effects.{Tries}
 
 -- what the books were asked
@@ -14,14 +14,14 @@ asked old new facts (Ok done) books = record {
   settled = λ known left h lawful may. settles old new known left facts done books h lawful may;
   refused = books.refused;
   under_way = λ known left h lawful may. tt;
-  goes = books.goes;
+  goes = passes old new (Ok done) books.goes;
 }
 asked old new facts (Err why) books = record {
   booked = books.booked;
   settled = λ known left h lawful may. tt;
   refused = books.refused;
   under_way = λ known left h lawful may. inr (books.under_way known left h lawful may);
-  goes = books.goes;
+  goes = passes old new (Err why) books.goes;
 }
 
 -- What is tried with facts that are right where the look-ups were moves the books.

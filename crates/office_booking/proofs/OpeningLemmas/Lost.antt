@@ -8,8 +8,8 @@ use Rattle.office_rules.specs.Facts.{pending_in}
 use Rattle.office_rules.specs.History.{lost, with_lost}
 use Rattle.office_rules.specs.Lawful.{AreLawful}
 use Rattle.office_books.specs.declared.faults.BooksFault.{BooksFault}
-use Rattle.office_books.specs.Ledgers.{Ledger, OnlyReads, Books, Moves, with_facts}
-use Rattle.office_books.proofs.Moving.{goes_on_then, settles}
+use Rattle.office_books.specs.Ledgers.{Ledger, Consults, Books, Moves, with_facts}
+use Rattle.office_books.proofs.Moving.{passes, passes_then, passes_well, settles}
 
 -- the facts of the polls that wait
 lost_as : (at : ℕ) (facts : List Fact) (polls : List Poll) (known : List Fact) → facts ≡ map (lost at) polls → polls ≡ pending_in known
@@ -24,7 +24,7 @@ lost_settles old new known left facts (Err why) books h lawful may = tt
 
 -- they are booked after the polls were looked up
 pub books_lost : (old between new : Ledger) (at : ℕ) (known : List Fact) (polls : List Poll) (facts : List Fact) {T : Type 0} (x : T) (result : Result (Unit {0}) BooksFault)
-    → OnlyReads old between (Ok x) → (old.holds known → between.is_clean → polls ≡ pending_in known) → facts ≡ map (lost at) polls
+    → Consults old between (Ok x) → (old.holds known → between.is_clean → polls ≡ pending_in known) → facts ≡ map (lost at) polls
     → AreLawful (with_lost at known) → Books between new facts result → Moves old new known (with_lost at known) result
 books_lost old between new at known polls facts x result reads found is lawful books =
     let same : old.holds known → new.is_clean → with_facts facts known ≡ with_lost at known =
@@ -37,11 +37,11 @@ books_lost old between new at known polls facts x result reads found is lawful b
           (lost_settles between new known left facts result books (reads.keeps.facts known h) (fits h c) (reads.keeps.left left may));
       under_way = λ left h c may. subst (λ fs. OnErr result (new.may_leave left ⊎ new.may_leave (left ++ fs ∷ []))) (same h c)
           (on_err_weaker result (λ done. inr done) (books.under_way known left (reads.keeps.facts known h) (fits h c) (reads.keeps.left left may)));
-      goes = goes_on_then old between new x result reads.goes books.goes;
+      goes = passes_then old between new x result reads.goes (passes between new result books.goes);
     }
 
 -- no poll waits
-pub nothing_lost : (old new : Ledger) (at : ℕ) (known : List Fact) (polls : List Poll) {T : Type 0} (x : T) → OnlyReads old new (Ok x)
+pub nothing_lost : (old new : Ledger) (at : ℕ) (known : List Fact) (polls : List Poll) {T : Type 0} (x : T) → Consults old new (Ok x)
     → (old.holds known → new.is_clean → polls ≡ pending_in known) → polls ≡ [] → Moves {T = Unit {0}} old new known (with_lost at known) (Ok tt)
 nothing_lost old new at known polls x reads found none =
     let same : old.holds known → new.is_clean → known ≡ with_lost at known =
@@ -51,5 +51,5 @@ nothing_lost old new at known polls x reads found none =
       refused = λ h. tt;
       settled = λ left h c may. inr (sym (same h c), reads.keeps.left left may);
       under_way = λ left h c may. tt;
-      goes = record { clean = reads.goes.clean; faults = reads.goes.faults; zone = reads.goes.zone };
+      goes = passes_well old new x tt reads.goes;
     }

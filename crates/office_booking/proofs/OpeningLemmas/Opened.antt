@@ -9,7 +9,7 @@ use Rattle.office_rules.specs.History.{History, Opened, facts_of}
 use Rattle.office_booking.specs.declared.sessions.slots.Slot.{Slot}
 use Rattle.office_booking.specs.Sessions.Keeping.{KeepsSlots}
 use Rattle.office_books.specs.declared.faults.BooksFault.{BooksFault}
-use Rattle.office_books.specs.Ledgers.{Ledger, OnlyReads, Moves}
+use Rattle.office_books.specs.Ledgers.{Ledger, Consults, Moves}
 use Rattle.office_books.proofs.Moving.{read_then, failed}
 use Rattle.office_booking.specs.Opening.OpenedOffice.{opened, Opens}
 
@@ -26,7 +26,7 @@ opened_keep made devices slots is same =
 
 -- where the polls that are lost could not be booked
 pub not_opened : {T : Type 0} (past : History) (at : ℕ) (old between new : Ledger) (x : T) (fault : BooksFault) (result : Result (Vec Slot Global) BooksFault)
-    → OnlyReads old between (Ok x) → Moves {T = Unit {0}} between new (facts_of past) (facts_of (Opened at ∷ past)) (Err fault)
+    → Consults old between (Ok x) → Moves {T = Unit {0}} between new (facts_of past) (facts_of (Opened at ∷ past)) (Err fault)
     → IsErrAnd result (λ f. f ≡ fault) → Opens past at old new result
 not_opened past at old between new x fault (Ok slots) reads moves is = absurd is
 not_opened past at old between new x fault (Err f) reads moves is = record {

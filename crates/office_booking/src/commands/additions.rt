@@ -6,7 +6,7 @@ ghost use Rattle.office_events.specs.declared.facts.Fact.TheVariants as fact;
 ghost use Rattle.office_events.specs.declared.commands.Command.TheVariants as command;
 ghost use Rattle.office_rules.specs.Refusals.{is_start};
 ghost use Rattle.office_booking.specs.Sessions.Ranges.{IsCommandInRange};
-ghost use Rattle.office_books.specs.Ledgers.{Finds, OnlyReads};
+ghost use Rattle.office_books.specs.Ledgers.{Finds, Consults};
 ghost use Rattle.office_booking.specs.Commands.Adding.{AreAdded};
 
 use crate::commands::meters::{
@@ -39,7 +39,7 @@ fn exchanged<B: Books>(
     requires range { IsCommandInRange moment (command.Exchange exchange.now) }
     ensures found { Finds (B.ledger books.old) (B.ledger books.new) result
         (λ known facts. AreAdded moment (command.Exchange exchange.now) known facts.items) }
-    ensures reads { OnlyReads (B.ledger books.old) (B.ledger books.new) result }
+    ensures reads { Consults (B.ledger books.old) (B.ledger books.new) result }
 {
     let closed = open_meter(books, &exchange.register)?;
     let mut facts = listed(alloc, closed.map(|row| closing_by(moment, &row, exchange)))?;
@@ -60,7 +60,7 @@ pub fn facts_by<B: Books>(
     requires no_start { is_start command.now ≡ false }
     ensures found { Finds (B.ledger books.old) (B.ledger books.new) result
         (λ known facts. AreAdded moment command.now known facts.items) }
-    ensures reads { OnlyReads (B.ledger books.old) (B.ledger books.new) result }
+    ensures reads { Consults (B.ledger books.old) (B.ledger books.new) result }
 {
     match command {
         Command::AddDevice(add) => Ok(listed(alloc, device_by(add).map(|d| Fact::Device(d)))?),

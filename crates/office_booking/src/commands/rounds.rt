@@ -3,7 +3,7 @@ ghost use Rattle.std.specs.Prelude.{◌≡◌, true, [], ◌∷◌, map, length,
 ghost use Rattle.office_rules.specs.History.{spans_by, round_spans};
 ghost use Rattle.office_rules.specs.Refusals.{is_start, reads_in_all};
 ghost use Rattle.office_events.specs.declared.commands.Command.TheVariants as command;
-ghost use Rattle.office_books.specs.Ledgers.{Finds, OnlyReads};
+ghost use Rattle.office_books.specs.Ledgers.{Finds, Consults};
 
 use mb_wire::ReadSpan;
 use office_books::{Books, BooksFault, list_at};
@@ -55,7 +55,7 @@ fn reads_of_round<B: Books>(
         (λ known reads. reads.spans.items ≡ spans_by known (command.StartRound round.now)) }
     ensures all { Finds (B.ledger books.old) (B.ledger books.new) result
         (λ known reads. reads.of ≡ reads_in_all known (command.StartRound round.now)) }
-    ensures reads { OnlyReads (B.ledger books.old) (B.ledger books.new) result }
+    ensures reads { Consults (B.ledger books.old) (B.ledger books.new) result }
 {
     let list = list_at(books, &round.device)?;
     Ok(reads_from(alloc, &list, round.from)?)
@@ -82,7 +82,7 @@ pub fn reads_by<B: Books>(
         (λ known reads. reads.spans.items ≡ spans_by known command.now) }
     ensures all { Finds (B.ledger books.old) (B.ledger books.new) result
         (λ known reads. reads.of ≡ reads_in_all known command.now) }
-    ensures reads { OnlyReads (B.ledger books.old) (B.ledger books.new) result }
+    ensures reads { Consults (B.ledger books.old) (B.ledger books.new) result }
 {
     match command {
         Command::StartPoll(start) => Ok(only(alloc, start.span)?),

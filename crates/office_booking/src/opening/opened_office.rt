@@ -6,7 +6,7 @@ ghost use Rattle.office_rules.specs.History as history;
 ghost use Rattle.office_rules.specs.History.{History, with_lost};
 ghost use Rattle.office_rules.specs.Lawful.{AreLawful};
 ghost use Rattle.office_rules.specs.Refusals as refusals;
-ghost use Rattle.office_books.specs.Ledgers.{Finds, LedgerGoesOn, Moves, OnlyReads};
+ghost use Rattle.office_books.specs.Ledgers.{Finds, LedgerPasses, Moves, Consults, OnlyReads};
 ghost use Rattle.office_booking.specs.Opening.OpenedOffice as opening;
 ghost use Rattle.office_booking.specs.Opening.OpenedOffice.{MayOpen, Opens, IsOfOpening};
 
@@ -56,7 +56,7 @@ fn lost_facts(alloc: Global, moment: u64, polls: &[Poll]) -> Result<Vec<Fact>, A
 fn slots_in<B: Books>(alloc: Global, books: &mut B) -> Result<Vec<Slot>, BooksFault>
     ensures found { Finds (B.ledger books.old) (B.ledger books.new) result
         (λ known slots. slots.items ≡ map opening.opened (reverse (devices_in known))) }
-    ensures reads { OnlyReads (B.ledger books.old) (B.ledger books.new) result }
+    ensures reads { Consults (B.ledger books.old) (B.ledger books.new) result }
 {
     let devices = books.devices()?;
     Ok(opened_slots(alloc, &devices)?)
@@ -68,7 +68,7 @@ fn book_lost<B: Books>(alloc: Global, books: &mut B, moment: u64) -> Result<(), 
         → Moves (B.ledger books.old) (B.ledger books.new) known (with_lost moment known) result }
     ensures refused { (known : List Fact) → (B.ledger books.old).holds known
         → OnErr result ((B.ledger books.new).holds known) }
-    ensures goes { LedgerGoesOn (B.ledger books.old) (B.ledger books.new) result }
+    ensures goes { LedgerPasses (B.ledger books.old) (B.ledger books.new) result }
 {
     let polls = books.pending()?;
     if polls.is_empty() {
@@ -108,7 +108,7 @@ pub fn book_opening<B: Books>(
         → Opens past moment (B.ledger books.old) (B.ledger books.new) result }
     ensures refused { (known : List Fact) → (B.ledger books.old).holds known
         → OnErr result ((B.ledger books.new).holds known) }
-    ensures goes { LedgerGoesOn (B.ledger books.old) (B.ledger books.new) result }
+    ensures goes { LedgerPasses (B.ledger books.old) (B.ledger books.new) result }
 {
     facts_are_lawful();
     let slots = slots_in(alloc, books)?;

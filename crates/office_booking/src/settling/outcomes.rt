@@ -6,7 +6,7 @@ ghost use Rattle.office_rules.specs.Facts.{poll_of};
 ghost use Rattle.office_rules.specs.History as history;
 ghost use Rattle.office_rules.specs.Notes as notes;
 ghost use Rattle.office_books.specs.declared.faults.BooksFault.TheVariants.{Memory};
-ghost use Rattle.office_books.specs.Ledgers.{OnlyReads};
+ghost use Rattle.office_books.specs.Ledgers.{Consults};
 ghost use Rattle.office_rules.specs.Ranges.{IsSound};
 ghost use Rattle.office_booking.specs.Settling.Drafts.{HasMore, Adds};
 ghost use Rattle.office_booking.specs.Settling.Replies.{words_of};
@@ -92,7 +92,7 @@ fn add_reading<B: Books>(
     ensures adds { Adds (B.ledger books.old) (B.ledger books.new) draft.old draft.new result
         (readings.with_register at poll.now (words_of reply.now) register.now)
         (notes.register_notes at poll.now (words_of reply.now) register.now) }
-    ensures reads { OnlyReads (B.ledger books.old) (B.ledger books.new) result }
+    ensures reads { Consults (B.ledger books.old) (B.ledger books.new) result }
 {
     if !is_read_by(poll.span, register) {
         return Ok(());
@@ -116,7 +116,7 @@ fn add_readings<B: Books>(
     ensures adds { Adds (B.ledger books.old) (B.ledger books.new) draft.old draft.new result
         (readings.with_registers at poll.now (words_of reply.now) registers.now)
         (notes.registers_notes at poll.now (words_of reply.now) registers.now) }
-    ensures reads { OnlyReads (B.ledger books.old) (B.ledger books.new) result }
+    ensures reads { Consults (B.ledger books.old) (B.ledger books.new) result }
 {
     for register in registers {
         add_reading(books, draft, at, poll, reply, register)?;
@@ -135,7 +135,7 @@ fn add_reply<B: Books>(
     ensures adds { Adds (B.ledger books.old) (B.ledger books.new) draft.old draft.new result
         (λ facts. readings.with_reply at (poll_of facts number) (words_of reply.now) facts)
         (λ facts. notes.reply_notes at (poll_of facts number) (words_of reply.now) facts) }
-    ensures reads { OnlyReads (B.ledger books.old) (B.ledger books.new) result }
+    ensures reads { Consults (B.ledger books.old) (B.ledger books.new) result }
 {
     let Some(row) = books.poll(number)? else {
         return Ok(());
@@ -155,7 +155,7 @@ pub fn add_outcome<B: Books>(
     ensures adds { Adds (B.ledger books.old) (B.ledger books.new) draft.old draft.new result
         (history.with_outcome at (settled_of settled.now))
         (notes.outcome_notes at (settled_of settled.now)) }
-    ensures reads { OnlyReads (B.ledger books.old) (B.ledger books.new) result }
+    ensures reads { Consults (B.ledger books.old) (B.ledger books.new) result }
 {
     let ended = EndedPoll {
         poll: settled.poll,

@@ -2,7 +2,7 @@
 ghost use Rattle.std.specs.Prelude.{◌≡◌, ◌≤◌, true, not, None, OnOk, IfOk};
 ghost use Rattle.poll_core.specs.Settling as happening;
 ghost use Rattle.office_rules.specs.Facts.{moment_limit};
-ghost use Rattle.office_books.specs.Ledgers.{OnlyReads};
+ghost use Rattle.office_books.specs.Ledgers.{Consults};
 ghost use Rattle.office_booking.specs.Settling.Drafts.{IsIdle};
 ghost use Rattle.office_booking.specs.Settling.Settling.{IsSettling, happening_on, SettlesNothing, TellsAll, TellsReached, ReachesQuietly, ends_session};
 
@@ -28,7 +28,7 @@ fn settle_piece<B: Books>(
     ensures quiet { SettlesNothing session.old (happening.Piece moment piece.now)
         → IsIdle result books.old books.new draft.old draft.new }
     ensures rests { OnOk result (session.new.settling ≡ None) }
-    ensures reads { OnlyReads (B.ledger books.old) (B.ledger books.new) result }
+    ensures reads { Consults (B.ledger books.old) (B.ledger books.new) result }
 {
     longer_pieces_settle();
     let mut taken = 0;
@@ -58,7 +58,7 @@ fn settle_tick<B: Books>(
     ensures quiet { SettlesNothing session.old (happening.Tick moment)
         → IsIdle result books.old books.new draft.old draft.new }
     ensures rests { OnOk result (session.new.settling ≡ None) }
-    ensures reads { OnlyReads (B.ledger books.old) (B.ledger books.new) result }
+    ensures reads { Consults (B.ledger books.old) (B.ledger books.new) result }
 {
     'turns: loop {
         let Ok(told) = session.tick(moment) else {
@@ -85,7 +85,7 @@ fn settle_close<B: Books>(
         (happening.Close moment closing) draft.old draft.new result }
     ensures quiet { SettlesNothing session.old (happening.Close moment closing)
         → IsIdle result books.old books.new draft.old draft.new }
-    ensures reads { OnlyReads (B.ledger books.old) (B.ledger books.new) result }
+    ensures reads { Consults (B.ledger books.old) (B.ledger books.new) result }
 {
     'turns: loop {
         let Ok(told) = session.close(moment, closing) else {
@@ -117,7 +117,7 @@ pub fn settle_session<B: Books>(
     ensures quiet { ReachesQuietly session.old (happening_on moment event.now device.now)
         → IsIdle result books.old books.new draft.old draft.new }
     ensures rests { IfOk result (λ b. b ≡ true → session.new.settling ≡ None) }
-    ensures reads { OnlyReads (B.ledger books.old) (B.ledger books.new) result }
+    ensures reads { Consults (B.ledger books.old) (B.ledger books.new) result }
 {
     match event {
         Event::Bytes(given, piece) if is_named(given, device) => {

@@ -5,7 +5,7 @@ ghost use Rattle.office_rules.specs.Sessions as sessions;
 ghost use Rattle.office_rules.specs.Sessions.{slot_after};
 ghost use Rattle.office_rules.specs.History.{settled_by};
 ghost use Rattle.office_booking.specs.Sessions.Keeping.{KeepsSlot, KeepsSlots};
-ghost use Rattle.office_books.specs.Ledgers.{OnlyReads};
+ghost use Rattle.office_books.specs.Ledgers.{Consults};
 ghost use Rattle.office_booking.specs.Settling.Drafts.{IsIdle};
 ghost use Rattle.office_booking.specs.Settling.Settling.{AddsOfSlot, AddsOfSlots, IsSettling, SettleNothing, MayReach, MayReachAll};
 
@@ -53,7 +53,7 @@ fn settle_slot<B: Books>(
     ensures quiet { (number : ℕ) (stood : sessions.Slot) → MayReach moment slot.old stood
         → settled_by number moment event.now stood ≡ []
         → IsIdle result books.old books.new draft.old draft.new }
-    ensures reads { OnlyReads (B.ledger books.old) (B.ledger books.new) result }
+    ensures reads { Consults (B.ledger books.old) (B.ledger books.new) result }
 {
     if connects(event, &slot.device) {
         *slot = connected(&slot.device);
@@ -85,7 +85,7 @@ pub fn settle_slots<B: Books>(
     ensures quiet { (number : ℕ) (stood : List sessions.Slot) → MayReachAll moment slots.old stood
         → SettleNothing number moment event.now stood
         → IsIdle result books.old books.new draft.old draft.new }
-    ensures reads { OnlyReads (B.ledger books.old) (B.ledger books.new) result }
+    ensures reads { Consults (B.ledger books.old) (B.ledger books.new) result }
 {
     for i in 0..slots.len() {
         settle_slot(&mut slots[i], books, draft, moment, event)?;

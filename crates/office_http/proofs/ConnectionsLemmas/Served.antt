@@ -3,6 +3,7 @@ use Rattle.std.proofs.Common.{◌≡◌, ◌⊎◌, inl, inr, ℕ, Bool, ◌≤�
 use Rattle.interval_core.specs.declared.zone.Zone.{Zone}
 use Rattle.office_events.specs.declared.refusals.Refusal.{Refusal}
 use Rattle.office_rules.specs.History.{History}
+use Rattle.office_books.specs.declared.failures.Failures.{Failures}
 use Rattle.office_books.specs.Ledgers.{Ledger}
 use Rattle.office_core.specs.Standing.{After, Stands, books_in}
 use Rattle.office_core.specs.declared.office.Office.{Office}
@@ -37,7 +38,7 @@ asked_one names ledger zone past at read reply later office may answered stands 
   stands = let P : History → Type 0 = λ h. Stands ledger h office in subst P answered.accepts stands;
 }
 
-served_one : {B : Type 0} (names : List (List ℕ)) (ledger : B → Ledger) (zone : Zone) (past : History) (at : ℕ) (read : List ℕ) (had_stopped : Bool) (before after : ℕ)
+served_one : {B : Type 0} (names : List (List ℕ)) (ledger : B → Ledger) (zone : Zone) (past : History) (at : ℕ) (read : List ℕ) (had_stopped : Bool) (before after : Failures)
     (cut : Option Refusal) (reply : List ℕ) (later : History) (office : Office B) → MayAsk names read
     → IsServed zone past at read had_stopped before after cut reply later → Stands ledger later office → ServesOne names at ledger past office
 served_one names ledger zone past at read had_stopped before after None reply later office may (inl answered) stands =

@@ -9,6 +9,7 @@ use Rattle.command_io.specs.Lines.{Line}
 use Rattle.command_io.specs.declared.status.ExitStatus.{ExitStatus}
 use Rattle.command_io.specs.declared.status.ExitStatus.TheVariants.{Fine, Refused, Failed}
 use Rattle.office_rules.specs.History.{History}
+use Rattle.office_books.specs.declared.failures.Failures.{Failures}
 use Rattle.office_books.specs.Ledgers.{Ledger}
 use Rattle.office_core.specs.Standing.{Stands}
 use Rattle.office_core.specs.declared.office.Office.{Office}
@@ -75,7 +76,7 @@ untouched : {B : Type 0} (ledger : B → Ledger) (tells : Telling) (caller : Opt
     → AreTaken ledger tells caller past first begun now new taken
 untouched {B = B} ledger tells caller past first begun was now old new taken are stays =
     let P : Office B → Type 0 = λ o. Stands ledger (history_behind past taken) o in
-    let Q : ℕ → Type 0 = λ n. AreAnswered past begun.failures n taken in
+    let Q : Failures → Type 0 = λ n. AreAnswered past begun.failures n taken in
     let R : Option (List ℕ) → Type 0 = λ m. AreTimed first begun.moments m taken in
     record {
       stands = subst P (sym stays.office) are.stands;

@@ -14,10 +14,12 @@ use Rattle.office_events.specs.declared.facts.Fact.{Fact}
 use Rattle.office_events.specs.declared.refusals.Refusal.{Refusal}
 use Rattle.office_rules.specs.Facts.{reply_of}
 use Rattle.office_rules.specs.History.{Fed, History, facts_of, kind_of, next_poll, slots_of}
-use Rattle.office_rules.specs.Refusals.{AreAccepted, answer_of, decision_of, is_start, kept_of, reads_in_all, refusal_of, sent_count, unless_kept, unless_refused, with_answer}
+use Rattle.office_rules.specs.Refusals.{AreAccepted, IsAccepted, answer_of, decision_of, is_start, kept_of, reads_in_all, refusal_of, sent_count, unless_kept, unless_refused, with_answer}
+use Rattle.office_books.specs.declared.failures.Failures.{Failures}
 use Rattle.office_core.specs.EventRun.{Answered}
 use Rattle.office_core.specs.Failing.{FailsOutside}
 use Rattle.office_core.specs.Taking.{IsAnswer}
+use Rattle.office_core.proofs.Taken.{outside_more}
 use Rattle.office_program.specs.declared.entering.entries.Entry.{Entry}
 use Rattle.office_program.specs.declared.entering.entries.Entry.TheVariants as entry
 use Rattle.office_program.specs.declared.entering.wanted.Wanted.{Wanted}
@@ -128,9 +130,9 @@ acted_by history at asked result (Some (Err other)) why told ok = let never = rw
 acted_by history at asked result None None told ok = inr (refl, refl, told)
 acted_by history at asked result None (Some reason) told ok = let never = rw told at ok in cc never
 
-not_outside : (result : Result Answer Refusal) (before after : ℕ) → IsOk result → FailsOutside before after result → ⊥
-not_outside (Ok given) before after ok fails = fails
-not_outside (Err why) before after ok fails = cc ok
+not_outside : (takes_memory : Type 0) (result : Result Answer Refusal) (before after : Failures) → IsOk result → FailsOutside takes_memory before after result → ⊥
+not_outside takes_memory (Ok given) before after ok fails = fails
+not_outside takes_memory (Err why) before after ok fails = cc ok
 
 -- what is answered to a command that is accepted is no repeat
 fed_by : (history : History) (at : ℕ) (e : Event) (b : Bool) (first count of : ℕ) (kind : CommandKind)
@@ -171,7 +173,7 @@ keeps_acted later more history one asked is goes accepted (inr new) =
       (more ++ Fed one.at (event.Asked asked) ∷ [], here ∙ sym (append_assoc more (Fed one.at (event.Asked asked) ∷ []) history)),
     )
 
-keeps_asked : (later more history : History) (one : Answered) (asked : Asked) (before after : ℕ) → one.event ≡ event.Asked asked
+keeps_asked : (later more history : History) (one : Answered) (asked : Asked) (before after : Failures) → one.event ≡ event.Asked asked
     → later ≡ more ++ with_answer history one.at one.event one.result → AreAccepted later → IsAnswer history one.at one.event before after one.result
     → IsOk one.result → KeepsCame later (course.Asked one) × GoesOn later history
 keeps_asked later more history one asked before after is goes accepted (inl told) ok =
@@ -179,9 +181,9 @@ keeps_asked later more history one asked before after is goes accepted (inl told
     let Q : Event → Type 0 = λ e. one.result ≡ decision_of history one.at e in
     keeps_acted later more history one asked is (subst P is goes) accepted
     (acted_by history one.at asked one.result (kept_of (facts_of history) (event.Asked asked)) (refusal_of history one.at (event.Asked asked)) (subst Q is told.0) ok)
-keeps_asked later more history one asked before after is goes accepted (inr fails) ok = absurd (not_outside one.result before after ok fails)
+keeps_asked later more history one asked before after is goes accepted (inr fails) ok = absurd (not_outside (IsAccepted history one.at one.event) one.result before after ok fails)
 
-keeps_entry : (later more history : History) (e : Entry) (came : Came) (before after : ℕ) → IsCameOf e came → later ≡ more ++ with_came history came → AreAccepted later
+keeps_entry : (later more history : History) (e : Entry) (came : Came) (before after : Failures) → IsCameOf e came → later ≡ more ++ with_came history came → AreAccepted later
     → IsCameAnswered history before after came → HasActed came → KeepsCame later came × GoesOn later history
 keeps_entry later more history (entry.Ask asked) (course.Asked one) before after is goes accepted answered ok =
     keeps_asked later more history one asked before after is goes accepted answered ok
@@ -189,7 +191,7 @@ keeps_entry later more history (entry.Ask asked) (Faulty rows) before after is g
 keeps_entry later more history (entry.Faulty rows) (course.Asked one) before after is goes accepted answered ok = absurd is
 keeps_entry later more history (entry.Faulty rows) (Faulty told) before after is goes accepted answered ok = absurd ok
 
-keeps_each : (tells : Telling) (caller : Option (List ℕ)) (taken : List Taken) (past later more : History) (before after : ℕ) → later ≡ more ++ history_behind past taken
+keeps_each : (tells : Telling) (caller : Option (List ℕ)) (taken : List Taken) (past later more : History) (before after : Failures) → later ≡ more ++ history_behind past taken
     → AreAccepted later → AreComing tells caller taken → AreAnswered past before after taken → HaveActed taken → KeepsEach later taken
 keeps_each tells caller [] past later more before after goes accepted are answered acted = tt
 keeps_each tells caller (one ∷ earlier) past later more before after goes accepted are answered acted =
@@ -255,12 +257,25 @@ each_kept tells caller later (one ∷ earlier) steady are kept =
 
 -- ---- So nothing acts again
 
-outside_same : (history : History) (at : ℕ) (e : Event) (result : Result Answer Refusal) (before after : ℕ) → FailsOutside before after result
-    → with_answer history at e result ≡ history
-outside_same history at e (Ok given) before after fails = absurd fails
-outside_same history at e (Err why) before after fails = refl
+outside_same : (takes_memory : Type 0) (history : History) (at : ℕ) (e : Event) (result : Result Answer Refusal) (before after : Failures)
+    → FailsOutside takes_memory before after result → with_answer history at e result ≡ history
+outside_same takes_memory history at e (Ok given) before after fails = absurd fails
+outside_same takes_memory history at e (Err why) before after fails = refl
 
-stays_asked : (later : History) (one : Answered) (before after : ℕ) → KeepsCame later (course.Asked one) → IsAnswer later one.at one.event before after one.result
+-- what is kept is not accepted once more
+not_accepted : (later : History) (at : ℕ) (e : Event) (asked : Asked) (kind : CommandKind) → e ≡ event.Asked asked → Keeps (facts_of later) asked kind
+    → IsAccepted later at e → ⊥
+not_accepted later at e asked kind is keeps accepted =
+    let P : Event → Type 0 = λ f. kept_of (facts_of later) f ≡ None in
+    let none : Some (Ok kind) ≡ None = sym (answers (facts_of later) asked asked kind refl refl refl keeps) ∙ subst P is accepted.new in
+    cc
+
+without_memory : (takes_memory : Type 0) (before after : Failures) (result : Result Answer Refusal) → (takes_memory → ⊥) → FailsOutside takes_memory before after result
+    → FailsOutside ⊥ before after result
+without_memory takes_memory before after (Ok given) none fails = fails
+without_memory takes_memory before after (Err why) none fails = outside_more takes_memory ⊥ before after why none fails
+
+stays_asked : (later : History) (one : Answered) (before after : Failures) → KeepsCame later (course.Asked one) → IsAnswer later one.at one.event before after one.result
     → (with_answer later one.at one.event one.result ≡ later) × IsRepeated one.result
 stays_asked later one before after kept (inl told) =
     let Q : Event → Type 0 = λ e. decision_of later one.at e ≡ Ok (answer.Again kept.1) in
@@ -268,14 +283,16 @@ stays_asked later one before after kept (inl told) =
     let is : one.result ≡ Ok (answer.Again kept.1) = told.0 ∙ decision in
     (ap (with_answer later one.at one.event) is, inl (kept.1, is))
 stays_asked later one before after kept (inr fails) =
-    (outside_same later one.at one.event one.result before after fails, inr (before, after, fails))
+    let none = not_accepted later one.at one.event kept.0 kept.1 kept.2 kept.3 in
+    let takes : Type 0 = IsAccepted later one.at one.event in
+    (outside_same takes later one.at one.event one.result before after fails, inr (before, after, without_memory takes before after one.result none fails))
 
-stays_one : (later : History) (came : Came) (before after : ℕ) → KeepsCame later came → IsCameAnswered later before after came
+stays_one : (later : History) (came : Came) (before after : Failures) → KeepsCame later came → IsCameAnswered later before after came
     → (with_came later came ≡ later) × HasRepeated came
 stays_one later (course.Asked one) before after kept answered = stays_asked later one before after kept answered
 stays_one later (Faulty rows) before after kept answered = absurd kept
 
-stays : (tells : Telling) (caller : Option (List ℕ)) (later : History) (again : List Taken) (before after : ℕ) → EachTaken (LineKept tells caller later) again
+stays : (tells : Telling) (caller : Option (List ℕ)) (later : History) (again : List Taken) (before after : Failures) → EachTaken (LineKept tells caller later) again
     → AreComing tells caller again → AreAnswered later before after again → ActsNoMore later again
 stays tells caller later [] before after kept are answered = record { same = refl; repeated = tt }
 stays tells caller later (two ∷ earlier) before after kept are answered =

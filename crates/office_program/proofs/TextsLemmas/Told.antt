@@ -5,6 +5,7 @@ use Rattle.std.specs.Prelude.{Result, Ok, Err}
 use Rattle.std.proofs.Math.Nat.{min-eq_left}
 use Rattle.interval_core.specs.declared.totals.DayTotal.{DayTotal}
 use Rattle.interval_core.specs.declared.zone.Zone.{Zone}
+use Rattle.office_books.specs.declared.failures.Failures.{Failures}
 use Rattle.office_books.specs.Rows.{TakesAll}
 use Rattle.office_core.specs.Asking.{HandsDays}
 use Rattle.office_events.specs.declared.refusals.Refusal.{Refusal}
@@ -19,7 +20,7 @@ counts n few = min-eq_left (let fits : n ≤ 18446744073709551615 = omega (arith
 
 -- what a sink took of the days is a report, with its last line
 pub reported : {S : Type 0} (takes : S → DayTotal → S → Type 0) (zone : Zone) (past : History) (register : Option (List ℕ))
-    (before after : ℕ) (from to : S) (reply : Result (Unit {0}) Refusal)
+    (before after : Failures) (from to : S) (reply : Result (Unit {0}) Refusal)
     → HandsDays takes zone (facts_of past) register before after from to reply
     → (shown : List DayTotal) × TakesAll takes from shown to
     × IsReport zone past register reply (flat_map day_line shown ++ last_line (counted (length shown)) reply)

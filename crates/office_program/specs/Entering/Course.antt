@@ -18,6 +18,7 @@ use Rattle.office_events.specs.declared.refusals.Refusal.TheVariants.{Limit}
 use Rattle.office_rules.specs.History.{History}
 use Rattle.office_rules.specs.Notes.{notes_after, outgoing_after}
 use Rattle.office_rules.specs.Refusals.{with_answer}
+use Rattle.office_books.specs.declared.failures.Failures.{Failures}
 use Rattle.office_books.specs.Ledgers.{Ledger}
 use Rattle.office_core.specs.EventRun.{Answered}
 use Rattle.office_core.specs.Standing.{Stands}
@@ -52,8 +53,8 @@ abbrev pub with_came : History → Came → History
 with_came past (Asked one) = with_answer past one.at one.event one.result
 with_came past (Faulty rows) = past
 
--- It is answered as the office's definitions say, or the office failed outside, which is counted.
-abbrev pub IsCameAnswered : History → (before after : ℕ) → Came → Type 0
+-- It is answered as the office's definitions say, or the office failed outside, which is noted.
+abbrev pub IsCameAnswered : History → (before after : Failures) → Came → Type 0
 IsCameAnswered past before after (Asked one) =
     IsAnswer past one.at one.event before after one.result
 IsCameAnswered past before after (Faulty rows) = after ≡ before
@@ -150,10 +151,10 @@ AreComing tells caller [] = Unit {0}
 AreComing tells caller (one ∷ earlier) =
     Comes tells caller one.line.text one.came × AreComing tells caller earlier
 
-abbrev pub AreAnswered : History → (before after : ℕ) → List Taken → Type 0
+abbrev pub AreAnswered : History → (before after : Failures) → List Taken → Type 0
 AreAnswered past before after [] = after ≡ before
 AreAnswered past before after (one ∷ earlier) =
-    (between : ℕ) × AreAnswered past before between earlier
+    (between : Failures) × AreAnswered past before between earlier
     × IsCameAnswered (history_behind past earlier) between after one.came
 
 -- how far they come, from this moment on

@@ -9,6 +9,7 @@ use Rattle.office_events.specs.declared.events.Event.TheVariants as event
 use Rattle.office_events.specs.declared.refusals.Refusal.{Refusal}
 use Rattle.office_rules.specs.History.{Fed, History, kind_of}
 use Rattle.office_rules.specs.Refusals.{AreAccepted, decision_of}
+use Rattle.office_books.specs.declared.failures.Failures.{Failures}
 use Rattle.office_core.specs.Failing.{FailsOutside}
 use Rattle.office_program.specs.Entering.Course.{AreAnswered, AreComing, Came, Faulty, Taken, history_behind, lines_with}
 use Rattle.office_program.specs.Entering.Course as course
@@ -42,11 +43,11 @@ abbrev pub HaveActed : List Taken → Type 0
 HaveActed [] = Unit {0}
 HaveActed (one ∷ earlier) = HasActed one.came × HaveActed earlier
 
--- The office answers that this was done before, or fails outside.
+-- The office answers that this was done before, or the books failed, or it had stopped. It takes no memory of its own.
 abbrev pub IsRepeated : Result Answer Refusal → Type 0
 IsRepeated result =
     ((kind : CommandKind) × (result ≡ Ok (answer.Again kind)))
-    ⊎ ((before after : ℕ) × FailsOutside before after result)
+    ⊎ ((before after : Failures) × FailsOutside ⊥ before after result)
 
 abbrev pub HasRepeated : Came → Type 0
 HasRepeated (course.Asked one) = IsRepeated one.result
@@ -61,8 +62,8 @@ pub record HasEntered (tells : Telling) (caller : Option (List ℕ)) (lines : Li
     (past : History) (taken : List Taken) : Type 0 where
   pub whole : lines ≡ lines_with taken []
   pub are : AreComing tells caller taken
-  pub before : ℕ
-  pub after : ℕ
+  pub before : Failures
+  pub after : Failures
   pub answered : AreAnswered past before after taken
   pub acted : HaveActed taken
 
@@ -75,8 +76,8 @@ pub record EntersAgain (tells : Telling) (caller : Option (List ℕ)) (lines : L
   pub rest : List Line
   pub part : lines ≡ lines_with again rest
   pub are : AreComing tells caller again
-  pub before : ℕ
-  pub after : ℕ
+  pub before : Failures
+  pub after : Failures
   pub answered : AreAnswered later before after again
 
 -- Then none of them acts: the office has accepted what it had before, so its facts are those of entering it once.

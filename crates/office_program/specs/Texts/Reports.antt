@@ -1,5 +1,5 @@
 -- The report of a register: its days, or why there are none.
-use Rattle.std.specs.Prelude.{◌≡◌, ℕ, List, map, Option, Result, Ok, Err}
+use Rattle.std.specs.Prelude.{◌≡◌, ℕ, List, map, Option, Some, Result, Ok, Err}
 use Rattle.std.specs.Option.{option_and_then}
 use Rattle.std.specs.declared.io.Write as writers
 use Rattle.command_io.specs.declared.status.ExitStatus.{ExitStatus}
@@ -10,6 +10,7 @@ use Rattle.interval_core.specs.declared.zone.Zone.{Zone}
 use Rattle.office_events.specs.declared.refusals.Refusal.{Refusal}
 use Rattle.office_rules.specs.Facts.{register_of}
 use Rattle.office_rules.specs.History.{History, facts_of}
+use Rattle.office_books.specs.declared.failures.Failures.{Failures}
 use Rattle.office_books.specs.Ledgers.{Ledger}
 use Rattle.office_books.specs.declared.books.Books as stores
 use Rattle.office_core.specs.Asking.{AreDaysNamed, IsFound, OnlyAsks, is_there}
@@ -39,13 +40,14 @@ IsReport zone past register (Ok done) text =
 IsReport zone past register (Err why) text = text ≡ refused_line why
 
 -- What is printed with which end. It is refused where there is no register of the name, and else only where the books or
--- memory failed or the office had stopped, over the count of the books' failures before and after.
+-- memory failed or the office had stopped, over how the books failed before and after. Only days of a register take memory of
+-- the office's own.
 pub record ReportPrints (zone : Zone) (past : History) (register : Option (List ℕ))
-    (before after : ℕ)
+    (before after : Failures)
     (text : List ℕ) (meant : ExitStatus) : Type 0 where
   pub reply : Result (Unit {0}) Refusal
-  pub answer : IsFound (is_there (option_and_then (register_of (facts_of past)) register)) before
-      after reply
+  pub answer : let there = is_there (option_and_then (register_of (facts_of past)) register) in
+      IsFound (there ≡ Some tt) there before after reply
   pub is : IsReport zone past register reply text
   pub means : meant ≡ meant_by reply
 

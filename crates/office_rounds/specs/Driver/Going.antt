@@ -1,6 +1,7 @@
 -- How far a turn has come.
 use Rattle.std.specs.Prelude.{◌≡◌, ◌⊎◌, ◌≤◌, ℕ, List, [], ◌∷◌, length, Option, Some, None}
 use Rattle.office_rules.specs.History.{History}
+use Rattle.office_books.specs.declared.failures.Failures.{Failures}
 use Rattle.office_books.specs.Ledgers.{Ledger}
 use Rattle.office_core.specs.EventRun.{Answered}
 use Rattle.office_core.specs.Standing.{After, books_in}
@@ -11,24 +12,24 @@ use Rattle.office_rounds.specs.declared.device_rounds.round.Round.{Round}
 use Rattle.office_rounds.specs.Driver.Showing.{Shown}
 use Rattle.office_rounds.specs.Driver.Turns.{AreNext, AreShown, Table, Wished, first_wish, next_by, table, table_behind}
 
--- the office, how often its books have failed, the rounds, and the witness
+-- the office, how its books failed so far, the rounds, and the witness
 pub record Scene (B V : Type 0) : Type 0 where
   pub office : Office B
-  pub failures : ℕ
+  pub failures : Failures
   pub rounds : List Round
   pub observer : V
 
-abbrev pub scene : {B V : Type 0} → Office B → ℕ → List Round → V → Scene B V
+abbrev pub scene : {B V : Type 0} → Office B → Failures → List Round → V → Scene B V
 scene office failures rounds observer =
     record { office = office; failures = failures; rounds = rounds; observer = observer }
 
--- where a turn began: how often the books had failed, what was to be fed, and the witness
+-- where a turn began: how the books had failed, what was to be fed, and the witness
 pub record Start (V : Type 0) : Type 0 where
-  pub failures : ℕ
+  pub failures : Failures
   pub table : Table
   pub observer : V
 
-abbrev pub start : {V : Type 0} → ℕ → Table → V → Start V
+abbrev pub start : {V : Type 0} → Failures → Table → V → Start V
 start failures at observer = record { failures = failures; table = at; observer = observer }
 
 -- each came at this moment

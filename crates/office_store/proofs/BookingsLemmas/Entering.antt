@@ -1,5 +1,6 @@
 -- Rows that are entered, and the facts that they record.
 use Rattle.std.proofs.Common.{◌≡◌, ℕ, List, map, subst}
+use Rattle.office_events.specs.declared.answers.CommandKind.{CommandKind}
 use Rattle.office_events.specs.declared.facts.Device.{Device}
 use Rattle.office_events.specs.declared.facts.DeviceList.{DeviceList}
 use Rattle.office_events.specs.declared.facts.Register.{Register}
@@ -20,9 +21,8 @@ use Rattle.store_devices.specs.Polls.Trees as poll_tree
 use Rattle.store_devices.specs.declared.polls.rows.PollRow.{PollRow}
 use Rattle.store_devices.specs.declared.polls.rows.OutcomeRow.{OutcomeRow}
 use Rattle.store_devices.specs.declared.polls.rows.HoldRow.{HoldRow}
-use Rattle.store_devices.specs.declared.polls.rows.ReplyKind.{ReplyKind}
 use Rattle.store_devices.specs.Polls.Rows.{Started, Held, Kept, poll_columns, outcome_columns, hold_columns, hold_place, reply_columns}
-use Rattle.store_facts.specs.Rows.{added, listed, placed_on, registered, started, outcome_row, held_row, reply_kind, kept}
+use Rattle.store_facts.specs.Rows.{added, listed, placed_on, registered, started, outcome_row, held_row, kept}
 use Rattle.store_facts.specs.Recording.{Records, IsNext}
 use Rattle.store_facts.proofs.Recorded.{device_recorded, register_recorded, poll_recorded, outcome_recorded, reply_recorded}
 use Rattle.store_facts.proofs.Held.{hold_recorded}
@@ -101,13 +101,13 @@ hold_entered law held place meter row meter_is row_is before mid after next adds
 
 -- ---- replies
 
-abbrev pub AddsReply : (caller : List ℕ) → (number : ℕ) → (request : List ℕ) → ReplyKind → (moment : ℕ) → Content → Content → Type 0
+abbrev pub AddsReply : (caller : List ℕ) → (number : ℕ) → (request : List ℕ) → CommandKind → (moment : ℕ) → Content → Content → Type 0
 AddsReply caller number request kind moment =
     Edits poll_tree.replies reply_columns (with_row (let k : Kept = record { caller = caller; number = number; request = request; kind = kind; moment = moment } in k))
 
-pub reply_entered : (reply : Reply) (caller request : List ℕ) (kind : ReplyKind) → caller ≡ reply.caller → request ≡ reply.request → kind ≡ reply_kind reply.kind
-    → (tables after : Content) → AddsReply caller reply.number request kind reply.at tables after → Records (fact.Reply reply) tables after
-reply_entered reply caller request kind caller_is request_is kind_is tables after adds =
-    let is : (let k : Kept = record { caller = caller; number = reply.number; request = request; kind = kind; moment = reply.at } in k) ≡ kept reply =
-    λ i. record { caller = caller_is i; number = reply.number; request = request_is i; kind = kind_is i; moment = reply.at } in
+pub reply_entered : (reply : Reply) (caller request : List ℕ) → caller ≡ reply.caller → request ≡ reply.request
+    → (tables after : Content) → AddsReply caller reply.number request reply.kind reply.at tables after → Records (fact.Reply reply) tables after
+reply_entered reply caller request caller_is request_is tables after adds =
+    let is : (let k : Kept = record { caller = caller; number = reply.number; request = request; kind = reply.kind; moment = reply.at } in k) ≡ kept reply =
+    λ i. record { caller = caller_is i; number = reply.number; request = request_is i; kind = reply.kind; moment = reply.at } in
     reply_recorded reply tables after (subst (λ (k : Kept). Edits poll_tree.replies reply_columns (with_row k) tables after) is adds)

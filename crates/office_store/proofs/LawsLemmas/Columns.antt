@@ -20,8 +20,8 @@ use Rattle.store_tables.specs.Meters.Rows.{installed_columns, ranged_columns, en
 use Rattle.store_tables.specs.declared.entries.rows.EntryKind.{EntryKind}
 use Rattle.store_tables.specs.declared.entries.rows.EntryKind.TheVariants as kind
 use Rattle.store_tables.specs.Entries.Rows.{entry_columns, voided_columns, kind_number, kind_of}
-use Rattle.store_devices.specs.declared.polls.rows.ReplyKind.{ReplyKind}
-use Rattle.store_devices.specs.declared.polls.rows.ReplyKind.TheVariants as reply
+use Rattle.office_events.specs.declared.answers.CommandKind.{CommandKind}
+use Rattle.office_events.specs.declared.answers.CommandKind.TheVariants as reply
 use Rattle.store_devices.specs.Polls.Rows.{Started, Held, Kept, poll_columns, outcome_columns, hold_columns, reply_columns, outcome_of, kind_word}
 use Rattle.store_devices.specs.Polls.Rows as polls
 use Rattle.office_store.proofs.LawsLemmas.Lists.{IsInjective, undone}
@@ -47,7 +47,7 @@ kind_back kind.Closing = refl
 kind_back kind.Reset = refl
 kind_back kind.Rescale = refl
 
-reply_back : (k : ReplyKind) → polls.kind_of (kind_word k) ≡ Some k
+reply_back : (k : CommandKind) → polls.kind_of (kind_word k) ≡ Some k
 reply_back reply.Device = refl
 reply_back reply.List = refl
 reply_back reply.Register = refl

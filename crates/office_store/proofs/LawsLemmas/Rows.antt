@@ -3,8 +3,6 @@ use Rattle.std.proofs.Common.{◌≡◌, ℕ, ◌+◌, ◌≤◌, refl, subst, O
 use Rattle.std.proofs.Math.Bridge.{le_prop}
 use Rattle.mb_wire.specs.declared.span.ReadFunction.{ReadFunction}
 use Rattle.mb_wire.specs.declared.span.ReadSpan.{ReadSpan}
-use Rattle.office_events.specs.declared.answers.CommandKind.{CommandKind}
-use Rattle.office_events.specs.declared.answers.CommandKind.TheVariants as command
 use Rattle.office_events.specs.declared.facts.Device.{Device}
 use Rattle.office_events.specs.declared.facts.Register.{Register}
 use Rattle.office_events.specs.declared.facts.ScaleSource.{ScaleSource}
@@ -12,9 +10,7 @@ use Rattle.office_events.specs.declared.facts.ScaleSource.TheVariants as source
 use Rattle.office_events.specs.declared.facts.HeldReading.{HeldReading}
 use Rattle.store_devices.specs.declared.devices.rows.RegisterScale.{RegisterScale}
 use Rattle.store_devices.specs.declared.devices.rows.RegisterScale.TheVariants as scale
-use Rattle.store_devices.specs.declared.polls.rows.ReplyKind.{ReplyKind}
-use Rattle.store_devices.specs.declared.polls.rows.ReplyKind.TheVariants as reply
-use Rattle.store_facts.specs.Rows.{added, scale_as, registered, voided, started, outcome_row, held_row, reply_kind, kept}
+use Rattle.store_facts.specs.Rows.{added, scale_as, registered, voided, started, outcome_row, held_row, kept}
 use Rattle.office_store.proofs.LawsLemmas.Lists.{IsInjective, undone}
 
 pub one_device : (m n : ℕ) (a b : Device) → added m a ≡ added n b → a ≡ b
@@ -44,37 +40,8 @@ one_void a b e = λ i. record { meter = (e i).meter; place = (e i).place; at = (
 pub one_end : IsInjective outcome_row
 one_end a b e = λ i. record { poll = (e i).poll; at = (e i).moment; outcome = (e i).outcome }
 
-command_of : ReplyKind → Option CommandKind
-command_of reply.Device = Some command.Device
-command_of reply.List = Some command.List
-command_of reply.Register = Some command.Register
-command_of reply.Install = Some command.Install
-command_of reply.Exchange = Some command.Exchange
-command_of reply.Reset = Some command.Reset
-command_of reply.Rescale = Some command.Rescale
-command_of reply.Manual = Some command.Manual
-command_of reply.Close = Some command.Close
-command_of reply.Void = Some command.Void
-command_of reply.Start = Some command.Start
-
-command_back : (k : CommandKind) → command_of (reply_kind k) ≡ Some k
-unfolding command_of
-command_back command.Device = refl
-command_back command.List = refl
-command_back command.Register = refl
-command_back command.Install = refl
-command_back command.Exchange = refl
-command_back command.Reset = refl
-command_back command.Rescale = refl
-command_back command.Manual = refl
-command_back command.Close = refl
-command_back command.Void = refl
-command_back command.Start = refl
-
 pub one_reply : IsInjective kept
-one_reply a b e =
-    let kind : a.kind ≡ b.kind = undone reply_kind command_of command_back _ _ (λ i. (e i).kind) in
-    λ i. record { caller = (e i).caller; number = (e i).number; request = (e i).request; kind = kind i; at = (e i).moment }
+one_reply a b e = λ i. record { caller = (e i).caller; number = (e i).number; request = (e i).request; kind = (e i).kind; at = (e i).moment }
 
 -- a span, with what is known of it
 abbrev span : (f : ReadFunction) → (a c : ℕ) → (1 ≤ c) × (c ≤ 125) × (a + c ≤ 65536) → ReadSpan

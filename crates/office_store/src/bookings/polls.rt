@@ -10,7 +10,7 @@ use office_events::{EndedPoll, HeldReading, MAX_REQUEST, Poll, Reply};
 use office_rules::holds_change_nothing;
 use sqlite::{Alter, Transaction};
 use store_devices::{insert_hold, insert_outcome, insert_poll, insert_reply};
-use store_facts::{hold_row, outcome_row, poll_row, reply_kind, text};
+use store_facts::{hold_row, outcome_row, poll_row, text};
 use store_tables::{GREATEST_PLACE, LATEST_MOMENT, RowFault};
 
 /// Enters a poll that was started.
@@ -69,13 +69,12 @@ pub fn enter_reply<S: Alter>(tx: &mut Transaction<'_, S>, reply: &Reply) -> Resu
         return Err(RowFault::Damaged);
     }
     let caller = text(&reply.caller)?;
-    let kind = reply_kind(reply.kind);
     insert_reply(
         tx,
         caller,
         reply.number,
         reply.request.as_slice(),
-        kind,
+        reply.kind,
         reply.at,
     )?;
     Ok(())

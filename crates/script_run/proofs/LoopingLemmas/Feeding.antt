@@ -6,7 +6,7 @@ use Rattle.std.specs.declared.io.Error.{Error}
 use Rattle.std.proofs.KnownBytes.{Appends-nil, Appends-trans}
 use Rattle.mb_device.specs.Maps.{Maps}
 use Rattle.office_core.specs.Standing.{Stands, is_stopped}
-use Rattle.office_core.specs.Taking.{Ends, IsAnswer, IsQuiet, SettlesNothing}
+use Rattle.office_core.specs.Taking.{Ends, IsAnswer, IsQuiet, SettlesNothing, failures_of}
 use Rattle.office_core.specs.declared.office.Office.{Office}
 use Rattle.office_events.specs.declared.answers.Answer.{Answer}
 use Rattle.office_events.specs.declared.events.Event.{Event}
@@ -14,7 +14,7 @@ use Rattle.office_events.specs.declared.refusals.Refusal.{Refusal}
 use Rattle.memory_books.specs.Listed.{ledger_of}
 use Rattle.memory_books.specs.declared.list_books.ListBooks.{ListBooks}
 use Rattle.office_rules.specs.History.{History}
-use Rattle.office_rules.specs.Refusals.{with_answer}
+use Rattle.office_rules.specs.Refusals.{IsAccepted, with_answer}
 use Rattle.script_run.proofs.ReplayingLemmas.Replies.{right_or_fails, same_stage}
 use Rattle.script_run.specs.Replaying.Events.{EventPrints, IsReply, reply_text}
 use Rattle.script_run.specs.Replaying.TextRun.{stage_of}
@@ -33,12 +33,12 @@ pub record Replied (past : History) (at : ℕ) (e : Event) (reply : Result Answe
   pub stands : Stands ledger_of (with_answer past at e reply) office'
 
 pub was_replied : (past : History) (at : ℕ) (e : Event) (reply : Result Answer Refusal) (office office' : Office ListBooks)
-    → IsAnswer past at e 0 0 reply → Ends ledger_of office office' e reply
+    → IsAnswer past at e (failures_of ledger_of office) (failures_of ledger_of office') reply → Ends ledger_of office office' e reply
     → (is_stopped office ≡ false → SettlesNothing past at e → IsQuiet office office' reply)
     → Stands ledger_of (with_answer past at e reply) office' → Replied past at e reply office office'
 was_replied past at e reply office office' answer ends quiet stands = record {
   is = record {
-    answer = right_or_fails reply _ answer;
+    answer = right_or_fails (IsAccepted past at e) _ _ reply _ refl refl answer;
     stops = ends.stopped;
     quiet = λ goes nothing. (quiet goes nothing).answer;
   };

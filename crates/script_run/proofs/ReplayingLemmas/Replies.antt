@@ -1,19 +1,21 @@
 -- Replies of an office over books in memory.
-use Rattle.std.proofs.Common.{◌≡◌, ◌⊎◌, inl, inr, ℕ, Bool, false, Option, List, refl, ap, ◌∙◌}
-use Rattle.std.specs.Prelude.{Result, Ok, Err}
+use Rattle.std.proofs.Common.{◌≡◌, ◌⊎◌, ◌+◌, inl, inr, ℕ, Bool, false, Option, List, refl, sym, ap, ◌∙◌}
+use Rattle.std.specs.Prelude.{min, Result, Ok, Err}
 use Rattle.std.specs.declared.io.Error.{Error}
 use Rattle.interval_core.specs.declared.zone.Zone.{Zone}
 use Rattle.office_events.specs.declared.answers.Answer.{Answer}
 use Rattle.office_events.specs.declared.events.Event.{Event}
 use Rattle.office_events.specs.declared.refusals.Refusal.{Refusal}
 use Rattle.office_events.specs.declared.refusals.Refusal.TheVariants as refusal
+use Rattle.office_events.specs.declared.refusals.StoreCause.TheVariants as store
+use Rattle.office_books.specs.declared.failures.Failures.{Failures}
 use Rattle.memory_books.specs.Listed.{ledger_of}
 use Rattle.memory_books.specs.declared.list_books.ListBooks.{ListBooks}
 use Rattle.office_rules.specs.History.{History}
-use Rattle.office_rules.specs.Refusals.{with_answer}
+use Rattle.office_rules.specs.Refusals.{IsAccepted, with_answer}
 use Rattle.office_core.specs.Failing.{FailsOutside}
 use Rattle.office_core.specs.Standing.{Stands, is_stopped}
-use Rattle.office_core.specs.Taking.{Ends, IsAnswer, IsQuiet, SettlesNothing}
+use Rattle.office_core.specs.Taking.{Ends, IsAnswer, IsQuiet, SettlesNothing, failures_of}
 use Rattle.office_core.specs.declared.office.Office.{Office}
 use Rattle.script_run.specs.Replaying.Events.{EventPrints, reply_text}
 use Rattle.script_run.specs.Replaying.TextRun.{IsCarriedOut, stage_of}
@@ -26,39 +28,44 @@ staged past stopped zone = record { past = past; stopped = stopped; zone = zone 
 pub same_stage : (past : History) (a b : Bool) (y z : Zone) → a ≡ b → y ≡ z → staged past a y ≡ staged past b z
 same_stage past a b y z stopped zone = ap (λ s. staged past s y) stopped ∙ ap (staged past b) zone
 
--- books in memory never fail
-pub fails_in_memory : {T : Type 0} (reply : Result T Refusal) → FailsOutside 0 0 reply → Fails reply
-fails_in_memory (Ok x) h = absurd h
-fails_in_memory (Err refusal.NotFound) h = absurd h
-fails_in_memory (Err refusal.Exists) h = absurd h
-fails_in_memory (Err refusal.ClockBack) h = absurd h
-fails_in_memory (Err refusal.BadScale) h = absurd h
-fails_in_memory (Err refusal.NegativeStep) h = absurd h
-fails_in_memory (Err refusal.NotLater) h = absurd h
-fails_in_memory (Err refusal.SpanTooLong) h = absurd h
-fails_in_memory (Err refusal.TotalFull) h = absurd h
-fails_in_memory (Err refusal.Ended) h = absurd h
-fails_in_memory (Err refusal.Busy) h = absurd h
-fails_in_memory (Err refusal.Reused) h = absurd h
-fails_in_memory (Err refusal.Limit) h = absurd h
-fails_in_memory (Err (refusal.Store why)) h = absurd (let e : 0 ≡ 1 = h in cc)
-fails_in_memory (Err refusal.Memory) h = tt
-fails_in_memory (Err refusal.Stopped) h = tt
-fails_in_memory (Err refusal.NotVoidable) h = absurd h
-fails_in_memory (Err (refusal.NotPlausible why)) h = absurd h
+abbrev how_often : Failures → ℕ
+how_often failures = failures.count
 
-abbrev no_failures : ℕ
-no_failures = 0
+abbrev raised : ℕ → ℕ
+raised n = min (n + 1) 18446744073709551615
 
-pub right_or_fails : {T : Type 0} (reply right : Result T Refusal)
-    → ((reply ≡ right) × (no_failures ≡ no_failures)) ⊎ FailsOutside 0 0 reply
-    → (reply ≡ right) ⊎ Fails reply
-right_or_fails reply right (inl h) = inl h.0
-right_or_fails reply right (inr h) = inr (fails_in_memory reply h)
+-- the store of books in memory never fails
+pub fails_in_memory : {T : Type 0} (takes_memory : Type 0) (before after : Failures) (reply : Result T Refusal) → before.count ≡ 0 → after.count ≡ 0
+    → FailsOutside takes_memory before after reply → Fails reply
+fails_in_memory takes_memory before after (Ok x) none still h = absurd h
+fails_in_memory takes_memory before after (Err refusal.NotFound) none still h = absurd h
+fails_in_memory takes_memory before after (Err refusal.Exists) none still h = absurd h
+fails_in_memory takes_memory before after (Err refusal.ClockBack) none still h = absurd h
+fails_in_memory takes_memory before after (Err refusal.BadScale) none still h = absurd h
+fails_in_memory takes_memory before after (Err refusal.NegativeStep) none still h = absurd h
+fails_in_memory takes_memory before after (Err refusal.NotLater) none still h = absurd h
+fails_in_memory takes_memory before after (Err refusal.SpanTooLong) none still h = absurd h
+fails_in_memory takes_memory before after (Err refusal.TotalFull) none still h = absurd h
+fails_in_memory takes_memory before after (Err refusal.Ended) none still h = absurd h
+fails_in_memory takes_memory before after (Err refusal.Busy) none still h = absurd h
+fails_in_memory takes_memory before after (Err refusal.Reused) none still h = absurd h
+fails_in_memory takes_memory before after (Err refusal.Limit) none still h = absurd h
+fails_in_memory takes_memory before after (Err (refusal.Store store.Refused)) none still h = absurd (let e : 0 ≡ 1 = sym still ∙ ap how_often h ∙ ap raised none in cc)
+fails_in_memory takes_memory before after (Err (refusal.Store store.Damaged)) none still h = absurd (let e : 0 ≡ 1 = sym still ∙ ap how_often h ∙ ap raised none in cc)
+fails_in_memory takes_memory before after (Err (refusal.Store store.NoDay)) none still h = absurd h
+fails_in_memory takes_memory before after (Err refusal.Memory) none still h = tt
+fails_in_memory takes_memory before after (Err refusal.Stopped) none still h = tt
+fails_in_memory takes_memory before after (Err refusal.NotVoidable) none still h = absurd h
+fails_in_memory takes_memory before after (Err (refusal.NotPlausible why)) none still h = absurd h
+
+pub right_or_fails : {T : Type 0} (takes_memory : Type 0) (before after : Failures) (reply right : Result T Refusal) → before.count ≡ 0
+    → after.count ≡ 0 → ((reply ≡ right) × (after ≡ before)) ⊎ FailsOutside takes_memory before after reply → (reply ≡ right) ⊎ Fails reply
+right_or_fails takes_memory before after reply right none still (inl h) = inl h.0
+right_or_fails takes_memory before after reply right none still (inr h) = inr (fails_in_memory takes_memory before after reply none still h)
 
 -- an event that was answered and printed
 pub replied : (past : History) (at : ℕ) (e : Event) (office office' : Office ListBooks) (reply : Result Answer Refusal)
-    (result : Result (Unit {0}) Error) (o o' : Option (List ℕ)) → IsAnswer past at e 0 0 reply → Ends ledger_of office office' e reply
+    (result : Result (Unit {0}) Error) (o o' : Option (List ℕ)) → IsAnswer past at e (failures_of ledger_of office) (failures_of ledger_of office') reply → Ends ledger_of office office' e reply
     → (is_stopped office ≡ false → SettlesNothing past at e → IsQuiet office office' reply)
     → Stands ledger_of (with_answer past at e reply) office' → GotText result (reply_text past at e reply) o o'
     → IsCarriedOut (λ now printed next. EventPrints now at e printed next) past office office' result o o'
@@ -68,7 +75,7 @@ replied past at e office office' reply result o o' answer ends quiet stands got 
   prints = record {
     reply = reply;
     is = record {
-      answer = right_or_fails reply _ answer;
+      answer = right_or_fails (IsAccepted past at e) _ _ reply _ refl refl answer;
       stops = ends.stopped;
       quiet = λ goes nothing. (quiet goes nothing).answer;
     };

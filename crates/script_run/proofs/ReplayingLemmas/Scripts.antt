@@ -120,18 +120,14 @@ memory_alone refusal.NotVoidable goes fails = absurd fails
 memory_alone (refusal.NotPlausible cause) goes fails = absurd fails
 
 -- an opening over such books is refused only for want of memory
-pub refused_for_memory : (why : Refusal) (old new : Ledger) → old.fault_count ≡ 0 → new.fault_count ≡ 0 → IsNotStopped why
+pub refused_for_memory : (why : Refusal) (old new : Ledger) → old.failures.count ≡ 0 → new.failures.count ≡ 0 → IsNotStopped why
     → IsNotOpened [] 0 old new why → why ≡ refusal.Memory
-refused_for_memory why old new before after goes not_opened =
-    memory_alone why goes (fails_for why old.fault_count new.fault_count before after not_opened.reason)
+refused_for_memory why old new before after goes not_opened = memory_alone why goes (fails_for not_opened.reason)
   where
-    fails_for : (why : Refusal) (m n : ℕ) → m ≡ 0 → n ≡ 0
-        → ((opening_refusal_of (facts_of []) 0 ≡ Some why) × (n ≡ m)) ⊎ IsOutside m n why → Fails {T = Unit {0}} (Err why)
-    fails_for why m n before after (inl refused) = absurd (let e : None ≡ Some why = refused.0 in cc)
-    fails_for why m n before after (inr outside) =
-        let here : IsOutside 0 n why = rw before at outside in
-        let both : IsOutside 0 0 why = rw after at here in
-        fails_in_memory {T = Unit {0}} (Err why) both
+    fails_for : ((opening_refusal_of (facts_of []) 0 ≡ Some why) × (new.failures ≡ old.failures)) ⊎ IsOutside (opening_refusal_of (facts_of []) 0 ≡ None) old.failures new.failures why
+        → Fails {T = Unit {0}} (Err why)
+    fails_for (inl refused) = absurd (let e : None ≡ Some why = refused.0 in cc)
+    fails_for (inr outside) = fails_in_memory {T = Unit {0}} (opening_refusal_of (facts_of []) 0 ≡ None) old.failures new.failures (Err why) before after outside
 
 -- how a line ends a run
 pub stopped_by : (zone : Zone) (text : List ℕ) (past : History) (line : Line) (office office' : Office ListBooks) (status : ExitStatus)

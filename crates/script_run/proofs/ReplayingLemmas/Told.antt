@@ -8,10 +8,12 @@ use Rattle.office_events.specs.declared.refusals.Refusal.{Refusal}
 use Rattle.memory_books.specs.Listed.{ledger_of}
 use Rattle.memory_books.specs.declared.list_books.ListBooks.{ListBooks}
 use Rattle.office_rules.specs.History.{History, facts_of}
-use Rattle.office_core.specs.Asking.{HandsDays, HandsRows, IsFound, OnlyAsks, rows_in}
+use Rattle.office_core.specs.Asking.{HandsDays, HandsRows, IsFound, IsRowFound, OnlyAsks, rows_in}
 use Rattle.office_books.specs.Rows.{TakesAll}
 use Rattle.interval_core.specs.declared.totals.DayTotal.{DayTotal}
 use Rattle.office_core.specs.Standing.{Stands}
+use Rattle.office_books.specs.declared.failures.Failures.{Failures}
+use Rattle.office_core.specs.Taking.{failures_of}
 use Rattle.office_core.specs.declared.office.Office.{Office}
 use Rattle.script_run.specs.Replaying.Asked.{AreDaysTold, IsAnswered, RowPrints, RowsPrint, counted, last_line, row_text}
 use Rattle.script_run.specs.Replaying.TextRun.{IsCarriedOut, stage_of}
@@ -25,12 +27,12 @@ pub stays : {T : Type 0} (past : History) (office office' : Office ListBooks) (r
 stays past office office' reply asks = same_stage past _ _ _ _ asks.stays asks.zone
 
 pub is_answered : {T : Type 0} (past : History) (office office' : Office ListBooks) (found : Option T) (reply : Result T Refusal)
-    → IsFound found 0 0 reply → OnlyAsks ledger_of office office' reply → IsAnswered (stage_of past office) found reply
-is_answered past office office' found reply told asks =
-    record { answer = right_or_fails reply _ told; stops = asks.stopped }
+    (takes_memory : Type 0) → IsFound takes_memory found (failures_of ledger_of office) (failures_of ledger_of office') reply → OnlyAsks ledger_of office office' reply → IsAnswered (stage_of past office) found reply
+is_answered past office office' found reply takes_memory told asks =
+    record { answer = right_or_fails takes_memory _ _ reply _ refl refl told; stops = asks.stopped }
 
 pub row_told : {T : Type 0} (find : Stage → Option T) (row_line : T → List ℕ) (past : History) (office office' : Office ListBooks)
-    (reply : Result T Refusal) (result : Result (Unit {0}) Error) (o o' : Option (List ℕ)) → IsFound (find (stage_of past office)) 0 0 reply
+    (reply : Result T Refusal) (result : Result (Unit {0}) Error) (o o' : Option (List ℕ)) → IsRowFound (find (stage_of past office)) (failures_of ledger_of office) (failures_of ledger_of office') reply
     → OnlyAsks ledger_of office office' reply → Stands ledger_of past office → GotText result (row_text row_line reply) o o'
     → IsCarriedOut (λ now printed next. RowPrints now (find now) row_line printed next) past office office' result o o'
 row_told find row_line past office office' reply result o o' told asks stands got = record {
@@ -38,7 +40,7 @@ row_told find row_line past office office' reply result o o' told asks stands go
   after = past;
   prints = record {
     reply = reply;
-    is = is_answered past office office' (find (stage_of past office)) reply told asks;
+    is = is_answered past office office' (find (stage_of past office)) reply ⊥ told asks;
     text = refl;
     same = stays past office office' reply asks;
   };
@@ -48,17 +50,17 @@ row_told find row_line past office office' reply result o o' told asks stands go
 
 pub rows_told : {T : Type 0} (there : Stage → Option (Unit {0})) (AreTold : Stage → List T → Result (Unit {0}) Refusal → Type 0)
     (row_line : T → List ℕ) (past : History) (office office' : Office ListBooks) (rows : List T) (reply : Result (Unit {0}) Refusal)
-    (result : Result (Unit {0}) Error) (o o' : Option (List ℕ)) → IsFound (there (stage_of past office)) 0 0 reply
+    (result : Result (Unit {0}) Error) (o o' : Option (List ℕ)) (takes_memory : Type 0) → IsFound takes_memory (there (stage_of past office)) (failures_of ledger_of office) (failures_of ledger_of office') reply
     → AreTold (stage_of past office) rows reply → OnlyAsks ledger_of office office' reply → Stands ledger_of past office
     → GotText result (flat_map row_line rows ++ last_line (counted (length rows)) reply) o o'
     → IsCarriedOut (λ now printed next. RowsPrint now (there now) (AreTold now) row_line printed next) past office office' result o o'
-rows_told there AreTold row_line past office office' rows reply result o o' found told asks stands got = record {
+rows_told there AreTold row_line past office office' rows reply result o o' takes_memory found told asks stands got = record {
   printed = flat_map row_line rows ++ last_line (counted (length rows)) reply;
   after = past;
   prints = record {
     rows = rows;
     reply = reply;
-    is = is_answered past office office' (there (stage_of past office)) reply found asks;
+    is = is_answered past office office' (there (stage_of past office)) reply takes_memory found asks;
     told = told;
     text = refl;
     same = stays past office office' reply asks;
@@ -68,16 +70,17 @@ rows_told there AreTold row_line past office office' rows reply result o o' foun
 }
 
 -- the rows that a sink took are such as are told
-pub handed : {S T : Type 0} (takes : S → T → S → Type 0) (rows : Option (List T)) (from to : S) (reply : Result (Unit {0}) Refusal)
-    → HandsRows takes rows 0 0 from to reply
+pub handed : {S T : Type 0} (takes : S → T → S → Type 0) (rows : Option (List T)) (before after : Failures) (from to : S)
+    (reply : Result (Unit {0}) Refusal) → HandsRows takes rows before after from to reply
     → (shown : List T) × TakesAll takes from shown to × ((n : ℕ) × (shown ≡ take n (rows_in rows))) × OnOk reply (shown ≡ rows_in rows)
-handed takes rows from to (Ok done) hands =
+handed takes rows before after from to (Ok done) hands =
     (rows_in rows, hands.whole, (length (rows_in rows), sym (take_all (length (rows_in rows)) (rows_in rows) (omega arith))), refl)
-handed takes rows from to (Err why) hands = (take hands.begun.0 (rows_in rows), hands.begun.1, (hands.begun.0, refl), tt)
+handed takes rows before after from to (Err why) hands = (take hands.begun.0 (rows_in rows), hands.begun.1, (hands.begun.0, refl), tt)
 
-pub handed_days : {S : Type 0} (takes : S → DayTotal → S → Type 0) (now : Stage) (register : Option (List ℕ)) (from to : S)
-    (reply : Result (Unit {0}) Refusal) → HandsDays takes now.zone (facts_of now.past) register 0 0 from to reply
+pub handed_days : {S : Type 0} (takes : S → DayTotal → S → Type 0) (now : Stage) (register : Option (List ℕ))
+    (before after : Failures) (from to : S) (reply : Result (Unit {0}) Refusal)
+    → HandsDays takes now.zone (facts_of now.past) register before after from to reply
     → (shown : List DayTotal) × TakesAll takes from shown to × AreDaysTold now register shown reply
-handed_days takes now register from to (Ok done) hands =
+handed_days takes now register before after from to (Ok done) hands =
     (hands.whole.days, hands.whole.took, record { whole = hands.whole.are; none = tt })
-handed_days takes now register from to (Err why) hands = ([], hands.none, record { whole = tt; none = refl })
+handed_days takes now register before after from to (Err why) hands = ([], hands.none, record { whole = tt; none = refl })

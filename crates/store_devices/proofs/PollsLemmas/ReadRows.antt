@@ -17,8 +17,8 @@ use Rattle.store_tables.specs.Limits.{greatest_place, latest_moment}
 use Rattle.store_tables.proofs.ReadLemmas.{IsFair, fair_some, fair_whole, reads_row, reads_number, has_read, whole_bounds, ok_is}
 use Rattle.store_devices.specs.declared.polls.rows.PollRow.{PollRow}
 use Rattle.store_devices.specs.declared.polls.rows.OutcomeRow.{OutcomeRow}
-use Rattle.store_devices.specs.declared.polls.rows.ReplyKind.{ReplyKind}
-use Rattle.store_devices.specs.declared.polls.rows.ReplyKind.TheVariants as kind
+use Rattle.office_events.specs.declared.answers.CommandKind.{CommandKind}
+use Rattle.office_events.specs.declared.answers.CommandKind.TheVariants as kind
 use Rattle.store_devices.specs.declared.polls.rows.Repeat.{Repeat}
 use Rattle.store_devices.specs.Polls.Rows.{number_shown, poll_number, poll_in, HasNumber, IsSoundPoll, IsSoundStarted, greatest_count, outcome_shown, outcome_in, malformation_of, lost_of, malformed_of, lost_by, outcome_of, IsOutcome, IsSoundOutcome, IsSoundHeld, kind_word, kind_in, reply_shown, repeat_in, repeat_as, IsRepeat, IsSoundKept, start_of, start_shown, HasStart, outcome_moment, outcome_moment_shown, HasOutcomeMoment, hold_moment, hold_moment_shown, HasHoldMoment, reply_moment, reply_moment_shown, HasReplyMoment}
 
@@ -174,7 +174,7 @@ sound_outcome row (Ok a) is =
 
 -- ---- replies
 
-kind_back : (k : ReplyKind) → kind_in (Text (kind_word k)) ≡ Some k
+kind_back : (k : CommandKind) → kind_in (Text (kind_word k)) ≡ Some k
 kind_back kind.Device = refl
 kind_back kind.List = refl
 kind_back kind.Register = refl

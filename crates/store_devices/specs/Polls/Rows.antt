@@ -19,8 +19,8 @@ use Rattle.store_devices.specs.declared.polls.rows.PollRow.{PollRow}
 use Rattle.store_devices.specs.declared.polls.rows.Poll.{Poll}
 use Rattle.store_devices.specs.declared.polls.rows.OutcomeRow.{OutcomeRow}
 use Rattle.store_devices.specs.declared.polls.rows.HoldRow.{HoldRow}
-use Rattle.store_devices.specs.declared.polls.rows.ReplyKind.{ReplyKind}
-use Rattle.store_devices.specs.declared.polls.rows.ReplyKind.TheVariants as kind
+use Rattle.office_events.specs.declared.answers.CommandKind.{CommandKind}
+use Rattle.office_events.specs.declared.answers.CommandKind.TheVariants as kind
 use Rattle.store_devices.specs.declared.polls.rows.Repeat.{Repeat}
 use Rattle.store_devices.specs.declared.polls.rows.Repeat.TheVariants.{Same, Other}
 
@@ -202,7 +202,7 @@ IsSoundHeld h = IsSoundHold h.row
 
 -- ---- replies
 
-abbrev pub kind_word : ReplyKind → List ℕ
+abbrev pub kind_word : CommandKind → List ℕ
 kind_word kind.Device = codes "device"
 kind_word kind.List = codes "list"
 kind_word kind.Register = codes "register"
@@ -216,7 +216,7 @@ kind_word kind.Void = codes "void"
 kind_word kind.Start = codes "start"
 
 -- the kind of a word, if it is the word of one
-abbrev pub kind_of : List ℕ → Option ReplyKind
+abbrev pub kind_of : List ℕ → Option CommandKind
 kind_of word =
     if bytes_eq word (codes "device") then Some kind.Device else
     if bytes_eq word (codes "list") then Some kind.List else
@@ -235,10 +235,10 @@ pub record Kept : Type 0 where
   pub caller : List ℕ
   pub number : ℕ
   pub request : List ℕ
-  pub kind : ReplyKind
+  pub kind : CommandKind
   pub moment : ℕ
 
-abbrev pub kept_under : (caller : List ℕ) → (number : ℕ) → (request : List ℕ) → ReplyKind
+abbrev pub kept_under : (caller : List ℕ) → (number : ℕ) → (request : List ℕ) → CommandKind
     → (moment : ℕ) → Kept
 kept_under caller number request kind moment =
     record { caller = caller; number = number; request = request; kind = kind; moment = moment }
@@ -260,7 +260,7 @@ abbrev pub IsCallNumber : ℕ → Type 0
 IsCallNumber number = number < 2 ^ 63
 
 -- a request with the bytes of a kept one repeats it
-abbrev pub repeat_as : ReplyKind → (same : Bool) → Repeat
+abbrev pub repeat_as : CommandKind → (same : Bool) → Repeat
 repeat_as kind same = if same then Same kind else Other
 
 abbrev pub IsRepeat : (request : List ℕ) → Kept → Repeat → Type 0
@@ -269,7 +269,7 @@ IsRepeat request k a = a ≡ repeat_as k.kind (bytes_eq k.request request)
 abbrev pub IsSoundKept : Kept → Type 0
 IsSoundKept k = k.moment ≤ latest_moment
 
-abbrev pub kind_in : Value → Option ReplyKind
+abbrev pub kind_in : Value → Option CommandKind
 kind_in (Text word) = kind_of word
 kind_in (Int n) = None
 kind_in Null = None

@@ -7,7 +7,9 @@ ghost use Rattle.store_devices.specs.Polls.Rows.{poll_in, poll_shown, IsStarted,
 ghost use Rattle.store_devices.specs.Polls.Rows.{IsSoundStarted, greatest_count, malformation_of, lost_of};
 ghost use Rattle.store_devices.specs.Polls.Rows.{outcome_of, outcome_in, kind_in, same_bytes, repeat_in};
 
-use crate::polls::rows::{OutcomeRow, Poll, PollRow, Repeat, ReplyKind};
+use crate::polls::kinds::kind_spelled;
+use crate::polls::rows::{OutcomeRow, Poll, PollRow, Repeat};
+use office_events::CommandKind;
 use poll_core::{LostCause, Malformation, Outcome};
 use sqlite::Row;
 use sqlite::types::ValueRef;
@@ -134,11 +136,11 @@ pub(crate) fn outcome(row: &Row) -> Result<OutcomeRow, RowFault>
 }
 
 /// The kind of a reply.
-fn kind(row: &Row, at: usize) -> Result<ReplyKind, RowFault>
+fn kind(row: &Row, at: usize) -> Result<CommandKind, RowFault>
     ensures { result ≡ or_damaged (kind_in (column row.now at)) }
 {
     match row.get_ref(at) {
-        Ok(ValueRef::Text(word)) => match ReplyKind::of(word) {
+        Ok(ValueRef::Text(word)) => match kind_spelled(word) {
             Some(kind) => Ok(kind),
             None => Err(RowFault::Damaged),
         },

@@ -11,7 +11,9 @@ ghost use Rattle.store_devices.specs.Polls.Rows.{IsCallNumber, IsRepeat, IsSound
 ghost use Rattle.store_devices.specs.Polls.Trees.{replies};
 
 use crate::polls::columns::repeat;
-use crate::polls::rows::{Repeat, ReplyKind};
+use crate::polls::kinds::word_of;
+use crate::polls::rows::Repeat;
+use office_events::CommandKind;
 use sqlite::{Alter, Connection, Error, Row, Transaction, params};
 use store_tables::RowFault;
 
@@ -21,7 +23,7 @@ pub fn insert_reply<S: Alter>(
     caller: &str,
     number: u64,
     request: &[u8],
-    kind: ReplyKind,
+    kind: CommandKind,
     moment: u64,
 ) -> Result<usize, Error>
     requires number { IsCallNumber number }
@@ -35,7 +37,7 @@ pub fn insert_reply<S: Alter>(
     let moment = store_tables::number(moment);
     tx.execute(
         "INSERT INTO replies (caller, number, request, kind, moment) VALUES (?1, ?2, ?3, ?4, ?5)",
-        params![caller, &number, request, kind.word(), &moment],
+        params![caller, &number, request, word_of(kind), &moment],
     )
 }
 

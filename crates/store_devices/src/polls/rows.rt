@@ -1,9 +1,9 @@
 //! Rows of the tables.
 ghost use Rattle.std.specs.Prelude.{◌≡◌};
-ghost use Rattle.store_devices.specs.Polls.Rows.{kind_word, kind_of};
 
 use energy_core::Cause;
 use mb_wire::ReadFunction;
+use office_events::CommandKind;
 use poll_core::Outcome;
 
 /// The numbers of a poll.
@@ -57,79 +57,11 @@ pub struct HoldRow {
     pub cause: Cause,
 }
 
-/// What was answered to a request that is kept: that this was done.
-#[derive(Clone, Copy, Debug, PartialEq, Eq)]
-pub enum ReplyKind {
-    Device,
-    List,
-    Register,
-    Install,
-    Exchange,
-    Reset,
-    Rescale,
-    Manual,
-    Close,
-    Void,
-    Start,
-}
-
-impl ReplyKind {
-    /// The kind that has this word, where one has.
-    pub(crate) fn of(word: &[u8]) -> Option<ReplyKind>
-        ensures { result ≡ kind_of word.now }
-    {
-        if word == b"device".as_slice() {
-            Some(ReplyKind::Device)
-        } else if word == b"list".as_slice() {
-            Some(ReplyKind::List)
-        } else if word == b"register".as_slice() {
-            Some(ReplyKind::Register)
-        } else if word == b"install".as_slice() {
-            Some(ReplyKind::Install)
-        } else if word == b"exchange".as_slice() {
-            Some(ReplyKind::Exchange)
-        } else if word == b"reset".as_slice() {
-            Some(ReplyKind::Reset)
-        } else if word == b"rescale".as_slice() {
-            Some(ReplyKind::Rescale)
-        } else if word == b"manual".as_slice() {
-            Some(ReplyKind::Manual)
-        } else if word == b"close".as_slice() {
-            Some(ReplyKind::Close)
-        } else if word == b"void".as_slice() {
-            Some(ReplyKind::Void)
-        } else if word == b"start".as_slice() {
-            Some(ReplyKind::Start)
-        } else {
-            None
-        }
-    }
-
-    /// The word that the table has for the kind.
-    pub fn word(self) -> &'static str
-        ensures { result.now ≡ kind_word self }
-    {
-        match self {
-            ReplyKind::Device => "device",
-            ReplyKind::List => "list",
-            ReplyKind::Register => "register",
-            ReplyKind::Install => "install",
-            ReplyKind::Exchange => "exchange",
-            ReplyKind::Reset => "reset",
-            ReplyKind::Rescale => "rescale",
-            ReplyKind::Manual => "manual",
-            ReplyKind::Close => "close",
-            ReplyKind::Void => "void",
-            ReplyKind::Start => "start",
-        }
-    }
-}
-
 /// What a request is to the one that is kept under its caller and number.
 #[derive(Clone, Copy, Debug, PartialEq, Eq)]
 pub enum Repeat {
     /// It has the same bytes, and was answered that this was done.
-    Same(ReplyKind),
+    Same(CommandKind),
     /// It has other bytes.
     Other,
 }

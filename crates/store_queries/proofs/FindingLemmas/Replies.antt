@@ -3,7 +3,6 @@ use Rattle.std.proofs.Common.{◌≡◌, ℕ, ◌+◌, ◌≤◌, ◌<◌, ◌^�
 use Rattle.std.specs.Option.{option_map}
 use Rattle.std.proofs.lemmas.Bool.{cond-true, cond-false, eqb-true, ne_eqb, and_parts}
 use Rattle.office_events.specs.declared.answers.CommandKind.{CommandKind}
-use Rattle.office_events.specs.declared.answers.CommandKind.TheVariants as command
 use Rattle.office_events.specs.declared.facts.Reply.{Reply}
 use Rattle.office_events.specs.declared.facts.Fact.{Fact}
 use Rattle.office_events.specs.declared.facts.Fact.TheVariants as fact
@@ -16,28 +15,15 @@ use Rattle.office_rules.proofs.Lookups.{same_text}
 use Rattle.store_tables.specs.Answer.{IsFound}
 use Rattle.store_devices.specs.declared.polls.rows.Repeat as kept_repeat
 use Rattle.store_devices.specs.Polls.Rows.{Kept, is_reply, IsRepeat, repeat_as}
-use Rattle.store_facts.specs.Rows.{kept, reply_kind}
+use Rattle.store_facts.specs.Rows.{kept}
 use Rattle.store_queries.specs.Finding.Finding.{OfLawful}
-use Rattle.store_queries.specs.Finding.Reading.{kind_from, repeat_from}
+use Rattle.store_queries.specs.Finding.Reading.{repeat_from}
 use Rattle.store_queries.proofs.FindingLemmas.Each.{each_map}
 use Rattle.store_queries.proofs.FindingLemmas.Rows.{IsOnly, only_found}
 use Rattle.store_queries.proofs.FindingLemmas.Facts.{few_step, none_left}
 
-kind_back : (k : CommandKind) → kind_from (reply_kind k) ≡ k
-kind_back command.Device = refl
-kind_back command.List = refl
-kind_back command.Register = refl
-kind_back command.Install = refl
-kind_back command.Exchange = refl
-kind_back command.Reset = refl
-kind_back command.Rescale = refl
-kind_back command.Manual = refl
-kind_back command.Close = refl
-kind_back command.Void = refl
-kind_back command.Start = refl
-
-repeat_back : (b : Bool) (k : CommandKind) → repeat_from (repeat_as (reply_kind k) b) ≡ (if b then Same k else Other)
-repeat_back true k = ap Same (kind_back k)
+repeat_back : (b : Bool) (k : CommandKind) → repeat_from (repeat_as k b) ≡ (if b then Same k else Other)
+repeat_back true k = refl
 repeat_back false k = refl
 
 abbrev of : (caller : List ℕ) (number : ℕ) → Reply → Bool
@@ -81,7 +67,7 @@ pub this_repeat : (facts : List Fact) (caller : List ℕ) (number : ℕ) (reques
     → OfLawful (λ facts. IsFound (is_reply caller number) (IsRepeat request) (map kept (replies_in facts))) facts (Some found) → Some (repeat_from found) ≡ repeat_of facts caller number request
 this_repeat facts caller number request found h =
     let it = reply_only facts caller number request (Some found) h.0 h.1 in
-    let seen : found ≡ repeat_as (reply_kind it.1.kind) (bytes_eq it.1.request request) = it.3 ∙ ap (λ (k : Kept). repeat_as k.kind (bytes_eq k.request request)) it.2 in
+    let seen : found ≡ repeat_as it.1.kind (bytes_eq it.1.request request) = it.3 ∙ ap (λ (k : Kept). repeat_as k.kind (bytes_eq k.request request)) it.2 in
     ap (λ (a : kept_repeat.Repeat). Some (repeat_from a)) seen ∙ (ap Some (repeat_back (bytes_eq it.1.request request) it.1.kind) ∙ sym (ap (option_map (as_repeat request)) it.4))
 
 none_past : (facts : List Fact) (caller : List ℕ) (number : ℕ) → AreLawful facts → request_limit < number → reply_of facts caller number ≡ None

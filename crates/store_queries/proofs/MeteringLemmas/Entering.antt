@@ -4,11 +4,17 @@ use Rattle.std.specs.Option.{option_and_then}
 use Rattle.std.specs.List.{filter_map}
 use Rattle.std.proofs.lemmas.List.{reverse-reverse}
 use Rattle.std.proofs.lemmas.Option.{same_Some}
+use Rattle.std.proofs.lemmas.List.Elements.{recursion_from_All, All-from_recursion}
+use Rattle.std.proofs.lemmas.List.Sorted.{All-permutation, IsPermutation-sym, IsPermutation-trans}
+use Rattle.sqlite_keyed.proofs.ListLemmas.{all-filter}
 use Rattle.sqlite.specs.Order.{Row}
 use Rattle.meter_journal.specs.declared.lines.EntryRow.{EntryRow}
 use Rattle.meter_journal.specs.Journal.{Around, entries_in, row_at}
+use Rattle.meter_journal.specs.Books.{HasAccount}
 use Rattle.meter_journal.specs.Laws.{RowsStand}
-use Rattle.meter_journal.specs.Lists.{latest_first}
+use Rattle.meter_journal.specs.Lists.{AreNumbered, latest_first}
+use Rattle.meter_journal.specs.Changes.{PlacesWereKept}
+use Rattle.meter_journal.proofs.Keeping.{mapped_some}
 use Rattle.meter_journal.specs.Voids.{VoidsChangeTwoRows}
 use Rattle.office_events.specs.declared.facts.Opening.{Opening}
 use Rattle.office_events.specs.declared.facts.Fact.{Fact}
@@ -16,8 +22,10 @@ use Rattle.office_events.specs.declared.questions.Installation.{Installation}
 use Rattle.office_events.specs.declared.questions.EntryPlace.{EntryPlace}
 use Rattle.office_rules.specs.Facts.{same, openings_in, opening_of, voids_in}
 use Rattle.office_rules.specs.Lawful.{AreLawful}
-use Rattle.office_rules.specs.Meters.{rows_of, installation_of, meter_of, entry_at, place_in, standing, is_ended}
-use Rattle.office_rules.specs.Laws.{JournalsFit}
+use Rattle.office_rules.specs.Meters.{rows_of, installation_of, meter_of, entry_at, place_in, standing, is_ended, installed, journal_of}
+use Rattle.office_rules.specs.Laws.{IsRecorded, JournalsFit}
+use Rattle.office_rules.specs.Ranges.{InstallationsAreInRange}
+use Rattle.office_rules.proofs.Journals.{found, well}
 use Rattle.office_rules.proofs.Lookups.{same_text, find_passes}
 use Rattle.store_tables.specs.declared.faults.RowFault.{RowFault}
 use Rattle.store_tables.specs.declared.faults.RowFault.TheVariants.{Damaged}
@@ -29,7 +37,7 @@ use Rattle.store_tables.specs.Asking.{Shows}
 use Rattle.store_tables.specs.Entries.Rows.{Entered, Voided, is_of, is_void_of, entry_place, entry_shown, voided_shown, voided_place, IsSoundEntered, IsSoundVoided}
 use Rattle.store_facts.specs.Rows.{entered_rows, entries_of, voided}
 use Rattle.store_facts.proofs.Energy.{found_recorded}
-use Rattle.store_queries.specs.Metering.Entries.{AreJournal, ShowsEntries, ShowsVoids, FindsJournal, row_among, IsFaultOfJournal}
+use Rattle.store_queries.specs.Metering.Entries.{AreJournal, ShowsEntries, ShowsVoids, FindsJournal, row_among, IsFaultOfJournal, CanBePlaced}
 use Rattle.store_queries.proofs.MeteringLemmas.Journals.{numbered, journal_back, entries_in_order}
 
 -- the opening of a meter has its name
@@ -47,10 +55,17 @@ shows_entries journals stand facts meter rows answer lawful each shows = record 
       let alone : opening_of facts o.meter ≡ Some o = ap (opening_of facts) name ∙ there in
       let here = subst (λ (m : List ℕ). AreFound (is_of m) (FirstFirst entry_place) rows shows.0) (sym name) shows.1 in
       entries_in_order facts o rows shows.0 (numbered journals stand facts o lawful recorded) alone (each o.meter) here;
+  sound = λ h. recursion_from_All IsSoundEntered _ (All-permutation IsSoundEntered _ _ (IsPermutation-trans _ _ _ (IsPermutation-sym _ _ (each meter)) shows.1.all) (All-from_recursion IsSoundEntered _ (h.entries meter)));
 }
 
 pub shows_voids : (facts : List Fact) (meter : List ℕ) (answer : List Row) → AreLawful facts → Shows (is_void_of meter) (FirstFirst voided_place) voided_shown (map voided (voids_in facts)) answer → ShowsVoids meter facts answer
-shows_voids facts meter answer lawful shows = record { lawful = lawful; voids = shows.0; shown = shows.2; all = shows.1.all }
+shows_voids facts meter answer lawful shows = record {
+  lawful = lawful;
+  voids = shows.0;
+  shown = shows.2;
+  all = shows.1.all;
+  sound = λ h. recursion_from_All IsSoundVoided _ (All-permutation IsSoundVoided _ _ shows.1.all (All-from_recursion IsSoundVoided _ (all-filter IsSoundVoided (is_void_of meter) (map voided (voids_in facts)) h.voids)));
+}
 
 pub journal_is : JournalsFit → RowsStand → VoidsChangeTwoRows → (facts : List Fact) (meter : List ℕ) (entries voids : List Row) (rows : List EntryRow) → ShowsEntries meter facts entries → ShowsVoids meter facts voids
     → AreJournal entries voids rows → FindsJournal meter facts rows
@@ -106,13 +121,38 @@ placed_found facts o place whole before rows firsts index row next whole_is rows
     ∙ ap (λ (w : Installation). standing w.opening (entries_in around.before) w.ended) whole_is in
     ap (λ (b : Installation). Some (let p : EntryPlace = record { before = b; row = row; next = next } in p)) was ∙ sym (ap (option_map (place_in facts o)) at)
 
--- of damage nothing is said
-pub placed_fault : {C : Type 0} (r : Result C RowFault) → IfErr r (λ e. e ≡ Damaged) → IfErr r (IsRowFault ⊥)
-placed_fault (Ok c) h = tt
-placed_fault (Err e) h = subst (IsRowFault ⊥) (sym h) (λ none. none)
+-- the entries that stand before one that is found have an account
+pub account_before : (o : Opening) (place index : ℕ) (rows firsts : List EntryRow) (row : EntryRow) (next : Option EntryRow) → row_at place (latest_first rows) ≡ Some (record { before = latest_first (take index rows); row = row; next = next })
+    → firsts ≡ take index rows → CanBePlaced o rows place → HasAccount (installed o) (entries_in (latest_first firsts))
+account_before o place index rows firsts row next found_at is can =
+    subst (λ (rs : List EntryRow). HasAccount (installed o) (entries_in (latest_first rs))) (sym is) (can.account (record { before = latest_first (take index rows); row = row; next = next }) found_at)
 
-pub journal_fault : {C : Type 0} (entries voids shown told : List Row) (r : Result C RowFault) → shown ≡ entries → told ≡ voids → (es : List Entered) (vs : List Voided) → entries ≡ map entry_shown es → voids ≡ map voided_shown vs
-    → IfErr r (IsFaultOfJournal shown told) → IfErr r (IsRowFault ⊥)
-journal_fault entries voids shown told (Ok x) one two es vs first second h = tt
-journal_fault entries voids shown told (Err e) one two es vs first second h =
-    less_sound ⊥ (AllByRecursion IsSoundEntered es × AllByRecursion IsSoundVoided vs) (λ none. absurd none) e (h es vs (one ∙ first) (two ∙ second))
+-- the entry of a recorded meter can be told
+can_be_placed : InstallationsAreInRange → JournalsFit → RowsStand → PlacesWereKept → (facts : List Fact) (o : Opening) (place : ℕ) (rows : List EntryRow) → AreLawful facts → IsRecorded facts o
+    → latest_first rows ≡ rows_of facts o → CanBePlaced o rows place
+can_be_placed ranges journals stand kept facts o place rows lawful there are =
+    let sound = (ranges facts lawful).recorded o there in
+    let begun = well facts o lawful (found facts o lawful there) in
+    record {
+      numbers = record { range = sound.range; ceiling = sound.ceiling; raw = begun.raw; scale = begun.scale };
+      places = subst AreNumbered (sym are) (numbered journals stand facts o lawful there);
+      account = λ around at. (kept (installed o) (journal_of facts o.meter) place around begun (journals facts o lawful there) (ap (row_at place) (sym are) ∙ at)).account;
+    }
+
+-- damage of the rows that were found is told where they are not sound
+pub placed_fault : InstallationsAreInRange → JournalsFit → RowsStand → PlacesWereKept → (facts : List Fact) (meter text : List ℕ) (place : ℕ) (x : Option Installation) (whole : Installation) (rows told : List EntryRow) (r : Result (Option EntryPlace) RowFault)
+    → (Sound : Type 0) → (Sound → AreLawful facts) → x ≡ Some whole → x ≡ meter_of facts meter → text ≡ meter → told ≡ rows → FindsJournal text facts rows → IfErr r (λ e. (e ≡ Damaged) × (¬ CanBePlaced whole.opening told place))
+    → IfErr r (IsRowFault Sound)
+placed_fault ranges journals stand kept facts meter text place x whole rows told (Ok y) Sound lawful is found_is named same_rows journal h = tt
+placed_fault ranges journals stand kept facts meter text place x whole rows told (Err e) Sound lawful is found_is named same_rows journal h =
+    subst (IsRowFault Sound) (sym h.0) (λ sound.
+    let o = mapped_some (installation_of facts) (opening_of facts meter) whole (sym found_is ∙ is) in
+    let there = found_recorded (λ (x : Opening). same x.meter meter) (openings_in facts) o.0 o.1 in
+    let are : latest_first told ≡ rows_of facts o.0 = ap latest_first same_rows ∙ journal o.0 (ap (opening_of facts) named ∙ o.1) in
+    h.1 (subst (λ (w : Installation). CanBePlaced w.opening told place) o.2 (can_be_placed ranges journals stand kept facts o.0 place told (lawful sound) there are)))
+
+pub journal_fault : {C : Type 0} (Sound : Type 0) (entries voids shown told : List Row) (r : Result C RowFault) → shown ≡ entries → told ≡ voids → (es : List Entered) (vs : List Voided) → entries ≡ map entry_shown es → voids ≡ map voided_shown vs
+    → IfErr r (IsFaultOfJournal shown told) → (Sound → AllByRecursion IsSoundEntered es × AllByRecursion IsSoundVoided vs) → IfErr r (IsRowFault Sound)
+journal_fault Sound entries voids shown told (Ok x) one two es vs first second h sound = tt
+journal_fault Sound entries voids shown told (Err e) one two es vs first second h sound =
+    less_sound Sound (AllByRecursion IsSoundEntered es × AllByRecursion IsSoundVoided vs) sound e (h es vs (one ∙ first) (two ∙ second))

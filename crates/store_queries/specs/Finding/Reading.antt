@@ -2,8 +2,6 @@
 use Rattle.std.specs.Prelude.{◌≡◌, ℕ, nat_le, ◌&&◌, if◌then◌else◌, List, Option, Some, None, Result, Ok, Err, string_bytes}
 use Rattle.poll_core.specs.declared.limits.TheConstants.{MAX_TIMEOUT, MAX_WINDOW}
 use Rattle.office_events.specs.Names.{named}
-use Rattle.office_events.specs.declared.answers.CommandKind.{CommandKind}
-use Rattle.office_events.specs.declared.answers.CommandKind.TheVariants as command
 use Rattle.office_events.specs.declared.facts.Device.{Device}
 use Rattle.office_events.specs.declared.facts.Register.{Register}
 use Rattle.office_events.specs.declared.facts.ScaleSource.{ScaleSource}
@@ -20,8 +18,6 @@ use Rattle.store_devices.specs.Devices.Rows.{Added, Registered}
 use Rattle.store_devices.specs.declared.polls.rows.PollRow.{PollRow}
 use Rattle.store_devices.specs.declared.polls.rows.OutcomeRow.{OutcomeRow}
 use Rattle.store_devices.specs.Polls.Rows.{Started}
-use Rattle.store_devices.specs.declared.polls.rows.ReplyKind.{ReplyKind}
-use Rattle.store_devices.specs.declared.polls.rows.ReplyKind.TheVariants as reply
 use Rattle.store_devices.specs.declared.polls.rows.Repeat as kept
 use Rattle.store_devices.specs.declared.polls.rows.Repeat.TheVariants as kept_as
 use Rattle.office_books.specs.declared.books.Repeat.{Repeat}
@@ -88,19 +84,6 @@ ended_from row = record { poll = row.poll; at = row.moment; outcome = row.outcom
 
 -- ---- replies
 
-abbrev pub kind_from : ReplyKind → CommandKind
-kind_from reply.Device = command.Device
-kind_from reply.List = command.List
-kind_from reply.Register = command.Register
-kind_from reply.Install = command.Install
-kind_from reply.Exchange = command.Exchange
-kind_from reply.Reset = command.Reset
-kind_from reply.Rescale = command.Rescale
-kind_from reply.Manual = command.Manual
-kind_from reply.Close = command.Close
-kind_from reply.Void = command.Void
-kind_from reply.Start = command.Start
-
 abbrev pub repeat_from : kept.Repeat → Repeat
-repeat_from (kept_as.Same kind) = Same (kind_from kind)
+repeat_from (kept_as.Same kind) = Same kind
 repeat_from kept_as.Other = Other

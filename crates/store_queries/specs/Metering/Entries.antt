@@ -7,13 +7,16 @@ use Rattle.energy_core.specs.declared.entries.Entry.TheVariants as entry
 use Rattle.meter_journal.specs.declared.lines.EntryRow as journal
 use Rattle.meter_journal.specs.declared.lines.EntryKind as journal_kind
 use Rattle.meter_journal.specs.declared.lines.EntryKind.TheVariants as from
-use Rattle.meter_journal.specs.Lists.{latest_first}
+use Rattle.meter_journal.specs.Books.{HasAccount}
+use Rattle.meter_journal.specs.Journal.{Around, entries_in, row_at}
+use Rattle.meter_journal.specs.Lists.{AreNumbered, latest_first}
 use Rattle.sqlite.specs.Order.{Row}
 use Rattle.office_events.specs.declared.facts.Opening.{Opening}
 use Rattle.office_events.specs.declared.facts.Fact.{Fact}
 use Rattle.office_rules.specs.Facts.{opening_of, voids_in}
 use Rattle.office_rules.specs.Lawful.{AreLawful}
-use Rattle.office_rules.specs.Meters.{rows_of}
+use Rattle.office_rules.specs.Meters.{installed, rows_of}
+use Rattle.office_books.specs.Sound.{HasNumbers}
 use Rattle.store_tables.specs.declared.entries.rows.EntryRow.{EntryRow}
 use Rattle.store_tables.specs.declared.entries.rows.EntryKind.{EntryKind}
 use Rattle.store_tables.specs.declared.entries.rows.EntryKind.TheVariants as kind
@@ -21,6 +24,7 @@ use Rattle.store_tables.specs.declared.faults.RowFault.{RowFault}
 use Rattle.store_tables.specs.Failing.{IsRowFault}
 use Rattle.store_tables.specs.Entries.Rows.{Entered, Voided, entry_shown, voided_shown, is_void_of, IsSoundEntered, IsSoundVoided}
 use Rattle.store_facts.specs.Rows.{entered_rows, voided}
+use Rattle.store_queries.specs.Metering.Sound.{HasReadableMeters, HasReadableJournals}
 
 abbrev pub step_row : journal_kind.EntryKind → EntryRow → (stands : Bool) → journal.EntryRow
 step_row k e stands =
@@ -66,12 +70,14 @@ pub record ShowsEntries (meter : List ℕ) (facts : List Fact) (rows : List Row)
   pub shown : rows ≡ map entry_shown entries
   pub all : (opening : Opening) → opening_of facts meter ≡ Some opening
       → entries ≡ reverse (entered_rows opening (rows_of facts opening))
+  pub sound : HasReadableMeters facts → AllByRecursion IsSoundEntered entries
 
 pub record ShowsVoids (meter : List ℕ) (facts : List Fact) (rows : List Row) : Type 0 where
   pub lawful : AreLawful facts
   pub voids : List Voided
   pub shown : rows ≡ map voided_shown voids
   pub all : IsPermutation (filter (is_void_of meter) (map voided (voids_in facts))) voids
+  pub sound : HasReadableJournals facts → AllByRecursion IsSoundVoided voids
 
 -- the rows of a journal are those of these entries and voids, in their order
 abbrev pub AreJournal : (entries voids : List Row) → List journal.EntryRow → Type 0
@@ -95,3 +101,11 @@ abbrev pub FindsJournal : (meter : List ℕ) → List Fact → List journal.Entr
 FindsJournal meter facts rows =
     (opening : Opening) → opening_of facts meter ≡ Some opening
     → latest_first rows ≡ rows_of facts opening
+
+-- What the rows of a meter are where the entry at a place can be told: the numbers of the opening are in their ranges, each
+-- row has its place, and the entries that stand before that one have an account.
+pub record CanBePlaced (opening : Opening) (rows : List journal.EntryRow) (place : ℕ) : Type 0 where
+  pub numbers : HasNumbers opening
+  pub places : AreNumbered (latest_first rows)
+  pub account : (around : Around) → row_at place (latest_first rows) ≡ Some around
+      → HasAccount (installed opening) (entries_in around.before)

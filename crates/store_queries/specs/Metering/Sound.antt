@@ -4,14 +4,14 @@ use Rattle.std.specs.List.{AllByRecursion}
 use Rattle.office_events.specs.declared.facts.Opening.{Opening}
 use Rattle.office_events.specs.declared.facts.Fact.{Fact}
 use Rattle.office_events.specs.Names.{is_name}
-use Rattle.office_rules.specs.Facts.{openings_in}
+use Rattle.office_rules.specs.Facts.{openings_in, voids_in}
 use Rattle.office_rules.specs.Intervals.{rows_of_meter}
 use Rattle.office_rules.specs.Lawful.{AreLawful}
 use Rattle.store_tables.specs.Meters.Rows.{IsSoundInstalled, IsSoundRanged}
 use Rattle.store_tables.specs.declared.meters.rows.Installation as stored
-use Rattle.store_tables.specs.Entries.Rows.{IsSoundEntered}
+use Rattle.store_tables.specs.Entries.Rows.{IsSoundEntered, IsSoundVoided}
 use Rattle.store_facts.specs.Intervals.Rows.{IsSoundShare}
-use Rattle.store_facts.specs.Rows.{placed, installed_row, ranged, entries_of}
+use Rattle.store_facts.specs.Rows.{placed, installed_row, ranged, entries_of, voided}
 
 -- the texts of an opening are names
 pub record HasNames (opening : Opening) : Type 0 where
@@ -31,6 +31,11 @@ pub record HasReadableMeters (facts : List Fact) : Type 0 where
       AllByRecursion IsSoundInstalled (placed (installed_row facts) (openings_in facts))
   pub ranges : AllByRecursion IsSoundRanged (map ranged (openings_in facts))
   pub entries : (meter : List ℕ) → AllByRecursion IsSoundEntered (entries_of facts meter)
+
+-- So can those for the voids of their entries.
+pub record HasReadableJournals (facts : List Fact) : Type 0 where
+  pub meters : HasReadableMeters facts
+  pub voids : AllByRecursion IsSoundVoided (map voided (voids_in facts))
 
 -- The interval rows of each meter can be read.
 abbrev pub HasReadableIntervals : List Fact → Type 0

@@ -3,40 +3,21 @@ ghost use Rattle.std.specs.Prelude.{◌≡◌, false, IsUtf8};
 ghost use Rattle.office_books.specs.Repeats.{repeat_of};
 ghost use Rattle.store_devices.specs.Polls.Rows.{IsCallNumber};
 ghost use Rattle.store_queries.specs.Finding.Finding.{Finds, OfLawful};
-ghost use Rattle.store_queries.specs.Finding.Reading.{kind_from, repeat_from};
+ghost use Rattle.store_queries.specs.Finding.Reading.{repeat_from};
 ghost use Rattle.store_queries.specs.Finding.Showing.{FindsRepeat};
 ghost use Rattle.store_queries.specs.Finding.Sound.{HasReadableReplies};
 
 use office_books::Repeat;
-use office_events::{CommandKind, MAX_REQUEST, Name};
+use office_events::{MAX_REQUEST, Name};
 use sqlite::{Alter, Connection};
-use store_devices::ReplyKind;
 use store_facts::text;
 use store_tables::{RowFault, check_open};
-
-fn command(kind: ReplyKind) -> CommandKind
-    ensures { result ≡ kind_from kind }
-{
-    match kind {
-        ReplyKind::Device => CommandKind::Device,
-        ReplyKind::List => CommandKind::List,
-        ReplyKind::Register => CommandKind::Register,
-        ReplyKind::Install => CommandKind::Install,
-        ReplyKind::Exchange => CommandKind::Exchange,
-        ReplyKind::Reset => CommandKind::Reset,
-        ReplyKind::Rescale => CommandKind::Rescale,
-        ReplyKind::Manual => CommandKind::Manual,
-        ReplyKind::Close => CommandKind::Close,
-        ReplyKind::Void => CommandKind::Void,
-        ReplyKind::Start => CommandKind::Start,
-    }
-}
 
 fn told(repeat: store_devices::Repeat) -> Repeat
     ensures { result ≡ repeat_from repeat }
 {
     match repeat {
-        store_devices::Repeat::Same(kind) => Repeat::Same(command(kind)),
+        store_devices::Repeat::Same(kind) => Repeat::Same(kind),
         store_devices::Repeat::Other => Repeat::Other,
     }
 }

@@ -1,16 +1,17 @@
 //! Entries of meters, by their places.
-ghost use Rattle.std.specs.Prelude.{◌≡◌, false, IfOk, IfSome};
+ghost use Rattle.std.specs.Prelude.{◌≡◌, false, IfOk, IfSome, IsUtf8};
 ghost use Rattle.office_rules.specs.Ranges.{IsSound};
 ghost use Rattle.office_rules.specs.Meters.{entry_at};
 ghost use Rattle.store_queries.specs.Metering.Entries.{ShowsEntries, ShowsVoids, FindsJournal};
+ghost use Rattle.store_queries.specs.Metering.Sound.{HasReadableJournals};
 ghost use Rattle.store_queries.specs.Finding.Finding.{Finds};
 
 use crate::metering::journal::journal_rows;
 use crate::metering::meters::meter;
 use crate::metering::places::placed;
-use meter_journal::{EntryRow, rows_stand, voids_change_two_rows};
+use meter_journal::{EntryRow, places_were_kept, rows_stand, voids_change_two_rows};
 use office_events::{EntryPlace, Name};
-use office_rules::journals_fit;
+use office_rules::{installations_are_in_range, journals_fit};
 use sqlite::{Alter, Connection, Row};
 use std::alloc::Global;
 use store_facts::text;
@@ -20,7 +21,7 @@ use store_tables::{RowFault, check_open, entry_rows, void_rows};
 fn entries<S: Alter>(conn: &mut Connection<S>, meter: &str) -> Result<Vec<Row>, RowFault>
     requires { conn.old.in_transaction ≡ false }
     ensures { Finds S.Store conn.old conn.new result
-        (λ facts rows. ShowsEntries meter.now facts rows.items) (λ facts. ⊥) }
+        (λ facts rows. ShowsEntries meter.now facts rows.items) HasReadableJournals }
 {
     journals_fit();
     rows_stand();
@@ -33,7 +34,7 @@ fn entries<S: Alter>(conn: &mut Connection<S>, meter: &str) -> Result<Vec<Row>, 
 fn voids<S: Alter>(conn: &mut Connection<S>, meter: &str) -> Result<Vec<Row>, RowFault>
     requires { conn.old.in_transaction ≡ false }
     ensures { Finds S.Store conn.old conn.new result
-        (λ facts rows. ShowsVoids meter.now facts rows.items) (λ facts. ⊥) }
+        (λ facts rows. ShowsVoids meter.now facts rows.items) HasReadableJournals }
 {
     check_open(conn)?;
     let rows = void_rows(conn, meter)?;
@@ -48,7 +49,7 @@ fn rows<S: Alter>(
 ) -> Result<Vec<EntryRow>, RowFault>
     requires { conn.old.in_transaction ≡ false }
     ensures { Finds S.Store conn.old conn.new result
-        (λ facts rows. FindsJournal meter.now facts rows.items) (λ facts. ⊥) }
+        (λ facts rows. FindsJournal meter.now facts rows.items) HasReadableJournals }
 {
     journals_fit();
     rows_stand();
@@ -68,9 +69,14 @@ pub fn entry<S: Alter>(
 ) -> Result<Option<EntryPlace>, RowFault>
     requires { conn.old.in_transaction ≡ false }
     ensures finds { Finds S.Store conn.old conn.new result
-        (λ facts found. found ≡ entry_at facts name.now place) (λ facts. ⊥) }
+        (λ facts found. found ≡ entry_at facts name.now place)
+        (λ facts. IsUtf8 name.now × HasReadableJournals facts) }
     ensures sound { IfOk result (λ found. IfSome found (λ p. IsSound p.before)) }
 {
+    journals_fit();
+    rows_stand();
+    places_were_kept();
+    installations_are_in_range();
     let text = text(name)?;
     let Some(whole) = meter(conn, name)? else {
         return Ok(None);

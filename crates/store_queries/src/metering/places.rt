@@ -5,12 +5,14 @@ ghost use Rattle.energy_core.specs.Account.{IsAccount};
 ghost use Rattle.meter_journal.specs.Books as books;
 ghost use Rattle.meter_journal.specs.Journal.{entries_in, row_at};
 ghost use Rattle.meter_journal.specs.Lists as lists;
+ghost use Rattle.office_books.specs.Sound.{HasNumbers};
 ghost use Rattle.office_rules.specs.Ranges.{IsSound};
 ghost use Rattle.office_events.specs.declared.facts.Fact.{Fact};
 ghost use Rattle.office_events.specs.declared.facts.Opening.{Opening};
 ghost use Rattle.office_rules.specs.Meters as meters;
 ghost use Rattle.office_rules.specs.Meters.{installation_of, rows_of, place_in};
 ghost use Rattle.store_tables.specs.declared.faults.RowFault.TheVariants.{Damaged};
+ghost use Rattle.store_queries.specs.Metering.Entries.{CanBePlaced};
 
 use energy_core::{MAX_RANGE, MIN_RANGE, accounts_are_sound};
 use meter_journal::{EntryRow, Installed, Tally, are_numbered, checked_tally, find_row};
@@ -36,7 +38,8 @@ pub fn tally(meter: &Installed, rows: &[EntryRow]) -> Result<Tally, RowFault>
     requires installed { books.IsWellInstalled meter.now }
     ensures account { let es = entries_in (lists.latest_first rows.now) in
         IfOk result (λ t. IsAccount meter.now.range meter.now.opening es t.last t.total) }
-    ensures fault { IfErr result (λ e. e ≡ Damaged) }
+    ensures fault { let es = entries_in (lists.latest_first rows.now) in
+        IfErr result (λ e. (e ≡ Damaged) × (¬ books.HasAccount meter.now es)) }
 {
     match checked_tally(meter, rows) {
         Some(tally) => Ok(tally),
@@ -49,7 +52,10 @@ fn behind(whole: &Installation, rows: &[EntryRow]) -> Result<Installation, RowFa
     ensures stands { let es = entries_in (lists.latest_first rows.now) in
         IfOk result (λ row. row ≡ meters.standing whole.now.opening es whole.now.ended) }
     ensures sound { IfOk result IsSound }
-    ensures fault { IfErr result (λ e. e ≡ Damaged) }
+    ensures fault { let es = entries_in (lists.latest_first rows.now) in
+        IfErr result (λ e. (e ≡ Damaged)
+        × (HasNumbers whole.now.opening
+        → books.HasAccount (meters.installed whole.now.opening) es → ⊥)) }
 {
     accounts_are_sound();
     let opening = whole.opening;
@@ -77,7 +83,8 @@ pub(crate) fn placed(
         → lists.latest_first rows.now ≡ rows_of facts o → IfOk result
         (λ found. found ≡ option_map (place_in facts o) (row_at place (rows_of facts o))) }
     ensures sound { IfOk result (λ found. IfSome found (λ p. IsSound p.before)) }
-    ensures fault { IfErr result (λ e. e ≡ Damaged) }
+    ensures fault { IfErr result
+        (λ e. (e ≡ Damaged) × (¬ CanBePlaced whole.now.opening rows.now place)) }
 {
     if !are_numbered(rows) {
         return Err(RowFault::Damaged);

@@ -6,6 +6,7 @@ use Rattle.sqlite.specs.Held.{Held}
 use Rattle.interval_core.specs.declared.zone.Zone.{Zone}
 use Rattle.office_rules.specs.History.{History, facts_of}
 use Rattle.office_rules.specs.Lawfulness.{IsPast}
+use Rattle.office_books.specs.declared.failures.Failures.{Failures}
 use Rattle.office_core.specs.Leaving.{MayBeLeft, BooksStand}
 use Rattle.office_store.specs.Stored.{ledger_of}
 use Rattle.office_store.specs.Database.{HoldsAlone}
@@ -14,9 +15,9 @@ left_alone : (past : History) → All (MayBeLeft past) (facts_of past ∷ [])
 left_alone past zero d less = inl refl
 left_alone past (suc k) d less = absurd (omega arith)
 
-pub stands_alone : {S : Type 0} (g : Ghosts S) (text : List ℕ) (h : Held S) (faults : ℕ) (zone : Zone) (past : History)
-    → IsPast past → HoldsAlone g text h (facts_of past) → BooksStand (ledger_of g h faults zone) past
-stands_alone g text h faults zone past is alone = record {
+pub stands_alone : {S : Type 0} (g : Ghosts S) (text : List ℕ) (h : Held S) (failures : Failures) (zone : Zone) (past : History)
+    → IsPast past → HoldsAlone g text h (facts_of past) → BooksStand (ledger_of g h failures zone) past
+stands_alone g text h failures zone past is alone = record {
   is_past = is;
   holds = record { zone = text; holds = alone.holds };
   leaves = record {

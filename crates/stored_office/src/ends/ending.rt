@@ -18,6 +18,10 @@ pub enum Ending<'a> {
     NoText,
     /// The text for the option is no time zone.
     NoZone(&'a str),
+    /// The text for the option is no day.
+    NoDay { option: &'a str, word: &'a str },
+    /// The range of days ends before it begins.
+    Backward,
     Failed(Failure<'a>),
 }
 
@@ -30,6 +34,7 @@ impl<'a> Ending<'a> {
             Ending::Fine => 0,
             Ending::Refused => 1,
             Ending::Wrong(_) | Ending::NoText | Ending::NoZone(_) => 2,
+            Ending::NoDay { .. } | Ending::Backward => 2,
             Ending::Failed(_) => 3,
         }
     }
@@ -59,6 +64,11 @@ pub fn say<W: Write>(ending: &Ending<'_>, errors: &mut W)
             errors,
             "error: invalid value '{zone}' for '--zone <TEXT>': no POSIX time zone, as UTC0 or CET-1CEST,M3.5.0,M10.5.0/3\n"
         ),
+        Ending::NoDay { option, word } => write!(
+            errors,
+            "error: invalid value '{word}' for '--{option} <DAY>': no day, as 2026-11-25\n"
+        ),
+        Ending::Backward => errors.write_all(b"error: '--till <DAY>' is before '--from <DAY>'\n"),
         Ending::Failed(failure) => write!(errors, "failed\nsunreg: {failure}\n"),
     };
 }

@@ -7,11 +7,15 @@ ghost use Rattle.stored_office.specs.BooksFound.{HasPast};
 ghost use Rattle.stored_office.specs.Tasks.Tasks.{IsOf, Does};
 
 use command_io::ExitStatus;
+use energy_report::ReportForm;
+use kept_books::KeptBooks;
 use office_program::{
-    NamedFiles, PollEnd, ServeEnd, check_books, enter_books, poll_books, report_books, serve_books,
+    CommandEnd, NamedFiles, PollEnd, ServeEnd, check_books, enter_books, poll_books, report_books,
+    report_range_books, serve_books,
 };
 use office_running::{RunFault, Settings, Site, run_office};
 use office_store::{OpenFault, SqlBooks};
+use round_advice::say_lacks;
 use socket_link::Clock;
 use sqlite::{Alter, Connection};
 use std::alloc::Global;
@@ -24,6 +28,11 @@ pub enum Task<'a> {
     /// A register is reported, as `report_books` does.
     Report {
         register: &'a str,
+    },
+    /// A register is reported on the days of a range, in a form, as `report_range_books` does.
+    ReportRange {
+        register: &'a str,
+        form: &'a ReportForm,
     },
     /// HTTP is answered on so many connections at a port of a host, by these names too, as `serve_books` does.
     Serve {
@@ -42,7 +51,7 @@ pub enum Task<'a> {
         caller: &'a str,
         text: &'a [u8],
     },
-    /// A device at a port of a host is polled, as `poll_books` does.
+    /// A device at a port of a host is polled, as `poll_books` does, and behind it what it lacks is said, as `say_lacks` does.
     Round {
         device: &'a str,
         host: &'a str,
@@ -94,38 +103,47 @@ pub fn carry_out_stored<
         (W.contents output.old) (W.contents output.new) task.entry) }
 {
     match SqlBooks::open(alloc, connection) {
-        Ok(books) => match task {
-            Task::Report { register } => {
-                let done = report_books(alloc, books, register, clock, output);
-                Ok(Done::Reported(done.end))
+        Ok(opened) => {
+            let books = KeptBooks::new(alloc, opened);
+            match task {
+                Task::Report { register } => {
+                    let done = report_books(alloc, books, register, clock, output);
+                    Ok(Done::Reported(done.end))
+                }
+                Task::ReportRange { register, form } => {
+                    let done = report_range_books(alloc, books, register, form, clock, output);
+                    Ok(Done::Reported(done.end))
+                }
+                Task::Serve {
+                    host,
+                    port,
+                    names,
+                    connections,
+                } => {
+                    let at = (host, port);
+                    let done = serve_books(rt, alloc, books, at, names, connections, clock, output);
+                    Ok(Done::Served(done.end))
+                }
+                Task::Enter { caller, text } => {
+                    let done = enter_books(alloc, books, caller, text, files, clock, output);
+                    Ok(Done::Entered(done.end))
+                }
+                Task::Check { caller, text } => {
+                    let done = check_books(alloc, books, caller, text, files, output);
+                    Ok(Done::Checked(done.end))
+                }
+                Task::Round { device, host, port } => {
+                    let done = poll_books(rt, alloc, books, device, (host, port), clock, output);
+                    let CommandEnd { mut books, end } = done;
+                    say_lacks(alloc, &mut books, device, end, errors);
+                    Ok(Done::Polled(end))
+                }
+                Task::Run { settings, sites } => {
+                    let done = run_office(rt, alloc, books, settings, sites, clock, output, errors);
+                    Ok(Done::Ran(done.end))
+                }
             }
-            Task::Serve {
-                host,
-                port,
-                names,
-                connections,
-            } => {
-                let place = (host, port);
-                let done = serve_books(rt, alloc, books, place, names, connections, clock, output);
-                Ok(Done::Served(done.end))
-            }
-            Task::Enter { caller, text } => {
-                let done = enter_books(alloc, books, caller, text, files, clock, output);
-                Ok(Done::Entered(done.end))
-            }
-            Task::Check { caller, text } => {
-                let done = check_books(alloc, books, caller, text, files, output);
-                Ok(Done::Checked(done.end))
-            }
-            Task::Round { device, host, port } => {
-                let done = poll_books(rt, alloc, books, device, (host, port), clock, output);
-                Ok(Done::Polled(done.end))
-            }
-            Task::Run { settings, sites } => {
-                let done = run_office(rt, alloc, books, settings, sites, clock, output, errors);
-                Ok(Done::Ran(done.end))
-            }
-        },
+        }
         Err(unopened) => Err(unopened.fault),
     }
 }

@@ -1,7 +1,7 @@
 use Rattle.std.proofs.Common.{Ok, Err}
 use Rattle.sqlite.specs.Held.{state}
 use Rattle.store_files.specs.Layouts.{version_of}
-use Rattle.store_files.proofs.Told.{tells_err, tells_later, tells_well, kept_of}
+use Rattle.store_files.proofs.Told.{tells_err, tells_later, tells_well, kept_of, is_third}
 use Rattle.store_files.proofs.Brought.{after_question, ended, passed_on, told_as, seen, still_open}
 use Rattle.store_files.proofs.opened_file.open_settled.Goals as goal
 
@@ -31,7 +31,7 @@ returns-in_err-brought-clause-told g c clean content is_open settled has m marke
     let end = state g.S.Store c.brought.new.conn in
     let finds = c.in_ok-zone.ensures.finds (c.brought.ensures.clean clean) content has in
     let told = finds.told m marked in
-    tells_later (version_of c.args.layout) m old mid end c.in_ok-zone.zone c.in_err-brought.field-0.0 c.from_residual-in_err-brought.result told c.in_err-brought.ensures.fault c.from_residual-in_err-brought.ensures.1
+    tells_later (version_of c.args.layout) m old mid end c.in_ok-zone.zone c.in_err-brought.field-0.0 c.from_residual-in_err-brought.result (λ last. c.in_err-brought.ensures.third (is_third c.args.layout last)) told c.in_err-brought.ensures.fault c.from_residual-in_err-brought.ensures.1
     (kept_of c.args.layout m content old mid end c.in_ok-zone.zone is_open settled has marked told finds.kept finds.unchanged (λ it. (c.in_err-brought.ensures.opened clean m.zone content it).err))
 
 pub returns-clause-told : goal.returns-clause-told

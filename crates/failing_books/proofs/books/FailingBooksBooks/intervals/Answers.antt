@@ -3,10 +3,10 @@ use Rattle.failing_books.proofs.books.FailingBooksBooks.intervals.Goals as goal
 
 pub returns-clause-reads : goal.returns-clause-reads
 returns-clause-reads g c =
-    read_on c.args.self.now.books c.called-2.new.self.books c.intervals-2.new.self c.args.self.now.faults c.called-2.new.self.faults
-    c.intervals-2.result c.in_ok-called.ensures.books c.in_ok-called.ensures.ok c.intervals-2.ensures.reads
+    read_on c.args.self.now.books c.called-2.new.self.books c.intervals-found.new.self c.args.self.now.failures c.called-2.new.self.failures c.noted-2.new.self
+    c.intervals-found.result c.noted-2.result c.in_ok-called.ensures.books c.in_ok-called.ensures.noted c.noted-2.ensures.answer c.noted-2.ensures.noted c.intervals-found.ensures.reads
 
 pub returns-then-self-clause-reads : goal.returns-then-self-clause-reads
 returns-then-self-clause-reads g c =
-    read_first c.args.self.now.books c.intervals.new.self c.called.new.self.books c.args.self.now.faults c.called.new.self.faults
-    c.intervals.result c.called.result c.called.ensures.books c.intervals.ensures.reads c.called.ensures.ok c.called.ensures.refused
+    read_first c.args.self.now.books c.intervals-handed.new.self c.called.new.self.books c.args.self.now.failures c.noted.new.self c.called.new.self.failures
+    _ c.intervals-handed.result c.called.result c.in_ok-noted.ensures.answer c.noted.ensures.noted c.called.ensures.books c.called.ensures.noted c.intervals-handed.ensures.reads

@@ -4,7 +4,8 @@ use Rattle.office_booking.specs.Sessions.Keeping.{KeepsSlots}
 use Rattle.office_booking.specs.declared.settling.drafts.Draft.{Draft}
 use Rattle.office_booking.proofs.SettlingLemmas.Moments.{reaches_all}
 use Rattle.office_booking.proofs.SettlingLemmas.Happened.{slots_happened, draft_stands}
-use Rattle.office_booking.proofs.SettlingLemmas.Moving.{moves_after, moves_as, settles_not}
+use Rattle.office_books.proofs.Moving.{answered, failed_reading}
+use Rattle.office_booking.proofs.SettlingLemmas.Moving.{moves_after, settles_not}
 use Rattle.office_booking.proofs.settling.events.settle_event.Goals as goal
 
 pub returns-in_err-settle_slots-clause-quiet : goal.returns-in_err-settle_slots-clause-quiet
@@ -28,6 +29,11 @@ returns-clause-quiet g c = λ past next settles.
       books = booked.1 ∙ quiet.books;
     }
 
+pub returns-in_err-settle_slots-clause-settles : goal.returns-in_err-settle_slots-clause-settles
+returns-in_err-settle_slots-clause-settles g c = λ past next.
+    settles_not past _ _ _ _ _ _ _ (failed_reading {S = Unit {0}} _ _ _ _ _ c.in_err-settle_slots.ensures.reads)
+    c.from_residual.ensures.1
+
 pub returns-in_err-book_all-clause-settles : goal.returns-in_err-book_all-clause-settles
 returns-in_err-book_all-clause-settles g c = λ past next.
     let grown =
@@ -50,7 +56,7 @@ returns-clause-settles g c = λ past next.
           subst (KeepsSlots c.settle_slots.new.slots) (slots_happened past _ _ c.requires.settling)
           (c.in_ok-settle_slots.ensures.keeps (next_poll (facts_of past)) (slots_of past) reach);
       books =
-          moves_as _ _ _ _ _ _
+          answered _ _ _ _ _ _
           (moves_after _ _ _ c.settle_slots.new.draft.facts.items (facts_of past) _ _ _ c.in_ok-settle_slots.ensures.reads
           (λ known clean. ((grown known clean).facts, (grown known clean).lawful))
           (c.in_ok-book_all.ensures.moves (facts_of past)) (c.in_ok-book_all.ensures.refused (facts_of past)) c.in_ok-book_all.ensures.goes);

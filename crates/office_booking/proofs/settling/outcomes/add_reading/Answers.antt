@@ -5,7 +5,8 @@ use Rattle.office_rules.specs.Readings.{reading_fact}
 use Rattle.office_rules.specs.Notes.{reading_note}
 use Rattle.office_booking.specs.Settling.Drafts.{HasMore}
 use Rattle.office_booking.proofs.SettlingLemmas.Growing.{read_at}
-use Rattle.office_booking.proofs.SettlingLemmas.Reading.{reads_without}
+use Rattle.office_books.proofs.Moving.{consults}
+use Rattle.office_booking.proofs.Consulting.{reads_without}
 use Rattle.office_booking.proofs.settling.outcomes.add_reading.Goals as goal
 
 pub returns-clause-adds : goal.returns-clause-adds
@@ -20,4 +21,4 @@ returns-clause-adds g c =
 
 pub returns-clause-reads : goal.returns-clause-reads
 returns-clause-reads g c =
-    reads_without _ _ _ c.add_judged.result c.in_ok-row.ensures.reads.reads c.add_judged.ensures.err
+    reads_without _ _ _ c.add_judged.result (consults _ _ _ c.in_ok-row.ensures.reads.reads) c.add_judged.ensures.err

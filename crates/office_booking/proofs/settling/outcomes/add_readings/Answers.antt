@@ -1,5 +1,6 @@
 use Rattle.office_booking.proofs.SettlingLemmas.Growing.{one_register_more}
-use Rattle.office_booking.proofs.SettlingLemmas.Reading.{reads_then, reads_failed}
+use Rattle.office_books.proofs.Moving.{consults_then}
+use Rattle.office_booking.proofs.Consulting.{reads_failed}
 use Rattle.office_booking.proofs.settling.outcomes.add_readings.Goals as goal
 
 pub loop-register-preserved : goal.loop-register-preserved
@@ -7,7 +8,7 @@ loop-register-preserved g c = (
   one_register_more _ _ _ _ _ _ _ c.args.at c.args.poll.now _ c.args.registers.now c.loop-register.register-index c.register-item.result
       c.loop-register-test.true c.register-item.is c.loop-register.invariant.1.keeps.facts c.in_ok-add_reading.ensures.reads.goes.clean
       c.loop-register.invariant.0 c.in_ok-add_reading.ensures.adds,
-  reads_then _ _ _ _ _ c.loop-register.invariant.1 c.in_ok-add_reading.ensures.reads,
+  consults_then _ _ _ _ _ c.loop-register.invariant.1 c.in_ok-add_reading.ensures.reads,
 )
 
 pub returns-in_err-add_reading-clause-reads : goal.returns-in_err-add_reading-clause-reads

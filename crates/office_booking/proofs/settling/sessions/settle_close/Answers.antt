@@ -1,6 +1,7 @@
 use Rattle.std.proofs.Common.{refl}
 use Rattle.office_booking.proofs.SettlingLemmas.Turning.{turns, ends, ends_quietly, is_loud, called_by_event}
-use Rattle.office_booking.proofs.SettlingLemmas.Reading.{reads_then, reads_failed}
+use Rattle.office_books.proofs.Moving.{consults_then}
+use Rattle.office_booking.proofs.Consulting.{reads_failed}
 use Rattle.office_booking.proofs.settling.sessions.settle_close.Goals as goal
 
 pub returns-in-None-clause-tells : goal.returns-in-None-clause-tells
@@ -19,7 +20,7 @@ turns-preserved g c =
     let after = rw (c.in-Ok.is, c.in-Some.is) at c.close.follows.holds-at-none in (
       turns _ _ _ _ _ _ _ _ _ _ _ _ _ _ _ _ c.turns.invariant.0 refl after.1.settling after.1.last (called_by_event _ _ _ _ after.1)
           c.turns.invariant.1.keeps.facts c.in_ok-add_outcome-in-Some.ensures.reads.goes.clean c.in_ok-add_outcome-in-Some.ensures.adds,
-      reads_then _ _ _ _ _ c.turns.invariant.1 c.in_ok-add_outcome-in-Some.ensures.reads,
+      consults_then _ _ _ _ _ c.turns.invariant.1 c.in_ok-add_outcome-in-Some.ensures.reads,
     )
 
 pub returns-in_err-add_outcome-in-Some-clause-quiet :

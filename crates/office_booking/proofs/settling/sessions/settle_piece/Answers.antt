@@ -1,7 +1,8 @@
 use Rattle.std.proofs.Common.{ap, refl}
 use Rattle.std.specs.Option.{is_some}
 use Rattle.office_booking.proofs.SettlingLemmas.Turning.{turns, ends, is_loud, called_by_piece, called_by_whole, within_piece, shorter_settles}
-use Rattle.office_booking.proofs.SettlingLemmas.Reading.{reads_then, reads_failed}
+use Rattle.office_books.proofs.Moving.{consults_then}
+use Rattle.office_booking.proofs.Consulting.{reads_failed}
 use Rattle.office_booking.proofs.settling.sessions.settle_piece.Goals as goal
 
 pub returns-in-None-clause-tells : goal.returns-in-None-clause-tells
@@ -18,7 +19,7 @@ turns-preserved g c =
       within_piece c.turns.taken c.in-Ok.turn.taken c.args.piece.now c.turns.invariant.0 c.in-Ok.ensures.taken,
       turns _ _ _ _ _ _ _ _ _ _ _ _ _ _ _ _ c.turns.invariant.1 refl after.1.settling after.1.last called
           c.turns.invariant.2.keeps.facts c.in_ok-add_outcome-in-Some.ensures.reads.goes.clean c.in_ok-add_outcome-in-Some.ensures.adds,
-      reads_then _ _ _ _ _ c.turns.invariant.2 c.in_ok-add_outcome-in-Some.ensures.reads,
+      consults_then _ _ _ _ _ c.turns.invariant.2 c.in_ok-add_outcome-in-Some.ensures.reads,
     )
 
 pub returns-in_err-add_outcome-in-Some-clause-quiet :

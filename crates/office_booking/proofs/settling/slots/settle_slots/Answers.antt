@@ -1,7 +1,8 @@
 use Rattle.std.proofs.Common.{◌≡◌, true, false, arith, subst, ◌∙◌}
 use Rattle.office_booking.specs.Settling.Settling.{MayReach}
 use Rattle.office_booking.proofs.SettlingLemmas.SettledSlots.{next_slot, goes_further, keeps_all, goes_to_end}
-use Rattle.office_booking.proofs.SettlingLemmas.Reading.{reads_then, reads_failed}
+use Rattle.office_books.proofs.Moving.{consults_then}
+use Rattle.office_booking.proofs.Consulting.{reads_failed}
 use Rattle.office_booking.proofs.settling.slots.settle_slots.Goals as goal
 
 pub returns-in_err-settle_slot-clause-quiet : goal.returns-in_err-settle_slot-clause-quiet
@@ -30,7 +31,7 @@ loop-i-preserved g c = (
       let quiet = c.in_ok-settle_slot.ensures.quiet number slot (subst (λ y. MayReach c.args.moment y slot) c.index-slots-i.is k) none in
       (quiet.books ∙ same.0, quiet.draft ∙ same.1))
       c.loop-i.invariant.1.keeps.facts c.in_ok-settle_slot.ensures.reads.goes.clean,
-  reads_then _ _ _ _ _ c.loop-i.invariant.1 c.in_ok-settle_slot.ensures.reads,
+  consults_then _ _ _ _ _ c.loop-i.invariant.1 c.in_ok-settle_slot.ensures.reads,
 )
 
 pub returns-clause-keeps : goal.returns-clause-keeps

@@ -2,7 +2,7 @@ use Rattle.std.proofs.Common.{◌≡◌, ℕ, List, take, Ok}
 use Rattle.office_rules.specs.Sessions as sessions
 use Rattle.office_rules.specs.History.{with_settled}
 use Rattle.office_rules.specs.Notes.{settled_notes}
-use Rattle.office_books.specs.Ledgers.{OnlyReads}
+use Rattle.office_books.specs.Ledgers.{Consults}
 use Rattle.office_booking.specs.Settling.Drafts.{Grows}
 use Rattle.office_booking.specs.Settling.Settling.{MayReachAll, SettleNothing}
 use Rattle.office_booking.proofs.SettlingLemmas.SettledSlots.{FirstReached}
@@ -15,4 +15,4 @@ invariant-loop-i g l =
     × Grows (g.B.Books.ledger l.fn.books).holds (g.B.Books.ledger l.books).is_clean l.fn.draft l.draft
     (with_settled number l.moment l.event (take l.i stood)) (settled_notes number l.moment l.event (take l.i stood))
     × (SettleNothing number l.moment l.event stood → (l.books ≡ l.fn.books) × (l.draft ≡ l.fn.draft)))
-    × OnlyReads {T = Unit {0}} (g.B.Books.ledger l.fn.books) (g.B.Books.ledger l.books) (Ok tt)
+    × Consults {T = Unit {0}} (g.B.Books.ledger l.fn.books) (g.B.Books.ledger l.books) (Ok tt)

@@ -8,5 +8,5 @@ use Rattle.office_store.proofs.bookings.polls.enter_reply.Goals as goal
 pub returns-clause-does : goal.returns-clause-does
 returns-clause-does g c =
     completed_alone (state g.S.Store c.args.tx.now.conn.now) (state g.S.Store c.insert_reply.new.tx.conn.now) c.in_ok-insert_reply.field-0
-    (AddsReply c.in_ok-caller.caller.now c.args.reply.now.number c.as_slice.result.now c.reply_kind-kind.result c.args.reply.now.at) (Records (fact.Reply c.args.reply.now)) c.in_ok-insert_reply.ensures.does
-    (reply_entered c.args.reply.now c.in_ok-caller.caller.now c.as_slice.result.now c.reply_kind-kind.result c.in_ok-caller.ensures.text c.as_slice.ensures c.reply_kind-kind.ensures)
+    (AddsReply c.in_ok-caller.caller.now c.args.reply.now.number c.as_slice.result.now c.args.reply.now.kind c.args.reply.now.at) (Records (fact.Reply c.args.reply.now)) c.in_ok-insert_reply.ensures.does
+    (reply_entered c.args.reply.now c.in_ok-caller.caller.now c.as_slice.result.now c.in_ok-caller.ensures.text c.as_slice.ensures)

@@ -7,11 +7,11 @@ use Rattle.office_store.proofs.tables.SqlBooksBooks.entry.Goals as goal
 
 pub returns-clause-found : goal.returns-clause-found
 returns-clause-found g c =
-    finds g.S.Store c.args.self.now.connection c.entry-found.new.conn c.args.self.now.faults c.answered.new.faults c.args.self.now.zone c.entry-found.result c.answered.result c.answered.ensures.answer c.entry-found.ensures.finds
+    finds g.S.Store c.args.self.now.connection c.entry-found.new.conn c.args.self.now.failures c.answered.new.failures c.args.self.now.zone c.entry-found.result c.answered.result c.answered.ensures.answer c.entry-found.ensures.finds
 
 pub returns-clause-reads : goal.returns-clause-reads
 returns-clause-reads g c = record {
-  reads = reads g.S.Store c.args.self.now.connection c.entry-found.new.conn c.args.self.now.faults c.answered.new.faults c.args.self.now.zone c.answered.result c.answered.ensures.count c.entry-found.ensures.finds.looks;
+  reads = reads g.S.Store c.args.self.now.connection c.entry-found.new.conn c.args.self.now.failures c.answered.new.failures c.args.self.now.zone c.answered.result c.answered.ensures.noted c.entry-found.ensures.finds.looks;
   sound = sound (λ (place : Option EntryPlace). IfSome place (λ (p : EntryPlace). IsSound p.before)) c.entry-found.result c.answered.result c.answered.ensures.answer c.entry-found.ensures.sound;
 }
 

@@ -7,11 +7,11 @@ use Rattle.office_store.proofs.tables.SqlBooksBooks.installation.Goals as goal
 
 pub returns-clause-found : goal.returns-clause-found
 returns-clause-found g c =
-    finds g.S.Store c.args.self.now.connection c.installation-found.new.conn c.args.self.now.faults c.answered.new.faults c.args.self.now.zone c.installation-found.result c.answered.result c.answered.ensures.answer c.installation-found.ensures.finds
+    finds g.S.Store c.args.self.now.connection c.installation-found.new.conn c.args.self.now.failures c.answered.new.failures c.args.self.now.zone c.installation-found.result c.answered.result c.answered.ensures.answer c.installation-found.ensures.finds
 
 pub returns-clause-reads : goal.returns-clause-reads
 returns-clause-reads g c = record {
-  reads = reads g.S.Store c.args.self.now.connection c.installation-found.new.conn c.args.self.now.faults c.answered.new.faults c.args.self.now.zone c.answered.result c.answered.ensures.count c.installation-found.ensures.finds.looks;
+  reads = reads g.S.Store c.args.self.now.connection c.installation-found.new.conn c.args.self.now.failures c.answered.new.failures c.args.self.now.zone c.answered.result c.answered.ensures.noted c.installation-found.ensures.finds.looks;
   sound = sound (λ (row : Option Installation). IfSome row IsSound) c.installation-found.result c.answered.result c.answered.ensures.answer c.installation-found.ensures.sound;
 }
 

@@ -7,11 +7,11 @@ use Rattle.office_store.proofs.tables.SqlBooksBooks.meter.Goals as goal
 
 pub returns-clause-found : goal.returns-clause-found
 returns-clause-found g c =
-    finds g.S.Store c.args.self.now.connection c.meter-found.new.conn c.args.self.now.faults c.answered.new.faults c.args.self.now.zone c.meter-found.result c.answered.result c.answered.ensures.answer c.meter-found.ensures.finds
+    finds g.S.Store c.args.self.now.connection c.meter-found.new.conn c.args.self.now.failures c.answered.new.failures c.args.self.now.zone c.meter-found.result c.answered.result c.answered.ensures.answer c.meter-found.ensures.finds
 
 pub returns-clause-reads : goal.returns-clause-reads
 returns-clause-reads g c = record {
-  reads = reads g.S.Store c.args.self.now.connection c.meter-found.new.conn c.args.self.now.faults c.answered.new.faults c.args.self.now.zone c.answered.result c.answered.ensures.count c.meter-found.ensures.finds.looks;
+  reads = reads g.S.Store c.args.self.now.connection c.meter-found.new.conn c.args.self.now.failures c.answered.new.failures c.args.self.now.zone c.answered.result c.answered.ensures.noted c.meter-found.ensures.finds.looks;
   sound = sound (λ (row : Option Installation). IfSome row IsSound) c.meter-found.result c.answered.result c.answered.ensures.answer c.meter-found.ensures.sound;
 }
 

@@ -4,11 +4,11 @@ use Rattle.office_store.proofs.tables.SqlBooksBooks.pending.Goals as goal
 
 pub returns-clause-found : goal.returns-clause-found
 returns-clause-found g c =
-    finds g.S.Store c.args.self.now.connection c.pending-found.new.conn c.args.self.now.faults c.answered.new.faults c.args.self.now.zone c.pending-found.result c.answered.result c.answered.ensures.answer c.pending-found.ensures
+    finds g.S.Store c.args.self.now.connection c.pending-found.new.conn c.args.self.now.failures c.answered.new.failures c.args.self.now.zone c.pending-found.result c.answered.result c.answered.ensures.answer c.pending-found.ensures
 
 pub returns-clause-reads : goal.returns-clause-reads
 returns-clause-reads g c =
-    reads g.S.Store c.args.self.now.connection c.pending-found.new.conn c.args.self.now.faults c.answered.new.faults c.args.self.now.zone c.answered.result c.answered.ensures.count c.pending-found.ensures.looks
+    reads g.S.Store c.args.self.now.connection c.pending-found.new.conn c.args.self.now.failures c.answered.new.failures c.args.self.now.zone c.answered.result c.answered.ensures.noted c.pending-found.ensures.looks
 
 pub invariant_of-self : goal.invariant_of-self
 invariant_of-self g c = record { idle = (c.pending-found.ensures.looks []).mode c.args.self.now.idle }

@@ -4,12 +4,12 @@ use Rattle.office_store.proofs.tables.SqlBooksBooks.register_intervals.Goals as 
 
 pub returns-clause-rows : goal.returns-clause-rows
 returns-clause-rows g c =
-    hands_on g.S.Store c.args.self.now.connection c.register_intervals-found.new.conn c.args.self.now.faults c.answered.new.faults c.args.self.now.zone g.K.RowSink.takes c.args.sink.now c.register_intervals-found.new.sink _ c.register_intervals-found.result c.answered.result c.answered.ensures.answer
+    hands_on g.S.Store c.args.self.now.connection c.register_intervals-found.new.conn c.args.self.now.failures c.answered.new.failures c.args.self.now.zone g.K.RowSink.takes c.args.sink.now c.register_intervals-found.new.sink _ c.register_intervals-found.result c.answered.result c.answered.ensures.answer
     c.register_intervals-found.ensures
 
 pub returns-clause-reads : goal.returns-clause-reads
 returns-clause-reads g c =
-    reads g.S.Store c.args.self.now.connection c.register_intervals-found.new.conn c.args.self.now.faults c.answered.new.faults c.args.self.now.zone c.answered.result c.answered.ensures.count c.register_intervals-found.ensures.looks
+    reads g.S.Store c.args.self.now.connection c.register_intervals-found.new.conn c.args.self.now.failures c.answered.new.failures c.args.self.now.zone c.answered.result c.answered.ensures.noted c.register_intervals-found.ensures.looks
 
 pub invariant_of-self : goal.invariant_of-self
 invariant_of-self g c = record { idle = (c.register_intervals-found.ensures.looks []).mode c.args.self.now.idle }

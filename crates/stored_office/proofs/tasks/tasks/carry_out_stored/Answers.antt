@@ -11,17 +11,26 @@ unfolding Does
 returns-in-Report-clause-does g c = λ past has.
     let P : Task → Type 0 = λ t. Does g.S.Store (g.F.NamedFiles.tells c.args.files.now) past (g.C.Clock.moments c.args.clock.now) (g.C.Clock.moments c.report_books-done.new.clock)
     (g.W.Write.contents c.args.output.now) (g.W.Write.contents c.report_books-done.new.output) t (Reported c.report_books-done.result.end) in
-    subst P (sym c.in-Report.is) (over g.S.Store past c.in-Ok.books c.report_books-done.result.books _ has.zone has.is_past
-    (c.in-Ok.ensures.again has.zone (facts_of past) has.has)
+    subst P (sym c.in-Report.is) (over g.S.Store past c.in-Ok.opened c.new-books.result c.report_books-done.result.books _ has.zone has.is_past
+    (c.in-Ok.ensures.again has.zone (facts_of past) has.has) c.new-books.ensures.books c.new-books.ensures.stands
     (λ stands clean. c.report_books-done.ensures.tells past stands clean))
+
+pub returns-in-ReportRange-clause-does : goal.returns-in-ReportRange-clause-does
+unfolding Does
+returns-in-ReportRange-clause-does g c = λ past has.
+    let P : Task → Type 0 = λ t. Does g.S.Store (g.F.NamedFiles.tells c.args.files.now) past (g.C.Clock.moments c.args.clock.now) (g.C.Clock.moments c.report_range_books-done.new.clock)
+    (g.W.Write.contents c.args.output.now) (g.W.Write.contents c.report_range_books-done.new.output) t (Reported c.report_range_books-done.result.end) in
+    subst P (sym c.in-ReportRange.is) (over g.S.Store past c.in-Ok.opened c.new-books.result c.report_range_books-done.result.books _ has.zone has.is_past
+    (c.in-Ok.ensures.again has.zone (facts_of past) has.has) c.new-books.ensures.books c.new-books.ensures.stands
+    (λ stands clean. c.report_range_books-done.ensures.tells past stands clean))
 
 pub returns-in-Serve-clause-does : goal.returns-in-Serve-clause-does
 unfolding Does
 returns-in-Serve-clause-does g c = λ past has.
     let P : Task → Type 0 = λ t. Does g.S.Store (g.F.NamedFiles.tells c.args.files.now) past (g.C.Clock.moments c.args.clock.now) (g.C.Clock.moments c.serve_books-done.new.clock)
     (g.W.Write.contents c.args.output.now) (g.W.Write.contents c.serve_books-done.new.output) t (Served c.serve_books-done.result.end) in
-    subst P (sym c.in-Serve.is) (over g.S.Store past c.in-Ok.books c.serve_books-done.result.books _ has.zone has.is_past
-    (c.in-Ok.ensures.again has.zone (facts_of past) has.has)
+    subst P (sym c.in-Serve.is) (over g.S.Store past c.in-Ok.opened c.new-books.result c.serve_books-done.result.books _ has.zone has.is_past
+    (c.in-Ok.ensures.again has.zone (facts_of past) has.has) c.new-books.ensures.books c.new-books.ensures.stands
     (λ stands clean. c.serve_books-done.ensures.tells past stands clean))
 
 pub returns-in-Enter-clause-does : goal.returns-in-Enter-clause-does
@@ -29,8 +38,8 @@ unfolding Does
 returns-in-Enter-clause-does g c = λ past has.
     let P : Task → Type 0 = λ t. Does g.S.Store (g.F.NamedFiles.tells c.args.files.now) past (g.C.Clock.moments c.args.clock.now) (g.C.Clock.moments c.enter_books-done.new.clock)
     (g.W.Write.contents c.args.output.now) (g.W.Write.contents c.enter_books-done.new.output) t (Entered c.enter_books-done.result.end) in
-    subst P (sym c.in-Enter.is) (over g.S.Store past c.in-Ok.books c.enter_books-done.result.books _ has.zone has.is_past
-    (c.in-Ok.ensures.again has.zone (facts_of past) has.has)
+    subst P (sym c.in-Enter.is) (over g.S.Store past c.in-Ok.opened c.new-books.result c.enter_books-done.result.books _ has.zone has.is_past
+    (c.in-Ok.ensures.again has.zone (facts_of past) has.has) c.new-books.ensures.books c.new-books.ensures.stands
     (λ stands clean. c.enter_books-done.ensures.tells past stands clean))
 
 pub returns-in-Check-clause-does : goal.returns-in-Check-clause-does
@@ -38,8 +47,8 @@ unfolding Does
 returns-in-Check-clause-does g c = λ past has.
     let P : Task → Type 0 = λ t. Does g.S.Store (g.F.NamedFiles.tells c.args.files.now) past (g.C.Clock.moments c.args.clock.now) (g.C.Clock.moments c.args.clock.now)
     (g.W.Write.contents c.args.output.now) (g.W.Write.contents c.check_books-done.new.output) t (Checked c.check_books-done.result.end) in
-    subst P (sym c.in-Check.is) (over g.S.Store past c.in-Ok.books c.check_books-done.result.books _ has.zone has.is_past
-    (c.in-Ok.ensures.again has.zone (facts_of past) has.has)
+    subst P (sym c.in-Check.is) (over g.S.Store past c.in-Ok.opened c.new-books.result c.check_books-done.result.books _ has.zone has.is_past
+    (c.in-Ok.ensures.again has.zone (facts_of past) has.has) c.new-books.ensures.books c.new-books.ensures.stands
     (λ stands clean. c.check_books-done.ensures.checks past stands clean))
 
 pub returns-in-Round-clause-does : goal.returns-in-Round-clause-does
@@ -47,15 +56,19 @@ unfolding Does
 returns-in-Round-clause-does g c = λ past has.
     let P : Task → Type 0 = λ t. Does g.S.Store (g.F.NamedFiles.tells c.args.files.now) past (g.C.Clock.moments c.args.clock.now) (g.C.Clock.moments c.poll_books-done.new.clock)
     (g.W.Write.contents c.args.output.now) (g.W.Write.contents c.poll_books-done.new.output) t (Polled c.poll_books-done.result.end) in
-    subst P (sym c.in-Round.is) (over g.S.Store past c.in-Ok.books c.poll_books-done.result.books _ has.zone has.is_past
-    (c.in-Ok.ensures.again has.zone (facts_of past) has.has)
-    (λ stands clean. c.poll_books-done.ensures.tells past stands clean))
+    subst P (sym c.in-Round.is) (over g.S.Store past c.in-Ok.opened c.new-books.result c.say_lacks.new.books _ has.zone has.is_past
+    (c.in-Ok.ensures.again has.zone (facts_of past) has.has) c.new-books.ensures.books c.new-books.ensures.stands
+    (λ stands clean. (
+      c.poll_books-done.result.books,
+      c.poll_books-done.ensures.tells past stands (c.say_lacks.ensures.looks.clean clean),
+      c.say_lacks.ensures.looks,
+    )))
 
 pub returns-in-Run-clause-does : goal.returns-in-Run-clause-does
 unfolding Does
 returns-in-Run-clause-does g c = λ past has.
     let P : Task → Type 0 = λ t. Does g.S.Store (g.F.NamedFiles.tells c.args.files.now) past (g.C.Clock.moments c.args.clock.now) (g.C.Clock.moments c.run_office-done.new.clock)
     (g.W.Write.contents c.args.output.now) (g.W.Write.contents c.run_office-done.new.output) t (Ran c.run_office-done.result.end) in
-    subst P (sym c.in-Run.is) (over g.S.Store past c.in-Ok.books c.run_office-done.result.books _ has.zone has.is_past
-    (c.in-Ok.ensures.again has.zone (facts_of past) has.has)
+    subst P (sym c.in-Run.is) (over g.S.Store past c.in-Ok.opened c.new-books.result c.run_office-done.result.books _ has.zone has.is_past
+    (c.in-Ok.ensures.again has.zone (facts_of past) has.has) c.new-books.ensures.books c.new-books.ensures.stands
     (λ stands clean. c.run_office-done.ensures.books past stands clean))

@@ -1,6 +1,6 @@
 use Rattle.std.proofs.Common.{◌≡◌, ◌++◌, length}
 use Rattle.mb_wire.specs.Bytes.{words_of}
-use Rattle.device_scan.proofs.hearing.words.Given as goal
+use Rattle.device_scan.proofs.words.words_of_bytes.Given as goal
 
 abbrev pub invariant-loop-left : goal.invariant-loop-left
 invariant-loop-left l = words_of l.bytes ≡ l.words.items ++ words_of l.left

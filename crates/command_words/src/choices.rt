@@ -1,0 +1,64 @@
+//! Values that are one of a few words.
+ghost use Rattle.std.specs.Prelude.{codes};
+ghost use Rattle.energy_report.specs.Words.{format_of, period_of, unit_of};
+ghost use Rattle.command_words.specs.Options.{Reads, if_some, rows_in, text_at};
+
+use crate::faults::ValueFault;
+use crate::options::text_if;
+use crate::table::{FORMATS, PERIODS, UNITS};
+use clap::ArgMatches;
+use energy_report::{EnergyUnit, Format, Period};
+
+pub fn period_if<'a>(found: &ArgMatches<'a>) -> Result<Option<Period>, ValueFault<'a>>
+    ensures { Reads (λ period. period)
+        (if_some period_of (text_at (codes "by") (rows_in found.now))) result }
+{
+    let Some(word) = text_if(found, "by") else {
+        return Ok(None);
+    };
+    match Period::read(word) {
+        Some(period) => Ok(Some(period)),
+        None => Err(ValueFault::Choice {
+            option: "by",
+            value: "PERIOD",
+            choices: PERIODS,
+            word,
+        }),
+    }
+}
+
+pub fn unit_if<'a>(found: &ArgMatches<'a>) -> Result<Option<EnergyUnit>, ValueFault<'a>>
+    ensures { Reads (λ unit. unit)
+        (if_some unit_of (text_at (codes "unit") (rows_in found.now))) result }
+{
+    let Some(word) = text_if(found, "unit") else {
+        return Ok(None);
+    };
+    match EnergyUnit::read(word) {
+        Some(unit) => Ok(Some(unit)),
+        None => Err(ValueFault::Choice {
+            option: "unit",
+            value: "UNIT",
+            choices: UNITS,
+            word,
+        }),
+    }
+}
+
+pub fn format_if<'a>(found: &ArgMatches<'a>) -> Result<Option<Format>, ValueFault<'a>>
+    ensures { Reads (λ format. format)
+        (if_some format_of (text_at (codes "format") (rows_in found.now))) result }
+{
+    let Some(word) = text_if(found, "format") else {
+        return Ok(None);
+    };
+    match Format::read(word) {
+        Some(format) => Ok(Some(format)),
+        None => Err(ValueFault::Choice {
+            option: "format",
+            value: "FORMAT",
+            choices: FORMATS,
+            word,
+        }),
+    }
+}

@@ -1,0 +1,74 @@
+-- Days that a report in a form took, and what is printed of them.
+use Rattle.std.proofs.Common.{◌≡◌, ◌<◌, ◌^◌, ◌⊎◌, inl, inr, ℕ, Bool, true, false, Option, List, [], ◌∷◌, ◌++◌, length, refl, sym, subst, ap, ◌∙◌, append-nil, append_assoc}
+use Rattle.std.specs.Prelude.{Result, Ok, Err, map, if◌then◌else◌}
+use Rattle.command_io.specs.declared.status.ExitStatus.{ExitStatus}
+use Rattle.command_io.specs.declared.status.ExitStatus.TheVariants.{Fine, Failed, Refused}
+use Rattle.energy_report.specs.Texts.{report_text}
+use Rattle.energy_report.specs.Writing.{GotUnless, HasTaken, IsFresh, TakesDay}
+use Rattle.energy_report.specs.declared.form.ReportForm.{ReportForm}
+use Rattle.energy_report.specs.declared.report_rows.ReportRows.{ReportRows}
+use Rattle.interval_core.specs.declared.totals.DayTotal.{DayTotal}
+use Rattle.interval_core.specs.declared.zone.Zone.{Zone}
+use Rattle.office_books.specs.declared.failures.Failures.{Failures}
+use Rattle.office_books.specs.Rows.{TakesAll}
+use Rattle.office_core.specs.Asking.{HandsDays}
+use Rattle.office_events.specs.declared.refusals.Refusal.{Refusal}
+use Rattle.office_rules.specs.History.{History, facts_of}
+use Rattle.script_text.specs.AnswerText.{refused_line}
+use Rattle.office_program.specs.Texts.EndTexts.{IsTold}
+use Rattle.office_program.specs.Texts.RangedReports.{IsRangedReport, PrintsRest, RangePrints}
+use Rattle.office_program.specs.Texts.Reports.{meant_by}
+
+-- days that were taken one by one were taken all
+pub taken_all : {W : Type 0} (contents : W → Option (List ℕ)) (days more : List DayTotal) (from at to : ReportRows W)
+    → HasTaken contents days from at → TakesAll (TakesDay contents) at more to → HasTaken contents (days ++ more) from to
+taken_all {W} contents days [] from at to has took =
+    let P : List DayTotal → Type 0 = λ those. HasTaken contents those from to in
+    let Q : ReportRows W → Type 0 = λ s. HasTaken contents days from s in
+    subst P (sym (append-nil days)) (subst Q (sym took) has)
+taken_all contents days (day ∷ more) from at to has took =
+    let P : List DayTotal → Type 0 = λ those. HasTaken contents those from to in
+    subst P (append_assoc days (day ∷ []) more)
+    (taken_all contents (days ++ day ∷ []) more from took.0 to (took.1.taken from days has) took.2)
+
+told_by : (failed : Bool) (status : ExitStatus) (text : List ℕ) (old new : Option (List ℕ)) → status ≡ (if failed then Failed else Fine)
+    → GotUnless failed text old new → IsTold text Fine status old new
+told_by false status text old new is got = inl (is, got)
+told_by true status text old new is got = inr (is, got)
+
+-- the report, with what was printed of it
+pub printed : {W : Type 0} (contents : W → Option (List ℕ)) (zone : Zone) (past : History) (register : Option (List ℕ)) (form : ReportForm)
+    (before after : Failures) (from to left : ReportRows W) (output : W) (status : ExitStatus) (reply : Result (Unit {0}) Refusal)
+    → IsFresh contents form output from
+    → HandsDays (TakesDay contents) zone (facts_of past) register before after from to reply
+    → PrintsRest contents reply status to left
+    → (text : List ℕ) × IsRangedReport zone past register form reply text
+    × IsTold text (meant_by reply) status (contents output) (contents left.output.now)
+printed {W} contents zone past register form before after from to left output status (Ok done) fresh hands rest =
+    let days = hands.whole.days in
+    let taken = taken_all contents [] days from from to fresh.taken hands.whole.took in
+    let got = rest.finishes.finished from days taken hands.whole.few in
+    let told = told_by left.failed status (report_text from.form days) (contents from.output.now) (contents left.output.now) rest.means got in
+    (report_text form days, (days, hands.whole.are, refl), rw (sym fresh.form, sym fresh.output) told)
+printed {W} contents zone past register form before after from to left output status (Err why) fresh hands rest =
+    let same : to.output.now ≡ output = ap (λ (rows : ReportRows W). rows.output.now) hands.none ∙ fresh.output in
+    let P : W → Type 0 = λ w. IsTold (refused_line why) Refused status (contents w) (contents left.output.now) in
+    (refused_line why, refl, subst P same rest.told)
+
+-- the writer is the one that it was
+taken_by : {W : Type 0} (contents : W → Option (List ℕ)) (days : List DayTotal) (from to : ReportRows W)
+    → TakesAll (TakesDay contents) from days to → to.output.ghost_name ≡ from.output.ghost_name
+taken_by {W} contents [] from to took = ap (λ (rows : ReportRows W). rows.output.ghost_name) took
+taken_by contents (day ∷ more) from to took = taken_by contents more took.0 to took.2 ∙ took.1.output
+
+pub same_writer : {W : Type 0} (contents : W → Option (List ℕ)) (zone : Zone) (past : History) (register : Option (List ℕ))
+    (before after : Failures) (from to : ReportRows W) (reply : Result (Unit {0}) Refusal)
+    → HandsDays (TakesDay contents) zone (facts_of past) register before after from to reply
+    → to.output.ghost_name ≡ from.output.ghost_name
+same_writer contents zone past register before after from to (Ok done) hands = taken_by contents hands.whole.days from to hands.whole.took
+same_writer {W} contents zone past register before after from to (Err why) hands = ap (λ (rows : ReportRows W). rows.output.ghost_name) hands.none
+
+pub rest_keeps : {W : Type 0} (contents : W → Option (List ℕ)) (reply : Result (Unit {0}) Refusal) (status : ExitStatus) (to left : ReportRows W)
+    → PrintsRest contents reply status to left → left.output.ghost_name ≡ to.output.ghost_name
+rest_keeps contents (Ok done) status to left rest = rest.finishes.output
+rest_keeps contents (Err why) status to left rest = rest.output

@@ -1,0 +1,70 @@
+-- The report of a register on a range of days, in a form: its rows, or why there are none.
+use Rattle.std.specs.Prelude.{◌≡◌, ℕ, List, map, Option, Some, Result, Ok, Err, if◌then◌else◌}
+use Rattle.std.specs.Option.{option_and_then}
+use Rattle.std.specs.declared.io.Write as writers
+use Rattle.command_io.specs.declared.status.ExitStatus.{ExitStatus}
+use Rattle.command_io.specs.declared.status.ExitStatus.TheVariants.{Fine, Failed, Refused}
+use Rattle.energy_report.specs.Texts.{report_text}
+use Rattle.energy_report.specs.Writing.{Finishes}
+use Rattle.energy_report.specs.declared.form.ReportForm.{ReportForm}
+use Rattle.energy_report.specs.declared.report_rows.ReportRows.{ReportRows}
+use Rattle.interval_core.specs.Days.{account_of}
+use Rattle.interval_core.specs.declared.totals.DayTotal.{DayTotal}
+use Rattle.interval_core.specs.declared.zone.Zone.{Zone}
+use Rattle.office_events.specs.declared.refusals.Refusal.{Refusal}
+use Rattle.office_rules.specs.Facts.{register_of}
+use Rattle.office_rules.specs.History.{History, facts_of}
+use Rattle.office_books.specs.declared.books.Books as stores
+use Rattle.office_books.specs.declared.failures.Failures.{Failures}
+use Rattle.office_core.specs.Asking.{AreDaysNamed, IsFound, is_there}
+use Rattle.office_core.specs.Standing.{After, books_in}
+use Rattle.office_core.specs.Taking.{failures_of}
+use Rattle.office_core.specs.declared.office.Office.{Office}
+use Rattle.script_text.specs.AnswerText.{refused_line}
+use Rattle.office_program.specs.Texts.EndTexts.{IsTold, TellsEnd}
+use Rattle.office_program.specs.Texts.Reports.{meant_by}
+
+-- The rows of the register's days by the clocks of the zone, in the form that was asked for; or the reason alone.
+abbrev pub IsRangedReport : Zone → History → (register : Option (List ℕ)) → ReportForm
+    → Result (Unit {0}) Refusal → (text : List ℕ) → Type 0
+IsRangedReport zone past register form (Ok done) text =
+    (days : List DayTotal) × AreDaysNamed zone (facts_of past) register (map account_of days)
+    × (text ≡ report_text form days)
+IsRangedReport zone past register form (Err why) text = text ≡ refused_line why
+
+-- What is printed with which end. It is refused where there is no register of the name, and else only where the books or
+-- memory failed or the office had stopped, over how the books failed before and after. Only days of a register take memory of
+-- the office's own.
+pub record RangePrints (zone : Zone) (past : History) (register : Option (List ℕ)) (form : ReportForm)
+    (before after : Failures) (text : List ℕ) (meant : ExitStatus) : Type 0 where
+  pub reply : Result (Unit {0}) Refusal
+  pub answer : let there = is_there (option_and_then (register_of (facts_of past)) register) in
+      IsFound (there ≡ Some tt) there before after reply
+  pub is : IsRangedReport zone past register form reply text
+  pub means : meant ≡ meant_by reply
+
+-- It is printed so by an office over what it had accepted, or a part of it, since a write failed.
+abbrev pub ReportsRange : {B W : Type 0} → stores.Ghosts B → writers.Ghosts W
+    → (register : Option (List ℕ)) → ReportForm → (old new : Office B) → (had holds : W) → ExitStatus
+    → Type 0
+ReportsRange b w register form old new had holds status = After b.ledger old new
+    (λ past. TellsEnd (RangePrints (b.ledger (books_in old)).zone past register form
+    (failures_of b.ledger old) (failures_of b.ledger new))
+    status (w.contents had) (w.contents holds))
+
+-- What is left of the report is written, unless it was refused: then the reason.
+pub record PrintsRefusal {W : Type 0} (contents : W → Option (List ℕ)) (why : Refusal)
+    (status : ExitStatus) (old new : ReportRows W) : Type 0 where
+  pub output : new.output.ghost_name ≡ old.output.ghost_name
+  pub told : IsTold (refused_line why) Refused status (contents old.output.now)
+      (contents new.output.now)
+
+pub record PrintsLast {W : Type 0} (contents : W → Option (List ℕ)) (status : ExitStatus)
+    (old new : ReportRows W) : Type 0 where
+  pub finishes : Finishes contents old new
+  pub means : status ≡ (if new.failed then Failed else Fine)
+
+abbrev pub PrintsRest : {W : Type 0} → (W → Option (List ℕ)) → Result (Unit {0}) Refusal → ExitStatus
+    → (old new : ReportRows W) → Type 0
+PrintsRest contents (Ok done) status old new = PrintsLast contents status old new
+PrintsRest contents (Err why) status old new = PrintsRefusal contents why status old new

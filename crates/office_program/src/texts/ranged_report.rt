@@ -1,0 +1,45 @@
+//! The report of a register on a range of days, in a form.
+ghost use Rattle.office_program.specs.Texts.RangedReports.{PrintsRest, ReportsRange};
+ghost use Rattle.office_program.specs.Texts.Reports.{Asks};
+
+use crate::texts::end_texts::print_refusal;
+use command_io::ExitStatus;
+use energy_report::{ReportForm, ReportRows};
+use office_books::Books;
+use office_core::Office;
+use office_events::{Name, Refusal};
+use std::io::Write;
+
+// What is left to write of a report, or why there is none.
+fn print_rest<W: Write>(told: Result<(), Refusal>, rows: &mut ReportRows<'_, W>) -> ExitStatus
+    ensures { PrintsRest W.contents told result rows.old rows.new }
+{
+    match told {
+        Ok(()) => {
+            rows.finish();
+            if rows.has_failed() {
+                ExitStatus::Failed
+            } else {
+                ExitStatus::Fine
+            }
+        }
+        Err(why) => print_refusal(why, rows.output),
+    }
+}
+
+/// Prints the energy of a register on the days of a range, by periods, in a unit and a format; where the office refuses that,
+/// `refused N` alone. `None` is a name that no register can have.
+pub fn report_range<B: Books, W: Write>(
+    office: &mut Office<B>,
+    register: &Option<Name>,
+    form: &ReportForm,
+    output: &mut W,
+) -> ExitStatus
+    ensures prints { ReportsRange B.Books W.Write register.now form.now office.old office.new
+        output.old output.new result }
+    ensures asks { Asks B.ledger office.old office.new }
+{
+    let mut rows = ReportRows::to(*form, output);
+    let told = office.days(register, &mut rows);
+    print_rest(told, &mut rows)
+}

@@ -1,0 +1,59 @@
+//! Reports of a register.
+use crate::offices::{Files, OWN_HOST, over_office};
+use command_words::FormWords;
+use energy_report::{EnergyUnit, Format, Period, RangeFault, ReportForm, read_range};
+use stored_office::{Ending, Task, ending_of_done};
+
+// Whether no form is asked for.
+fn is_plain(words: &FormWords<'_>) -> bool {
+    let has_range = words.from.is_some() || words.till.is_some();
+    let has_layout = words.period.is_some() || words.unit.is_some() || words.format.is_some();
+    !has_range && !has_layout
+}
+
+// The form that is asked for.
+fn form_of<'a>(words: &FormWords<'a>) -> Result<ReportForm, Ending<'a>> {
+    match read_range(words.from, words.till) {
+        Ok(range) => Ok(ReportForm {
+            range,
+            period: words.period.unwrap_or(Period::Day),
+            unit: words.unit.unwrap_or(EnergyUnit::MilliwattHours),
+            format: words.format.unwrap_or(Format::Text),
+        }),
+        Err(RangeFault::From) => Err(Ending::NoDay {
+            option: "from",
+            word: words.from.unwrap_or(""),
+        }),
+        Err(RangeFault::Till) => Err(Ending::NoDay {
+            option: "till",
+            word: words.till.unwrap_or(""),
+        }),
+        Err(RangeFault::Backward) => Err(Ending::Backward),
+    }
+}
+
+// Carries out the report that a task is.
+fn report_by<'a>(rt: &HostRuntime, path: &'a str, task: Task<'_>) -> Ending<'a> {
+    ending_of_done(over_office(rt, &Files { rt }, path, task), OWN_HOST, 0)
+}
+
+/// Prints the energy of a register, by days where no form is asked for.
+pub(crate) fn report<'a>(
+    rt: &HostRuntime,
+    path: &'a str,
+    register: &str,
+    words: &FormWords<'a>,
+) -> Ending<'a> {
+    if is_plain(words) {
+        return report_by(rt, path, Task::Report { register });
+    }
+    let form = match form_of(words) {
+        Ok(form) => form,
+        Err(ending) => return ending,
+    };
+    let task = Task::ReportRange {
+        register,
+        form: &form,
+    };
+    report_by(rt, path, task)
+}
