@@ -102,6 +102,39 @@ is 'the numbers of another caller' "$? $(paste -sd ';' out)" '0 ok'
 sleep 1
 enter '24 manual main 6000 0\n25 void m1 2\n'
 is 'entries by hand' "$came" '1 ok;refused 16 / '
+
+# What a round says to people, behind what it prints for scripts.
+# polled DEVICE LINES: polls a device at a stand-in that these lines set up; status, standard output and error (their lines joined by ;) are in came
+port=${ENTER_PORT:-15320}
+polled() {
+    port=$((port + 1))
+    printf "$2" | "$program" stand-in --port "$port" --connections 1 > peer 2>&1 &
+    peer=$!
+    for _try in 1 2 3 4 5 6 7 8 9 10; do
+        status=0
+        "$program" round --db office.db --device "$1" --port "$port" > out 2> err || status=$?
+        grep -q "isn't answered" err || break
+        sleep 0.3
+    done
+    kill "$peer" 2> /dev/null
+    wait "$peer" 2> /dev/null
+    came="$status $(paste -sd ';' out) / $(grep -v 'it had no log beside it' err | paste -sd ';')"
+}
+
+# means KIND NUMBER: what a number means, and what to do
+means() {
+    "$program" explain "$1" "$2" | sed -n -E 's/^[a-z]+ [0-9]+: //p; s/^What to do: (.*)\.$/\1/p' | paste -sd '|' | sed 's/|/; /'
+}
+
+polled none 'area holding 0 1\n'
+is 'an unknown device' "$came" '1 refused 1 / sunreg: none: the office has no device of that name: POST /devices'
+polled other 'area holding 0 1\n'
+is 'a device without a list' "$came" '1 ok;ok;refused 1 / sunreg: other: no point list yet: sunreg scan --list, or POST /devices/other/list;sunreg: other: it has no register, so nothing of it is booked: POST /registers'
+sleep 1
+polled inv 'area holding 40094 3\nset holding 40095 60000\n'
+is 'a reading that is held' "$came" "0 ok;started 1 1 1 0000000000060103$(printf '%04x%04x' 40094 3);poll 1 answered;held m1 60000 cause 6;ok;ok / sunreg: register more: not in the list of inv (needs function 3, 40190 to 40191);sunreg: register more: no meter is open at it: POST /registers/more/install;sunreg: m1: held: $(means held 6)"
+"$program" round --db office.db --device none --port "$port" > out 2> err
+is 'a round that fails says that alone' "$? $(cat out) $(grep -v 'it had no log beside it' err | head -n 1) $(grep -c -v 'it had no log beside it' err)" '3  failed 2'
 printf '1 device a 1 5 1\n' | "$program" enter --db none.db --caller desk > out 2> err
 is 'a file that is missing' "$? $(cat out)" '3 '
 head -c 4194305 /dev/zero | "$program" enter --db office.db --caller desk > out 2> err

@@ -1,7 +1,7 @@
 #!/bin/sh
 # Tries the built program on programs of others: `tests/peers.sh [PROGRAM]`, out/sunreg by default, which `./sunreg-build` makes.
-# Its stand-in is asked by mbpoll, libmodbus and pymodbus, its rounds poll servers of the latter two, its HTTP is asked by curl, and
-# its file is read by sqlite3, also where a round was killed; a plain Modbus client and server in Python stand beside them. What lacks
+# Its stand-in is asked by mbpoll, libmodbus and pymodbus, its scans and rounds read servers of the latter two, and what a scan prints sets a
+# site up; its HTTP is asked by curl, and its file is read by sqlite3, also where a round was killed; a plain Modbus client and server in Python stand beside them. What lacks
 # is installed by apt where this is run as root (not with PEERS_INSTALL=no); what can't be had is named, and not tried.
 # It ends on 'N passed, M failed'.
 set -u

@@ -43,5 +43,14 @@ ln -s "$program" "$room/sunreg"
 (cd "$room" && { cat commands; echo 'kill $!'; } | sh > out 2> err) || same 'status' "$?" 0
 same 'what is printed' "$(settled < "$room/out")" "$(block text | settled)"
 same 'what is said' "$(grep -v '^sunreg: ' "$room/err" || :)" ''
+# each script of the page's table prints what stands beside it
+sed -n 's/^| .* | `\.\/sunreg \(.*< crates.*\.script\)` |$/\1/p' "$top/README.md" > "$room/scripts"
+same 'scripts of the table' "$(grep -c . "$room/scripts")" 8
+while read -r words; do
+  script=${words##*< }
+  # (the words before the file are as a shell reads them)
+  set -- ${words%<*}
+  same "$script" "$("$program" "$@" < "$top/$script" 2>&1)" "$(cat "$top/${script%.script}.out")"
+done < "$room/scripts"
 echo "$passed passed, $failed failed"
 [ "$failed" = 0 ]

@@ -1,5 +1,6 @@
 /* Serves the registers that a file tells, by libmodbus, one connection after the other: libmodbus_server PORT BANK
-   A line of BANK is `holding ADDRESS VALUE..` or `input ADDRESS VALUE..`; all registers from 0 to 65535 are there. */
+   A line of BANK is `holding ADDRESS VALUE..` or `input ADDRESS VALUE..`; all registers from 0 to 65535 are there. After `without holding`
+   their function is answered as one that is unknown. */
 #include <errno.h>
 #include <modbus.h>
 #include <stdint.h>
@@ -7,7 +8,9 @@
 #include <stdlib.h>
 #include <string.h>
 
-enum { ALL = 65536 };
+enum { ALL = 65536, READ_HOLDING = 3 };
+
+static int lacks_holding;
 
 static int load(const char *path, modbus_mapping_t *bank) {
     char line[16384];
@@ -19,6 +22,10 @@ static int load(const char *path, modbus_mapping_t *bank) {
         char *word = strtok(NULL, " \n");
         if (!area || !word)
             continue;
+        if (!strcmp(area, "without")) {
+            lacks_holding = 1;
+            continue;
+        }
         uint16_t *table = strcmp(area, "input") ? bank->tab_registers : bank->tab_input_registers;
         for (int at = atoi(word); at < ALL && (word = strtok(NULL, " \n")); at++)
             table[at] = (uint16_t)atoi(word);
@@ -43,7 +50,9 @@ int main(int count, char **words) {
         uint8_t query[MODBUS_TCP_MAX_ADU_LENGTH];
         int length;
         while ((length = modbus_receive(link, query)) >= 0)
-            if (length > 0)
+            if (length > 0 && lacks_holding && query[modbus_get_header_length(link)] == READ_HOLDING)
+                modbus_reply_exception(link, query, MODBUS_EXCEPTION_ILLEGAL_FUNCTION);
+            else if (length > 0)
                 modbus_reply(link, query, length, bank);
         modbus_close(link);
     }

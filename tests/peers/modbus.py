@@ -3,7 +3,8 @@
     modbus.py client PORT UNIT             carries out the requests on standard input, and prints an answer for each
     modbus.py serve PORT BANK [SECONDS]    serves the registers that the file BANK tells, waiting so long before each answer
 
-tests/peers/requests.txt has the requests and answers; a line of BANK is `holding ADDRESS VALUE..` or `input ADDRESS VALUE..`.
+tests/peers/requests.txt has the requests and answers; a line of BANK is `holding ADDRESS VALUE..` or `input ADDRESS VALUE..`, or
+`without holding`: then its function is unknown.
 """
 import socket
 import struct
@@ -117,6 +118,9 @@ class Bank:
         self.values = {3: {}, 4: {}}
         for line in open(path):
             area, address, *values = line.split()
+            if area == "without":
+                del self.values[3]
+                continue
             function = {"holding": 3, "input": 4}[area]
             self.values[function].update((int(address) + at, int(value)) for at, value in enumerate(values))
 

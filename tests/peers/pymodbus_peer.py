@@ -2,7 +2,7 @@
 
     pymodbus_peer.py version             prints its version
     pymodbus_peer.py client PORT UNIT    carries out the requests on standard input, and prints an answer for each
-    pymodbus_peer.py serve PORT BANK     serves the registers that the file BANK tells
+    pymodbus_peer.py serve PORT BANK     serves the registers that the file BANK tells; after a line `without holding` reading them is no function
 """
 import inspect
 import sys
@@ -70,6 +70,21 @@ def ask(port, unit):
     client.close()
 
 
+def forget_holding():
+    """Takes the read of holding registers out of the functions that a server knows."""
+    from pymodbus import factory
+
+    taught = factory.ServerDecoder.__init__
+
+    def taught_less(self, *words, **more):
+        taught(self, *words, **more)
+        for known in vars(self).values():
+            if isinstance(known, dict):
+                known.pop(3, None)
+
+    factory.ServerDecoder.__init__ = taught_less
+
+
 def serve(port, path):
     from pymodbus import datastore
 
@@ -82,6 +97,9 @@ def serve(port, path):
     store = device(hr=block(0, [0] * 65537), ir=block(0, [0] * 65537))
     for line in open(path):
         area, address, *values = line.split()
+        if area == "without":
+            forget_holding()
+            continue
         store.setValues({"holding": 3, "input": 4}[area], int(address), [int(it) for it in values])
     has = inspect.signature(datastore.ModbusServerContext.__init__).parameters
     name = "devices" if "devices" in has else "slaves"
