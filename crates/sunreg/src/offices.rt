@@ -13,7 +13,7 @@ use round_advice::say_remarks;
 use socket_link::SystemClock;
 use sqlite::{Alter, Connection, FileFrom, FileStore, Unknown};
 use std::fs::{self, Permissions};
-use std::io::{self, ErrorKind, Printer, Write};
+use std::io::{self, ErrorKind, IsTerminal, Printer, Write};
 use std::os::unix::fs::PermissionsExt;
 use stored_office::{
     Done, Ending, Failure, FileFault, Task, carry_out_stored, create_stored, ending_of_done,
@@ -22,6 +22,9 @@ use stored_office::{
 
 /// The host on which HTTP is answered.
 pub(crate) const OWN_HOST: &str = "127.0.0.1";
+
+/// From how many bytes on a file takes a second or more to open.
+const LARGE: u64 = 16_000_000;
 
 // Where a database comes from. What holds a connection is proved over any of these, since over a connection to a file it
 // would cost minutes.
@@ -159,6 +162,16 @@ fn say_no_log(rt: &HostRuntime, path: &str) {
     );
 }
 
+// Says on a terminal that a large file and its log are opened, which reads them whole.
+fn say_opening(rt: &HostRuntime, path: &str, bytes: u64) {
+    let errors = rt.stderr();
+    if bytes >= LARGE && errors.is_terminal() {
+        let mut errors = Escaped::new(errors);
+        let megabytes = bytes / 1_000_000;
+        let _said = write!(errors, "sunreg: {path}: opens {megabytes} MB, all of which is read\n");
+    }
+}
+
 // A connection to the office in the database at a path. That a log is missing, or stands alone, is told.
 fn open_in<'a, D: Databases>(
     rt: &HostRuntime,
@@ -173,6 +186,8 @@ fn open_in<'a, D: Databases>(
     if length == Some(0) {
         return Err(Failure::Bare { path });
     }
+    let bytes = length.unwrap_or(0).saturating_add(log_length.unwrap_or(0));
+    say_opening(rt, path, bytes);
     match databases.open(path) {
         Ok(connection) if is_bare(&connection) => Err(Failure::Bare { path }),
         Ok(connection) => {
