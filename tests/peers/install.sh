@@ -14,12 +14,20 @@ python_of_prometheus() {
     done
 }
 
+# postgres_folder: where apt puts PostgreSQL's own programs
+postgres_folder() {
+    for it in /usr/lib/postgresql/*/bin; do
+        [ -x "$it/initdb" ] && echo "$it" && break
+    done
+}
+
 # has NAME: whether one of the peers, or of the tools, is here
 has() {
     case $1 in
         libmodbus) printf '#include <modbus.h>\n' | cc -E $(flags --cflags) - > "$room/said" 2>&1 ;;
         pymodbus) [ -n "$(python_of_pymodbus)" ] ;;
         prometheus) [ -n "$(python_of_prometheus)" ] ;;
+        postgresql) [ -n "$(postgres_folder)" ] ;;
         prometheus-server) command -v prometheus > "$room/said" ;;
         *) command -v "$1" > "$room/said" ;;
     esac
@@ -47,6 +55,7 @@ packages() {
             prometheus) echo python3-prometheus-client ;;
             promtool | prometheus-server) echo prometheus ;;
             nginx) echo nginx-light ;;
+            chromium) echo chromium fonts-dejavu-core ;;
             systemd-analyze) echo systemd ;;
             *) echo "$it" ;;
         esac
