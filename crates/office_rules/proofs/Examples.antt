@@ -5,3 +5,4 @@ mod Verdicts
 mod Corrections
 mod Voids
 mod Requests
+mod Limits
