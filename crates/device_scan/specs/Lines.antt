@@ -1,5 +1,5 @@
 -- What passes over a link while a device is asked, where the bytes of the link are known.
-use Rattle.std.specs.Prelude.{◌≡◌, ℕ, ◌+◌, ◌%◌, Bool, true, false, List, ◌++◌, Ok, Err, Some, None, unwrap_or}
+use Rattle.std.specs.Prelude.{◌≡◌, ℕ, ◌+◌, ◌%◌, Bool, true, false, List, ◌++◌, Vec, IfOk, Ok, Err, Some, None, unwrap_or}
 use Rattle.std.specs.Io.KnownBytes.{Appends, Consumes}
 use Rattle.std.specs.List.{flat_map}
 use Rattle.std.specs.declared.option.Option.{Option}
@@ -85,6 +85,17 @@ pub data Reads (unit : ℕ) (old new : Line) (span : Span) (words : Option (List
       → Reads unit old new span words
   Again : (mid : Line) → Tries unit old mid span None → Tries unit mid new span words
       → Reads unit old new span words
+
+-- where a try did not fail, its answer is what it brought; so for a read
+abbrev pub AnswersTry : {Z E : Type 0} → (unit : ℕ) → Result (Option (Vec ℕ Z)) E
+    → (old new : Line) → Span → Type 0
+AnswersTry unit result old new span =
+    IfOk result (λ answer. Tries unit old new span (words_seen answer))
+
+abbrev pub AnswersRead : {Z E : Type 0} → (unit : ℕ) → Result (Option (Vec ℕ Z)) E
+    → (old new : Line) → Span → Type 0
+AnswersRead unit result old new span =
+    IfOk result (λ answer. Reads unit old new span (words_seen answer))
 
 -- an identifier, and holding registers: what function 3 asks for
 pub record Inquiry : Type 0 where

@@ -6,18 +6,7 @@ ghost use Rattle.sun_points.specs.Writing.{GotText};
 ghost use Rattle.device_scan.specs.Answers.{ask_of, request_frame};
 
 use crate::tries::Try;
-use mb_wire::{Link, LinkFailed, MAX_ADU, MAX_PDU, encode_request, write_frame};
-
-// Gives all of the bytes, in as many gives as it takes.
-fn give_all<L: Link>(link: &mut L, bytes: &[u8]) -> Result<(), LinkFailed>
-    ensures given { GotText result bytes.now (L.given link.old) (L.given link.new) }
-    ensures remaining { Keeps (L.remaining link.old) (L.remaining link.new) }
-    ensures failures { L.failed link.new ≡ risen (is_err result) (L.failed link.old) }
-    ensures takes { L.taken link.new ≡ L.taken link.old }
-    ensures ends { L.ended link.new ≡ L.ended link.old }
-{
-    mb_wire::give_all(link, bytes)
-}
+use mb_wire::{Link, LinkFailed, MAX_ADU, MAX_PDU, encode_request, give_all, write_frame};
 
 /// Gives the request of a try.
 pub(crate) fn give_request<L: Link>(link: &mut L, attempt: Try) -> Result<(), LinkFailed>

@@ -3,7 +3,6 @@ ghost use Rattle.std.specs.Prelude.{◌≡◌, ◌≤◌, ◌+◌, ◌*◌, [], 
 ghost use Rattle.mb_wire.specs.Frames.{IsOpen};
 ghost use Rattle.mb_wire.specs.Links.{risen};
 ghost use Rattle.mb_wire.specs.Spans.{span_view};
-ghost use Rattle.device_scan.specs.Answers.{words_seen};
 ghost use Rattle.device_scan.specs.declared.hearing.TheConstants.{MOST_TAKES};
 
 use crate::asking::give_request;
@@ -22,7 +21,8 @@ pub(crate) struct Client {
 }
 
 impl Client {
-    ghost use Rattle.device_scan.specs.Lines.{Garbles, OnlyInquires, Reads, Tries, has_failed, is_gone, line};
+    ghost use Rattle.device_scan.specs.Lines.{AnswersRead, AnswersTry, Garbles, OnlyInquires};
+    ghost use Rattle.device_scan.specs.Lines.{has_failed, is_gone, line};
 
     pub(crate) fn new(unit: u8) -> Self
         ensures open { IsOpen result.reader.rest }
@@ -46,10 +46,9 @@ impl Client {
     ) -> Result<Answer, ScanFault>
         requires open { IsOpen self.old.reader.rest }
         requires holding { span.function ≡ ReadFunction.HoldingRegisters }
-        ensures tried { IfOk result (λ answer. Tries self.old.unit
+        ensures tried { AnswersTry self.old.unit result
             (line (L.remaining link.old) (L.given link.old) self.old)
-            (line (L.remaining link.new) (L.given link.new) self.new)
-            (span_view span) (words_seen answer)) }
+            (line (L.remaining link.new) (L.given link.new) self.new) (span_view span) }
         ensures garbled { result ≡ Err ScanFault.Garbled
             → Garbles (L.remaining link.old) (L.remaining link.new) self.old.reader.rest }
         ensures asks { OnlyInquires self.old.unit result (L.given link.old) (L.given link.new) }
@@ -79,10 +78,9 @@ impl Client {
     ) -> Result<Answer, ScanFault>
         requires open { IsOpen self.old.reader.rest }
         requires holding { span.function ≡ ReadFunction.HoldingRegisters }
-        ensures read { IfOk result (λ answer. Reads self.old.unit
+        ensures read { AnswersRead self.old.unit result
             (line (L.remaining link.old) (L.given link.old) self.old)
-            (line (L.remaining link.new) (L.given link.new) self.new)
-            (span_view span) (words_seen answer)) }
+            (line (L.remaining link.new) (L.given link.new) self.new) (span_view span) }
         ensures open { IfOk result (λ answer. IsOpen self.new.reader.rest) }
         ensures garbled { result ≡ Err ScanFault.Garbled
             → Garbles (L.remaining link.old) (L.remaining link.new) self.old.reader.rest }

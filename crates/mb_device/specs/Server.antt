@@ -258,6 +258,23 @@ abbrev pub standing_in : {X : Type 0} → Result X ServeFault → Buffered → C
 standing_in (Ok x) reader course = standing_on reader.rest course
 standing_in (Err fault) reader course = Faulted
 
+-- what a turn finds and what it leaves: the reader, the connection, and what is around the server
+pub record Scene : Type 0 where
+  pub reader : Buffered
+  pub course : Course
+  pub around : Around
+
+abbrev pub scene : Buffered → Course → (remaining given : Option (List ℕ)) → Maps → Scene
+scene reader course remaining given maps =
+    record { reader = reader; course = course; around = around remaining given maps }
+
+-- A turn begins with the bytes that the reader holds, and leaves the server standing where the
+-- reader and the connection are then.
+abbrev pub TakesTurn : Result Turned ServeFault → (old new : Scene) → Type 0
+TakesTurn result old new =
+    Turns old.reader.rest old.course result old.around new.around
+    (standing_in result new.reader new.course)
+
 -- a fault of the link
 abbrev pub is_link_fault : {X : Type 0} → Result X ServeFault → Bool
 is_link_fault (Ok x) = false

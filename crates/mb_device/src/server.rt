@@ -7,11 +7,11 @@ ghost use Rattle.mb_wire.specs.Links.{Gives, risen};
 ghost use Rattle.mb_device.specs.Device.{answer_to, maps_after};
 ghost use Rattle.mb_device.specs.Tricks.{Course, answer_of, begun, course_next, is_cut, sent_next};
 ghost use Rattle.mb_device.specs.Server.{Answered, Faulted, BufferedTells, Holds, HoldsFrame};
-ghost use Rattle.mb_device.specs.Server.{Over, PieceTells, ServesFrom, TellsTake, Turns, around};
-ghost use Rattle.mb_device.specs.Server.{came_to_end, course_behind, has_faulted, buffered_frames};
-ghost use Rattle.mb_device.specs.Server.{is_link_fault, is_over, is_read_fault, is_serving};
-ghost use Rattle.mb_device.specs.Server.{own_frames, serve_fault_number, served_to_end};
-ghost use Rattle.mb_device.specs.Server.{standing_in, stretch};
+ghost use Rattle.mb_device.specs.Server.{Over, PieceTells, ServesFrom, TakesTurn, TellsTake, Turns};
+ghost use Rattle.mb_device.specs.Server.{around, came_to_end, course_behind, has_faulted};
+ghost use Rattle.mb_device.specs.Server.{buffered_frames, is_link_fault, is_over, is_read_fault};
+ghost use Rattle.mb_device.specs.Server.{is_serving, own_frames, scene, serve_fault_number};
+ghost use Rattle.mb_device.specs.Server.{served_to_end, standing_in, stretch};
 
 use crate::bank::Bank;
 use crate::sender::Sender;
@@ -187,10 +187,9 @@ fn take_turn<L: Link>(
 ) -> Result<Turned, ServeFault>
     requires buffered { IsOpen reader.old.rest }
     requires going { is_cut sender.old ≡ false }
-    ensures turns { Turns reader.old.rest sender.old result
-        (around (L.remaining link.old) (L.given link.old) bank.old)
-        (around (L.remaining link.new) (L.given link.new) bank.new)
-        (standing_in result reader.new sender.new) }
+    ensures turns { TakesTurn result
+        (scene reader.old sender.old (L.remaining link.old) (L.given link.old) bank.old)
+        (scene reader.new sender.new (L.remaining link.new) (L.given link.new) bank.new) }
     ensures buffered { IfOk result (λ turned. is_cut sender.new ≡ false → IsOpen reader.new.rest) }
     ensures few { IfOk result (λ turned. turned.answered ≤ MAX_ADU) }
     ensures failures { L.failed link.new ≡ risen (is_link_fault result) (L.failed link.old) }

@@ -1,9 +1,9 @@
 -- What passes over a link, call by call.
-use Rattle.std.proofs.Common.{◌≡◌, ℕ, List, [], ◌++◌, Option, Result, Ok, Err, sym, ap, ◌∙◌, append-nil, subst}
+use Rattle.std.proofs.Common.{◌≡◌, ℕ, List, [], ◌++◌, Option, sym, ap, ◌∙◌, append-nil, subst}
 use Rattle.std.proofs.KnownBytes.{Consumes-kept, Consumes-nil}
 use Rattle.std.specs.Io.KnownBytes.{Appends, Consumes, Keeps}
-use Rattle.mb_wire.specs.Links.{Gives}
-use Rattle.sun_points.specs.Writing.{GotPart, GotText}
+use Rattle.mb_wire.specs.Links.{GivesPart}
+use Rattle.sun_points.specs.Writing.{GotPart}
 
 pub appends_nothing : (a b : Option (List ℕ)) (x y : List ℕ) → Appends a b x → y ≡ [] → Appends a b (x ++ y)
 appends_nothing a b x y got none = subst (Appends a b) (sym (ap (λ z. x ++ z) none ∙ append-nil x)) got
@@ -11,10 +11,9 @@ appends_nothing a b x y got none = subst (Appends a b) (sym (ap (λ z. x ++ z) n
 pub consumes_nothing : (a b : Option (List ℕ)) (x y : List ℕ) → Consumes a b x → y ≡ [] → Consumes a b (x ++ y)
 consumes_nothing a b x y got none = subst (Consumes a b) (sym (ap (λ z. x ++ z) none ∙ append-nil x)) got
 
--- what was given whole was got, and of what was not, a part
-pub got_of : {X E : Type 0} (result : Result X E) (a b : Option (List ℕ)) (bytes : List ℕ) → Gives result a b bytes → GotText result bytes a b
-got_of (Ok done) a b bytes gives = gives
-got_of (Err error) a b bytes gives = (gives.part, gives.unsent, gives.whole, gives.given)
+-- of what was not given whole, a part was got
+pub part_given : (a b : Option (List ℕ)) (bytes : List ℕ) → GivesPart a b bytes → GotPart bytes a b
+part_given a b bytes gives = (gives.part, gives.unsent, gives.whole, gives.given)
 
 -- all of a text that was got is a part of it
 pub part_of_all : (a b : Option (List ℕ)) (x : List ℕ) → Appends a b x → GotPart x a b

@@ -5,7 +5,6 @@ mod device_rounds;
 mod driver;
 mod fault;
 mod fed_events;
-mod gives;
 mod laws;
 mod progress;
 mod round;

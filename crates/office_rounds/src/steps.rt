@@ -10,9 +10,8 @@ ghost use Rattle.office_rounds.specs.Taking.{Brings, TurnTakes, brought};
 
 use crate::fault::RoundFault;
 use crate::fed_events::tell;
-use crate::gives::give_all;
 use crate::progress::Progress;
-use mb_wire::{Link, LinkFailed, Took};
+use mb_wire::{Link, LinkFailed, Took, give_all};
 use office_books::Books;
 use office_core::Office;
 use office_events::{Event, Name, Piece, Refusal};
