@@ -2,6 +2,7 @@
 use Rattle.std.specs.Prelude.{◌≡◌, ℕ, List, Option}
 use Rattle.office_rules.specs.History.{History}
 use Rattle.office_books.specs.Ledgers.{Ledger}
+use Rattle.office_core.specs.Leaving.{BooksStand}
 use Rattle.office_core.specs.declared.office.Office.{Office}
 use Rattle.office_http.specs.Connections.Connections.{ServesUpTo}
 use Rattle.office_program.specs.Texts.OpenedOffice.{TellsUnopened}
@@ -43,3 +44,21 @@ TellsServing ledger past at moments later books back had holds (Unopened status)
     TellsUnopened past moments later (ledger books) (ledger back) status had holds
 TellsServing ledger past at moments later books back had holds end =
     WithOffice ledger past moments back (Serves ledger at later had holds end)
+
+-- What a command finds and what it leaves: the books, the moments that the clock tells, and what was
+-- written.
+pub record Scene (B : Type 0) : Type 0 where
+  pub books : B
+  pub moments : Option (List ℕ)
+  pub written : Option (List ℕ)
+
+abbrev pub scene : {B : Type 0} → B → (moments written : Option (List ℕ)) → Scene B
+scene books moments written = record { books = books; moments = moments; written = written }
+
+-- Books that stood after a past are opened and served, whenever they are handed back clean.
+abbrev pub ServesBooks : {B : Type 0} → (B → Ledger) → Port → ServeEnd → (old new : Scene B)
+    → Type 0
+ServesBooks ledger at end old new =
+    (past : History) → BooksStand (ledger old.books) past → (ledger new.books).is_clean
+    → TellsServing ledger past at old.moments new.moments old.books new.books
+    old.written new.written end

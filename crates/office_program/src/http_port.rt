@@ -1,11 +1,9 @@
 //! HTTP on a port.
 ghost use Rattle.http_request.specs.Hosts.{texts};
-ghost use Rattle.office_core.specs.Leaving.{BooksStand};
 ghost use Rattle.office_core.specs.Standing.{After};
 ghost use Rattle.office_http.specs.Serving as http;
-ghost use Rattle.office_rules.specs.History.{History};
 ghost use Rattle.office_program.specs.Texts.Passing.{Lasts};
-ghost use Rattle.office_program.specs.HttpPort.{ServesPort, TellsServing, port};
+ghost use Rattle.office_program.specs.HttpPort.{ServesBooks, ServesPort, port, scene};
 
 use crate::command_end::CommandEnd;
 use crate::texts::open_office;
@@ -76,11 +74,9 @@ pub fn serve_books<R: Net + std::rt::Clock, B: Books, C: Clock, W: Write>(
     clock: &mut C,
     output: &mut W,
 ) -> CommandEnd<B, ServeEnd>
-    ensures tells { (past : History) → BooksStand (B.ledger books) past
-        → (B.ledger result.books).is_clean
-        → TellsServing B.ledger past (port (texts names.now) connections)
-        (C.moments clock.old) (C.moments clock.new)
-        books result.books (W.contents output.old) (W.contents output.new) result.end }
+    ensures tells { ServesBooks B.ledger (port (texts names.now) connections) result.end
+        (scene books (C.moments clock.old) (W.contents output.old))
+        (scene result.books (C.moments clock.new) (W.contents output.new)) }
     ensures lasts { Lasts (B.ledger books) (B.ledger result.books) }
 {
     match open_office(alloc, books, clock, output) {

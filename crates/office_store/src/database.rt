@@ -70,10 +70,9 @@ impl<S: Alter> SqlBooks<S> {
         ensures clean { HasCleanDisk (state S.Store (connection_in result))
             → HasCleanDisk (state S.Store connection) }
         ensures failures { IfOk result (λ books. books.failures ≡ no_failures) }
-        ensures told { HasCleanDisk (state S.Store (connection_in result))
+        ensures told { let to = state S.Store (connection_in result) in HasCleanDisk to
             → connection.in_transaction ≡ false → IsTrue (state S.Store connection).is_open
-            → TellsOfFile (state S.Store connection) (state S.Store (connection_in result))
-            (told_by result) }
+            → TellsOfFile (state S.Store connection) to (told_by result) }
         ensures opened { HasCleanDisk (state S.Store (connection_in result))
             → OpensAnyFile (state S.Store connection) (state S.Store (connection_in result))
             (told_by result) }

@@ -1,5 +1,5 @@
 -- The rows that the tables have for facts.
-use Rattle.std.specs.Prelude.{◌≡◌, ℕ, ℤ, ◌+◌, ◌≤◌, IsTrue, false, List, [], ◌∷◌, length, map, Vec, Option, Some, None}
+use Rattle.std.specs.Prelude.{◌≡◌, ℕ, ℤ, ◌+◌, ◌≤◌, IsTrue, true, false, List, [], ◌∷◌, length, map, Vec, Option, Some, None}
 use Rattle.std.specs.List.{find}
 use Rattle.mb_wire.specs.declared.span.ReadFunction.{ReadFunction}
 use Rattle.energy_core.specs.declared.entries.Entry.{Entry}
@@ -12,6 +12,7 @@ use Rattle.meter_journal.specs.declared.lines.EntryKind as journal_kind
 use Rattle.meter_journal.specs.declared.lines.EntryKind.TheVariants as from
 use Rattle.point_list.specs.declared.point.ListedPoint.{ListedPoint}
 use Rattle.point_list.specs.RowTexts.{type_text, scale_text}
+use Rattle.office_events.specs.declared.limits.TheConstants.{LAST_COUNTER}
 use Rattle.office_events.specs.declared.facts.Device.{Device}
 use Rattle.office_events.specs.declared.facts.DeviceList.{DeviceList}
 use Rattle.office_events.specs.declared.facts.Register.{Register}
@@ -28,12 +29,13 @@ use Rattle.office_events.specs.declared.questions.Installation.{Installation}
 use Rattle.office_rules.specs.Facts.{same, lists_in, opening_of}
 use Rattle.office_rules.specs.Meters.{opened, rows_of, installation_of}
 use Rattle.store_tables.specs.Columns.{is_within}
-use Rattle.store_tables.specs.Limits.{latest_moment}
+use Rattle.store_tables.specs.Limits.{IsPlace, latest_moment}
 use Rattle.store_devices.specs.declared.devices.rows.RegisterScale.{RegisterScale}
 use Rattle.store_devices.specs.declared.devices.rows.RegisterScale.TheVariants as scale
 use Rattle.store_devices.specs.declared.devices.rows.Point.{Point}
 use Rattle.store_devices.specs.declared.devices.rows.PointRow.{PointRow}
-use Rattle.store_devices.specs.Devices.Rows.{Added, Listed, Registered, listed_at}
+use Rattle.store_devices.specs.declared.devices.rows.RegisterRow.{RegisterRow}
+use Rattle.store_devices.specs.Devices.Rows.{Added, Listed, Registered, IsSoundRegister, IsSoundScale, fits_a_read, listed_at}
 use Rattle.store_tables.specs.declared.meters.rows.LastRow.{LastRow}
 use Rattle.store_tables.specs.Meters.Rows.{Installed, Ranged, IsRange, greatest_ceiling}
 use Rattle.store_tables.specs.declared.entries.rows.EntryRow.{EntryRow}
@@ -116,6 +118,13 @@ registered place register = record {
     scale = scale_as register.scale;
   };
 }
+
+-- A register's row is sound where its place, its address and its scale are, and one read reaches from
+-- its counter to its scale.
+abbrev pub GivesSoundRow : (place : ℕ) → Register → RegisterRow → Type 0
+GivesSoundRow place register row =
+    IsPlace place → register.address ≤ LAST_COUNTER → IsSoundScale (scale_as register.scale)
+    → fits_a_read register.address (scale_as register.scale) ≡ true → IsSoundRegister row
 
 -- ---- meters
 

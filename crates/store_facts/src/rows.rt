@@ -3,7 +3,7 @@ ghost use Rattle.std.specs.Prelude.{◌≡◌, ◌≤◌, true, IsTrue};
 ghost use Rattle.energy_core.specs.Account.{moment_of};
 ghost use Rattle.store_tables.specs.Columns.{is_within};
 ghost use Rattle.store_tables.specs.Limits.{IsPlace, latest_moment};
-ghost use Rattle.store_devices.specs.Devices.Rows.{IsSoundDevice, IsSoundRegister, IsSoundScale, fits_a_read};
+ghost use Rattle.store_devices.specs.Devices.Rows.{IsSoundDevice};
 ghost use Rattle.store_tables.specs.Meters.Rows.{IsSoundInstallation};
 ghost use Rattle.store_tables.specs.Entries.Rows.{IsSoundEntry};
 ghost use Rattle.store_devices.specs.Polls.Rows.{IsSoundPoll};
@@ -12,9 +12,7 @@ ghost use Rattle.store_facts.specs.Rows as rows;
 
 use energy_core::{Entry, Last, MAX_CEILING, MAX_RANGE, MIN_RANGE};
 use meter_journal::EntryKind;
-use office_events::{
-    Device, EndedPoll, HeldReading, LAST_COUNTER, Opening, Poll, Register, ScaleSource,
-};
+use office_events::{Device, EndedPoll, HeldReading, Opening, Poll, Register, ScaleSource};
 use store_devices::{DeviceRow, HoldRow, OutcomeRow, PollRow, RegisterRow, RegisterScale};
 use store_tables::{EntryRow, InstallationRow, LATEST_MOMENT, LastRow};
 
@@ -43,10 +41,7 @@ fn scale(source: ScaleSource) -> RegisterScale
 /// A register at a place.
 pub fn register_row(register: Register, place: u64) -> RegisterRow
     ensures row { result ≡ (rows.registered place register).row }
-    ensures sound { IsPlace place → register.address ≤ LAST_COUNTER
-        → IsSoundScale (rows.scale_as register.scale)
-        → fits_a_read register.address (rows.scale_as register.scale) ≡ true
-        → IsSoundRegister result }
+    ensures sound { rows.GivesSoundRow place register result }
 {
     RegisterRow {
         place,

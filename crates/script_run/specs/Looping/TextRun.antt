@@ -7,10 +7,12 @@ use Rattle.command_io.specs.declared.status.ExitStatus.{ExitStatus}
 use Rattle.command_io.specs.declared.status.ExitStatus.TheVariants.{Fine, Refused, Failed}
 use Rattle.interval_core.specs.declared.zone.Zone.{Zone}
 use Rattle.memory_books.specs.Listed.{ledger_of}
+use Rattle.office_events.specs.declared.events.Event.{Event}
 use Rattle.office_rules.specs.History.{History}
 use Rattle.office_core.specs.Standing.{Stands}
+use Rattle.script_run.specs.Looping.Lines.{AreWrong, StartsPrint, WordsPrint}
 use Rattle.script_run.specs.Looping.Loops.{InputPrints, LoopPrints, TextPrints}
-use Rattle.script_run.specs.Looping.Standings.{CarriedOut, LoopState, LoopStage, stage_on}
+use Rattle.script_run.specs.Looping.Standings.{CarriedOut, CarriesOut, LoopState, LoopStage, stage_on}
 
 -- A line was carried out, or is wrong; where a write or memory failed nothing is said.
 abbrev pub LineRuns : Result Bool Error → (Prints : LoopStage → List ℕ → LoopStage → Type 0)
@@ -20,6 +22,17 @@ LineRuns (Ok true) Prints Wrong from to =
     (past : History) → Stands ledger_of past from.office → CarriedOut Prints past from to
 LineRuns (Ok false) Prints Wrong from to = Wrong × Appends from.output to.output []
 LineRuns (Err error) Prints Wrong from to = ⊤
+
+-- A line was carried out as its words have it, or they are none that may stand where the run is.
+abbrev pub WordsRun : Result Bool Error → (words : List (List ℕ)) → (from to : LoopState) → Type 0
+WordsRun result words from to =
+    LineRuns result (WordsPrint words) (AreWrong from.connected words) from to
+
+-- A start of reads was carried out: it was refused, or what came back from the stand-in was fed.
+abbrev pub StartRuns : {X E : Type 0} → Result X E → (at : ℕ) → (device : Option (List ℕ)) → Event
+    → (from to : LoopState) → Type 0
+StartRuns result at device e from to =
+    CarriesOut result (λ done now printed next. StartsPrint at device e now printed next) from to
 
 -- what was written is all that is printed; of a run that failed nothing is said
 abbrev pub Writes : (Prints : List ℕ → ExitStatus → Type 0) → ExitStatus

@@ -3,8 +3,8 @@ ghost use Rattle.std.specs.Prelude.{◌≡◌, OnOk, true, false};
 ghost use Rattle.std.specs.Io.KnownBytes.{Appends};
 ghost use Rattle.script_run.specs.Bank.Settings as setting;
 ghost use Rattle.script_run.specs.Looping.Lines as form;
-ghost use Rattle.script_run.specs.Looping.Lines.{AreWrong, BankPrints, SaidPrints, WordsPrint};
-ghost use Rattle.script_run.specs.Looping.TextRun.{LineRuns};
+ghost use Rattle.script_run.specs.Looping.Lines.{BankPrints, SaidPrints};
+ghost use Rattle.script_run.specs.Looping.TextRun.{LineRuns, WordsRun};
 ghost use Rattle.script_run.specs.Looping.Standings.{CarriesOut, loop_state};
 ghost use Rattle.script_lines.specs.LineWords.Words.{words_of};
 
@@ -41,8 +41,7 @@ pub(crate) fn run_line<C: Connects, W: Write>(
     connects: &mut C,
     output: &mut W,
 ) -> io::Result<bool>
-    ensures { LineRuns result (WordsPrint (words_of line.now))
-        (AreWrong run.old.connected (words_of line.now))
+    ensures { WordsRun result (words_of line.now)
         (loop_state run.old.office run.old.bank run.old.connected (W.contents output.old))
         (loop_state run.new.office run.new.bank run.new.connected (W.contents output.new)) }
 {

@@ -2,8 +2,8 @@
 ghost use Rattle.std.specs.Prelude.{Bool};
 ghost use Rattle.office_events.specs.declared.events.Event.TheVariants as event;
 ghost use Rattle.script_run.specs.Looping.Answers.{AnswersPrint};
-ghost use Rattle.script_run.specs.Looping.Lines.{StartsPrint};
-ghost use Rattle.script_run.specs.Looping.Standings.{Carries, CarriesOut, loop_state};
+ghost use Rattle.script_run.specs.Looping.Standings.{Carries, loop_state};
+ghost use Rattle.script_run.specs.Looping.TextRun.{StartRuns};
 ghost use Rattle.script_run.specs.Replaying.Events.{EventPrints};
 
 use crate::looping::answers::{feed_answers, write_ok};
@@ -28,8 +28,7 @@ pub(crate) fn start<L: Link + Drop, W: Write>(
     event: &Event,
     output: &mut W,
 ) -> io::Result<()>
-    ensures { (connected : Bool) → CarriesOut result
-        (λ done now printed next. StartsPrint at device.now event.now now printed next)
+    ensures { (connected : Bool) → StartRuns result at device.now event.now
         (loop_state office.old bank.old connected (W.contents output.old))
         (loop_state office.new bank.new connected (W.contents output.new)) }
 {

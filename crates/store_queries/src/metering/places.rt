@@ -53,9 +53,8 @@ fn behind(whole: &Installation, rows: &[EntryRow]) -> Result<Installation, RowFa
         IfOk result (λ row. row ≡ meters.standing whole.now.opening es whole.now.ended) }
     ensures sound { IfOk result IsSound }
     ensures fault { let es = entries_in (lists.latest_first rows.now) in
-        IfErr result (λ e. (e ≡ Damaged)
-        × (HasNumbers whole.now.opening
-        → books.HasAccount (meters.installed whole.now.opening) es → ⊥)) }
+        IfErr result (λ e. (e ≡ Damaged) × (HasNumbers whole.now.opening
+        → ¬ books.HasAccount (meters.installed whole.now.opening) es)) }
 {
     accounts_are_sound();
     let opening = whole.opening;
