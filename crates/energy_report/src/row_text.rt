@@ -1,7 +1,5 @@
 //! The texts of rows, and of what stands around them. No call takes memory.
-ghost use Rattle.std.specs.Prelude.{◌≡◌, ◌≤◌, ◌<◌, ◌+◌, ◌++◌, codes, length, replicate};
-ghost use Rattle.jiff_core.specs.Calendar.{IsYear};
-ghost use Rattle.jiff_fmt.specs.Text.{pad2, year_text};
+ghost use Rattle.std.specs.Prelude.{◌≡◌, ◌≤◌, ◌<◌, ◌+◌, ◌++◌, length, replicate};
 ghost use Rattle.sun_points.specs.Decimal.{low_digits};
 ghost use Rattle.interval_core.specs.Report.{right};
 ghost use Rattle.energy_report.specs.Texts as text;
@@ -9,7 +7,7 @@ ghost use Rattle.energy_report.specs.Texts as text;
 use crate::form::{EnergyUnit, Format, Period, ReportForm};
 use crate::row::Row;
 use interval_core::Day;
-use script_text::{Line, Text};
+use script_text::{Line, Text, day_of_month, month_of, push_part, push_year};
 
 // The text of an energy, which has at most 46 characters.
 type Energy = Text<48>;
@@ -173,46 +171,6 @@ fn push_period(line: &mut Line, period: Period, day: Day)
         Period::Month => push_part(line, month_of(day)),
         Period::Year => {}
     }
-}
-
-// Four digits of a year, after a sign and two zeros where it is before the year 0.
-fn push_year(line: &mut Line, year: i16)
-    requires room { length line.old ≤ 64 }
-    requires few { IsYear year }
-    ensures bytes { line.new ≡ line.old ++ year_text year }
-    ensures size { length line.new ≤ length line.old + 7 }
-{
-    if year < 0 {
-        line.push(b"-00");
-    }
-    let number = year.unsigned_abs();
-    line.push_pair((number / 100) as u8);
-    line.push_pair((number % 100) as u8);
-}
-
-// A hyphen, and a number below 100 in two digits.
-fn push_part(line: &mut Line, number: u8)
-    requires room { length line.old ≤ 124 }
-    requires few { number < 100 }
-    ensures bytes { line.new ≡ line.old ++ codes "-" ++ pad2 number }
-    ensures size { length line.new ≤ length line.old + 3 }
-{
-    line.push(b"-");
-    line.push_pair(number);
-}
-
-fn month_of(day: Day) -> u8
-    ensures value { result ≡ day.month }
-    ensures few { result < 100 }
-{
-    day.month() as u8
-}
-
-fn day_of_month(day: Day) -> u8
-    ensures value { result ≡ day.day }
-    ensures few { result < 100 }
-{
-    day.day() as u8
 }
 
 // ---- energy

@@ -19,9 +19,9 @@ use Rattle.office_rules.specs.Ranges.{IsSound, InstallationsAreInRange}
 use Rattle.office_rules.specs.Steps.{OtherMetersStay, EntriesMoveOn, moved_by}
 use Rattle.office_rules.proofs.Lookups.{same_text, find_passes}
 use Rattle.office_rules.proofs.Openings.{found_installed}
+use Rattle.office_books.specs.Sound.{MayEnter}
 use Rattle.kept_books.specs.declared.answers.Answers.{Answers}
 use Rattle.kept_books.specs.Answers.{answer_to, EachIs}
-use Rattle.kept_books.specs.Changes.{MayEnter}
 use Rattle.kept_books.specs.Known.{IsLatest}
 
 -- a fact that is no line of its meter and no opening at its register

@@ -1,8 +1,5 @@
 -- What facts change of what is kept.
-use Rattle.std.specs.Prelude.{◌≡◌, ℕ, false, List, Some, None, Ok}
-use Rattle.energy_core.specs.declared.entries.Entry.{Entry}
-use Rattle.energy_core.specs.Account.{after, step_to}
-use Rattle.energy_core.specs.Admission.{entered}
+use Rattle.std.specs.Prelude.{◌≡◌, ℕ, false, List, Some, None}
 use Rattle.office_events.specs.declared.facts.BookedEntry.{BookedEntry}
 use Rattle.office_events.specs.declared.facts.Fact.{Fact}
 use Rattle.office_events.specs.declared.facts.Fact.TheVariants as fact
@@ -10,15 +7,10 @@ use Rattle.office_events.specs.declared.questions.Installation.{Installation}
 use Rattle.office_rules.specs.Facts.{same}
 use Rattle.office_rules.specs.Ranges.{IsSound}
 use Rattle.office_rules.specs.Steps.{moved_by}
+use Rattle.office_books.specs.Sound.{MayEnter}
 use Rattle.kept_books.specs.declared.answers.Answers.{Answers}
 use Rattle.kept_books.specs.declared.known.Known.{Known}
 use Rattle.kept_books.specs.Answers.{answer_to, Forgets}
-
--- the entry may be booked where the counter stands
-abbrev pub MayEnter : Installation → Entry → Type 0
-MayEnter row e =
-    entered row.opening.range row.total row.last e
-    ≡ Ok (after row.last e, step_to row.opening.range row.last e)
 
 -- An installation that is kept of the meter of an entry is one that was and went on by it; the others stay.
 pub record GoesOn (booked : BookedEntry) (old new : Answers Installation) : Type 0 where

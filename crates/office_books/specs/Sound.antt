@@ -5,7 +5,7 @@ use Rattle.energy_core.specs.declared.admission.TermFault.{TermFault}
 use Rattle.energy_core.specs.declared.entries.Entry.{Entry}
 use Rattle.energy_core.specs.declared.entries.Last.{Last}
 use Rattle.energy_core.specs.declared.entries.Step.{Step}
-use Rattle.energy_core.specs.Account.{IsScale}
+use Rattle.energy_core.specs.Account.{IsScale, after, step_to}
 use Rattle.energy_core.specs.Admission.{entered}
 use Rattle.office_events.specs.declared.facts.Opening.{Opening}
 use Rattle.office_events.specs.declared.questions.Installation.{Installation}
@@ -37,6 +37,12 @@ pub record ReadsPlace (old new : Ledger) (result : Result (Option EntryPlace) Bo
   where
     pub reads : OnlyReads old new result
     pub sound : IfOk result (λ place. IfSome place (λ p. IsSound p.before))
+
+-- the entry may be booked where the counter stands
+abbrev pub MayEnter : Installation → Entry → Type 0
+MayEnter row e =
+    entered row.opening.range row.total row.last e
+    ≡ Ok (after row.last e, step_to row.opening.range row.last e)
 
 -- an entry that may be entered moved the installation on: to where the counter stands then, and by the energy of its step
 abbrev pub MovesBy : Entry → (row moved : Installation) → Type 0

@@ -13,6 +13,6 @@ pub use books::{Books, Repeat, RowSink};
 pub use failures::Failures;
 pub use faults::{BooksFault, StoreFault};
 pub use named::{list_at, meter_at};
-pub use next_entry::{enter, judge};
+pub use next_entry::{enter, judge, moved};
 pub use openings::{begun, has_numbers, installed, opened};
 pub use soundness::is_sound;

@@ -2,10 +2,12 @@
 ghost use Rattle.std.specs.Prelude.{◌≡◌};
 ghost use Rattle.office_rules.specs.Readings.{judgement};
 ghost use Rattle.office_rules.specs.Ranges.{IsSound};
-ghost use Rattle.office_books.specs.Sound.{MovesBy, StaysAt};
+ghost use Rattle.office_rules.specs.Steps.{moved_by};
+ghost use Rattle.office_books.specs.Sound.{MayEnter, MovesBy, StaysAt};
 
+use crate::soundness::is_sound;
 use energy_core::{Entry, Ranged, Reading, Terms, Verdict};
-use office_events::Installation;
+use office_events::{BookedEntry, Installation};
 
 /// The terms on which the next entry of an installation is judged.
 fn terms_of(row: &Installation) -> Terms
@@ -48,5 +50,23 @@ pub fn enter(row: &Installation, entry: &Entry) -> Installation
             ended: row.ended,
         },
         Err(_) => *row,
+    }
+}
+
+/// The installation after an entry that was booked, which ends it where it closes the meter. One whose numbers are outside of
+/// their ranges stays as it was.
+pub fn moved(row: &Installation, booked: &BookedEntry) -> Installation
+    ensures { IsSound row.now → MayEnter row.now booked.now.entry
+        → result ≡ moved_by booked.now.kind booked.now.entry row.now }
+{
+    if !is_sound(row) {
+        return *row;
+    }
+    let entered = enter(row, &booked.entry);
+    Installation {
+        opening: entered.opening,
+        last: entered.last,
+        total: entered.total,
+        ended: booked.kind.is_closing() || entered.ended,
     }
 }

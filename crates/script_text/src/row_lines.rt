@@ -4,4 +4,7 @@ mod line;
 mod rows;
 
 pub use line::{Line, Text};
-pub use rows::{day_line, end_line, interval_line, write_day, write_end, write_interval};
+pub use rows::{
+    day_line, day_of_month, end_line, interval_line, month_of, push_part, push_year, write_day,
+    write_end, write_interval,
+};

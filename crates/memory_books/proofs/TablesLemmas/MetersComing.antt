@@ -36,7 +36,8 @@ use Rattle.memory_books.specs.declared.tables.meters.Meters.{Meters}
 use Rattle.office_books.specs.Sound.{HasNumbers}
 use Rattle.memory_books.specs.Tables.Keys.{key_cmp, named}
 use Rattle.memory_books.specs.Tables.Meters.{meter_at, Stands, IsMeter, AreMeters, Changes, Begins, IfThere}
-use Rattle.memory_books.specs.Tables.Moving.{MayEnter, HasBegun, HasEntered, IsSame, HasStruck}
+use Rattle.office_books.specs.Sound.{MayEnter}
+use Rattle.memory_books.specs.Tables.Moving.{HasBegun, HasEntered, IsSame, HasStruck}
 use Rattle.memory_books.proofs.TablesLemmas.Known.{known, found_is_there}
 use Rattle.memory_books.proofs.TablesLemmas.Passing.{rows_numbered, row_inside}
 use Rattle.memory_books.proofs.TablesLemmas.SameKeys.{is_eq-key_cmp}

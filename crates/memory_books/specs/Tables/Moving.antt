@@ -1,9 +1,6 @@
 -- What one more fact makes of a meter.
-use Rattle.std.specs.Prelude.{◌≡◌, ◌+◌, ◌≤◌, ◌<◌, ℕ, List, [], ◌∷◌, ◌++◌, length, Ok}
-use Rattle.energy_core.specs.declared.entries.Entry.{Entry}
+use Rattle.std.specs.Prelude.{◌≡◌, ◌+◌, ◌≤◌, ◌<◌, ℕ, List, [], ◌∷◌, ◌++◌, length}
 use Rattle.energy_core.specs.declared.entries.Last.{Last}
-use Rattle.energy_core.specs.Account.{after, step_to}
-use Rattle.energy_core.specs.Admission.{entered}
 use Rattle.meter_journal.specs.declared.lines.EntryRow.{EntryRow}
 use Rattle.meter_journal.specs.Books.{HasAccount}
 use Rattle.meter_journal.specs.Journal as journal
@@ -17,14 +14,8 @@ use Rattle.office_rules.specs.Laws.{IsRecorded}
 use Rattle.office_rules.specs.Steps.{moved_by}
 use Rattle.office_rules.specs.Lawful.{AreLawful}
 use Rattle.office_rules.specs.Meters.{opened, installed, standing, rows_of, installation_of}
-use Rattle.office_books.specs.Sound.{as_begun, HasNumbers}
+use Rattle.office_books.specs.Sound.{as_begun, HasNumbers, MayEnter}
 use Rattle.memory_books.specs.declared.tables.meter.Meter.{Meter}
-
--- the entry may be booked where the counter stands
-abbrev pub MayEnter : Installation → Entry → Type 0
-MayEnter row e =
-    entered row.opening.range row.total row.last e
-    ≡ Ok (after row.last e, step_to row.opening.range row.last e)
 
 -- it stands where it was opened, without rows
 pub record HasBegun (opening : Opening) (meter : Meter) : Type 0 where

@@ -1,15 +1,14 @@
 //! A meter as it stands.
-ghost use Rattle.std.specs.Prelude.{◌≡◌, take, IsTrue, OnOk, OnErr, IfSome};
+ghost use Rattle.std.specs.Prelude.{◌≡◌, take, OnOk, OnErr, IfSome};
 ghost use Rattle.std.specs.Option.{option_map};
 ghost use Rattle.meter_journal.specs.Journal.{row_at};
 ghost use Rattle.meter_journal.specs.Lists as lists;
 ghost use Rattle.office_books.specs.Rows.{TakesAll};
 ghost use Rattle.office_rules.specs.Ranges.{IsSound};
-ghost use Rattle.office_rules.specs.Steps.{moved_by};
 ghost use Rattle.office_rules.specs.Intervals.{rows_of_opening};
 ghost use Rattle.office_rules.specs.Meters.{place_in, rows_of};
 ghost use Rattle.memory_books.specs.Tables.IntervalRows.{TakesSome};
-ghost use Rattle.memory_books.specs.Tables.Moving.{MayEnter, VoidsAt};
+ghost use Rattle.memory_books.specs.Tables.Moving.{VoidsAt};
 
 use crate::tables::accounts::{hand_on, standing};
 use energy_core::Last;
@@ -17,27 +16,10 @@ use interval_core::Share;
 use meter_journal::{
     EntryRow, are_numbered, find_row, journals_are_kept, places_were_kept, row_after, strike,
 };
-use office_books::{RowSink, begun, enter, is_sound, opened};
+use office_books::{RowSink, begun, moved, opened};
 use office_events::{BookedEntry, EntryPlace, Installation, Opening};
 use office_rules::{installations_are_in_range, journals_fit};
 use std::alloc::{AllocError, Global};
-
-/// An installation after one more entry.
-fn moved(row: &Installation, booked: &BookedEntry) -> Installation
-    ensures { IsSound row.now → MayEnter row.now booked.now.entry
-        → result ≡ moved_by booked.now.kind booked.now.entry row.now }
-{
-    if !is_sound(row) {
-        return *row;
-    }
-    let entered = enter(row, &booked.entry);
-    Installation {
-        opening: entered.opening,
-        last: entered.last,
-        total: entered.total,
-        ended: booked.kind.is_closing() || entered.ended,
-    }
-}
 
 /// Voids the entry at a place, if there is one.
 fn strike_among(last: &Last, rows: &mut [EntryRow], place: u64)

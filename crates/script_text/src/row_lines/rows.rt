@@ -46,8 +46,8 @@ pub fn end_line(count: u64) -> Line
     line
 }
 
-// Four digits of a year, after a sign and two zeros where it is before the year 0.
-fn push_year(line: &mut Line, year: i16)
+/// Puts four digits of a year, after a sign and two zeros where it is before the year 0.
+pub fn push_year(line: &mut Line, year: i16)
     requires room { length line.old ≤ 64 }
     requires few { IsYear year }
     ensures bytes { line.new ≡ line.old ++ year_text year }
@@ -72,8 +72,8 @@ fn push_day(line: &mut Line, day: Day)
     push_part(line, day_of_month(day));
 }
 
-// A hyphen, and a number below 100 in two digits.
-fn push_part(line: &mut Line, number: u8)
+/// Puts a hyphen, and a number below 100 in two digits.
+pub fn push_part(line: &mut Line, number: u8)
     requires room { length line.old ≤ 124 }
     requires few { number < 100 }
     ensures bytes { line.new ≡ line.old ++ codes "-" ++ pad2 number }
@@ -83,16 +83,16 @@ fn push_part(line: &mut Line, number: u8)
     line.push_pair(number);
 }
 
-// The month, from 1.
-fn month_of(day: Day) -> u8
+/// The month, from 1.
+pub fn month_of(day: Day) -> u8
     ensures value { result ≡ day.month }
     ensures few { result < 100 }
 {
     day.month() as u8
 }
 
-// The day of the month, from 1.
-fn day_of_month(day: Day) -> u8
+/// The day of the month, from 1.
+pub fn day_of_month(day: Day) -> u8
     ensures value { result ≡ day.day }
     ensures few { result < 100 }
 {
