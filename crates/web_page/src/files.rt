@@ -1,0 +1,908 @@
+//! The files of the page, from `web/`: `web/embed` writes this file.
+
+/// The page, in HTML.
+pub const PAGE: &str = r#"<!doctype html>
+<html lang="en">
+<head>
+<meta charset="utf-8">
+<meta name="viewport" content="width=device-width, initial-scale=1">
+<meta name="color-scheme" content="light dark">
+<title>sunreg</title>
+<link rel="icon" href="/icon.svg" type="image/svg+xml">
+<link rel="stylesheet" href="/page.css">
+<script src="/page.js" defer></script>
+</head>
+<body>
+<header>
+<h1>sunreg</h1>
+<p id="moment">The office is being asked.</p>
+<button id="again" type="button">Ask again</button>
+</header>
+<div id="trouble" role="alert" hidden></div>
+<noscript><p>This page asks the office by a script, and the browser runs none here.</p></noscript>
+<main>
+<section id="detail" aria-label="One register" hidden></section>
+<section id="devices" aria-label="Devices and registers"></section>
+<section id="notes" aria-label="What wants a look"></section>
+</main>
+<footer>
+<p>Days, months and years are the office's civil days, by the zone that its file has.
+Moments and quarter hours are shown by the clock and zone of this browser:
+<span id="zone"></span>. Energies are exact, in kWh.</p>
+</footer>
+</body>
+</html>
+"#;
+
+/// How it looks.
+pub const STYLE: &str = r#":root {
+  color-scheme: light dark;
+  --ground: #f6f7f9;
+  --sheet: #fff;
+  --ink: #1b2026;
+  --faint: #59636e;
+  --line: #d5dbe1;
+  --bar: #12679b;
+  --good: #17693a;
+  --bad: #a3260f;
+  --warn: #fff3d6;
+}
+@media (prefers-color-scheme: dark) {
+  :root {
+    --ground: #14181c;
+    --sheet: #1e242a;
+    --ink: #e8ecf0;
+    --faint: #a3aeb9;
+    --line: #39424b;
+    --bar: #5db4ee;
+    --good: #6fd08f;
+    --bad: #ff9580;
+    --warn: #44370f;
+  }
+}
+* { box-sizing: border-box; }
+body {
+  margin: 0 auto;
+  max-width: 70rem;
+  padding: 0 1rem 2rem;
+  background: var(--ground);
+  color: var(--ink);
+  font: 1rem/1.45 system-ui, sans-serif;
+  overflow-wrap: anywhere;
+}
+header { display: flex; flex-wrap: wrap; align-items: center; gap: 0 1rem; padding: .6rem 0; }
+header p { flex: 1 1 14rem; margin: 0; color: var(--faint); }
+h1 { font-size: 1.3rem; margin: 0; }
+h2 { font-size: 1.15rem; margin: 1.2rem 0 .4rem; }
+h3 { font-size: 1rem; margin: 0; }
+h2 small { font-weight: normal; color: var(--faint); }
+p { margin: .4rem 0; }
+a { color: var(--bar); }
+a:focus-visible, button:focus-visible, [tabindex]:focus-visible {
+  outline: 3px solid var(--bar);
+  outline-offset: 2px;
+}
+h2[tabindex]:focus-visible { outline: none; }
+button, .button {
+  display: inline-block;
+  font: inherit;
+  color: var(--ink);
+  background: var(--sheet);
+  border: 1px solid var(--line);
+  border-radius: .4rem;
+  padding: .4rem .8rem;
+  text-decoration: none;
+  cursor: pointer;
+}
+.button[aria-current] { background: var(--bar); border-color: var(--bar); color: var(--sheet); }
+.off { opacity: .45; cursor: default; }
+.answers { color: var(--good); }
+.silent { color: var(--bad); }
+.faint { color: var(--faint); }
+.state::before { content: "\25CF\A0"; }
+.silent.state::before { content: "\25CB\A0"; }
+#trouble, .warn {
+  background: var(--warn);
+  border-left: .3rem solid var(--bad);
+  border-radius: .3rem;
+  padding: .5rem .8rem;
+  margin: .5rem 0;
+}
+.stale main { opacity: .6; }
+.cards {
+  display: grid;
+  gap: .8rem;
+  grid-template-columns: repeat(auto-fill, minmax(min(20rem, 100%), 1fr));
+}
+.card, #detail, #notes {
+  background: var(--sheet);
+  border: 1px solid var(--line);
+  border-radius: .6rem;
+  padding: .8rem 1rem;
+}
+#notes { margin-top: 1.2rem; }
+#detail > h2, #notes > h2:first-child { margin-top: 0; }
+.card { position: relative; }
+.card h3 a::after { content: ""; position: absolute; inset: 0; border-radius: .6rem; }
+.card:hover { border-color: var(--bar); }
+.card p { font-size: .9rem; color: var(--faint); }
+dl { display: grid; grid-template-columns: 1fr auto; gap: .1rem .6rem; margin: .5rem 0 0; }
+dt { color: var(--faint); }
+dt small { display: block; }
+dd { margin: 0; text-align: right; white-space: nowrap; font-variant-numeric: tabular-nums; }
+dd b { font-size: 1.1rem; }
+nav { display: flex; flex-wrap: wrap; gap: .4rem; margin: .5rem 0; }
+nav .apart { margin-left: auto; }
+svg.curve { display: block; width: 100%; height: auto; margin: .5rem 0; }
+.curve rect { fill: var(--bar); }
+.curve a:hover rect, .curve g:hover rect { opacity: .7; }
+.curve .room { fill: transparent; }
+.curve .none { fill: var(--line); }
+.curve line { stroke: var(--line); }
+.curve text { fill: var(--faint); font-size: 15px; }
+.rows { max-height: 22rem; overflow: auto; border: 1px solid var(--line); }
+table { border-collapse: collapse; width: 100%; font-variant-numeric: tabular-nums; }
+td { white-space: nowrap; }
+th { overflow-wrap: normal; }
+th, td { text-align: left; padding: .2rem .6rem; border-bottom: 1px solid var(--line); }
+thead th { position: sticky; top: 0; background: var(--sheet); }
+.number { text-align: right; }
+#notes ul { padding-left: 1.2rem; }
+footer { color: var(--faint); font-size: .9rem; margin-top: 1.2rem; }
+@media (max-width: 40rem) {
+  body { padding: 0 .6rem 1rem; }
+  .card, #detail, #notes { padding: .6rem .7rem; }
+  .curve text { font-size: 32px; }
+  table { font-size: .9rem; }
+  th, td { padding: .2rem .4rem; }
+}
+"#;
+
+/// What asks the office, and fills the page.
+pub const SCRIPT: &str = r##""use strict";
+// The page of an office that runs: it asks the office that serves it, and no other host. What comes
+// from there is put into the page as text alone. Energies are whole mWh, as BigInt.
+
+const MINUTE = 60000;
+const RETRY = 10000; // how soon it asks again where no answer came
+const PATIENCE = 30000; // how long it waits for an answer
+const KEPT = 10 * MINUTE; // how long a text is kept whose register did not change
+const LATELY = 300; // a device whose last reading is at most so many seconds old answers,
+const LONG_AGO = 1200; // and one is silent whose is more than so many old
+const QUARTER = 900; // seconds
+const HALF_DAY = 43200;
+
+// What numbers mean, what usually causes them, and what to do: the words of `sunreg explain`.
+const HELD = {
+  not_accumulated: [1, "the device shows 0: not accumulated",
+    "a device that doesn't count this energy, or that has just started",
+    "nothing where it passes; else book another counter, since the device doesn't have this one"],
+  scale_changed: [2, "the scale is another one",
+    "a device whose settings or software were changed, or a wrong scale at installing",
+    "look at the device, and enter a rescale where its scale is another one for good"],
+  not_later: [3, "the moment is not later",
+    "two replies in one second, or a clock that was set back",
+    "nothing for one reading; else set the clock right"],
+  span_too_long: [4, "the step since the last entry would touch more than 3,000 quarter hours",
+    "a device that wasn't reached for more than 31 days",
+    "enter readings by hand for moments between, each at most 31 days after the one before"],
+  gap_too_long: [5,
+    "so long since the last entry that the counter may have turned over unseen",
+    "a gap in which the greatest power could have counted the whole range",
+    "enter a reading by hand, with as many ROLLS as the counter turned over in the gap"],
+  too_fast: [6, "more energy than the ceiling allows",
+    "a ceiling that is too low, a counter that was set or exchanged, or a false reading",
+    "compare the reading with the meter: enter a reset or an exchange where the counter was " +
+    "changed, and one by hand where it is right"],
+  total_full: [7, "the meter's energy would pass 4 * 10^18 mWh",
+    "a false reading, or a wrong scale",
+    "compare the reading and the scale with the meter"],
+  not_below_range: [8, "the counter is at or past its range",
+    "a RANGE at installing that is less than the counter's, or a false reading",
+    "exchange the meter for itself under a new name, with the right RANGE"],
+};
+const REFUSED = {
+  1: ["no device, register, meter, list, entry or poll has that name, place or number, " +
+    "or no meter was ever installed at the register",
+    "compare the name with what was set up; give a device its point list before its first round"],
+  13: ["the store failed", "look at the disk's room and the file's rights, and start again: " +
+    "what was acknowledged stays"],
+  14: ["memory is wanting", "give the program more memory, and ask again"],
+  15: ["the office has stopped, since 13 or 14 came while polls were settled; " +
+    "it must be opened anew",
+    "look at the disk and at memory, and start the program again: what was acknowledged stays"],
+};
+const LACKS = {
+  no_device: ["the books have no device of that name", "POST /devices"],
+  no_list: ["the device has no point list", "sunreg scan --list, or POST /devices/NAME/list"],
+  no_register: ["it has no register, so nothing of it is booked", "POST /registers"],
+  not_in_list: ["no read of its list has the counter of this register and its scale",
+    "add both to the device's point list"],
+  no_meter: ["no meter is open at this register", "POST /registers/NAME/install"],
+};
+const POLLS = {
+  answered: "the device answered",
+  exception: "the device answered by an exception",
+  silent: "no answer came in time",
+  malformed: "the answer was no answer to it",
+  lost: "the connection was lost before an answer, or the stream was garbled",
+};
+const WEEKDAYS = ["Sun", "Mon", "Tue", "Wed", "Thu", "Fri", "Sat"];
+const MONTHS = ["Jan", "Feb", "Mar", "Apr", "May", "Jun", "Jul", "Aug", "Sep", "Oct", "Nov", "Dec"];
+
+// What was answered last.
+let site = null;
+let status = null;
+const daysOf = new Map(); // by register
+const quartersOf = new Map(); // by meter
+let trouble = "";
+let answeredAt = 0;
+// What is looked at: a register, and a day, a month or a year of it.
+let place = null;
+
+// ---- asking
+
+// A fault that is told in words.
+class Fault extends Error {}
+class NoAnswer extends Fault {}
+
+function meaningOf(code, text) {
+  const refused = /"refused":(\d+)/.exec(text);
+  if (!refused) return `it answered ${code}`;
+  const words = REFUSED[refused[1]];
+  const told = `refused ${refused[1]}`;
+  return words ? `${told}: ${words[0]}. What to do: ${words[1]}` : told;
+}
+
+async function ask(path) {
+  let reply;
+  let text;
+  try {
+    reply = await fetch(path, { cache: "no-store", signal: AbortSignal.timeout(PATIENCE) });
+    text = await reply.text();
+  } catch {
+    throw new NoAnswer("The office doesn't answer. Does sunreg run still run there?");
+  }
+  if (reply.ok) return text;
+  throw new Fault(`The office can't tell ${path}: ${meaningOf(reply.status, text)}.`);
+}
+
+async function askJson(path, member) {
+  const text = await ask(path);
+  try {
+    const value = JSON.parse(text);
+    if (Array.isArray(value[member])) return value;
+  } catch {
+    // told below
+  }
+  throw new Fault(`The reply to ${path} was cut off, or is none.`);
+}
+
+// The rows of a text that is whole: its last line is `end N`, of N rows, each of the form.
+async function askRows(path, form) {
+  const lines = (await ask(path)).split("\n");
+  const end = lines.length > 1 && lines.pop() === "" && /^end (\d+)$/.exec(lines.pop());
+  const rows = lines.map((line) => form.exec(line));
+  if (!end || Number(end[1]) !== rows.length || rows.includes(null)) {
+    throw new Fault(`The reply to ${path} was cut off, so that nothing of it is shown.`);
+  }
+  return rows;
+}
+
+async function askDays(name) {
+  const form = /^(\d{4}-\d\d-\d\d) +(\d+) +(\d+)$/;
+  const rows = await askRows(`/registers/${encodeURIComponent(name)}/days`, form);
+  return rows.map((row) => ({ name: row[1], count: Number(row[2]), mwh: BigInt(row[3]) }));
+}
+
+async function askQuarters(meter) {
+  const rows = await askRows(`/meters/${encodeURIComponent(meter)}/intervals`, /^(\d+) (\d+)$/);
+  return rows.map((row) => ({ start: Number(row[1]), mwh: BigInt(row[2]) }));
+}
+
+// Asks for a text unless what is kept was asked while the register stood as it does now.
+async function keep(kept, name, register, asking) {
+  const known = kept.get(name);
+  const isSame = known && JSON.stringify(known.register) === JSON.stringify(register);
+  if (isSame && !known.fault && Date.now() - known.at < KEPT) return;
+  const next = { register, at: Date.now(), rows: null, fault: "" };
+  try {
+    next.rows = await asking(name);
+  } catch (fault) {
+    if (fault instanceof NoAnswer || !(fault instanceof Fault)) throw fault;
+    next.fault = fault.message;
+  }
+  kept.set(name, next);
+  drawSoon();
+}
+
+const registerOf = (name) => site && site.registers.find((it) => it.register === name);
+
+async function askAll() {
+  const both = [askJson("/site", "registers"), askJson("/status", "devices")];
+  [site, status] = await Promise.all(both);
+  trouble = "";
+  answeredAt = Date.now();
+  drawSoon();
+  // one after another, so that the office can poll in between
+  for (const it of site.registers) {
+    if (it.meter !== null) await keep(daysOf, it.register, it, askDays);
+  }
+  const open = place && registerOf(place.register);
+  if (open && open.meter !== null && place.period.length === DAY) await askOpen(open);
+}
+
+// Asks for the quarter hours of the meter that is looked at, and forgets those of others. Those of
+// a day that was over at the last look stay.
+async function askOpen(register) {
+  for (const meter of quartersOf.keys()) if (meter !== register.meter) quartersOf.delete(meter);
+  const known = quartersOf.get(register.meter);
+  const isOver = known && place.period < dayAt(dateOf(known.register.at));
+  await keep(quartersOf, register.meter, isOver ? known.register : register, askQuarters);
+}
+
+let timer = 0;
+let isAsking = false;
+let isDue = false;
+let isWaiting = false; // until somebody looks at the page
+
+async function refresh() {
+  isDue = true;
+  isWaiting = document.hidden;
+  if (isAsking || isWaiting) return;
+  isAsking = true;
+  clearTimeout(timer);
+  try {
+    while (isDue) {
+      isDue = false;
+      await askAll();
+    }
+  } catch (fault) {
+    trouble = fault instanceof Fault ? fault.message : `This page failed: ${fault}`;
+    isDue = false;
+  }
+  isAsking = false;
+  timer = setTimeout(refresh, trouble ? RETRY : MINUTE);
+  drawSoon();
+}
+
+// ---- numbers and dates
+
+// Exact kWh with six decimals, of which those behind the third go where they are 0 and may.
+function kwh(mwh, least = 6) {
+  const digits = mwh.toString().padStart(7, "0");
+  let part = digits.slice(-6);
+  while (part.length > least && part.endsWith("0")) part = part.slice(0, -1);
+  return `${digits.slice(0, -6)}.${part}`;
+}
+
+const shortKwh = (mwh) => `${kwh(mwh, 3)} kWh`;
+const sumOf = (rows) => rows.reduce((sum, row) => sum + row.mwh, 0n);
+const two = (number) => String(number).padStart(2, "0");
+const clockOf = (date) => `${two(date.getHours())}:${two(date.getMinutes())}`;
+const dateOf = (seconds) => new Date(seconds * 1000);
+// A day is named as `2026-11-26`, a month as `2026-11`, a year as `2026`.
+const dayAt = (date) => {
+  const year = String(date.getFullYear()).padStart(4, "0");
+  return `${year}-${two(date.getMonth() + 1)}-${two(date.getDate())}`;
+};
+const partsOf = (period) => period.split("-").map(Number);
+const DAY = 10;
+const MONTH = 7;
+const YEAR = 4; // the lengths of those names
+
+// A day by a calendar that no zone moves.
+function civil(year, month, day) {
+  const date = new Date(0);
+  date.setUTCFullYear(year, month - 1, day);
+  return date;
+}
+
+// The day, month or year that is so many after another.
+function later(period, count) {
+  const [year, month = 1, day = 1] = partsOf(period);
+  const size = period.length;
+  const more = (of) => (size === of ? count : 0);
+  const date = civil(year + more(YEAR), month + more(MONTH), day + more(DAY));
+  return date.toISOString().slice(0, size);
+}
+
+function titleOf(period) {
+  const [year, month, day] = partsOf(period);
+  const words = [MONTHS[month - 1], year];
+  if (day) words.unshift(WEEKDAYS[civil(year, month, day).getUTCDay()], day);
+  return month ? words.join(" ") : `${year}`;
+}
+
+// When a day, or the one `count` after it, begins by the browser's zone.
+function startOf(day, count) {
+  const [year, month, date] = partsOf(day);
+  return new Date(year, month - 1, date + count).getTime() / 1000;
+}
+
+function offsetOf(date) {
+  const minutes = -date.getTimezoneOffset();
+  const [hour, rest] = [Math.floor(Math.abs(minutes) / 60), Math.abs(minutes) % 60];
+  return `${minutes < 0 ? "-" : "+"}${two(hour)}:${two(rest)}`;
+}
+
+function momentText(seconds) {
+  const date = dateOf(seconds);
+  return `${clockOf(date)} on ${titleOf(dayAt(date))}`;
+}
+
+// The office's day of now. Its zone isn't told, so it is the day by the browser's, but for this:
+// where the last row is of another day than the last reading is here, the zones differ, and that
+// day stands.
+function today(register, days) {
+  const now = dayAt(dateOf(site.at));
+  if (!days.length) return now;
+  const last = days[days.length - 1].name;
+  const isOther = last !== dayAt(dateOf(register.at)) && site.at - register.at < HALF_DAY;
+  return last > now || isOther ? last : now;
+}
+
+// ---- parts of the page
+
+function filled(node, attributes, content) {
+  for (const [name, value] of Object.entries(attributes)) node.setAttribute(name, value);
+  node.append(...content);
+  return node;
+}
+
+const make = (kind, attributes, ...content) =>
+  filled(document.createElement(kind), attributes, content);
+const shape = (kind, attributes, ...content) =>
+  filled(document.createElementNS("http://www.w3.org/2000/svg", kind), attributes, content);
+
+const shown = new Map();
+
+// Fills a part anew where what it shows has changed; the focus and what was scrolled stay.
+function fill(id, value, parts) {
+  const key = JSON.stringify(value, (_, it) => (typeof it === "bigint" ? `${it}` : it));
+  if (shown.get(id) === key) return;
+  shown.set(id, key);
+  const node = document.getElementById(id);
+  const focused = node.contains(document.activeElement) ? document.activeElement.id : "";
+  const rows = node.querySelector(".rows");
+  const scrolled = rows ? rows.scrollTop : 0;
+  node.replaceChildren(...parts());
+  const anew = node.querySelector(".rows");
+  if (anew) anew.scrollTop = scrolled;
+  if (!focused) return;
+  const found = document.getElementById(focused) || document.getElementById("heading");
+  if (found) found.focus({ preventScroll: true });
+}
+
+const linkTo = (register, period) => `#${encodeURIComponent(register)}/${period}`;
+
+function placeOf(hash) {
+  const found = /^#([A-Za-z0-9_-]{1,16})\/(\d{4}(?:-\d\d){0,2})$/.exec(hash);
+  return found && { register: found[1], period: found[2] };
+}
+
+// ---- devices and registers
+
+function stateOf(device) {
+  if (!device) return ["faint", "this run doesn't ask it"];
+  const last = device.last_reading;
+  if (last === null) return ["silent", "no reading since this run began"];
+  const old = site.at - last;
+  if (old > LONG_AGO) return ["silent", `silent since ${momentText(last)}`];
+  if (old <= LATELY) return ["answers", `answers: last reading at ${momentText(last)}`];
+  return ["faint", `last reading at ${momentText(last)}, ${Math.floor(old / 60)} minutes ago`];
+}
+
+function figure(title, period, mwh) {
+  return [
+    make("dt", {}, `${title} `, make("small", {}, titleOf(period))),
+    make("dd", {}, make("b", {}, kwh(mwh, 3)), " kWh"),
+  ];
+}
+
+function figures(register) {
+  const kept = daysOf.get(register.register);
+  if (!kept) return [make("p", {}, "Its days are being asked.")];
+  if (kept.fault) return [make("p", { class: "warn" }, kept.fault)];
+  const of = (title, period) =>
+    figure(title, period, sumOf(kept.rows.filter((row) => row.name.startsWith(period))));
+  const day = today(register, kept.rows);
+  return [make("dl", {},
+    ...of("Today", day),
+    ...of("This month", day.slice(0, MONTH)),
+    ...of("This year", day.slice(0, YEAR)))];
+}
+
+function card(register) {
+  const name = register.register;
+  if (register.meter === null) {
+    return make("article", { class: "card" }, make("h3", {}, name),
+      make("p", {}, "No meter was installed at it, so nothing of it is booked."));
+  }
+  const kept = daysOf.get(name);
+  const href = linkTo(name, today(register, (kept && kept.rows) || []));
+  const counter = BigInt(register.last) * 10n ** BigInt(register.sf + 3);
+  return make("article", { class: "card" },
+    make("h3", {}, make("a", { href, id: `open-${name}` }, name)),
+    make("p", {}, `Meter ${register.meter}${register.ended ? ", closed" : ""}: ` +
+      `showed ${shortKwh(counter)} at ${momentText(register.at)}; ` +
+      `${shortKwh(BigInt(register.total))} since it was installed.`),
+    ...figures(register));
+}
+
+function deviceParts() {
+  const names = status.devices.map((it) => it.name);
+  for (const it of site.registers) if (!names.includes(it.device)) names.push(it.device);
+  if (!names.length) return [make("p", {}, "The office has no device yet.")];
+  return names.flatMap((name) => {
+    const device = status.devices.find((it) => it.name === name);
+    const [kind, text] = stateOf(device);
+    const registers = site.registers.filter((it) => it.device === name);
+    const going = device && device.connected ? " It is being asked now." : "";
+    return [
+      make("h2", {}, name || "a device without a name"),
+      make("p", {}, make("span", { class: `state ${kind}` }, text), going),
+      registers.length
+        ? make("div", { class: "cards" }, ...registers.map(card))
+        : make("p", {}, "It has no register."),
+    ];
+  });
+}
+
+// ---- one register: a day, a month or a year
+
+// What a period has in it, in order, and for how many there is room: each has a title, where its
+// bar stands, its energy (null where it has no row), how many quarter hours have one, what a file
+// calls it, and where a click leads.
+function monthsOrDays(register, days) {
+  const { period } = place;
+  const isYear = period.length === YEAR;
+  const found = new Map();
+  for (const row of days) {
+    if (!row.name.startsWith(period)) continue;
+    const name = row.name.slice(0, isYear ? MONTH : DAY);
+    const sum = found.get(name) || { mwh: 0n, count: 0 };
+    found.set(name, { mwh: sum.mwh + row.mwh, count: sum.count + row.count });
+  }
+  const [year, month] = partsOf(period);
+  const room = isYear ? 12 : civil(year, month + 1, 0).getUTCDate();
+  const dayLabel = (index) => (index % 5 === 4 || index === 0 ? `${index + 1}` : "");
+  const bars = [...Array(room).keys()].map((index) => {
+    const name = `${period}-${two(index + 1)}`;
+    const sum = found.get(name);
+    return {
+      index,
+      name,
+      title: titleOf(name),
+      mwh: sum ? sum.mwh : null,
+      count: sum ? sum.count : 0,
+      label: isYear ? MONTHS[index] : dayLabel(index),
+      href: sum ? linkTo(register.register, name) : "",
+      isAhead: name > today(register, days),
+    };
+  });
+  return { room, bars };
+}
+
+function quarters(rows) {
+  const [start, end] = [startOf(place.period, 0), startOf(place.period, 1)];
+  const room = Math.round((end - start) / QUARTER);
+  const found = new Map(rows.map((row) => [row.start, row.mwh]));
+  const isEven = offsetOf(dateOf(start)) === offsetOf(dateOf(end));
+  const bars = [...Array(room).keys()].map((index) => {
+    const at = start + index * QUARTER;
+    const [from, to] = [dateOf(at), dateOf(at + QUARTER)];
+    const clock = `${clockOf(from)} to ${clockOf(to)}`;
+    return {
+      index,
+      name: `${dayAt(from)}T${clockOf(from)}:00${offsetOf(from)}`,
+      title: isEven ? clock : `${clock} (from ${offsetOf(from)})`,
+      mwh: found.has(at) ? found.get(at) : null,
+      label: from.getMinutes() === 0 && from.getHours() % 3 === 0 ? clockOf(from) : "",
+      href: "",
+      isAhead: at > site.at,
+    };
+  });
+  return { room, bars };
+}
+
+// The least of 1, 2 and 5 times a power of ten of which four reach up to a value.
+function gridOf(most) {
+  for (let unit = 1n; ; unit *= 10n) {
+    for (const grid of [unit, 2n * unit, 5n * unit]) if (4n * grid >= most) return grid;
+  }
+}
+
+// Where a curve stands in its picture.
+const [LEFT, RIGHT, TOP, FOOT, UNDER] = [110, 960, 25, 275, 320];
+
+function barShape(bar, x, wide, high) {
+  const told = bar.mwh === null ? "no row" : `${kwh(bar.mwh)} kWh`;
+  const kind = bar.mwh === null ? "none" : "bar";
+  const parts = [
+    shape("title", {}, `${bar.title}: ${told}`),
+    shape("rect", { class: "room", x, width: wide, y: TOP, height: FOOT - TOP }),
+  ];
+  if (!bar.isAhead) {
+    const [from, width] = [x + wide * 0.1, wide * 0.8];
+    parts.push(shape("rect", { class: kind, x: from, width, y: FOOT - high, height: high }));
+  }
+  return bar.href
+    ? shape("a", { href: bar.href, tabindex: -1 }, ...parts)
+    : shape("g", {}, ...parts);
+}
+
+// Only here energies become numbers that are rounded: to draw them.
+function curve({ room, bars }) {
+  const some = bars.map((bar) => bar.mwh || 0n);
+  const most = some.reduce((most, mwh) => (mwh > most ? mwh : most), 1n);
+  const grid = gridOf(most);
+  const marks = (most + grid - 1n) / grid;
+  const heightOf = (mwh) => (FOOT - TOP) * (Number(mwh) / Number(marks * grid));
+  const wide = (RIGHT - LEFT) / room;
+  const isDay = place.period.length === DAY;
+  const svg = shape("svg", {
+    class: "curve",
+    viewBox: `0 0 ${RIGHT} ${UNDER}`,
+    role: "img",
+    "aria-label": `${titleOf(place.period)} as bars, in kWh; the numbers are in the table below`,
+  });
+  svg.append(shape("text", { x: 0, y: UNDER - 10 }, "kWh"));
+  for (let mark = 0n; mark <= marks; mark += 1n) {
+    const y = FOOT - heightOf(mark * grid);
+    const text = kwh(mark * grid, 0).replace(/\.$/, "");
+    svg.append(shape("line", { x1: LEFT, x2: RIGHT, y1: y, y2: y }),
+      shape("text", { x: LEFT - 8, y: y + 5, "text-anchor": "end" }, text));
+  }
+  for (const bar of bars) {
+    const x = LEFT + bar.index * wide;
+    svg.append(barShape(bar, x, wide, bar.mwh === null ? 5 : heightOf(bar.mwh)));
+    const at = isDay ? { x } : { x: x + wide / 2, "text-anchor": "middle" };
+    if (bar.label) svg.append(shape("text", { ...at, y: UNDER - 10 }, bar.label));
+  }
+  return svg;
+}
+
+function table(bars) {
+  const isDay = place.period.length === DAY;
+  const first = { [DAY]: "Quarter hour", [MONTH]: "Day", [YEAR]: "Month" }[place.period.length];
+  const number = { class: "number" };
+  const row = (bar) => make("tr", {},
+    make("td", {}, bar.href
+      ? make("a", { href: bar.href, id: `row-${bar.name}` }, bar.title)
+      : bar.title),
+    make("td", number, kwh(bar.mwh)),
+    ...(isDay ? [] : [make("td", number, `${bar.count}`)]));
+  const head = make("tr", {},
+    make("th", { scope: "col" }, first),
+    make("th", { scope: "col", ...number }, "kWh"),
+    ...(isDay ? [] : [make("th", { scope: "col", ...number }, "Quarter hours")]));
+  const rows = bars.filter((bar) => bar.mwh !== null).map(row);
+  const named = { role: "region", "aria-label": "The numbers" };
+  return make("div", { class: "rows", id: "rows", tabindex: 0, ...named },
+    make("table", {}, make("thead", {}, head), make("tbody", {}, ...rows)));
+}
+
+let fileUrl = "";
+
+// A file in the form of `sunreg report --format csv --unit kwh`.
+function fileLink(bars) {
+  const first = { [DAY]: "start", [MONTH]: "day", [YEAR]: "month" }[place.period.length];
+  const lines = [`${first},energy_kwh\r\n`];
+  for (const bar of bars) if (bar.mwh !== null) lines.push(`${bar.name},${kwh(bar.mwh)}\r\n`);
+  URL.revokeObjectURL(fileUrl);
+  fileUrl = URL.createObjectURL(new Blob(lines, { type: "text/csv" }));
+  const download = `${place.register}-${place.period}.csv`;
+  return make("p", {},
+    make("a", { id: "file", href: fileUrl, download }, `These numbers as CSV: ${download}`));
+}
+
+// Whether the bars of a day are all that the office has of it.
+function comparison(sum, days, register) {
+  const isNow = place.period === today(register, days);
+  const row = days.find((it) => it.name === place.period);
+  const office = row ? row.mwh : 0n;
+  if (sum === office) {
+    const told = `Together ${shortKwh(sum)}, which is the office's figure of this day.`;
+    return make("p", { id: "sum" }, told);
+  }
+  return make("p", { id: "sum", class: "warn" },
+    `These quarter hours add up to ${shortKwh(sum)}, but the office's figure of this day is ` +
+    `${shortKwh(office)}. The office's days go by its own zone, and the quarter hours here by ` +
+    `that of this browser; these are of meter ${register.meter} alone, and another one may have ` +
+    `counted at this register before it${isNow ? "; or a reading came just now" : ""}.`);
+}
+
+function around(register, days) {
+  const { period } = place;
+  const size = period.length;
+  const last = today(register, days);
+  const first = days.length ? days[0].name : last;
+  const word = { [DAY]: "Day", [MONTH]: "Month", [YEAR]: "Year" }[size];
+  const link = (id, text, to, isThere) => (isThere
+    ? make("a", { class: "button", id, href: linkTo(register.register, to) }, text)
+    : make("span", { class: "button off" }, text));
+  const within = days.filter((row) => row.name.startsWith(period));
+  const day = within.length ? within[within.length - 1].name : `${period}-01-01`.slice(0, DAY);
+  const kind = (title, of) => make("a", {
+    class: "button",
+    id: `by-${title}`,
+    href: linkTo(register.register, day.slice(0, of)),
+    ...(of === size ? { "aria-current": "page" } : {}),
+  }, title);
+  const [before, after] = [later(period, -1), later(period, 1)];
+  return [
+    make("nav", { "aria-label": "Period" },
+      kind("Day", DAY), kind("Month", MONTH), kind("Year", YEAR),
+      make("a", { class: "button apart", id: "close", href: "#" }, "Close")),
+    make("nav", { "aria-label": "Before and after" },
+      link("before", `\u2190 ${word} before`, before, before >= first.slice(0, size)),
+      link("after", `${word} after \u2192`, after, after <= last.slice(0, size))),
+  ];
+}
+
+function detailParts(register, days, kept) {
+  const isDay = place.period.length === DAY;
+  const whose = isDay ? `meter ${register.meter}` : "all of its meters";
+  const heading = make("h2", { id: "heading", tabindex: -1 },
+    `${titleOf(place.period)} `, make("small", {}, `${place.register}, ${whose}`));
+  if (!days) return [heading, make("p", {}, "Its days are being asked.")];
+  if (days.fault) return [heading, make("p", { class: "warn" }, days.fault)];
+  const parts = [heading, ...around(register, days.rows)];
+  if (isDay && !kept) return [...parts, make("p", {}, "Its quarter hours are being asked.")];
+  if (isDay && kept.fault) return [...parts, make("p", { class: "warn" }, kept.fault)];
+  const drawn = isDay ? quarters(kept.rows) : monthsOrDays(register, days.rows);
+  const some = drawn.bars.filter((bar) => bar.mwh !== null);
+  const sum = sumOf(some);
+  if (isDay) {
+    parts.push(make("p", { class: "faint" },
+      `Quarter hours by this browser's clock and zone, ${zone()}: ` +
+      `${some.length} of ${drawn.room} have a row.`));
+  }
+  const told = isDay
+    ? comparison(sum, days.rows, register)
+    : make("p", { id: "sum" }, `Together ${shortKwh(sum)}, by the office's days.`);
+  if (!some.length) return [...parts, make("p", {}, "Nothing is booked here."), told];
+  return [...parts, curve(drawn), told, table(drawn.bars), fileLink(drawn.bars)];
+}
+
+function drawDetail() {
+  const register = place && registerOf(place.register);
+  document.getElementById("detail").hidden = !place;
+  if (!place) {
+    fill("detail", null, () => []);
+  } else if (!register || register.meter === null) {
+    fill("detail", place, () => [
+      make("p", { id: "heading", tabindex: -1 },
+        `The office has no register ${place.register} with a meter.`),
+      make("p", {}, make("a", { class: "button", id: "close", href: "#" }, "Close")),
+    ]);
+  } else {
+    const days = daysOf.get(place.register);
+    const kept = place.period.length === DAY ? quartersOf.get(register.meter) : null;
+    const told = kept && [kept.at, kept.fault];
+    const state = [place, register, days, told, Math.floor(site.at / QUARTER)];
+    fill("detail", state, () => detailParts(register, days, kept));
+  }
+}
+
+// ---- what wants a look
+
+const list = (items) => make("ul", {}, ...items.map((it) => make("li", {}, ...it)));
+const count = (number, one, more) => `${number} ${number === 1 ? one : more}`;
+
+function heldItem(name) {
+  const [number, means, cause, remedy] = HELD[name];
+  const readings = count(status.held[name], "reading", "readings");
+  return [make("b", {}, `${readings} held for cause ${number}: ${means}.`),
+    ` Usual cause: ${cause}. What to do: ${remedy}.`];
+}
+
+function lackItem(lack) {
+  const [means, remedy] = LACKS[lack.lack] || [lack.lack, "see docs/HTTP.md"];
+  const whose = [lack.device || "-"];
+  if (lack.register) whose.push(`register ${lack.register}`);
+  const named = remedy.replace("NAME", () => lack.register || lack.device);
+  return [make("b", {}, `${whose.join(", ")}: ${means}.`), ` What to do: ${named}.`];
+}
+
+function refusalText() {
+  if (!status.refusals) return "Nothing was refused.";
+  const one = "event of a device or a round was";
+  const more = "events of devices and rounds were";
+  return `${count(status.refusals, one, more)} refused: standard error of sunreg run says which, ` +
+    "and sunreg explain refused N what a number means.";
+}
+
+function noteParts() {
+  const title = (text, more) => make("h2", {}, `${text} `, make("small", {}, more));
+  const held = Object.keys(HELD).filter((name) => status.held[name] > 0);
+  const polls = Object.keys(POLLS).filter((name) => name === "answered" || status.polls[name] > 0);
+  const parts = [
+    title("What wants a look", "since this run began"),
+    held.length ? list(held.map(heldItem)) : make("p", {}, "No reading was held."),
+    make("p", {}, refusalText()),
+  ];
+  if (status.lacks.length) {
+    parts.push(title("What devices lack", "when this run began, so that not all is booked"),
+      list(status.lacks.map(lackItem)));
+  }
+  parts.push(title("Polls", "since this run began"),
+    list(polls.map((name) => [`${status.polls[name]} ${name}: ${POLLS[name]}.`])));
+  return parts;
+}
+
+// ---- the whole
+
+const zone = () => Intl.DateTimeFormat().resolvedOptions().timeZone;
+
+function draw() {
+  const box = document.getElementById("trouble");
+  const of = answeredAt && trouble ? ` What is shown is of ${momentText(answeredAt / 1000)}.` : "";
+  box.hidden = !trouble;
+  if (box.textContent !== trouble + of) box.textContent = trouble + of;
+  document.body.classList.toggle("stale", Boolean(trouble));
+  const title = place ? `${place.register} ${place.period}, sunreg` : "sunreg";
+  document.title = trouble ? "sunreg: no answer" : title;
+  document.getElementById("zone").textContent = zone();
+  if (!site || !status) return;
+  document.getElementById("moment").textContent =
+    `The office's moment is ${momentText(site.at)}. It is asked anew each minute.`;
+  fill("devices", [site, status.devices, [...daysOf]], deviceParts);
+  drawDetail();
+  fill("notes", status, noteParts);
+}
+
+let isDrawing = false;
+
+// Draws once for all that comes in a moment.
+function drawSoon() {
+  if (isDrawing) return;
+  isDrawing = true;
+  setTimeout(() => {
+    isDrawing = false;
+    draw();
+  }, 20);
+}
+
+function go() {
+  const before = place;
+  place = placeOf(location.hash);
+  if (site) draw();
+  const heading = document.getElementById("heading");
+  if (place && heading && !(before && before.register === place.register)) heading.focus();
+  const opener = !place && before && document.getElementById(`open-${before.register}`);
+  if (opener) opener.focus();
+  if (place && place.period.length === DAY) refresh();
+}
+
+function press(event) {
+  if (!place || event.altKey || event.ctrlKey || event.metaKey || event.shiftKey) return;
+  const id = { ArrowLeft: "before", ArrowRight: "after", Escape: "close" }[event.key];
+  const link = id && document.getElementById(id);
+  if (link) {
+    event.preventDefault();
+    link.click();
+  }
+}
+
+window.addEventListener("hashchange", go);
+document.addEventListener("keydown", press);
+document.getElementById("again").addEventListener("click", () => {
+  for (const kept of [...daysOf.values(), ...quartersOf.values()]) kept.at = 0;
+  refresh();
+});
+document.addEventListener("visibilitychange", () => {
+  if (isWaiting) refresh();
+});
+place = placeOf(location.hash);
+refresh();
+"##;
+
+/// Its icon.
+pub const ICON: &str = r##"<svg xmlns="http://www.w3.org/2000/svg" viewBox="0 0 32 32">
+<rect width="32" height="32" rx="7" fill="#12507b"/>
+<circle cx="16" cy="11" r="5" fill="#ffc83d"/>
+<path d="M5 27v-4h4v4zM11 27v-7h4v7zM17 27v-9h4v9zM23 27v-5h4v5z" fill="#fff"/>
+</svg>
+"##;

@@ -1,0 +1,197 @@
+"""A mock of an office for page.py: it serves the files of web/ and the routes that the page asks, over data of a year that are made up
+but exact. The office's zone is Europe/Berlin, so that its days have 92, 96 or 100 quarter hours."""
+import datetime
+import functools
+import http.server
+import json
+import os
+import threading
+import zoneinfo
+
+WEB = os.path.join(os.path.dirname(os.path.abspath(__file__)), "..", "web")
+PARTS = {
+    "/": ("page.html", "text/html; charset=utf-8"),
+    "/page.css": ("page.css", "text/css; charset=utf-8"),
+    "/page.js": ("page.js", "text/javascript; charset=utf-8"),
+    "/icon.svg": ("icon.svg", "image/svg+xml"),
+}
+ZONE = zoneinfo.ZoneInfo("Europe/Berlin")
+# The longest name, with digits and dashes.
+LONG = "a-0_1-2_3-4_5-67"
+
+
+def moment(*civil):
+    """A moment of the office's zone, in seconds since 1970-01-01 UTC."""
+    return int(datetime.datetime(*civil, tzinfo=ZONE).timestamp())
+
+
+NOW = moment(2026, 11, 26, 14, 5, 10)
+BEGUN = moment(2025, 11, 20, 9, 0)
+EXCHANGED = moment(2026, 6, 10, 11, 30)
+
+
+@functools.cache
+def civil_day(start):
+    """The office's day of a moment."""
+    return datetime.datetime.fromtimestamp(start, ZONE).date().isoformat()
+
+
+def sun(start, peak):
+    """The energy of a quarter hour in mWh: what a roof gives, by whole numbers alone, with some mWh that no rounding keeps."""
+    then = datetime.datetime.fromtimestamp(start, ZONE)
+    quarter = (then.hour * 60 + then.minute) // 15
+    season = 100 - abs(then.timetuple().tm_yday - 172) * 40 // 100
+    wide = 16 + season // 7
+    part = max(0, wide * wide - (quarter - 50) ** 2) * 1000 // (wide * wide)
+    cloud = 60 + (start // 900 * 7919 + start // 86400 * 104729) % 41
+    return peak * part // 1000 * season // 100 * cloud // 100 + (start // 900 % 7 if part else 0)
+
+
+def load(start, base):
+    """What a house takes."""
+    then = datetime.datetime.fromtimestamp(start, ZONE)
+    return base + (start // 900 * 6553) % 37_001 + (90_000 if then.hour in (7, 12, 18, 19) else 0)
+
+
+class Meter:
+    """A meter at a register, with its rows by quarter hour."""
+
+    def __init__(self, name, register, begun, ended, energy):
+        self.name, self.register = name, register
+        self.rows = [(start, energy(start)) for start in range(begun, ended, 900)]
+
+    @property
+    def total(self):
+        return sum(mwh for _, mwh in self.rows)
+
+
+class Office:
+    """What the office has, and what goes wrong with its replies."""
+
+    def __init__(self):
+        until = NOW // 900 * 900 + 900
+        self.now = NOW
+        self.meters = [
+            Meter("m1", "main", BEGUN, EXCHANGED, lambda it: sun(it, 900_000)),
+            Meter("m2", "main", EXCHANGED, until, lambda it: sun(it, 900_000)),
+            Meter("m-old", "old", moment(2026, 1, 5), moment(2026, 2, 3, 10, 30), lambda it: load(it, 50_000)),
+            Meter("m-house", "import", moment(2026, 10, 1), moment(2026, 11, 26, 9, 15), lambda it: load(it, 80_001)),
+            Meter("b-9_8-7_6-5_4-32", LONG, moment(2026, 3, 1), until, lambda it: sun(it, 123_457)),
+        ]
+        # A name that is none, for another register; and what the register "old" has in place of its own.
+        self.strange, self.great = None, {}
+        self.at = {"old": moment(2026, 2, 3, 10, 29), "main": NOW - 70, "import": moment(2026, 11, 26, 9, 14), LONG: NOW - 70}
+        self.held = {name: 0 for name in ("not_accumulated", "scale_changed", "not_later", "span_too_long")}
+        self.held |= {"gap_too_long": 0, "too_fast": 3, "total_full": 0, "not_below_range": 1}
+        self.lacks = [{"device": "roof-2", "lack": "no_meter", "register": "export"}, {"device": "attic", "lack": "no_device"}]
+        # Paths whose texts lack their end, or a row of those that the end counts; paths that are refused; and what was asked.
+        self.cut, self.short, self.failing, self.log = set(), set(), {}, []
+
+    def of_register(self, register):
+        return [it for it in self.meters if it.register == register]
+
+    def days(self, register):
+        """The rows of a register by civil days of the office: day, how many quarter hours, mWh."""
+        found = {}
+        for meter in self.of_register(register):
+            for start, mwh in meter.rows:
+                day = civil_day(start)
+                count, sum_ = found.get(day, (0, 0))
+                found[day] = (count + 1, sum_ + mwh)
+        return {day: found[day] for day in sorted(found)}
+
+    def site(self):
+        rows = []
+        for device, register in (("grid", "import"), ("grid", "old"), ("inv", "main"), ("inv", LONG), ("roof-2", "export")):
+            meters = self.of_register(register)
+            if meters:
+                total = meters[-1].total
+                rows.append({
+                    "device": device, "register": register, "meter": meters[-1].name, "at": self.at[register],
+                    "last": (5000 + total // 1000) // (100 if register == "old" else 1), "sf": 2 if register == "old" else 0,
+                    "total": str(total), "ended": register == "old",
+                })
+            else:
+                rows.append({"device": device, "register": register, "meter": None})
+        rows[1] |= self.great
+        if self.strange:
+            rows.append(rows[-2] | {"device": self.strange, "register": self.strange, "meter": self.strange})
+        return {"at": self.now, "registers": rows}
+
+    def status(self):
+        return {
+            "devices": [
+                {"name": "attic", "connected": False, "last_reading": None},
+                {"name": "barn", "connected": False, "last_reading": self.now - 725},
+                {"name": "grid", "connected": False, "last_reading": self.at["import"]},
+                {"name": "inv", "connected": True, "last_reading": self.at["main"]},
+                {"name": "roof-2", "connected": False, "last_reading": None},
+            ],
+            "polls": {"answered": 40211, "exception": 0, "silent": 290, "malformed": 2, "lost": 0},
+            "readings": 40103, "held": self.held, "refusals": 2, "lacks": self.lacks,
+        }
+
+    def reply(self, path):
+        """The status, the type and the text of a reply."""
+        if path in self.failing:
+            return self.failing[path], "application/json", json.dumps({"refused": 13}, separators=(",", ":"))
+        if path in PARTS:
+            name, kind = PARTS[path]
+            with open(os.path.join(WEB, name), encoding="utf-8") as file:
+                return 200, kind, file.read()
+        text = None
+        if path in ("/site", "/status"):
+            told = self.site() if path == "/site" else self.status()
+            whole = json.dumps(told, separators=(",", ":")) + "\n"
+            return 200, "application/json", whole[:-10] if path in self.cut else whole
+        words = path.split("/")
+        if words[1] == "registers" and words[3:] == ["days"] and self.of_register(words[2]):
+            rows = self.days(words[2])
+            text = [f"{day} {count:3} {mwh:24}" for day, (count, mwh) in rows.items()]
+        if words[1] == "meters" and words[3:] == ["intervals"]:
+            text = [f"{start} {mwh}" for it in self.meters if it.name == words[2] for start, mwh in it.rows]
+        if text is None:
+            return 404, "application/json", '{"fault":404}'
+        end = [] if path in self.cut else [f"end {len(text)}"]
+        return 200, "text/plain", "".join(f"{line}\n" for line in [*text[path in self.short :], *end])
+
+
+def handler(office):
+    class Handler(http.server.BaseHTTPRequestHandler):
+        def do_GET(self):
+            office.log.append(self.path)
+            code, kind, text = office.reply(self.path)
+            body = text.encode()
+            self.send_response(code)
+            self.send_header("Content-Type", kind)
+            if kind != "text/plain":
+                self.send_header("Content-Length", str(len(body)))
+            self.send_header("Connection", "close")
+            if self.path in PARTS:
+                self.send_header("Content-Security-Policy", "default-src 'self'")
+                self.send_header("X-Content-Type-Options", "nosniff")
+                self.send_header("Cache-Control", "no-cache")
+            self.end_headers()
+            self.wfile.write(body)
+
+        def log_message(self, *words):
+            pass
+
+    return Handler
+
+
+class Server:
+    """The office's server, which can be stopped and started again at its port."""
+
+    def __init__(self, office, port=0):
+        self.office, self.port, self.http = office, port, None
+        self.start()
+
+    def start(self):
+        self.http = http.server.ThreadingHTTPServer(("127.0.0.1", self.port), handler(self.office))
+        self.port = self.http.server_address[1]
+        threading.Thread(target=self.http.serve_forever, args=(0.05,), daemon=True).start()
+
+    def stop(self):
+        self.http.shutdown()
+        self.http.server_close()
