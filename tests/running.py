@@ -384,6 +384,39 @@ if "prometheus" in PEERS:
 holds("and so in the metrics", values['sunreg_polls_total{outcome="answered"}'] >= told["polls"]["answered"], values)
 holds("with the reading's moment", 'sunreg_last_reading_timestamp_seconds{device="g0"}' in values, values)
 
+# Which registers and meters there are, one without a meter among them.
+spare = {"name": "spare", "device": "g0", "function": 3, "address": 40094, "fixed": 0}
+same("a register without a meter", ask("/registers", 901, json.dumps(spare))[0], 200)
+status, text = ask("/site")
+site = json.loads(text)
+same("the site", (status, list(site), text[-1]), (200, ["at", "registers"], "\n"))
+holds("its moment is that of the request", abs(site["at"] - time.time()) < 5, site["at"])
+metered = [(name, f"r{name}", f"m{name}") for name in ports]
+same(
+    "each register has its meter, as they were added",
+    [(row["device"], row["register"], row["meter"]) for row in site["registers"]],
+    [metered[0], ("g0", "spare", None), *metered[1:]],
+)
+meters = {row["meter"]: row for row in site["registers"]}
+same("a register without one has no more", list(meters[None]), ["device", "register", "meter"])
+asked = json.loads(ask("/meters/mdead")[1])
+same("a meter is told as it is alone", meters["mdead"], {"device": "dead"} | {name: asked[name] for name in asked if name != "range"})
+same("what the servers of others show", [(meters[it]["last"], meters[it]["total"]) for it in ["mlib", "mpy"]], [(5007, "7000"), (6000, "1000000")])
+same("and by no other method", ask("/site", 902, "{}")[0], 405)
+
+# The page is its files, of which a browser is told what they are.
+for path, kind, name in [
+    ("/", "text/html; charset=utf-8", "page.html"),
+    ("/page.css", "text/css; charset=utf-8", "page.css"),
+    ("/page.js", "text/javascript; charset=utf-8", "page.js"),
+    ("/icon.svg", "image/svg+xml", "icon.svg"),
+]:
+    with open(f"{HERE}/../web/{name}", "rb") as file, urllib.request.urlopen(f"http://127.0.0.1:{PORT}{path}", timeout=30) as reply:
+        holds(f"{path}: its bytes", reply.read() == file.read())
+        headers = ["Content-Type", "Content-Security-Policy", "X-Content-Type-Options", "Cache-Control"]
+        same(f"{path}: its headers", [reply.headers[it] for it in headers], [kind, "default-src 'self'", "nosniff", "no-cache"])
+same("no page by another method", ask("/", 903, "{}")[0], 405)
+
 # A meter that goes back is held, and that is told.
 good["g2"].raw = 4000
 holds("a reading that is held", run.wait_for(r"\d+ g2 held mg2 4\d\d\d cause \d", 10), run.lines)

@@ -1,16 +1,28 @@
 //! What peers are replied.
 use crate::office::opened;
 use http_request::Status;
-use run_status::{Counts, PeerReply, StatusRoute, ask, reply_status, status_route};
+use run_status::{Counts, PeerReply, RunRoute, StatusRoute, ask, reply_status, run_route};
 use std::test::Fail;
+use web_page::PagePart;
+
+// What is answered without asking the office.
+fn own(route: StatusRoute) -> Option<RunRoute> {
+    Some(RunRoute::Own(route))
+}
 
 #[test]
-fn two_routes_are_no_questions_to_the_office(rt: HostRuntime) {
-    let status = Some(StatusRoute::Status);
-    assert_eq!(rt; status_route(&[], b"GET /status HTTP/1.1\r\n\r\n"), status);
+fn a_run_has_routes_of_its_own(rt: HostRuntime) {
+    let status = own(StatusRoute::Status);
+    assert_eq!(rt; run_route(&[], b"GET /status HTTP/1.1\r\n\r\n"), status);
     let metrics = b"GET /metrics HTTP/1.0\r\nHost: a\r\n\r\n";
-    assert_eq!(rt; status_route(&["a"], metrics), Some(StatusRoute::Metrics));
-    let others: [&[u8]; 6] = [
+    assert_eq!(rt; run_route(&["a"], metrics), own(StatusRoute::Metrics));
+    let site = Some(RunRoute::Site);
+    assert_eq!(rt; run_route(&[], b"GET /site HTTP/1.1\r\n\r\n"), site);
+    let others: [&[u8]; 10] = [
+        b"GET /page HTTP/1.1\r\n\r\n",
+        b"GET /sites HTTP/1.1\r\n\r\n",
+        b"GET /site/ HTTP/1.1\r\n\r\n",
+        b"GET /site HTTP/1.1\r\n",
         b"GET /status HTTP/1.1\r\n",
         b"GET /status HTTP/1.1\r\nHost: a\r\n",
         b"GET /statuses HTTP/1.1\r\n\r\n",
@@ -19,27 +31,46 @@ fn two_routes_are_no_questions_to_the_office(rt: HostRuntime) {
         b"",
     ];
     for other in others {
-        assert_eq!(rt; status_route(&[], other), None);
+        assert_eq!(rt; run_route(&[], other), None);
+    }
+}
+
+#[test]
+fn the_page_has_four_targets(rt: HostRuntime) {
+    let parts: [(&[u8], PagePart); 4] = [
+        (b"GET / HTTP/1.1\r\n\r\n", PagePart::Page),
+        (b"GET /page.css HTTP/1.1\r\n\r\n", PagePart::Style),
+        (b"GET /page.js HTTP/1.1\r\n\r\n", PagePart::Script),
+        (b"GET /icon.svg HTTP/1.1\r\n\r\n", PagePart::Icon),
+    ];
+    for (request, part) in parts {
+        assert_eq!(rt; run_route(&[], request), own(StatusRoute::Page(part)));
     }
 }
 
 // Another method is rejected, and before that who may not ask, whatever is asked.
 #[test]
 fn a_run_rejects_by_itself(rt: HostRuntime) {
-    let method = Some(StatusRoute::Rejected(Status::MethodNotAllowed));
-    assert_eq!(rt; status_route(&[], b"HEAD /status HTTP/1.1\r\n\r\n"), method);
-    assert_eq!(rt;
-        status_route(&[], b"POST /metrics HTTP/1.1\r\n\r\n"),
-        method
-    );
-    let foreign = Some(StatusRoute::Rejected(Status::Misdirected));
+    let method = own(StatusRoute::Rejected(Status::MethodNotAllowed));
+    for request in &WRONG_METHODS {
+        assert_eq!(rt; run_route(&[], request), method);
+    }
+    let foreign = own(StatusRoute::Rejected(Status::Misdirected));
     for request in &MISDIRECTED {
-        assert_eq!(rt; status_route(&[], request), foreign);
+        assert_eq!(rt; run_route(&[], request), foreign);
     }
 }
 
-static MISDIRECTED: [&[u8]; 3] = [
+static WRONG_METHODS: [&[u8]; 4] = [
+    b"POST / HTTP/1.1\r\n\r\n",
+    b"HEAD /status HTTP/1.1\r\n\r\n",
+    b"POST /metrics HTTP/1.1\r\n\r\n",
+    b"POST /site HTTP/1.1\r\n\r\n",
+];
+
+static MISDIRECTED: [&[u8]; 4] = [
     b"GET /status HTTP/1.1\r\nHost: a\r\n\r\n",
+    b"GET /site HTTP/1.1\r\nHost: a\r\n\r\n",
     b"POST /metrics HTTP/1.1\r\nHost: a\r\n\r\n",
     b"GET /meters/m1 HTTP/1.1\r\nHost: a\r\n\r\n",
 ];
@@ -72,6 +103,21 @@ fn the_status_has_a_head(rt: HostRuntime) -> Result<(), Fail> {
     )?;
     assert_eq!(rt; text.len(), 91 + 267);
     assert!(rt; text.starts_with(HEAD));
+    Ok(())
+}
+
+#[test]
+fn a_part_of_the_page_has_headers_for_a_browser(rt: HostRuntime) -> Result<(), Fail> {
+    let mut text = Vec::new(rt.alloc());
+    let route = StatusRoute::Page(PagePart::Script);
+    reply_status(rt.alloc(), &mut text, route, &Counts::new(), &[], &[])?;
+    let body = PagePart::Script.body();
+    let size = body.len();
+    let head = format!(in rt.alloc();
+        "HTTP/1.1 200 OK\r\nContent-Type: text/javascript; charset=utf-8\r\nContent-Length: {size}\r\nConnection: close\r\nContent-Security-Policy: default-src 'self'\r\nX-Content-Type-Options: nosniff\r\nCache-Control: no-cache\r\n\r\n"
+    )?;
+    assert!(rt; text.starts_with(head.as_bytes()));
+    assert_eq!(rt; text.get(head.len()..), Some(body));
     Ok(())
 }
 

@@ -54,6 +54,8 @@ mod requests;
 #[cfg(test)]
 mod rounds;
 #[cfg(test)]
+mod site;
+#[cfg(test)]
 mod sockets;
 #[cfg(test)]
 mod stops;

@@ -9,3 +9,4 @@ mod sessions;
 mod slots;
 
 pub use events::settle_event;
+pub use readings::is_read_by;

@@ -152,7 +152,8 @@ CountsCause before after store.NoDay = after ≡ before
 CountsCause before after why = StoreFailed why before after
 
 -- A question is refused where nothing is found, the books or memory failed, or the office had stopped, and for no other
--- reason. It tells of the books' failures, and of no others, whatever they hold; days may take memory of the office's own.
+-- reason. It tells of the books' failures, and of no others, whatever they hold; days, and the rows of the site, may take memory
+-- of the office's own.
 abbrev pub CountsWhy : (before after : Failures) → Refusal → Type 0
 CountsWhy before after refusal.NotFound = after ≡ before
 CountsWhy before after (refusal.Store cause) = CountsCause before after cause

@@ -10,6 +10,7 @@ mod questions;
 mod refusing;
 mod reopened_office;
 mod results;
+mod site;
 
 pub use event_run::run;
 pub use laws::{events_are_left_whole, runs_are_left_whole};
@@ -21,3 +22,4 @@ pub use office_events::{
     Rescale, Reset, StartPoll, StartRound, StoreCause, VoidEntry,
 };
 pub use results::Run;
+pub use site::SiteRow;

@@ -16,6 +16,7 @@ ghost use Rattle.office_core.specs.Events as events;
 ghost use Rattle.office_core.specs.Failing.{IsNotForWantOfDay};
 ghost use Rattle.office_core.specs.Leaving.{BooksStand};
 ghost use Rattle.office_core.specs.Reopening.{HandsBackUnopened, LeavesOpening, Passed};
+ghost use Rattle.office_core.specs.Site.{TellsSite};
 ghost use Rattle.office_core.specs.Standing.{After, IsFresh, Stands, StandsIfClean};
 ghost use Rattle.office_core.specs.Standing.{books_in, is_stopped, notes_in, outgoing_in};
 ghost use Rattle.office_core.specs.Taking.{AnswersEvent, Ends, IsQuiet, IsTold, LeavesEvent};
@@ -23,8 +24,9 @@ ghost use Rattle.office_core.specs.Taking.{MayTake, Passes, SettlesNothing};
 ghost use Rattle.office_core.specs.Taking.{TakesAccepted, TakesAny};
 
 use crate::decisions::{asks_planned, decide, is_command, stops};
-use crate::questions;
 use crate::reopened_office::reopen;
+use crate::site::SiteRow;
+use crate::{questions, site};
 use interval_core::{DayTotal, Share};
 use office_booking::{Outgoing, Slot, carry_out, settle_event};
 use office_books::{Books, RowSink};
@@ -222,6 +224,19 @@ impl<B: Books> Office<B> {
         }
         facts_are_lawful();
         questions::days(self.alloc, &mut self.books, register, sink)
+    }
+
+    /// Each register of each device with the latest meter at it, if any ever was: the devices, and the registers of each, in
+    /// the order in which they were added.
+    pub fn site(&mut self) -> Result<Vec<SiteRow>, Refusal>
+        ensures found { TellsSite B.ledger self.old self.new result }
+        ensures asks { OnlyAsks B.ledger self.old self.new result }
+        ensures no_day { IfErr result IsNotForWantOfDay }
+    {
+        if self.stopped {
+            return Err(Refusal::Stopped);
+        }
+        site::rows(self.alloc, &mut self.books)
     }
 
     /// The bytes that the last event wants sent: the frames of its polls, where it started some.

@@ -39,7 +39,9 @@ use Rattle.run_status.specs.declared.run_http.answer.PeerReply.TheVariants.{Open
 use Rattle.http_request.specs.Hosts.{may_ask_in}
 use Rattle.http_request.specs.declared.status.Status.TheVariants.{Misdirected}
 use Rattle.run_status.specs.RunHttp.StatusRoute.{IsFor, route_in}
-use Rattle.run_status.specs.declared.run_http.route.StatusRoute.{StatusRoute}
+use Rattle.run_status.specs.RunHttp.SiteReply.{RepliesSite}
+use Rattle.run_status.specs.declared.run_http.route.RunRoute.{RunRoute}
+use Rattle.run_status.specs.declared.run_http.route.RunRoute.TheVariants.{Own}
 use Rattle.run_status.specs.declared.run_http.route.StatusRoute.TheVariants.{Rejected}
 use Rattle.office_running.specs.Runs.{AreAt, BooksRun, Goes, IsOfRound, RunsOn, Step, Fed, Asks, TakesTurn, TakesTurns, history_behind, latest_of, steps_of, with_step}
 
@@ -192,7 +194,7 @@ goes_fed names ledger at e answer old new feeds ends is = record {
 
 -- ---- A request of a peer
 
-may_of : (may : Bool) (route : Option StatusRoute) → None ≡ (if may then route else Some (Rejected Misdirected)) → may ≡ true
+may_of : (may : Bool) (route : Option RunRoute) → None ≡ (if may then route else Some (Own (Rejected Misdirected))) → may ≡ true
 may_of true route is = refl
 may_of false route is = cc is
 
@@ -225,6 +227,15 @@ goes_asked names ledger at old new request asked may asks lasts = record {
       record { steps = Asks served.connection ∷ []; each = (served.moment, tt); stands = served.stands };
   clean = lasts.clean;
   zone = lasts.zone;
+}
+
+-- A question of the run itself leaves the office as it was.
+pub goes_looked : {B E : Type 0} (names : List (List ℕ)) (ledger : B → Ledger) (at : ℕ) (old new : Office B) (from to : List ℕ) (result : Result (Unit {0}) E)
+    → RepliesSite ledger at old new from to result → Goes names at ledger old new
+goes_looked names ledger at old new from to result replies = record {
+  stands = λ past stands clean. record { steps = []; each = tt; stands = replies.asks.stands past stands };
+  clean = replies.asks.clean;
+  zone = replies.asks.zone;
 }
 
 -- ---- Turns

@@ -1,4 +1,5 @@
 //! HTTP on a port.
+ghost use Rattle.std.specs.Prelude.{ℕ, List};
 ghost use Rattle.http_request.specs.Hosts.{texts};
 ghost use Rattle.office_running.specs.Runs.{Goes};
 
@@ -13,7 +14,7 @@ use mio::{Interest, Registry, Token};
 use office_books::Books;
 use office_core::Office;
 use run_schedule::{MOST_PEERS, PEER_SECONDS, Peers, place_for};
-use run_status::{PeerReply, StatusRoute, ask, reply_status, status_route};
+use run_status::{PeerReply, RunRoute, StatusRoute, ask, reply_site, reply_status, run_route};
 use std::alloc::{AllocError, Global};
 use std::io::ErrorKind;
 use std::net::{Net, SocketAddr};
@@ -193,6 +194,18 @@ impl Serving {
         }
     }
 
+    // The reply to the question which registers and meters there are.
+    #[tactic(auto, using(crate::proofs::Going::goes_looked))]
+    fn reply_site<B: Books>(&self, office: &mut Office<B>, moment: u64) -> PeerReply
+        ensures { (names : List (List ℕ)) → Goes names moment B.ledger office.old office.new }
+    {
+        let mut text = Vec::new(self.alloc);
+        match reply_site(self.alloc, &mut text, office, moment) {
+            Ok(()) => PeerReply::Replied(text),
+            Err(_) => PeerReply::Failed,
+        }
+    }
+
     // What comes of what a peer has asked. Who asks is tested before all else.
     #[tactic(auto, using(crate::proofs::Going::goes_none, crate::proofs::Going::goes_both))]
     fn reply<B: Books>(
@@ -205,8 +218,9 @@ impl Serving {
     ) -> PeerReply
         ensures { Goes (texts names.now) now.moment B.ledger office.old office.new }
     {
-        match status_route(names, request) {
-            Some(route) => self.reply_status(route, voice),
+        match run_route(names, request) {
+            Some(RunRoute::Own(route)) => self.reply_status(route, voice),
+            Some(RunRoute::Site) => self.reply_site(office, now.moment),
             None => ask(self.alloc, request, office, now.moment),
         }
     }

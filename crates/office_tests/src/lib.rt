@@ -70,6 +70,8 @@ mod scripts;
 #[cfg(test)]
 mod seen;
 #[cfg(test)]
+mod site;
+#[cfg(test)]
 mod status;
 #[cfg(test)]
 mod stopped_office;

@@ -1,2 +1,3 @@
 pub mod StatusRoute
 pub mod Answer
+pub mod SiteReply

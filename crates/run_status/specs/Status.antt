@@ -2,3 +2,4 @@ pub mod Counts
 pub mod LackingText
 pub mod StatusText
 pub mod MetricsText
+pub mod SiteText

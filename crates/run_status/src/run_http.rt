@@ -1,9 +1,12 @@
-//! What a peer is replied to bytes that were gathered: by the office, over a link in memory, or by what was counted.
+//! What a peer is replied to bytes that were gathered: by the office, over a link in memory, by what was counted, or by what
+//! there is.
 
 mod answer;
 mod reply_link;
 mod route;
+mod site;
 
 pub use answer::{PeerReply, ask};
 pub use reply_link::ReplyLink;
-pub use route::{StatusRoute, reply_status, status_route};
+pub use route::{RunRoute, StatusRoute, reply_status, run_route};
+pub use site::reply_site;

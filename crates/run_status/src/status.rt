@@ -4,9 +4,11 @@ mod counts;
 mod lacking;
 mod metrics;
 mod pieces;
+mod site;
 mod status;
 
 pub use counts::Counts;
 pub use metrics::put_metrics;
 pub use pieces::{put, put_number, put_word};
+pub use site::put_site;
 pub use status::{DeviceState, put_status};

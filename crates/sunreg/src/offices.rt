@@ -168,7 +168,10 @@ fn say_opening(rt: &HostRuntime, path: &str, bytes: u64) {
     if bytes >= LARGE && errors.is_terminal() {
         let mut errors = Escaped::new(errors);
         let megabytes = bytes / 1_000_000;
-        let _said = write!(errors, "sunreg: {path}: opens {megabytes} MB, all of which is read\n");
+        let _said = write!(
+            errors,
+            "sunreg: {path}: opens {megabytes} MB, all of which is read\n"
+        );
     }
 }
 

@@ -28,7 +28,9 @@ fn contains_scale(span: ReadSpan, scale: ScaleSource) -> bool
     }
 }
 
-/// Whether the span is read by the register's function, and contains its counter and its scale.
+/// Whether a read of the span gives a reading of the register: it is made by the register's
+/// function, and contains both registers of its counter, and that of its scale, if the device tells
+/// the scale.
 pub fn is_read_by(span: ReadSpan, register: &Register) -> bool
     ensures { result ≡ readings.is_read_by span register.now }
 {

@@ -1,5 +1,7 @@
--- What a run answers by itself, and its replies: two routes by what was counted, and who may not ask.
+-- The routes of a run itself, and the replies to those that ask nothing of the office: two by what was counted, the page, and
+-- who may not ask.
 use Rattle.std.specs.Prelude.{◌≡◌, ℕ, if◌then◌else◌, Option, Some, None, List, [], ◌++◌, length, codes, decimal}
+use Rattle.std.specs.Option.{option_map}
 use Rattle.std.specs.Str.{bytes_eq}
 use Rattle.httparse.specs.Spans.{span_bytes}
 use Rattle.http_request.specs.Head.Heads.{Looks}
@@ -15,51 +17,73 @@ use Rattle.run_status.specs.Status.MetricsText.{with_metrics}
 use Rattle.run_status.specs.declared.advice.lacks.DeviceLack.{DeviceLack}
 use Rattle.run_status.specs.declared.status.counts.Counts.{Counts}
 use Rattle.run_status.specs.declared.status.status.DeviceState.{DeviceState}
+use Rattle.run_status.specs.declared.run_http.route.RunRoute.{RunRoute}
+use Rattle.run_status.specs.declared.run_http.route.RunRoute.TheVariants.{Own, Site}
 use Rattle.run_status.specs.declared.run_http.route.StatusRoute.{StatusRoute}
-use Rattle.run_status.specs.declared.run_http.route.StatusRoute.TheVariants.{Status, Metrics, Rejected}
+use Rattle.run_status.specs.declared.run_http.route.StatusRoute.TheVariants.{Status, Metrics, Page, Rejected}
+use Rattle.web_page.specs.Parts.{body_of, content_type_of, part_of}
+use Rattle.web_page.specs.declared.parts.PagePart.{PagePart}
 
--- the two paths
-abbrev pub path_named : (target : List ℕ) → Option StatusRoute
+-- the three paths, and those of the page
+abbrev pub path_named : (target : List ℕ) → Option RunRoute
 path_named target =
-    if bytes_eq target (codes "/status") then Some Status
-    else if bytes_eq target (codes "/metrics") then Some Metrics
-    else None
+    if bytes_eq target (codes "/status") then Some (Own Status)
+    else if bytes_eq target (codes "/metrics") then Some (Own Metrics)
+    else if bytes_eq target (codes "/site") then Some Site
+    else option_map (λ part. Own (Page part)) (part_of target)
 
 -- each is asked by GET alone
-abbrev pub route_by : (method : List ℕ) → Option StatusRoute → Option StatusRoute
+abbrev pub route_by : (method : List ℕ) → Option RunRoute → Option RunRoute
 route_by method None = None
 route_by method (Some route) =
-    if bytes_eq method (codes "GET") then Some route else Some (Rejected MethodNotAllowed)
+    if bytes_eq method (codes "GET") then Some route else Some (Own (Rejected MethodNotAllowed))
 
-abbrev pub route_named : (method target : List ℕ) → Option StatusRoute
+abbrev pub route_named : (method target : List ℕ) → Option RunRoute
 route_named method target = route_by method (path_named target)
 
 -- what a head asks for: nothing before it is whole, or past its limits
-abbrev pub route_in : List ℕ → HeadState → Option StatusRoute
+abbrev pub route_in : List ℕ → HeadState → Option RunRoute
 route_in bytes Open = None
 route_in bytes TooLarge = None
 route_in bytes NoHead = None
 route_in bytes (Whole at) = route_named (span_bytes bytes at.method) (span_bytes bytes at.target)
 
 -- Who asks is tested before that, by the names that were given.
-abbrev pub status_route_in : (names : List (List ℕ)) → List ℕ → HeadState → Option StatusRoute
-status_route_in names bytes head_state =
+abbrev pub run_route_in : (names : List (List ℕ)) → List ℕ → HeadState → Option RunRoute
+run_route_in names bytes head_state =
     if may_ask_in names bytes head_state then route_in bytes head_state
-    else Some (Rejected Misdirected)
+    else Some (Own (Rejected Misdirected))
 
 -- a look at the bytes finds a head that asks for it
-pub record IsFor (names : List (List ℕ)) (bytes : List ℕ) (route : Option StatusRoute) : Type 0
-  where
-    pub head_state : HeadState
-    pub looks : Looks bytes head_state
-    pub asks : route ≡ status_route_in names bytes head_state
+pub record IsFor (names : List (List ℕ)) (bytes : List ℕ) (route : Option RunRoute) : Type 0 where
+  pub head_state : HeadState
+  pub looks : Looks bytes head_state
+  pub asks : route ≡ run_route_in names bytes head_state
 
-abbrev pub with_reply : HttpStatus → (kind body : List ℕ) → List ℕ → List ℕ
-with_reply status kind body text =
+-- the status and the headers of each reply
+abbrev pub with_start : HttpStatus → (kind body : List ℕ) → List ℕ → List ℕ
+with_start status kind body text =
     text ++ codes "HTTP/1.1 " ++ decimal (number_of_status status) ++ codes " "
     ++ reason_of_status status
     ++ codes "\r\nContent-Type: " ++ kind ++ codes "\r\nContent-Length: " ++ decimal (length body)
-    ++ codes "\r\nConnection: close\r\n\r\n" ++ body
+    ++ codes "\r\nConnection: close"
+
+abbrev pub with_reply : HttpStatus → (kind body : List ℕ) → List ℕ → List ℕ
+with_reply status kind body text =
+    with_start status kind body text ++ codes "\r\n\r\n" ++ body
+
+-- Of a part of the page a browser is told to load nothing from elsewhere, to take it for no other type, and to show none
+-- that it has kept before it has asked again.
+abbrev pub with_page_headers : List ℕ → List ℕ
+with_page_headers text =
+    text ++ codes "\r\nContent-Security-Policy: default-src 'self'"
+    ++ codes "\r\nX-Content-Type-Options: nosniff"
+    ++ codes "\r\nCache-Control: no-cache"
+
+abbrev pub with_page_reply : PagePart → List ℕ → List ℕ
+with_page_reply part text =
+    with_page_headers (with_start Fine (content_type_of part) (body_of part) text)
+    ++ codes "\r\n\r\n" ++ body_of part
 
 abbrev pub with_route_reply : StatusRoute → Counts → List DeviceState → List DeviceLack
     → List ℕ → List ℕ
@@ -67,5 +91,6 @@ with_route_reply Status counts devices lacks text =
     with_reply Fine (codes "application/json") (with_status [] counts devices lacks) text
 with_route_reply Metrics counts devices lacks text =
     with_reply Fine (codes "text/plain; version=0.0.4") (with_metrics [] counts devices) text
+with_route_reply (Page part) counts devices lacks text = with_page_reply part text
 with_route_reply (Rejected status) counts devices lacks text =
     with_reply status (codes "application/json") (fault_text status) text

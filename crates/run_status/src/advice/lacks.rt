@@ -1,14 +1,13 @@
 //! What the devices of a run lack in the books.
-ghost use Rattle.std.specs.Prelude.{◌≡◌, ◌≤◌};
+ghost use Rattle.std.specs.Prelude.{◌≡◌};
 ghost use Rattle.std.specs.Option.{option_map};
-ghost use Rattle.office_rules.specs.Readings as readings;
 ghost use Rattle.office_books.specs.Ledgers.{Finds, OnlyReads};
 ghost use Rattle.run_status.specs.Advice.Lacks as specs;
 ghost use Rattle.run_status.specs.Advice.Lacks.{Adds, LooksUp};
 
-use mb_wire::ReadSpan;
+use office_booking::is_read_by;
 use office_books::{Books, BooksFault};
-use office_events::{Device, Installation, Name, PlannedList, Register, ScaleSource};
+use office_events::{Device, Installation, Name, PlannedList, Register};
 use read_plan::PlannedRead;
 use std::alloc::AllocError;
 
@@ -32,35 +31,6 @@ pub enum Lack {
 pub struct DeviceLack {
     pub device: Option<Name>,
     pub lack: Lack,
-}
-
-// Whether these registers lie in the span.
-fn contains(span: ReadSpan, address: u16, count: u32) -> bool
-    requires { count ≤ 2 }
-    ensures { result ≡ readings.contains span address count }
-{
-    let address = u32::from(address);
-    let from = u32::from(span.address);
-    from <= address && address + count <= from + u32::from(span.count)
-}
-
-// Whether the register of the scale lies in the span, if the device tells it.
-fn contains_scale(span: ReadSpan, scale: ScaleSource) -> bool
-    ensures { result ≡ readings.contains_scale span scale }
-{
-    match scale {
-        ScaleSource::Fixed(_) => true,
-        ScaleSource::Register(address) => contains(span, address, 1),
-    }
-}
-
-// Whether a read of the span gives a reading of the register.
-fn is_read_by(span: ReadSpan, register: &Register) -> bool
-    ensures { result ≡ readings.is_read_by span register.now }
-{
-    span.function.code() == register.function.code()
-        && contains(span, register.address, 2)
-        && contains_scale(span, register.scale)
 }
 
 // Whether one of these reads gives a reading of the register.

@@ -1,4 +1,4 @@
-//! What a run answers by itself: two routes by what was counted, and who may not ask.
+//! The routes of a run itself: two that tell what was counted, one that tells what there is, the page, and who may not ask.
 ghost use Rattle.std.specs.Prelude.{◌≡◌, IfOk, OnOk};
 ghost use Rattle.http_request.specs.Head.Heads.{Looks};
 ghost use Rattle.http_answer.specs.Sending.Bodies.{fault_text};
@@ -9,33 +9,47 @@ use crate::advice::DeviceLack;
 use crate::status::{Counts, DeviceState, put, put_metrics, put_number, put_status, put_word};
 use http_request::{HeadState, Status, may_ask, parse_head};
 use std::alloc::{AllocError, Global};
+use web_page::{PagePart, part_of};
 
-/// What a request is answered without the office.
+/// What a request is answered without asking the office.
 #[derive(Clone, Copy, Debug, PartialEq, Eq)]
 pub enum StatusRoute {
     /// What was counted, as JSON.
     Status,
     /// The same, as Prometheus reads it.
     Metrics,
+    /// A part of the page.
+    Page(PagePart),
     /// A fault: who may not ask, or another method than GET.
     Rejected(Status),
 }
 
+/// A route of a run itself.
+#[derive(Clone, Copy, Debug, PartialEq, Eq)]
+pub enum RunRoute {
+    /// It is answered without asking the office.
+    Own(StatusRoute),
+    /// The registers and their meters, which the office is asked for, as JSON.
+    Site,
+}
+
 // The route of a target.
-fn path_named(target: &[u8]) -> Option<StatusRoute>
+fn path_named(target: &[u8]) -> Option<RunRoute>
     ensures { result ≡ texts.path_named target.now }
 {
     if target == b"/status".as_slice() {
-        Some(StatusRoute::Status)
+        Some(RunRoute::Own(StatusRoute::Status))
     } else if target == b"/metrics".as_slice() {
-        Some(StatusRoute::Metrics)
+        Some(RunRoute::Own(StatusRoute::Metrics))
+    } else if target == b"/site".as_slice() {
+        Some(RunRoute::Site)
     } else {
-        None
+        part_of(target).map(|part| RunRoute::Own(StatusRoute::Page(part)))
     }
 }
 
 // The route of a method and a target.
-fn route_named(method: &[u8], target: &[u8]) -> Option<StatusRoute>
+fn route_named(method: &[u8], target: &[u8]) -> Option<RunRoute>
     ensures { result ≡ texts.route_named method.now target.now }
 {
     match path_named(target) {
@@ -44,14 +58,14 @@ fn route_named(method: &[u8], target: &[u8]) -> Option<StatusRoute>
             if method == b"GET".as_slice() {
                 Some(route)
             } else {
-                Some(StatusRoute::Rejected(Status::MethodNotAllowed))
+                Some(RunRoute::Own(StatusRoute::Rejected(Status::MethodNotAllowed)))
             }
         }
     }
 }
 
 // The route of a head that is whole and within its limits.
-fn route_in(request: &[u8], head_state: &HeadState) -> Option<StatusRoute>
+fn route_in(request: &[u8], head_state: &HeadState) -> Option<RunRoute>
     requires { Looks request.now head_state.now }
     ensures { result ≡ texts.route_in request.now head_state.now }
 {
@@ -61,29 +75,61 @@ fn route_in(request: &[u8], head_state: &HeadState) -> Option<StatusRoute>
     }
 }
 
-/// Which of the two routes a request asks for, once its head is whole and within its limits, or why it is rejected: who asks
-/// may not, by these names. None is the office's.
-pub fn status_route(names: &[&str], request: &[u8]) -> Option<StatusRoute>
+/// Which of the run's routes a request asks for, once its head is whole and within its limits, or why it is rejected: who
+/// asks may not, by these names. None is one of the office's.
+pub fn run_route(names: &[&str], request: &[u8]) -> Option<RunRoute>
     ensures { texts.IsFor (hosts.texts names.now) request.now result }
 {
     let head_state = parse_head(request);
     if may_ask(names, request, &head_state) {
         route_in(request, &head_state)
     } else {
-        Some(StatusRoute::Rejected(Status::Misdirected))
+        Some(RunRoute::Own(StatusRoute::Rejected(Status::Misdirected)))
     }
 }
 
-// Puts a reply with a body of a kind.
-fn put_reply(text: &mut Vec<u8>, status: Status, kind: &[u8], body: &[u8]) -> Result<(), AllocError>
+// Puts the status and the headers of each reply, for a body of a kind.
+fn put_start(text: &mut Vec<u8>, status: Status, kind: &[u8], body: &[u8]) -> Result<(), AllocError>
     ensures { OnOk result (text.new.items
-        ≡ texts.with_reply status kind.now body.now text.old.items) }
+        ≡ texts.with_start status kind.now body.now text.old.items) }
 {
     put_number(text, b"HTTP/1.1 ", u64::from(status.number()))?;
     put_word(text, b" ", status.reason())?;
     put_word(text, b"\r\nContent-Type: ", kind)?;
     put_number(text, b"\r\nContent-Length: ", body.len() as u64)?;
-    put_word(text, b"\r\nConnection: close\r\n\r\n", body)
+    put(text, b"\r\nConnection: close")
+}
+
+/// Puts a reply with a body of a kind.
+pub(crate) fn put_reply(
+    text: &mut Vec<u8>,
+    status: Status,
+    kind: &[u8],
+    body: &[u8],
+) -> Result<(), AllocError>
+    ensures { OnOk result (text.new.items
+        ≡ texts.with_reply status kind.now body.now text.old.items) }
+{
+    put_start(text, status, kind, body)?;
+    put_word(text, b"\r\n\r\n", body)
+}
+
+// Puts what a browser is told of a part of the page.
+fn put_page_headers(text: &mut Vec<u8>) -> Result<(), AllocError>
+    ensures { OnOk result (text.new.items ≡ texts.with_page_headers text.old.items) }
+{
+    put(text, b"\r\nContent-Security-Policy: default-src 'self'")?;
+    put(text, b"\r\nX-Content-Type-Options: nosniff")?;
+    put(text, b"\r\nCache-Control: no-cache")
+}
+
+// Puts the reply with a part of the page.
+fn put_page(text: &mut Vec<u8>, part: PagePart) -> Result<(), AllocError>
+    ensures { OnOk result (text.new.items ≡ texts.with_page_reply part text.old.items) }
+{
+    put_start(text, Status::Fine, part.content_type(), part.body())?;
+    put_page_headers(text)?;
+    put_word(text, b"\r\n\r\n", part.body())
 }
 
 // The body for a fault.
@@ -96,7 +142,7 @@ fn fault_body(alloc: Global, status: Status) -> Result<Vec<u8>, AllocError>
     Ok(body)
 }
 
-/// Puts the reply of a route.
+/// Puts the reply of a route that is answered without asking the office.
 pub fn reply_status(
     alloc: Global,
     text: &mut Vec<u8>,
@@ -119,6 +165,7 @@ pub fn reply_status(
             put_metrics(&mut body, counts, devices)?;
             put_reply(text, Status::Fine, b"text/plain; version=0.0.4", &body)
         }
+        StatusRoute::Page(part) => put_page(text, part),
         StatusRoute::Rejected(status) => {
             let body = fault_body(alloc, status)?;
             put_reply(text, status, b"application/json", &body)

@@ -6,3 +6,6 @@ pub returns-in-None : goal.returns-in-None
 returns-in-None g c =
     goes_asked (texts c.args.names.now) g.B.Books.ledger c.args.now.moment c.args.office.now c.ask.new.office c.args.request.now c.ask.result
     (may_ask_of (texts c.args.names.now) c.args.request.now c.in-None.ensures) c.ask.ensures.asks c.ask.ensures.lasts
+
+pub returns-in-Some-Site : goal.returns-in-Some-Site
+returns-in-Some-Site g c = c.reply_site.ensures (texts c.args.names.now)

@@ -1,0 +1,107 @@
+//! Which registers and meters there are, asked of the books.
+ghost use Rattle.std.specs.Prelude.{◌≡◌, ◌∷◌, [], IfErr};
+ghost use Rattle.office_books.specs.Ledgers.{Consults, Finds};
+ghost use Rattle.office_core.specs.Asking.{Asks};
+ghost use Rattle.office_core.specs.Failing.{IsNotForWantOfDay};
+ghost use Rattle.office_core.specs.Site.{AddsRows, SiteIn};
+ghost use Rattle.office_core.specs.Site.{row_at, rows_at, rows_of, rows_of_all, site_of};
+
+use office_books::{Books, BooksFault};
+use office_events::{Device, Installation, Refusal, Register};
+use std::alloc::Global;
+
+/// A register, and the latest meter that was installed at it, open or closed; `None` where none ever was.
+#[derive(Clone, Copy, Debug, PartialEq, Eq)]
+pub struct SiteRow {
+    pub register: Register,
+    pub meter: Option<Installation>,
+}
+
+/// Adds the row of a register.
+fn add_register<B: Books>(
+    rows: &mut Vec<SiteRow>,
+    books: &mut B,
+    register: &Register,
+) -> Result<(), BooksFault>
+    ensures adds { AddsRows (B.ledger books.old) (B.ledger books.new)
+        (λ known. row_at known register.now ∷ []) rows.old.items rows.new.items result }
+    ensures reads { Consults (B.ledger books.old) (B.ledger books.new) result }
+{
+    let meter = books.installation(&register.name)?;
+    rows.push(SiteRow {
+        register: *register,
+        meter,
+    })?;
+    Ok(())
+}
+
+/// Adds the rows of registers.
+fn add_registers<B: Books>(
+    rows: &mut Vec<SiteRow>,
+    books: &mut B,
+    registers: &[Register],
+) -> Result<(), BooksFault>
+    ensures adds { AddsRows (B.ledger books.old) (B.ledger books.new)
+        (λ known. rows_at known registers.now) rows.old.items rows.new.items result }
+    ensures reads { Consults (B.ledger books.old) (B.ledger books.new) result }
+{
+    for register in registers {
+        add_register(rows, books, register)?;
+    }
+    Ok(())
+}
+
+/// Adds the rows of a device.
+fn add_device<B: Books>(
+    rows: &mut Vec<SiteRow>,
+    books: &mut B,
+    device: &Device,
+) -> Result<(), BooksFault>
+    ensures adds { AddsRows (B.ledger books.old) (B.ledger books.new)
+        (λ known. rows_of known device.now) rows.old.items rows.new.items result }
+    ensures reads { Consults (B.ledger books.old) (B.ledger books.new) result }
+{
+    let registers = books.registers(&device.name)?;
+    add_registers(rows, books, &registers)
+}
+
+/// Adds the rows of devices.
+fn add_devices<B: Books>(
+    rows: &mut Vec<SiteRow>,
+    books: &mut B,
+    devices: &[Device],
+) -> Result<(), BooksFault>
+    ensures adds { AddsRows (B.ledger books.old) (B.ledger books.new)
+        (λ known. rows_of_all known devices.now) rows.old.items rows.new.items result }
+    ensures reads { Consults (B.ledger books.old) (B.ledger books.new) result }
+{
+    for device in devices {
+        add_device(rows, books, device)?;
+    }
+    Ok(())
+}
+
+/// The rows of all devices.
+fn rows_in<B: Books>(alloc: Global, books: &mut B) -> Result<Vec<SiteRow>, BooksFault>
+    ensures found { Finds (B.ledger books.old) (B.ledger books.new) result
+        (λ known rows. rows.items ≡ site_of known) }
+    ensures reads { Consults (B.ledger books.old) (B.ledger books.new) result }
+{
+    let devices = books.devices()?;
+    let mut rows = Vec::new(alloc);
+    add_devices(&mut rows, books, &devices)?;
+    Ok(rows)
+}
+
+/// Each register of each device with its meter: the devices, and the registers of each, in the order in which they were
+/// added.
+pub fn rows<B: Books>(alloc: Global, books: &mut B) -> Result<Vec<SiteRow>, Refusal>
+    ensures found { SiteIn (B.ledger books.old) (B.ledger books.new) result }
+    ensures asks { Asks (B.ledger books.old) (B.ledger books.new) result }
+    ensures no_day { IfErr result IsNotForWantOfDay }
+{
+    match rows_in(alloc, books) {
+        Ok(rows) => Ok(rows),
+        Err(fault) => Err(Refusal::from(fault)),
+    }
+}
