@@ -1,0 +1,10 @@
+-- One machine, PostgreSQL: a meter's quarter hours as its office prints them, in the place of those that there were. A cut text changes nothing.
+-- curl -sS URL/meters/m1/intervals | psql -v ON_ERROR_STOP=1 -v site=north -v meter=m1 -f postgres.sql
+CREATE TABLE IF NOT EXISTS intervals (site text, meter text, start bigint, mwh numeric(20), PRIMARY KEY (site, meter, start));
+BEGIN;
+CREATE TEMP TABLE came (word text, mwh numeric(20)) ON COMMIT DROP;
+\copy came FROM pstdin (DELIMITER ' ')
+SELECT 1 / count(*) AS whole FROM came WHERE word = 'end' AND mwh = (SELECT count(*) - 1 FROM came);
+DELETE FROM intervals WHERE site = :'site' AND meter = :'meter';
+INSERT INTO intervals SELECT :'site', :'meter', word::bigint, mwh FROM came WHERE word <> 'end';
+COMMIT;

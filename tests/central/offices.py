@@ -1,0 +1,142 @@
+"""Offices that aren't there: the routes of `sunreg run` that `central/collect` asks, by HTTP on one port, an office of the name NAME under /NAME.
+
+`offices.py PORT SITES METERS START QUARTERS` serves so many offices s1, s2, .. of so many meters, each with so many quarter hours from the
+moment START on, until it is killed. tests/central.py has offices of its own, which it changes while they are asked.
+"""
+import functools
+import http.server
+import json
+import re
+import sys
+import time
+
+DAY = 86400
+
+
+def intervals_text(rows):
+    return "".join(f"{start} {mwh}\n" for start, mwh in sorted(rows.items())) + f"end {len(rows)}\n"
+
+
+def days_text(meters):
+    """The days, in UTC, of the rows of a register's meters; a quarter hour that two of them share counts once."""
+    days = {}
+    for rows in meters:
+        for start, mwh in rows.items():
+            starts, energies = days.setdefault(start // DAY, (set(), []))
+            starts.add(start)
+            energies.append(mwh)
+    lines = [f"{time.strftime('%Y-%m-%d', time.gmtime(day * DAY))} {len(of[0]):3} {sum(of[1]):24}\n" for day, of in sorted(days.items())]
+    return "".join(lines) + f"end {len(lines)}\n"
+
+
+class Meter:
+    def __init__(self, name, register, at):
+        self.name, self.register, self.at, self.last, self.ended, self.rows = name, register, at, 0, False, {}
+
+    def read(self, start, mwh):
+        """A reading at the end of a quarter hour."""
+        self.at, self.last = start + 900, self.last + mwh
+        self.rows[start] = mwh
+
+    def told(self):
+        return {
+            "at": self.at, "ended": self.ended, "last": self.last % (1 << 32), "meter": self.name, "register": self.register, "sf": -3,
+            "total": str(sum(self.rows.values())),
+        }
+
+
+class Office:
+    """An office whose meters are as they were made."""
+
+    def __init__(self):
+        self.meters, self.has_site, self.asked = {}, True, []
+
+    def add(self, name, register, at):
+        self.meters[name] = Meter(name, register, at)
+        return self.meters[name]
+
+    def of(self, register):
+        return [meter for meter in self.meters.values() if meter.register == register]
+
+    def reply(self, target):
+        """The status and the text of a reply."""
+        self.asked.append(target)
+        if target == "/site" and self.has_site:
+            latest = {meter.register: {"device": "inv", **meter.told()} for meter in self.meters.values()}
+            spare = {"device": "inv", "register": "spare", "meter": None}
+            return 200, json.dumps({"at": int(time.time()), "registers": [*latest.values(), spare]}, separators=(",", ":")) + "\n"
+        if (found := re.fullmatch("/meters/([^/]+)", target)) and found[1] in self.meters:
+            return 200, json.dumps(self.meters[found[1]].told(), separators=(",", ":"))
+        if (found := re.fullmatch("/meters/([^/]+)/intervals", target)) and found[1] in self.meters:
+            return 200, intervals_text(self.meters[found[1]].rows)
+        if (found := re.fullmatch("/registers/([^/]+)/days", target)) and self.of(found[1]):
+            return 200, days_text([meter.rows for meter in self.of(found[1])])
+        return 404, '{"refused":1}'
+
+
+class Alike:
+    """One of many offices, with a meter at each of its registers, whose rows it shares with others of its kind."""
+
+    def __init__(self, place, meters, start, quarters):
+        self.place, self.meters, self.start, self.quarters = place, meters, start, quarters
+
+    def kind(self, meter):
+        return texts_of_kind((self.place * self.meters + meter) % 97, self.start, self.quarters)
+
+    def reply(self, target):
+        if target == "/site":
+            rows = [
+                {"device": "inv", "register": f"r{k}", "meter": f"m{k}", "at": self.start + 900 * self.quarters, "last": 7, "sf": 0, "total": self.kind(k)[2], "ended": False}
+                for k in range(self.meters)
+            ]
+            return 200, json.dumps({"at": int(time.time()), "registers": rows})
+        if found := re.fullmatch("/meters/m([0-9]+)/intervals", target):
+            return 200, self.kind(int(found[1]))[0]
+        if found := re.fullmatch("/registers/r([0-9]+)/days", target):
+            return 200, self.kind(int(found[1]))[1]
+        return 404, '{"fault":404}'
+
+
+@functools.cache
+def texts_of_kind(kind, start, quarters):
+    """The interval rows, the days and the total of a meter: some power by day and none by night, which is never twice the same."""
+    rows = {}
+    for k in range(quarters):
+        of_day = (start + 900 * k) % DAY // 900
+        sun = max(0, (of_day - 24) * (72 - of_day))
+        rows[start + 900 * k] = sun * (1000 + 10 * kind) + (k * 7919 + kind * 104729) % 1000 * (sun > 0)
+    return intervals_text(rows), days_text([rows]), str(sum(rows.values()))
+
+
+class Server(http.server.ThreadingHTTPServer):
+    daemon_threads, request_queue_size = True, 256
+
+    def __init__(self, port, offices):
+        super().__init__(("127.0.0.1", port), Handler)
+        self.offices = offices
+
+    def handle_error(self, request, client_address):
+        """A client that was killed is no fault."""
+
+
+class Handler(http.server.BaseHTTPRequestHandler):
+    def do_GET(self):
+        name, _, target = self.path[1:].partition("/")
+        office = self.server.offices.get(name)
+        status, text = office.reply("/" + target) if office else (404, '{"fault":404}')
+        if status:
+            body = text.encode()
+            self.wfile.write(f"HTTP/1.1 {status} \r\nConnection: close\r\n\r\n".encode() + body)
+
+    def log_message(self, *_):
+        pass
+
+
+if __name__ == "__main__":
+    port, sites, meters, start, quarters = map(int, sys.argv[1:])
+    offices = {f"s{place}": Alike(place, meters, start, quarters) for place in range(1, sites + 1)}
+    for kind in range(97):
+        texts_of_kind(kind, start, quarters)
+    server = Server(port, offices)
+    print("listening", server.server_port, flush=True)
+    server.serve_forever()
