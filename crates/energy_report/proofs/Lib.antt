@@ -9,4 +9,5 @@ pub mod TakenLemmas
 pub mod DecimalLemmas
 pub mod DayLemmas
 pub mod ShownLemmas
+pub mod RowLinesLemmas
 pub mod Examples

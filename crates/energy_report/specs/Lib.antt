@@ -5,4 +5,5 @@ pub mod Days
 pub mod Rows
 pub mod Texts
 pub mod Writing
+pub mod RowLines
 pub mod Laws

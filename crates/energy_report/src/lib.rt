@@ -6,6 +6,7 @@ mod laws;
 mod range;
 mod report_rows;
 mod row;
+mod row_lines;
 mod row_text;
 mod spelled_day;
 mod spelled_range;
@@ -17,5 +18,6 @@ pub use laws::{
 pub use range::DayRange;
 pub use report_rows::ReportRows;
 pub use row::Row;
+pub use row_lines::RowLines;
 pub use spelled_day::read_day;
 pub use spelled_range::{RangeFault, read_range};

@@ -1,7 +1,6 @@
 pub mod EndTexts
 pub mod Passing
 pub mod OpenedOffice
-pub mod Lines
 pub mod Reports
 pub mod RangedReports
 pub mod Rounds

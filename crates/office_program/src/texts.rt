@@ -1,7 +1,6 @@
 //! What the commands over an office print, and how they end.
 
 mod end_texts;
-mod lines;
 mod opened_office;
 mod ranged_report;
 mod report;

@@ -4,4 +4,3 @@ pub mod Asked
 pub mod Lines
 pub mod Scripts
 pub mod TextRun
-pub mod Rows

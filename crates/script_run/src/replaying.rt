@@ -4,7 +4,6 @@ mod events;
 mod lines;
 mod questions;
 mod replayed_script;
-mod rows;
 mod text_run;
 
 pub use events::feed;

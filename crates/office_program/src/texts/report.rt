@@ -3,8 +3,8 @@ ghost use Rattle.office_program.specs.Texts.Reports.{Asks, ReportsDays, last_lin
 ghost use Rattle.office_program.specs.Texts.EndTexts.{IsTold};
 
 use crate::texts::end_texts::{ended, print_refusal};
-use crate::texts::lines::DayLines;
 use command_io::ExitStatus;
+use energy_report::RowLines;
 use office_books::Books;
 use office_core::Office;
 use office_events::{Name, Refusal};
@@ -36,7 +36,7 @@ pub fn report_days<B: Books, W: Write>(
         output.old output.new result }
     ensures asks { Asks B.ledger office.old office.new }
 {
-    let mut days = DayLines::to(output);
+    let mut days = RowLines::to(output);
     let told = office.days(register, &mut days);
     if days.failed {
         return ExitStatus::Failed;

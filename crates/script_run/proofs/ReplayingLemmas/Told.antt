@@ -15,7 +15,8 @@ use Rattle.office_core.specs.Standing.{Stands}
 use Rattle.office_books.specs.declared.failures.Failures.{Failures}
 use Rattle.office_core.specs.Taking.{failures_of}
 use Rattle.office_core.specs.declared.office.Office.{Office}
-use Rattle.script_run.specs.Replaying.Asked.{AreDaysTold, IsAnswered, RowPrints, RowsPrint, counted, last_line, row_text}
+use Rattle.script_run.specs.Replaying.Asked.{AreDaysTold, IsAnswered, RowPrints, RowsPrint, last_line, row_text}
+use Rattle.energy_report.specs.RowLines.{counted}
 use Rattle.script_run.specs.Replaying.TextRun.{IsCarriedOut, stage_of}
 use Rattle.script_run.specs.Replaying.Stages.{Stage}
 use Rattle.script_run.proofs.ReplayingLemmas.Replies.{right_or_fails, same_stage}

@@ -1,5 +1,5 @@
 -- What a question of a script prints. No question changes where the script stands.
-use Rattle.std.specs.Prelude.{◌≡◌, ◌⊎◌, ◌+◌, ℕ, min, List, [], ◌++◌, length, map, take, flat_map, Option, Result, Ok, Err, OnOk, OnErr}
+use Rattle.std.specs.Prelude.{◌≡◌, ◌⊎◌, ◌+◌, ℕ, List, [], ◌++◌, length, map, take, flat_map, Option, Result, Ok, Err, OnOk, OnErr}
 use Rattle.std.specs.Option.{option_and_then}
 use Rattle.interval_core.specs.Days.{account_of}
 use Rattle.interval_core.specs.declared.shares.Share.{Share}
@@ -14,6 +14,7 @@ use Rattle.office_core.specs.Asking.{AreDaysNamed, intervals_of, is_there, or_no
 use Rattle.script_text.specs.RowLines.Rows.{day_line, end_line, share_line}
 use Rattle.script_run.specs.Replaying.Stages.{Stage, Fails, TellsStop}
 use Rattle.script_text.specs.AnswerText.{meter_line, poll_line, refused_line}
+use Rattle.energy_report.specs.RowLines.{counted}
 
 -- What is there is answered, or that there is nothing; or the office failed.
 pub record IsAnswered {T : Type 0} (now : Stage) (found : Option T) (reply : Result T Refusal)
@@ -43,10 +44,6 @@ MeterPrints name now printed next =
 abbrev pub PollPrints : (number : ℕ) → Stage → (printed : List ℕ) → (next : Stage) → Type 0
 PollPrints number now printed next =
     RowPrints now (poll_row_of (facts_of now.past) number) poll_line printed next
-
--- a count stops at the greatest number of 64 bits
-abbrev pub counted : ℕ → ℕ
-counted n = min n 18446744073709551615
 
 -- so many rows there were, or why there are no more
 abbrev pub last_line : (count : ℕ) → Result (Unit {0}) Refusal → List ℕ

@@ -4,7 +4,7 @@ ghost use Rattle.script_run.specs.Replaying.Asked.{last_line};
 ghost use Rattle.script_run.specs.Replaying.TextRun.{CarriesOut};
 ghost use Rattle.sun_points.specs.Writing.{GotText};
 
-use crate::replaying::rows::Rows;
+use energy_report::RowLines;
 use memory_books::ListBooks;
 use office_core::Office;
 use office_events::{Name, Refusal};
@@ -50,7 +50,7 @@ pub(crate) fn tell_intervals<W: Write>(
     ensures { CarriesOut (λ now printed next. IntervalsPrint now meter.now printed next)
         office.old office.new result (W.contents output.old) (W.contents output.new) }
 {
-    let mut rows = Rows::to(output);
+    let mut rows = RowLines::to(output);
     let told = office.intervals(meter, &mut rows);
     if rows.failed {
         return Err(io::Error::from(ErrorKind::Other));
@@ -67,7 +67,7 @@ pub(crate) fn tell_days<W: Write>(
     ensures { CarriesOut (λ now printed next. DaysPrint now register.now printed next)
         office.old office.new result (W.contents output.old) (W.contents output.new) }
 {
-    let mut rows = Rows::to(output);
+    let mut rows = RowLines::to(output);
     let told = office.days(register, &mut rows);
     if rows.failed {
         return Err(io::Error::from(ErrorKind::Other));

@@ -2,7 +2,8 @@ use Rattle.std.proofs.Common.{◌≡◌, refl, rules}
 use Rattle.office_core.specs.Standing.{books_in}
 use Rattle.office_program.specs.Texts.Reports.{last_line, meant_by}
 use Rattle.office_program.proofs.TextsLemmas.Told.{reported}
-use Rattle.office_program.proofs.TextsLemmas.Written.{same_output, told_all, told_part}
+use Rattle.office_program.proofs.TextsLemmas.Written.{told_all, told_part}
+use Rattle.energy_report.proofs.RowLinesLemmas.{same_output}
 use Rattle.interval_core.specs.Lines.{day_line}
 use Rattle.office_program.proofs.texts.report.report_days.Goals as goal
 

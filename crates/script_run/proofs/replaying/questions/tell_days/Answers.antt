@@ -8,7 +8,8 @@ use Rattle.script_run.specs.Replaying.TextRun.{stage_of}
 use Rattle.script_text.specs.RowLines.Rows.{day_line}
 use Rattle.script_run.specs.Replaying.Asked.{AreDaysTold, last_line}
 use Rattle.script_run.proofs.ReplayingLemmas.Told.{handed_days, rows_told}
-use Rattle.script_run.proofs.ReplayingLemmas.Written.{got_all, got_part, same_output}
+use Rattle.script_run.proofs.ReplayingLemmas.Written.{got_all, got_part}
+use Rattle.energy_report.proofs.RowLinesLemmas.{same_output}
 use Rattle.script_run.proofs.replaying.questions.tell_days.Goals as goal
 
 pub returns-then-rows : goal.returns-then-rows

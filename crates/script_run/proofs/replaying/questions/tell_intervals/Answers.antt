@@ -5,7 +5,8 @@ use Rattle.office_core.specs.Asking.{intervals_of, is_there}
 use Rattle.script_text.specs.RowLines.Rows.{share_line}
 use Rattle.script_run.specs.Replaying.Asked.{AreIntervals, last_line}
 use Rattle.script_run.proofs.ReplayingLemmas.Told.{handed, rows_told}
-use Rattle.script_run.proofs.ReplayingLemmas.Written.{got_all, got_part, same_output}
+use Rattle.script_run.proofs.ReplayingLemmas.Written.{got_all, got_part}
+use Rattle.energy_report.proofs.RowLinesLemmas.{same_output}
 use Rattle.script_run.proofs.replaying.questions.tell_intervals.Goals as goal
 
 pub returns-then-rows : goal.returns-then-rows

@@ -1,13 +1,16 @@
--- Rows that are written as they come.
-use Rattle.std.specs.Prelude.{◌≡◌, ℕ, ◌+◌, Bool, true, false, List, ◌++◌, length, flat_map, Option}
+-- Rows that are written as they come, a line each.
+use Rattle.std.specs.Prelude.{◌≡◌, ℕ, ◌+◌, min, true, false, List, Option}
 use Rattle.std.specs.Io.KnownBytes.{Appends}
-use Rattle.script_run.specs.Replaying.Asked.{counted}
-use Rattle.script_run.specs.declared.replaying.rows.Rows.{Rows}
+use Rattle.energy_report.specs.declared.row_lines.RowLines.{RowLines}
 use Rattle.sun_points.specs.Writing.{GotPart}
+
+-- a count stops at the greatest number of 64 bits
+abbrev pub counted : ℕ → ℕ
+counted n = min n 18446744073709551615
 
 -- A text for so many rows was written and they were counted, or a part of it, where a write failed.
 pub record HasWritten {W : Type 0} (contents : W → Option (List ℕ)) (text : List ℕ) (count : ℕ)
-    (old new : Rows W) : Type 0 where
+    (old new : RowLines W) : Type 0 where
   pub output : new.output.ghost_name ≡ old.output.ghost_name
   pub whole : new.failed ≡ false
       → Appends (contents old.output.now) (contents new.output.now) text
@@ -15,8 +18,8 @@ pub record HasWritten {W : Type 0} (contents : W → Option (List ℕ)) (text : 
   pub part : new.failed ≡ true → GotPart text (contents old.output.now) (contents new.output.now)
 
 -- The line of a row is written, unless a write failed before: then the row is dropped.
-pub record WritesRow {W : Type 0} (contents : W → Option (List ℕ)) (line : List ℕ)
-    (old new : Rows W)
+pub record WritesLine {W : Type 0} (contents : W → Option (List ℕ)) (line : List ℕ)
+    (old new : RowLines W)
     : Type 0 where
   pub written : old.failed ≡ false → HasWritten contents line 1 old new
   pub dropped : old.failed ≡ true → new ≡ old

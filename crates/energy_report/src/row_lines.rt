@@ -6,26 +6,26 @@ use office_books::RowSink;
 use script_text::{write_day, write_interval};
 use std::io::Write;
 
-/// Writes a line for each row, and counts them. It keeps that a write failed, and drops the rows that come
-/// after it.
+/// Writes a line for each row, and counts them, up to 2^64 - 1. It keeps that a write failed, and drops
+/// the rows that come after it.
 #[derive(Drop)]
-pub struct Rows<'o, W> {
-    pub(crate) output: &'o mut W,
-    pub(crate) count: u64,
-    pub(crate) failed: bool,
+pub struct RowLines<'o, W> {
+    pub output: &'o mut W,
+    pub count: u64,
+    pub failed: bool,
 }
 
-impl<'o, W: Write> Rows<'o, W> {
+impl<'o, W: Write> RowLines<'o, W> {
     ghost use Rattle.std.specs.Prelude.{false};
 
     /// No rows yet.
-    pub(crate) fn to(output: &'o mut W) -> Rows<'o, W>
+    pub fn to(output: &'o mut W) -> RowLines<'o, W>
         ensures output { result.output.ghost_name ≡ output.entry.ghost_name }
         ensures same { result.output.now ≡ output.old }
         ensures none { result.count ≡ 0 }
         ensures works { result.failed ≡ false }
     {
-        Rows {
+        RowLines {
             output,
             count: 0,
             failed: false,
@@ -33,11 +33,11 @@ impl<'o, W: Write> Rows<'o, W> {
     }
 }
 
-impl<'o, W: Write> RowSink<Share> for Rows<'o, W> {
+impl<'o, W: Write> RowSink<Share> for RowLines<'o, W> {
     ghost use Rattle.script_text.specs.RowLines.Rows.{share_line};
-    ghost use Rattle.script_run.specs.Replaying.Rows.{WritesRow};
+    ghost use Rattle.energy_report.specs.RowLines.{WritesLine};
 
-    ghost takes = { λ old row new. WritesRow W.contents (share_line row) old new };
+    ghost takes = { λ old row new. WritesLine W.contents (share_line row) old new };
 
     fn put(&mut self, row: Share) {
         if self.failed {
@@ -50,11 +50,11 @@ impl<'o, W: Write> RowSink<Share> for Rows<'o, W> {
     }
 }
 
-impl<'o, W: Write> RowSink<DayTotal> for Rows<'o, W> {
+impl<'o, W: Write> RowSink<DayTotal> for RowLines<'o, W> {
     ghost use Rattle.script_text.specs.RowLines.Rows.{day_line};
-    ghost use Rattle.script_run.specs.Replaying.Rows.{WritesRow};
+    ghost use Rattle.energy_report.specs.RowLines.{WritesLine};
 
-    ghost takes = { λ old row new. WritesRow W.contents (day_line row) old new };
+    ghost takes = { λ old row new. WritesLine W.contents (day_line row) old new };
 
     fn put(&mut self, row: DayTotal) {
         if self.failed {
