@@ -5,6 +5,7 @@ the memory is the most of the process up to then. Beside it stands what sqlite3 
 """
 import os
 import pathlib
+import resource
 import subprocess
 import sys
 import time
@@ -13,7 +14,6 @@ from sites import QUARTER, fill, machine, places, query
 from room import free_port, is_listening
 
 DAY = 86400
-BEGIN = 1_767_225_600
 # Devices, seconds from poll to poll, days.
 SITES = [
     (1, 900, 31), (1, 900, 365), (1, 900, 3650),
@@ -32,8 +32,9 @@ def each(count):
 def lines(devices, every, days):
     """The rows of a site. In each second from poll to poll a meter counts evenly, so that each quarter hour has the same."""
     polls = DAY * days // every
+    begin = int(time.time()) // QUARTER * QUARTER - QUARTER - every * polls
     raw = f"(n * {every} / {QUARTER} * {STEP_MWH // 1000})" if every >= QUARTER else f"(n * {STEP_MWH // 1000 * every} / {QUARTER})"
-    end = BEGIN + every * polls
+    end = begin + every * polls
     made = []
     for at in range(devices):
         name, meter, place = f"d{at}", f"m{at}", at + 1
@@ -44,13 +45,13 @@ def lines(devices, every, days):
             f"INSERT INTO registers VALUES ({place}, 'r{at}', '{name}', 3, 40094, 0, 0);",
             f"INSERT INTO installations VALUES ({place}, '{meter}', 'r{at}', 100000, 0, {end}, {last}, 0, {1000 * int(last)});",
             f"INSERT INTO ranges VALUES ('{meter}', 4294967296);",
-            f"INSERT INTO entries {each(polls + 1)} SELECT '{meter}', n + 1, CASE n WHEN 0 THEN 1 ELSE 2 END, {BEGIN} + {every} * n, {raw}, 0, 0, 0 FROM t;",
-            f"INSERT INTO intervals {each(every * polls // QUARTER)} SELECT '{meter}', {BEGIN} + {QUARTER} * n, {STEP_MWH} FROM t;",
+            f"INSERT INTO entries {each(polls + 1)} SELECT '{meter}', n + 1, CASE n WHEN 0 THEN 1 ELSE 2 END, {begin} + {every} * n, {raw}, 0, 0, 0 FROM t;",
+            f"INSERT INTO intervals {each(every * polls // QUARTER)} SELECT '{meter}', {begin} + {QUARTER} * n, {STEP_MWH} FROM t;",
         ]
     # (polls are numbered in the order in which they were started)
     made += [
-        f"INSERT INTO polls {each(polls * devices)} SELECT n + 1, 'd' || (n % {devices}), 1, {BEGIN} + {every} * (n / {devices} + 1), n % 65536, 3, 40094, 2 FROM t;",
-        f"INSERT INTO outcomes {each(polls * devices)} SELECT n + 1, {BEGIN} + {every} * (n / {devices} + 1), 1, 0 FROM t;",
+        f"INSERT INTO polls {each(polls * devices)} SELECT n + 1, 'd' || (n % {devices}), 1, {begin} + {every} * (n / {devices} + 1), n % 65536, 3, 40094, 2 FROM t;",
+        f"INSERT INTO outcomes {each(polls * devices)} SELECT n + 1, {begin} + {every} * (n / {devices} + 1), 1, 0 FROM t;",
     ]
     return made, devices * (3 * polls + every * polls // QUARTER)
 
@@ -58,7 +59,7 @@ def lines(devices, every, days):
 def opening(program, db):
     """The seconds until an office in a file listens, by the clock and of the processor, and the most memory up to then, in MB."""
     port, began = free_port(), time.monotonic()
-    child = subprocess.Popen([program, "serve", "--db", db, "--port", str(port), "--connections", "1"], stdout=subprocess.DEVNULL)
+    child = subprocess.Popen([program, "serve", "--db", db, "--port", str(port), "--connections", "1"], stdout=subprocess.DEVNULL, stderr=subprocess.DEVNULL)
     while not is_listening(port):
         if child.poll() is not None:
             sys.exit(f"growth.py: serve ended with {child.returncode}")
@@ -74,11 +75,11 @@ def opening(program, db):
 
 def checked(db):
     """The processor seconds that sqlite3 takes to check a file."""
-    began = os.times()
+    began = resource.getrusage(resource.RUSAGE_CHILDREN)
     if query(db, "PRAGMA integrity_check; PRAGMA foreign_key_check") != ["ok"]:
         sys.exit("growth.py: sqlite3 finds a fault")
-    now = os.times()
-    return now.children_user + now.children_system - began.children_user - began.children_system
+    now = resource.getrusage(resource.RUSAGE_CHILDREN)
+    return now.ru_utime + now.ru_stime - began.ru_utime - began.ru_stime
 
 
 def told(seconds):
