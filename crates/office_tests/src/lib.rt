@@ -23,7 +23,7 @@ mod fault_texts;
 #[cfg(test)]
 mod headline;
 #[cfg(test)]
-mod kept_books;
+mod kept_answers;
 #[cfg(test)]
 mod kept_rows;
 #[cfg(test)]
