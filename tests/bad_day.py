@@ -1,4 +1,5 @@
 """bad_day.py PROGRAM ROOM: see bad_day.sh."""
+import contextlib
 import fcntl
 import glob
 import json
@@ -321,7 +322,8 @@ class Meter:
             threading.Thread(target=self.talk, args=(stream,), daemon=True).start()
 
     def talk(self, stream):
-        with stream:
+        # (a round may end the connection before it has all)
+        with stream, contextlib.suppress(ConnectionError):
             while True:
                 frame = b""
                 while len(frame) < 12:
