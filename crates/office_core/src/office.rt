@@ -4,12 +4,13 @@ ghost use Rattle.std.specs.Prelude.{IfOk, IfErr, MatchResult};
 ghost use Rattle.std.specs.Option.{option_and_then};
 ghost use Rattle.office_rules.specs.Facts.{moment_limit};
 ghost use Rattle.office_rules.specs.History.{History, Opened};
-ghost use Rattle.office_rules.specs.Meters.{meter_of};
+ghost use Rattle.office_rules.specs.Meters.{meter_of, installation_at};
 ghost use Rattle.office_rules.specs.Readings.{poll_row_of};
 ghost use Rattle.office_rules.specs.Refusals.{refusal_of, with_answer};
 ghost use Rattle.office_rules.specs.Sessions.{command_in};
 ghost use Rattle.office_booking.specs.Sessions.Places.{AsksOnSlot};
 ghost use Rattle.office_booking.specs.Sessions.Ranges.{AsksInRange};
+ghost use Rattle.office_books.specs.Repeats.{repeat_of};
 ghost use Rattle.office_core.specs.Asking.{OnlyAsks, TakesRows, intervals_of};
 ghost use Rattle.office_core.specs.Asking.{TellsRow, TellsDays, TellsRows};
 ghost use Rattle.office_core.specs.Events as events;
@@ -29,7 +30,7 @@ use crate::site::SiteRow;
 use crate::{questions, site};
 use interval_core::{DayTotal, Share};
 use office_booking::{Outgoing, Slot, carry_out, settle_event};
-use office_books::{Books, RowSink};
+use office_books::{Books, Repeat, RowSink};
 use office_events::{Answer, Event, Installation, Name, Note, PollRow, Refusal};
 use office_rules::facts_are_lawful;
 use std::alloc::Global;
@@ -174,6 +175,38 @@ impl<B: Books> Office<B> {
             return Err(Refusal::Stopped);
         }
         questions::meter(&mut self.books, name)
+    }
+
+    /// The latest installation at a register, open or closed, as it stands. `None` is a name that no register can have.
+    pub fn installation(&mut self, register: &Option<Name>) -> Result<Installation, Refusal>
+        ensures found { TellsRow B.ledger self.old self.new result
+            (λ facts. option_and_then (installation_at facts) register.now) }
+        ensures asks { OnlyAsks B.ledger self.old self.new result }
+        ensures no_day { IfErr result IsNotForWantOfDay }
+    {
+        if self.stopped {
+            return Err(Refusal::Stopped);
+        }
+        questions::installation(&mut self.books, register)
+    }
+
+    /// What a request is to the one that is kept under its caller and number: the same, or another. Where none is kept, it is
+    /// not found, and would be asked anew.
+    pub fn repeat(
+        &mut self,
+        caller: &Option<Name>,
+        number: u64,
+        request: &[u8],
+    ) -> Result<Repeat, Refusal>
+        ensures found { TellsRow B.ledger self.old self.new result
+            (λ facts. option_and_then (λ name. repeat_of facts name number request.now) caller.now) }
+        ensures asks { OnlyAsks B.ledger self.old self.new result }
+        ensures no_day { IfErr result IsNotForWantOfDay }
+    {
+        if self.stopped {
+            return Err(Refusal::Stopped);
+        }
+        questions::repeat(&mut self.books, caller, number, request)
     }
 
     /// The poll of a number, and how it ended, if it has.

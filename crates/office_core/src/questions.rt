@@ -1,8 +1,9 @@
 //! Questions, asked of the books.
 ghost use Rattle.std.specs.Prelude.{◌≡◌, ◌<◌, ◌^◌, length, IfErr};
 ghost use Rattle.std.specs.Option.{option_and_then};
-ghost use Rattle.office_rules.specs.Meters.{meter_of};
+ghost use Rattle.office_rules.specs.Meters.{meter_of, installation_at};
 ghost use Rattle.office_rules.specs.Readings.{poll_row_of};
+ghost use Rattle.office_books.specs.Repeats.{repeat_of};
 ghost use Rattle.office_books.specs.Rows.{TakesAll};
 ghost use Rattle.office_core.specs.Asking.{ListsDays, Asks, DaysIn, FoundIn, RowsIn, TakesRows};
 ghost use Rattle.office_core.specs.Asking.{answered, intervals_of};
@@ -10,7 +11,7 @@ ghost use Rattle.office_core.specs.Failing.{IsNotForWantOfDay};
 
 use crate::day_sink::DaySink;
 use interval_core::{DayTotal, Share};
-use office_books::{Books, BooksFault, RowSink};
+use office_books::{Books, BooksFault, Repeat, RowSink};
 use office_events::{Installation, Name, PollRow, Refusal};
 use office_rules::registers_are_in_turn;
 use std::alloc::Global;
@@ -37,6 +38,40 @@ pub fn meter<B: Books>(books: &mut B, name: &Option<Name>) -> Result<Installatio
         return Err(Refusal::NotFound);
     };
     found(books.meter(name))
+}
+
+/// The latest installation at a register, as it stands.
+pub fn installation<B: Books>(
+    books: &mut B,
+    register: &Option<Name>,
+) -> Result<Installation, Refusal>
+    ensures found { FoundIn (B.ledger books.old) (B.ledger books.new) result
+        (λ known. option_and_then (installation_at known) register.now) }
+    ensures asks { Asks (B.ledger books.old) (B.ledger books.new) result }
+    ensures no_day { IfErr result IsNotForWantOfDay }
+{
+    let Some(name) = register else {
+        return Err(Refusal::NotFound);
+    };
+    found(books.installation(name))
+}
+
+/// What a request is to the one that is kept under its caller and number.
+pub fn repeat<B: Books>(
+    books: &mut B,
+    caller: &Option<Name>,
+    number: u64,
+    request: &[u8],
+) -> Result<Repeat, Refusal>
+    ensures found { FoundIn (B.ledger books.old) (B.ledger books.new) result
+        (λ known. option_and_then (λ name. repeat_of known name number request.now) caller.now) }
+    ensures asks { Asks (B.ledger books.old) (B.ledger books.new) result }
+    ensures no_day { IfErr result IsNotForWantOfDay }
+{
+    let Some(name) = caller else {
+        return Err(Refusal::NotFound);
+    };
+    found(books.repeat(name, number, request))
 }
 
 /// The poll of a number, and how it ended, if it has.

@@ -79,6 +79,19 @@ fn a_site_has_each_register_and_its_latest_meter(rt: HostRuntime) {
 }
 
 #[test]
+fn a_register_has_its_latest_meter(rt: HostRuntime) {
+    let mut office = built(&rt, rt.alloc(), 0);
+    for (_, register, told) in ROWS {
+        match (office.installation(&Name::new(register)), told) {
+            (Ok(meter), Some(told)) => assert!(rt; is_meter(&meter, told)),
+            (answer, _) => assert_eq!(rt; answer.err(), Some(Refusal::NotFound)),
+        }
+    }
+    assert_eq!(rt; office.installation(&Name::new(b"m1")).err(), Some(Refusal::NotFound));
+    assert_eq!(rt; office.installation(&None).err(), Some(Refusal::NotFound));
+}
+
+#[test]
 fn an_empty_office_has_no_registers(rt: HostRuntime) {
     let mut office = new_office(&rt, rt.alloc());
     assert_eq!(rt; office.site().map(|rows| rows.len()), Ok(0));
