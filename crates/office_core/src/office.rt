@@ -17,6 +17,7 @@ ghost use Rattle.office_core.specs.Events as events;
 ghost use Rattle.office_core.specs.Failing.{IsNotForWantOfDay};
 ghost use Rattle.office_core.specs.Leaving.{BooksStand};
 ghost use Rattle.office_core.specs.Reopening.{HandsBackUnopened, LeavesOpening, Passed};
+ghost use Rattle.office_core.specs.Reopening.{asking_moment};
 ghost use Rattle.office_core.specs.Site.{TellsSite};
 ghost use Rattle.office_core.specs.Standing.{After, IsFresh, Stands, StandsIfClean};
 ghost use Rattle.office_core.specs.Standing.{books_in, is_stopped, notes_in, outgoing_in};
@@ -73,6 +74,30 @@ impl<B: Books> Office<B> {
                 outgoing: Outgoing::none(),
                 notes: Vec::new(alloc),
             }),
+        }
+    }
+
+    /// Opens an office that is to be asked: at a moment, or at the latest that the books hold where that is later, since
+    /// questions need no clock. In all else it is an opening as any other: polls that wait are lost.
+    pub fn open_to_ask(
+        alloc: Global,
+        mut books: B,
+        moment: u64,
+    ) -> Result<Office<B>, (B, Refusal)>
+        ensures opened { (past : History) → BooksStand (B.ledger books) past
+            → IfOk result (StandsIfClean B.ledger (Opened (asking_moment past moment) ∷ past)) }
+        ensures leaves { (past : History) → BooksStand (B.ledger books) past
+            → IfOk result (LeavesOpening B.ledger books (asking_moment past moment) past) }
+        ensures fresh { IfOk result (λ office. IsFresh office) }
+        ensures refused { (past : History) → BooksStand (B.ledger books) past
+            → IfErr result (HandsBackUnopened B.ledger books (asking_moment past moment) past) }
+        ensures passed { MatchResult result
+            (λ office. Passed (B.ledger books) (B.ledger (books_in office)) (Ok office))
+            (λ e. Passed {T = B} (B.ledger books) (B.ledger e.0) (Err e.1)) }
+    {
+        match books.latest() {
+            Err(fault) => Err((books, Refusal::from(fault))),
+            Ok(latest) => Office::open(alloc, books, moment.max(latest)),
         }
     }
 
