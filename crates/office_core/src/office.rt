@@ -2,7 +2,7 @@
 ghost use Rattle.std.specs.Prelude.{◌≡◌, ◌≤◌, ◌∷◌, true, false, None, Ok, Err};
 ghost use Rattle.std.specs.Prelude.{IfOk, IfErr, MatchResult};
 ghost use Rattle.std.specs.Option.{option_and_then};
-ghost use Rattle.office_rules.specs.Facts.{moment_limit};
+ghost use Rattle.office_rules.specs.Facts.{device_of, register_of, moment_limit};
 ghost use Rattle.office_rules.specs.History.{History, Opened};
 ghost use Rattle.office_rules.specs.Meters.{meter_of, installation_at};
 ghost use Rattle.office_rules.specs.Readings.{poll_row_of};
@@ -32,7 +32,7 @@ use crate::{questions, site};
 use interval_core::{DayTotal, Share};
 use office_booking::{Outgoing, Slot, carry_out, settle_event};
 use office_books::{Books, Repeat, RowSink};
-use office_events::{Answer, Event, Installation, Name, Note, PollRow, Refusal};
+use office_events::{Answer, Device, Event, Installation, Name, Note, PollRow, Refusal, Register};
 use office_rules::facts_are_lawful;
 use std::alloc::Global;
 
@@ -187,6 +187,32 @@ impl<B: Books> Office<B> {
         let answer = self.take(moment, event);
         self.stopped = stops(event, &answer);
         answer
+    }
+
+    /// The device of a name. `None` is a name that no device can have.
+    pub fn device(&mut self, name: &Option<Name>) -> Result<Device, Refusal>
+        ensures found { TellsRow B.ledger self.old self.new result
+            (λ facts. option_and_then (device_of facts) name.now) }
+        ensures asks { OnlyAsks B.ledger self.old self.new result }
+        ensures no_day { IfErr result IsNotForWantOfDay }
+    {
+        if self.stopped {
+            return Err(Refusal::Stopped);
+        }
+        questions::device(&mut self.books, name)
+    }
+
+    /// The register of a name. `None` is a name that no register can have.
+    pub fn register(&mut self, name: &Option<Name>) -> Result<Register, Refusal>
+        ensures found { TellsRow B.ledger self.old self.new result
+            (λ facts. option_and_then (register_of facts) name.now) }
+        ensures asks { OnlyAsks B.ledger self.old self.new result }
+        ensures no_day { IfErr result IsNotForWantOfDay }
+    {
+        if self.stopped {
+            return Err(Refusal::Stopped);
+        }
+        questions::register(&mut self.books, name)
     }
 
     /// The installation of a meter, as it stands. `None` is a name that no meter can have.

@@ -1,8 +1,10 @@
 //! Questions, asked of the books.
-ghost use Rattle.std.specs.Prelude.{◌≡◌, ◌<◌, ◌^◌, length, IfErr};
+ghost use Rattle.std.specs.Prelude.{◌≡◌, ◌<◌, ◌^◌, length, find, reverse, IfErr};
 ghost use Rattle.std.specs.Option.{option_and_then};
+ghost use Rattle.office_rules.specs.Facts.{device_of, register_of, same};
 ghost use Rattle.office_rules.specs.Meters.{meter_of, installation_at};
 ghost use Rattle.office_rules.specs.Readings.{poll_row_of};
+ghost use Rattle.office_books.specs.Ledgers.{Finds, OnlyReads};
 ghost use Rattle.office_books.specs.Repeats.{repeat_of};
 ghost use Rattle.office_books.specs.Rows.{TakesAll};
 ghost use Rattle.office_core.specs.Asking.{ListsDays, Asks, DaysIn, FoundIn, RowsIn, TakesRows};
@@ -12,7 +14,7 @@ ghost use Rattle.office_core.specs.Failing.{IsNotForWantOfDay};
 use crate::day_sink::DaySink;
 use interval_core::{DayTotal, Share};
 use office_books::{Books, BooksFault, Repeat, RowSink};
-use office_events::{Installation, Name, PollRow, Refusal};
+use office_events::{Device, Installation, Name, PollRow, Refusal, Register};
 use office_rules::registers_are_in_turn;
 use std::alloc::Global;
 
@@ -25,6 +27,58 @@ fn found<T: Drop>(answer: Result<Option<T>, BooksFault>) -> Result<T, Refusal>
         Ok(None) => Err(Refusal::NotFound),
         Err(fault) => Err(Refusal::from(fault)),
     }
+}
+
+/// The last of the devices that has a name.
+#[tactic(auto, using(office_rules::proofs::Lists::find_more))]
+fn last_named(devices: &[Device], name: &Name) -> Option<Device>
+    ensures { result ≡ find (λ device. same device.name name.now) (reverse devices.now) }
+{
+    let mut last = None;
+    for device in devices {
+        if device.name.is(name) {
+            last = Some(*device);
+        }
+    }
+    last
+}
+
+/// The device of a name, among all: there are at most 64.
+fn device_in<B: Books>(books: &mut B, name: &Name) -> Result<Option<Device>, BooksFault>
+    ensures found { Finds (B.ledger books.old) (B.ledger books.new) result
+        (λ known row. row ≡ device_of known name.now) }
+    ensures reads { OnlyReads (B.ledger books.old) (B.ledger books.new) result }
+{
+    match books.devices() {
+        Ok(devices) => Ok(last_named(&devices, name)),
+        Err(fault) => Err(fault),
+    }
+}
+
+/// The device of a name.
+pub fn device<B: Books>(books: &mut B, name: &Option<Name>) -> Result<Device, Refusal>
+    ensures found { FoundIn (B.ledger books.old) (B.ledger books.new) result
+        (λ known. option_and_then (device_of known) name.now) }
+    ensures asks { Asks (B.ledger books.old) (B.ledger books.new) result }
+    ensures no_day { IfErr result IsNotForWantOfDay }
+{
+    let Some(name) = name else {
+        return Err(Refusal::NotFound);
+    };
+    found(device_in(books, name))
+}
+
+/// The register of a name.
+pub fn register<B: Books>(books: &mut B, name: &Option<Name>) -> Result<Register, Refusal>
+    ensures found { FoundIn (B.ledger books.old) (B.ledger books.new) result
+        (λ known. option_and_then (register_of known) name.now) }
+    ensures asks { Asks (B.ledger books.old) (B.ledger books.new) result }
+    ensures no_day { IfErr result IsNotForWantOfDay }
+{
+    let Some(name) = name else {
+        return Err(Refusal::NotFound);
+    };
+    found(books.register(name))
 }
 
 /// The installation of a meter, as it stands.

@@ -165,7 +165,12 @@ fn asked(alloc: Global, request: &Request) -> Option<(u64, Event)> {
 type Repeated = (&'static [u8], u64, &'static str, Result<Repeat, Refusal>);
 
 static REPEATED: [Repeated; 5] = [
-    (b"desk", 7, "exchange", Ok(Repeat::Same(CommandKind::Exchange))),
+    (
+        b"desk",
+        7,
+        "exchange",
+        Ok(Repeat::Same(CommandKind::Exchange)),
+    ),
     (b"desk", 7, "exchange, once more", Ok(Repeat::Other)),
     (b"desk", 99, "exchange", Err(Refusal::NotFound)),
     (b"nobody", 7, "exchange", Err(Refusal::NotFound)),

@@ -12,6 +12,8 @@ use std::process::Abort;
 // It refuses each question.
 fn refuse_questions(rt: &impl Abort, alloc: Global, office: &mut Tried) {
     const STOPPED: Option<Refusal> = Some(Refusal::Stopped);
+    assert_eq!(rt; office.device(&inv()).err(), STOPPED);
+    assert_eq!(rt; office.register(&inv()).err(), STOPPED);
     assert_eq!(rt; office.meter(&inv()).err(), STOPPED);
     assert_eq!(rt; office.poll(1).err(), STOPPED);
     assert_eq!(rt; office.installation(&inv()).err(), STOPPED);
