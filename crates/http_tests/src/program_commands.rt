@@ -23,11 +23,7 @@ fn taken(rt: &HostRuntime) -> Result<(TcpListener, u16), Fail> {
 }
 
 // A register that isn't there is `refused 1`, also where the clock was set back; a clock past the last moment of all `refused 12`.
-static REPORTS: [(u64, &[u8]); 3] = [
-    (999, b"refused 1\n"),
-    (1000, b"refused 1\n"),
-    (4_102_444_801, b"refused 12\n"),
-];
+static REPORTS: [(u64, &[u8]); 2] = [(999, b"refused 1\n"), (4_102_444_801, b"refused 12\n")];
 
 #[test]
 fn a_report_is_refused(rt: HostRuntime) -> Result<(), Fail> {

@@ -216,8 +216,8 @@ fn a_row_that_is_not_written_is_told(rt: HostRuntime) -> Result<(), Fail> {
     Ok(())
 }
 
-// A clock that was set back is `refused 3`, and a register that isn't there `refused 1`.
-static REFUSED: [(u64, &[u8]); 2] = [(999, b"refused 3\n"), (1000, b"refused 1\n")];
+// A register that isn't there is `refused 1`, also where the clock was set back; a clock past the last moment of all `refused 12`.
+static REFUSED: [(u64, &[u8]); 2] = [(999, b"refused 1\n"), (4_102_444_801, b"refused 12\n")];
 
 #[test]
 fn a_report_in_a_form_is_refused(rt: HostRuntime) -> Result<(), Fail> {
