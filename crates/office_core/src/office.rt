@@ -79,11 +79,7 @@ impl<B: Books> Office<B> {
 
     /// Opens an office that is to be asked: at a moment, or at the latest that the books hold where that is later, since
     /// questions need no clock. In all else it is an opening as any other: polls that wait are lost.
-    pub fn open_to_ask(
-        alloc: Global,
-        mut books: B,
-        moment: u64,
-    ) -> Result<Office<B>, (B, Refusal)>
+    pub fn open_to_ask(alloc: Global, mut books: B, moment: u64) -> Result<Office<B>, (B, Refusal)>
         ensures opened { (past : History) → BooksStand (B.ledger books) past
             → IfOk result (StandsIfClean B.ledger (Opened (asking_moment past moment) ∷ past)) }
         ensures leaves { (past : History) → BooksStand (B.ledger books) past
