@@ -1,6 +1,7 @@
 //! Facts that are booked in one transaction.
 ghost use Rattle.std.specs.Prelude.{◌≡◌, ℕ, List, false};
 ghost use Rattle.sqlite.specs.Held.{state};
+ghost use Rattle.store_tables.specs.Steps.{IsSameBorrow};
 ghost use Rattle.store_facts.specs.Going.{Goes, Commits};
 ghost use Rattle.store_facts.specs.Holding.{BooksFacts};
 ghost use Rattle.store_facts.specs.Recording.{Records, RecordsAll};
@@ -23,7 +24,7 @@ fn enter_fact<S: Alter>(
     tx: &mut Transaction<'_, S>,
     fact: &Fact,
 ) -> Result<(), RowFault>
-    ensures same_reference { tx.new.conn.ghost_name ≡ tx.old.conn.ghost_name }
+    ensures same_reference { IsSameBorrow tx.old.conn tx.new.conn }
     ensures does { Goes (state S.Store tx.old.conn.now) (state S.Store tx.new.conn.now) result
         (Records fact.now) }
 {
@@ -47,7 +48,7 @@ fn enter_facts<S: Alter>(
     tx: &mut Transaction<'_, S>,
     facts: &[Fact],
 ) -> Result<(), RowFault>
-    ensures same_reference { tx.new.conn.ghost_name ≡ tx.old.conn.ghost_name }
+    ensures same_reference { IsSameBorrow tx.old.conn tx.new.conn }
     ensures does { Goes (state S.Store tx.old.conn.now) (state S.Store tx.new.conn.now) result
         (RecordsAll facts.now) }
 {

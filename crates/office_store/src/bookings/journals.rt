@@ -1,6 +1,7 @@
 //! The journal of a meter, as the tables tell it.
-ghost use Rattle.std.specs.Prelude.{◌≡◌, IfOk};
+ghost use Rattle.std.specs.Prelude.{IfOk};
 ghost use Rattle.sqlite.specs.Held.{state};
+ghost use Rattle.store_tables.specs.Steps.{IsSameBorrow};
 ghost use Rattle.store_queries.specs.Metering.Entries.{ShowsEntries, ShowsVoids};
 ghost use Rattle.store_facts.specs.Going.{Goes};
 ghost use Rattle.office_store.specs.Bookings.Places.{Answered};
@@ -25,7 +26,7 @@ pub struct MeterJournal {
 
 /// The entries of a meter, in order of place.
 fn entries_of<S: Alter>(tx: &mut Transaction<'_, S>, meter: &str) -> Result<Vec<Row>, RowFault>
-    ensures same_reference { tx.new.conn.ghost_name ≡ tx.old.conn.ghost_name }
+    ensures same_reference { IsSameBorrow tx.old.conn tx.new.conn }
     ensures does { Goes (state S.Store tx.old.conn.now) (state S.Store tx.new.conn.now) result
         (Answered result (λ rows. IsSaidIn (λ facts. ShowsEntries meter.now facts rows.items))) }
 {
@@ -37,7 +38,7 @@ fn entries_of<S: Alter>(tx: &mut Transaction<'_, S>, meter: &str) -> Result<Vec<
 
 /// The voids of a meter's entries.
 fn voids_of<S: Alter>(tx: &mut Transaction<'_, S>, meter: &str) -> Result<Vec<Row>, RowFault>
-    ensures same_reference { tx.new.conn.ghost_name ≡ tx.old.conn.ghost_name }
+    ensures same_reference { IsSameBorrow tx.old.conn tx.new.conn }
     ensures does { Goes (state S.Store tx.old.conn.now) (state S.Store tx.new.conn.now) result
         (Answered result (λ rows. IsSaidIn (λ facts. ShowsVoids meter.now facts rows.items))) }
 {
@@ -68,7 +69,7 @@ pub fn journal_of<S: Alter>(
     tx: &mut Transaction<'_, S>,
     meter: &str,
 ) -> Result<MeterJournal, RowFault>
-    ensures same_reference { tx.new.conn.ghost_name ≡ tx.old.conn.ghost_name }
+    ensures same_reference { IsSameBorrow tx.old.conn tx.new.conn }
     ensures does { Goes (state S.Store tx.old.conn.now) (state S.Store tx.new.conn.now) result
         (Answered result (λ journal. IsSaidIn (λ facts. IsJournalOf meter.now facts journal))) }
 {

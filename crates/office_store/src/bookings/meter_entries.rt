@@ -1,5 +1,5 @@
 //! Entries of meters.
-ghost use Rattle.std.specs.Prelude.{◌≡◌, ◌≤◌, ◌<◌, IsTrue, IfOk, OnOk};
+ghost use Rattle.std.specs.Prelude.{◌≤◌, ◌<◌, IsTrue, IfOk, OnOk};
 ghost use Rattle.sqlite.specs.Held.{state};
 ghost use Rattle.energy_core.specs.Account.{intervals_touched, moment_of};
 ghost use Rattle.office_events.specs.declared.facts.Fact.TheVariants as fact;
@@ -7,6 +7,7 @@ ghost use Rattle.store_tables.specs.Columns.{is_within};
 ghost use Rattle.store_tables.specs.Limits.{latest_moment};
 ghost use Rattle.store_tables.specs.Meters.Rows.{IsSoundLast, greatest_total};
 ghost use Rattle.store_tables.specs.Entries.Rows.{IsSoundEntry};
+ghost use Rattle.store_tables.specs.Steps.{IsSameBorrow};
 ghost use Rattle.store_facts.specs.Going.{Goes};
 ghost use Rattle.store_facts.specs.Recording.{Records};
 ghost use Rattle.office_store.specs.Bookings.MeterState.{Advances, EntersEntry, Settles};
@@ -98,7 +99,7 @@ pub fn settle<S: Alter>(
     is_closing: bool,
 ) -> Result<(), RowFault>
     requires { IsSoundLast last }
-    ensures same_reference { tx.new.conn.ghost_name ≡ tx.old.conn.ghost_name }
+    ensures same_reference { IsSameBorrow tx.old.conn tx.new.conn }
     ensures does { Goes (state S.Store tx.old.conn.now) (state S.Store tx.new.conn.now) result
         (Settles meter.now last is_closing) }
 {
@@ -125,7 +126,7 @@ fn book_entry<S: Alter>(
         intervals_touched step.from step.till ≤ MAX_INTERVALS }
     requires energy { advance.now.step.mwh ≤ greatest_total }
     requires till { advance.now.step.till ≤ latest_moment }
-    ensures same_reference { tx.new.conn.ghost_name ≡ tx.old.conn.ghost_name }
+    ensures same_reference { IsSameBorrow tx.old.conn tx.new.conn }
     ensures does { Goes (state S.Store tx.old.conn.now) (state S.Store tx.new.conn.now) result
         (EntersEntry meter.now row advance.now is_closing) }
 {
@@ -140,7 +141,7 @@ pub fn enter_entry<S: Alter>(
     tx: &mut Transaction<'_, S>,
     booked: &BookedEntry,
 ) -> Result<(), RowFault>
-    ensures same_reference { tx.new.conn.ghost_name ≡ tx.old.conn.ghost_name }
+    ensures same_reference { IsSameBorrow tx.old.conn tx.new.conn }
     ensures does { Goes (state S.Store tx.old.conn.now) (state S.Store tx.new.conn.now) result
         (Records (fact.Entry booked.now)) }
 {

@@ -1,10 +1,11 @@
 //! Where a meter stands, as the tables have it.
-ghost use Rattle.std.specs.Prelude.{◌≡◌, IfOk};
+ghost use Rattle.std.specs.Prelude.{IfOk};
 ghost use Rattle.sqlite.specs.Held.{state};
 ghost use Rattle.store_tables.specs.Meters.Rows.{installed_columns, ranged_columns, is_meter};
 ghost use Rattle.store_tables.specs.Meters.Rows.{is_range_of, HasRange, IsRange, IsSoundLast};
 ghost use Rattle.store_tables.specs.Meters.Trees as meter_tree;
 ghost use Rattle.store_tables.specs.Limits.{IsPlace};
+ghost use Rattle.store_tables.specs.Steps.{IsSameBorrow};
 ghost use Rattle.store_facts.specs.Going.{Goes};
 ghost use Rattle.office_store.specs.Bookings.Places.{Answered, IsSeenIn, StandsThere};
 ghost use Rattle.office_store.specs.Bookings.MeterState.{IsStanding};
@@ -25,7 +26,7 @@ pub struct Standing {
 
 /// Where a meter stands, with its whole energy.
 fn last_of<S: Alter>(tx: &mut Transaction<'_, S>, meter: &str) -> Result<LastRow, RowFault>
-    ensures same_reference { tx.new.conn.ghost_name ≡ tx.old.conn.ghost_name }
+    ensures same_reference { IsSameBorrow tx.old.conn tx.new.conn }
     ensures sound { IfOk result IsSoundLast }
     ensures does { Goes (state S.Store tx.old.conn.now) (state S.Store tx.new.conn.now) result
         (Answered result
@@ -43,7 +44,7 @@ fn last_of<S: Alter>(tx: &mut Transaction<'_, S>, meter: &str) -> Result<LastRow
 
 /// How many counts the counter of a meter has.
 pub fn range_of<S: Alter>(tx: &mut Transaction<'_, S>, meter: &str) -> Result<u64, RowFault>
-    ensures same_reference { tx.new.conn.ghost_name ≡ tx.old.conn.ghost_name }
+    ensures same_reference { IsSameBorrow tx.old.conn tx.new.conn }
     ensures sound { IfOk result IsRange }
     ensures does { Goes (state S.Store tx.old.conn.now) (state S.Store tx.new.conn.now) result
         (Answered result
@@ -58,7 +59,7 @@ pub fn range_of<S: Alter>(tx: &mut Transaction<'_, S>, meter: &str) -> Result<u6
 
 /// All of it.
 pub fn standing_of<S: Alter>(tx: &mut Transaction<'_, S>, meter: &str) -> Result<Standing, RowFault>
-    ensures same_reference { tx.new.conn.ghost_name ≡ tx.old.conn.ghost_name }
+    ensures same_reference { IsSameBorrow tx.old.conn tx.new.conn }
     ensures place { IfOk result (λ standing. IsPlace standing.place) }
     ensures last { IfOk result (λ standing. IsSoundLast standing.last) }
     ensures does { Goes (state S.Store tx.old.conn.now) (state S.Store tx.new.conn.now) result

@@ -10,6 +10,7 @@ ghost use Rattle.store_devices.specs.Devices.Rows.{register_place};
 ghost use Rattle.store_devices.specs.Devices.Trees as list_tree;
 ghost use Rattle.store_tables.specs.Meters.Rows.{installed_columns, installed_place};
 ghost use Rattle.store_tables.specs.Meters.Trees as meter_tree;
+ghost use Rattle.store_tables.specs.Steps.{IsSameBorrow};
 ghost use Rattle.store_devices.specs.Polls.Rows.{hold_columns, hold_place};
 ghost use Rattle.store_devices.specs.Polls.Trees as poll_tree;
 ghost use Rattle.store_facts.specs.Going.{Goes};
@@ -46,7 +47,7 @@ fn next_place(rows: &[Row]) -> Result<u64, RowFault>
 
 /// The place of the next device.
 pub fn next_device<S: Alter>(tx: &mut Transaction<'_, S>) -> Result<u64, RowFault>
-    ensures same_reference { tx.new.conn.ghost_name ≡ tx.old.conn.ghost_name }
+    ensures same_reference { IsSameBorrow tx.old.conn tx.new.conn }
     ensures sound { IfOk result IsPlace }
     ensures does { Goes (state S.Store tx.old.conn.now) (state S.Store tx.new.conn.now) result
         (Answered result (IsNext list_tree.devices device_columns every device_place)) }
@@ -57,7 +58,7 @@ pub fn next_device<S: Alter>(tx: &mut Transaction<'_, S>) -> Result<u64, RowFaul
 
 /// The place of the next held reading.
 pub fn next_hold<S: Alter>(tx: &mut Transaction<'_, S>) -> Result<u64, RowFault>
-    ensures same_reference { tx.new.conn.ghost_name ≡ tx.old.conn.ghost_name }
+    ensures same_reference { IsSameBorrow tx.old.conn tx.new.conn }
     ensures sound { IfOk result IsPlace }
     ensures does { Goes (state S.Store tx.old.conn.now) (state S.Store tx.new.conn.now) result
         (Answered result (IsNext poll_tree.holds hold_columns every hold_place)) }
@@ -68,7 +69,7 @@ pub fn next_hold<S: Alter>(tx: &mut Transaction<'_, S>) -> Result<u64, RowFault>
 
 /// The place of the next register.
 pub fn next_register<S: Alter>(tx: &mut Transaction<'_, S>) -> Result<u64, RowFault>
-    ensures same_reference { tx.new.conn.ghost_name ≡ tx.old.conn.ghost_name }
+    ensures same_reference { IsSameBorrow tx.old.conn tx.new.conn }
     ensures sound { IfOk result IsPlace }
     ensures does { Goes (state S.Store tx.old.conn.now) (state S.Store tx.new.conn.now) result
         (Answered result (IsNext list_tree.registers register_columns every register_place)) }
@@ -79,7 +80,7 @@ pub fn next_register<S: Alter>(tx: &mut Transaction<'_, S>) -> Result<u64, RowFa
 
 /// The place of the next installation.
 pub fn next_installation<S: Alter>(tx: &mut Transaction<'_, S>) -> Result<u64, RowFault>
-    ensures same_reference { tx.new.conn.ghost_name ≡ tx.old.conn.ghost_name }
+    ensures same_reference { IsSameBorrow tx.old.conn tx.new.conn }
     ensures sound { IfOk result IsPlace }
     ensures does { Goes (state S.Store tx.old.conn.now) (state S.Store tx.new.conn.now) result
         (Answered result
@@ -91,7 +92,7 @@ pub fn next_installation<S: Alter>(tx: &mut Transaction<'_, S>) -> Result<u64, R
 
 /// The place of the next entry of a meter.
 pub fn next_entry<S: Alter>(tx: &mut Transaction<'_, S>, meter: &str) -> Result<u64, RowFault>
-    ensures same_reference { tx.new.conn.ghost_name ≡ tx.old.conn.ghost_name }
+    ensures same_reference { IsSameBorrow tx.old.conn tx.new.conn }
     ensures sound { IfOk result IsPlace }
     ensures does { Goes (state S.Store tx.old.conn.now) (state S.Store tx.new.conn.now) result
         (Answered result (IsNext entry_tree.entries entry_columns (is_of meter.now) entry_place)) }

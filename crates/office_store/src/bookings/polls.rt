@@ -1,6 +1,6 @@
 //! Polls, their outcomes, readings that were held, and replies.
-ghost use Rattle.std.specs.Prelude.{◌≡◌};
 ghost use Rattle.sqlite.specs.Held.{state};
+ghost use Rattle.store_tables.specs.Steps.{IsSameBorrow};
 ghost use Rattle.office_events.specs.declared.facts.Fact.TheVariants as fact;
 ghost use Rattle.store_facts.specs.Going.{Goes};
 ghost use Rattle.store_facts.specs.Recording.{Records};
@@ -15,7 +15,7 @@ use store_tables::{GREATEST_PLACE, LATEST_MOMENT, RowFault};
 
 /// Enters a poll that was started.
 pub fn enter_poll<S: Alter>(tx: &mut Transaction<'_, S>, poll: &Poll) -> Result<(), RowFault>
-    ensures same_reference { tx.new.conn.ghost_name ≡ tx.old.conn.ghost_name }
+    ensures same_reference { IsSameBorrow tx.old.conn tx.new.conn }
     ensures does { Goes (state S.Store tx.old.conn.now) (state S.Store tx.new.conn.now) result
         (Records (fact.Poll poll.now)) }
 {
@@ -32,7 +32,7 @@ pub fn enter_outcome<S: Alter>(
     tx: &mut Transaction<'_, S>,
     ended: &EndedPoll,
 ) -> Result<(), RowFault>
-    ensures same_reference { tx.new.conn.ghost_name ≡ tx.old.conn.ghost_name }
+    ensures same_reference { IsSameBorrow tx.old.conn tx.new.conn }
     ensures does { Goes (state S.Store tx.old.conn.now) (state S.Store tx.new.conn.now) result
         (Records (fact.Outcome ended.now)) }
 {
@@ -45,7 +45,7 @@ pub fn enter_outcome<S: Alter>(
 
 /// Enters a held reading, at the place after the last.
 pub fn enter_hold<S: Alter>(tx: &mut Transaction<'_, S>, held: &HeldReading) -> Result<(), RowFault>
-    ensures same_reference { tx.new.conn.ghost_name ≡ tx.old.conn.ghost_name }
+    ensures same_reference { IsSameBorrow tx.old.conn tx.new.conn }
     ensures does { Goes (state S.Store tx.old.conn.now) (state S.Store tx.new.conn.now) result
         (Records (fact.Hold held.now)) }
 {
@@ -61,7 +61,7 @@ pub fn enter_hold<S: Alter>(tx: &mut Transaction<'_, S>, held: &HeldReading) -> 
 
 /// Enters a reply that is kept.
 pub fn enter_reply<S: Alter>(tx: &mut Transaction<'_, S>, reply: &Reply) -> Result<(), RowFault>
-    ensures same_reference { tx.new.conn.ghost_name ≡ tx.old.conn.ghost_name }
+    ensures same_reference { IsSameBorrow tx.old.conn tx.new.conn }
     ensures does { Goes (state S.Store tx.old.conn.now) (state S.Store tx.new.conn.now) result
         (Records (fact.Reply reply.now)) }
 {

@@ -3,6 +3,7 @@ ghost use Rattle.std.specs.Prelude.{◌≡◌, true};
 ghost use Rattle.sqlite.specs.Held.{state};
 ghost use Rattle.office_events.specs.declared.facts.Fact.TheVariants as fact;
 ghost use Rattle.store_tables.specs.Columns.{is_within};
+ghost use Rattle.store_tables.specs.Steps.{IsSameBorrow};
 ghost use Rattle.store_devices.specs.Devices.Rows.{IsSoundScale, fits_a_read};
 ghost use Rattle.store_facts.specs.Going.{Goes};
 ghost use Rattle.store_facts.specs.Recording.{Records};
@@ -45,7 +46,7 @@ pub fn enter_register<S: Alter>(
     tx: &mut Transaction<'_, S>,
     register: &Register,
 ) -> Result<(), RowFault>
-    ensures same_reference { tx.new.conn.ghost_name ≡ tx.old.conn.ghost_name }
+    ensures same_reference { IsSameBorrow tx.old.conn tx.new.conn }
     ensures does { Goes (state S.Store tx.old.conn.now) (state S.Store tx.new.conn.now) result
         (Records (fact.Register register.now)) }
 {

@@ -1,9 +1,10 @@
 //! Entries that are voided.
-ghost use Rattle.std.specs.Prelude.{◌≡◌, ◌≤◌, All, IfSome};
+ghost use Rattle.std.specs.Prelude.{◌≤◌, All, IfSome};
 ghost use Rattle.sqlite.specs.Held.{state};
 ghost use Rattle.office_events.specs.declared.facts.Fact.TheVariants as fact;
 ghost use Rattle.store_tables.specs.Limits.{IsPlace, greatest_place, latest_moment};
 ghost use Rattle.store_tables.specs.Meters.Rows.{IsSoundLast};
+ghost use Rattle.store_tables.specs.Steps.{IsSameBorrow};
 ghost use Rattle.store_facts.specs.Intervals.Rows.{IsSoundShare};
 ghost use Rattle.store_facts.specs.Going.{Goes};
 ghost use Rattle.store_facts.specs.Recording.{Records};
@@ -27,7 +28,7 @@ fn roll_next<S: Alter>(
     next: Option<Rollover>,
 ) -> Result<(), RowFault>
     requires { IfSome next (λ r. r.place ≤ greatest_place) }
-    ensures same_reference { tx.new.conn.ghost_name ≡ tx.old.conn.ghost_name }
+    ensures same_reference { IsSameBorrow tx.old.conn tx.new.conn }
     ensures does { Goes (state S.Store tx.old.conn.now) (state S.Store tx.new.conn.now) result
         (RollsNext meter.now next) }
 {
@@ -46,7 +47,7 @@ fn keep_account<S: Alter>(
 ) -> Result<(), RowFault>
     requires last { IsSoundLast account.now.last }
     requires shares { All IsSoundShare account.now.shares.items }
-    ensures same_reference { tx.new.conn.ghost_name ≡ tx.old.conn.ghost_name }
+    ensures same_reference { IsSameBorrow tx.old.conn tx.new.conn }
     ensures does { Goes (state S.Store tx.old.conn.now) (state S.Store tx.new.conn.now) result
         (KeepsAccount meter.now account.now) }
 {
@@ -67,7 +68,7 @@ fn book_void<S: Alter>(
     requires next { IfSome made.now.next (λ r. r.place ≤ greatest_place) }
     requires last { IsSoundLast made.now.account.last }
     requires shares { All IsSoundShare made.now.account.shares.items }
-    ensures same_reference { tx.new.conn.ghost_name ≡ tx.old.conn.ghost_name }
+    ensures same_reference { IsSameBorrow tx.old.conn tx.new.conn }
     ensures does { Goes (state S.Store tx.old.conn.now) (state S.Store tx.new.conn.now) result
         (EntersVoid meter.now place moment made.now) }
 {
@@ -84,7 +85,7 @@ pub fn enter_void<S: Alter>(
     tx: &mut Transaction<'_, S>,
     voided: &VoidedEntry,
 ) -> Result<(), RowFault>
-    ensures same_reference { tx.new.conn.ghost_name ≡ tx.old.conn.ghost_name }
+    ensures same_reference { IsSameBorrow tx.old.conn tx.new.conn }
     ensures does { Goes (state S.Store tx.old.conn.now) (state S.Store tx.new.conn.now) result
         (Records (fact.Void voided.now)) }
 {
