@@ -1,6 +1,7 @@
 pub mod Kept
 pub mod FileWords
 pub mod Entries
+pub mod Doubts
 pub mod Asked
 pub mod Course
 pub mod Entered

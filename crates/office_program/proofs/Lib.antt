@@ -1,3 +1,4 @@
 pub mod Done
 pub mod EnteringLemmas
+mod Examples
 pub mod TextsLemmas

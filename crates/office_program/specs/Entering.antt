@@ -1,5 +1,6 @@
 pub mod FileLines
 pub mod Lines
+pub mod Doubts
 pub mod Course
 pub mod Asking
 pub mod Entered

@@ -2,11 +2,13 @@
 
 mod asking;
 mod checking;
+mod doubts;
 mod entered;
 mod entries;
 mod file_line;
 mod files;
 mod laws;
+mod marks;
 mod progress;
 mod wanted;
 

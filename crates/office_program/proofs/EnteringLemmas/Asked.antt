@@ -1,5 +1,5 @@
 -- One line that is asked of an office.
-use Rattle.std.proofs.Common.{◌≡◌, inl, inr, ℕ, ◌||◌, max, Bool, true, List, Option, Result, Ok, Err, refl, ap, subst, ◌∙◌}
+use Rattle.std.proofs.Common.{◌≡◌, inl, inr, ℕ, ◌||◌, max, Bool, true, List, Option, Some, None, Result, Ok, Err, refl, ap, subst, ◌∙◌}
 use Rattle.std.specs.Prelude.{IfOk, is_err}
 use Rattle.std.specs.declared.io.Error.{Error}
 use Rattle.command_io.specs.Lines.{Line}
@@ -9,24 +9,30 @@ use Rattle.point_list.specs.declared.fault.FaultyRow.{FaultyRow}
 use Rattle.socket_link.specs.Clocks.{TellsMoment}
 use Rattle.script_lines.specs.declared.line_fault.LineFault.{LineFault}
 use Rattle.script_lines.specs.declared.line_fault.LineFault.TheVariants.{Bad, Memory}
-use Rattle.script_text.specs.AnswerText.{accepted_text}
+use Rattle.script_text.specs.AnswerText.{accepted_text, refused_line}
 use Rattle.sun_points.specs.Writing.{GotText}
 use Rattle.office_events.specs.declared.answers.Answer.{Answer}
+use Rattle.office_events.specs.declared.events.Asked.{Asked as Request}
 use Rattle.office_events.specs.declared.events.Event.{Event}
+use Rattle.office_events.specs.declared.events.Event.TheVariants as event
 use Rattle.office_events.specs.declared.refusals.Refusal.{Refusal}
-use Rattle.office_rules.specs.History.{History}
+use Rattle.office_rules.specs.History.{History, facts_of}
 use Rattle.office_rules.specs.Notes.{notes_after}
 use Rattle.office_rules.specs.Refusals.{with_answer}
 use Rattle.office_books.specs.Ledgers.{Ledger}
+use Rattle.office_books.specs.declared.failures.Failures.{Failures}
 use Rattle.office_core.specs.EventRun.{Answered}
+use Rattle.office_core.specs.Failing.{IsOutside}
 use Rattle.office_core.specs.Standing.{Stands, outgoing_in}
 use Rattle.office_core.specs.Taking.{IsAnswer, IsTold}
 use Rattle.office_core.specs.declared.office.Office.{Office}
 use Rattle.office_rounds.specs.Rounds.{RoundState}
 use Rattle.office_program.specs.declared.entering.entries.Entry.{Entry}
+use Rattle.office_program.specs.declared.entering.entries.Entry.TheVariants as entry
 use Rattle.office_program.specs.declared.entering.progress.Progress.{Progress}
-use Rattle.office_program.specs.Entering.Asking.{TellsFault, told_text}
-use Rattle.office_program.specs.Entering.Course.{Asked, Came, EntersLine, Faulty, IsCameOf, IsUntouched, TakesLine, faults_text, progress_after, reply_text}
+use Rattle.office_program.specs.Entering.Asking.{IsAsked, TellsFault, TellsWhyNot, told_text}
+use Rattle.office_program.specs.Entering.Course.{Asked, Came, Doubted, EntersLine, Faulty, IsCameOf, IsUntouched, TakesLine, Undecided, doubted_line, faults_text, progress_after, reply_text}
+use Rattle.office_program.specs.Entering.Doubts.{doubt_in, doubt_of}
 use Rattle.office_program.specs.Entering.Lines.{IsEntry, ReadsEntry, Telling}
 
 -- what an office tells is printed as a script prints it
@@ -47,22 +53,80 @@ next_is progress next at e reply failed is same =
     is ∙ ap (λ (b : Bool). let p : Progress = record { latest = at; refused = progress.refused || b } in p) same
 
 -- An event was asked, and the reply was printed.
-pub asked : {B E : Type 0} (ledger : B → Ledger) (past : History) (progress : Progress) (begun now : RoundState) (office : Office B) (at told : ℕ) (e : Event)
-    (reply : Result Answer Refusal) (result : Result Progress E) (text : List ℕ) → TellsMoment begun.moments now.moments told → at ≡ max progress.latest told
-    → Stands ledger (with_answer past at e reply) office → IsAnswer past at e begun.failures now.failures reply → IsTold past at e reply office
-    → text ≡ told_text office reply → GotText result text begun.printed now.printed
+pub asked : {B : Type 0} (ledger : B → Ledger) (past : History) (progress : Progress) (before after : Failures) (had holds : Option (List ℕ)) (office : Office B)
+    (at : ℕ) (e : Event) (reply : Result Answer Refusal) (result : Result Progress Error) (text : List ℕ) → Stands ledger (with_answer past at e reply) office
+    → IsAnswer past at e before after reply → IsTold past at e reply office → text ≡ told_text office reply → GotText result text had holds
     → IfOk result (λ next. next ≡ progress_after progress (Asked (one at e reply)))
-    → (o : Answered) × (o.event ≡ e) × TakesLine {E = E} ledger past progress begun now office result (Asked o)
-asked {E = E} ledger past progress begun now office at told e reply result text tells is stands answer notes same got next =
-    let P : List ℕ → Type 0 = λ t. GotText result t begun.printed now.printed in (
-      one at e reply,
-      refl,
+    → IsAsked ledger past at e progress before after had holds office result
+asked ledger past progress before after had holds office at e reply result text stands answer notes same got next =
+    let P : List ℕ → Type 0 = λ t. GotText result t had holds in
+    record {
+      one = one at e reply;
+      at_is = refl;
+      event_is = refl;
+      stands = stands;
+      answer = answer;
+      text = subst P (same ∙ told_is office past at e reply notes) got;
+      next = next;
+    }
+
+abbrev Entered : {B E : Type 0} → (B → Ledger) → Entry → (past : History) → Progress → (begun now : RoundState) → Office B → Result Progress E → Type 0
+Entered {E = E} ledger entry past progress begun now office result =
+    (came : Came) × IsCameOf entry came × TakesLine {E = E} ledger past progress begun now office result came
+
+-- A request was asked that is not doubted.
+pub undoubted : {B : Type 0} (ledger : B → Ledger) (past : History) (progress : Progress) (begun now : RoundState) (office : Office B) (at told : ℕ) (request : Request)
+    (between : Failures) (result : Result Progress Error) → TellsMoment begun.moments now.moments told → at ≡ max progress.latest told
+    → doubt_of (facts_of past) at request ≡ None → between ≡ begun.failures
+    → IsAsked ledger past at (event.Asked request) progress between now.failures begun.printed now.printed office result
+    → Entered {E = Error} ledger (entry.Ask request) past progress begun now office result
+undoubted ledger past progress begun now office at told request between result tells is none same done =
+    let o = done.one in
+    let here : doubt_in (facts_of past) o.at o.event ≡ None =
+    ap (doubt_in (facts_of past) o.at) done.event_is ∙ ap (λ (t : ℕ). doubt_of (facts_of past) t request) done.at_is ∙ none in
+    let P : Failures → Type 0 = λ n. IsAnswer past o.at o.event n now.failures o.result in (
+      Asked o,
+      done.event_is,
       record {
-        takes = record { stands = stands; answered = answer; timed = record { told = told; tells = tells; is = is } };
-        text = subst P (same ∙ told_is office past at e reply notes) got;
-        next = next;
+        takes = record {
+          stands = done.stands;
+          answered = record { undoubted = here; answer = subst P same done.answer };
+          timed = record { told = told; tells = tells; is = done.at_is ∙ is };
+        };
+        text = done.text;
+        next = done.next;
       },
     )
+
+-- It was not asked, since it is doubted,
+pub doubted : {B : Type 0} (ledger : B → Ledger) (past : History) (progress : Progress) (begun now : RoundState) (office : Office B) (at told mwh : ℕ) (request : Request)
+    (result : Result Progress Error) → TellsMoment begun.moments now.moments told → at ≡ max progress.latest told → Stands ledger past office
+    → doubt_of (facts_of past) at request ≡ Some mwh → now.failures ≡ begun.failures → TellsWhyNot (doubted_line mwh) at begun.printed now.printed result
+    → Entered {E = Error} ledger (entry.Ask request) past progress begun now office result
+doubted ledger past progress begun now office at told mwh request result tells is stands doubt same why = (
+  Doubted at request mwh,
+  refl,
+  record {
+    takes = record { stands = stands; answered = (doubt, same); timed = record { told = told; tells = tells; is = is } };
+    text = why.text;
+    next = why.next;
+  },
+)
+
+-- or since the office refused to tell whether it is.
+pub undecided : {B : Type 0} (ledger : B → Ledger) (past : History) (progress : Progress) (begun now : RoundState) (office : Office B) (at told : ℕ) (request : Request)
+    (reason : Refusal) (result : Result Progress Error) → TellsMoment begun.moments now.moments told → at ≡ max progress.latest told → Stands ledger past office
+    → IsOutside ⊥ begun.failures now.failures reason → TellsWhyNot (refused_line reason) at begun.printed now.printed result
+    → Entered {E = Error} ledger (entry.Ask request) past progress begun now office result
+undecided ledger past progress begun now office at told request reason result tells is stands outside why = (
+  Undecided at request reason,
+  refl,
+  record {
+    takes = record { stands = stands; answered = outside; timed = record { told = told; tells = tells; is = is } };
+    text = why.text;
+    next = why.next;
+  },
+)
 
 -- The faults of a list were told, and nothing was asked.
 pub faulty : {B E : Type 0} (ledger : B → Ledger) (past : History) (progress : Progress) (begun now : RoundState) (office : Office B) (rows told : List FaultyRow)
@@ -77,10 +141,6 @@ faulty ledger past progress begun now office rows told result stands moments fai
       text = subst P same got;
       next = next;
     }
-
-abbrev Entered : {B E : Type 0} → (B → Ledger) → Entry → (past : History) → Progress → (begun now : RoundState) → Office B → Result Progress E → Type 0
-Entered {E = E} ledger entry past progress begun now office result =
-    (came : Came) × IsCameOf entry came × TakesLine {E = E} ledger past progress begun now office result came
 
 -- What a line came to was taken and printed, or a part of that.
 pub line_taken : {B : Type 0} (ledger : B → Ledger) (tells : Telling) (caller : Option (List ℕ)) (line : Line) (past : History) (progress next : Progress)

@@ -18,7 +18,7 @@ use Rattle.office_program.specs.declared.entering.entries.Entry.TheVariants.{Ask
 use Rattle.office_program.specs.declared.entering.wanted.Wanted.{Wanted}
 use Rattle.office_program.specs.declared.entering.wanted.Wanted.TheVariants as wanted
 use Rattle.office_program.specs.Entering.FileLines.{FileLine, IsFileLine, IsNoFileLine}
-use Rattle.office_program.specs.Entering.Lines.{IsWantedEntry, ReadsEntry, ReadsFile, ReadsList, ReadsScript, ReadsWanted, Telling, asked_by, file_request, put_by, wanted_in}
+use Rattle.office_program.specs.Entering.Lines.{IsWantedEntry, ReadsEntry, ReadsFile, ReadsList, ReadsScript, ReadsWanted, Telling, asked_by, file_request, is_marked, put_by, unmarked, wanted_in}
 
 -- a command of which the bytes of the line are kept
 pub command_wanted : (caller : Option (List ℕ)) (text kept : List ℕ) (number : ℕ) (c : Command) (want : Wanted) → want ≡ wanted.Command number c → kept ≡ text
@@ -42,18 +42,18 @@ list_wanted caller text kept bytes number list want result is same its reads =
 
 -- a line of a script comes to what it asks
 pub script_reads : (caller : Option (List ℕ)) (text : List ℕ) (said : ScriptLine) (want : Wanted) (result : Result Entry LineFault)
-    → want ≡ wanted_in said → IsOnly (words_of text) said → ReadsWanted caller text want result → ReadsScript caller text result
+    → want ≡ wanted_in (is_marked text) said → IsOnly (words_of (unmarked text)) said → ReadsWanted caller text want result → ReadsScript caller text result
 script_reads caller text said want (Ok entry) is only reads = record {
   said = said;
   is = only;
   comes = subst (λ (w : Wanted). IsWantedEntry caller text w entry) is reads;
 }
 script_reads caller text said want (Err Bad) is only reads =
-    λ other line. ap wanted_in (only.only other line) ∙ sym is ∙ reads
+    λ other line. ap (wanted_in (is_marked text)) (only.only other line) ∙ sym is ∙ reads
 script_reads caller text said want (Err Memory) is only reads = tt
 
 -- one that can't be read asks nothing
-pub no_script : (caller : Option (List ℕ)) (text : List ℕ) (fault : LineFault) → (let r : Result ScriptLine LineFault = Err fault in Reads (words_of text) r)
+pub no_script : (caller : Option (List ℕ)) (text : List ℕ) (fault : LineFault) → (let r : Result ScriptLine LineFault = Err fault in Reads (words_of (unmarked text)) r)
     → ReadsScript caller text (Err fault)
 no_script caller text Bad reads = λ said line. absurd (reads said line)
 no_script caller text Memory reads = tt

@@ -15,6 +15,7 @@ use Rattle.office_events.specs.declared.refusals.Refusal.{Refusal}
 use Rattle.office_rules.specs.Facts.{reply_of}
 use Rattle.office_rules.specs.History.{Fed, History, facts_of, kind_of, next_poll, slots_of}
 use Rattle.office_rules.specs.Refusals.{AreAccepted, IsAccepted, answer_of, decision_of, is_start, kept_of, reads_in_all, refusal_of, sent_count, unless_kept, unless_refused, with_answer}
+use Rattle.office_books.specs.Repeats.{as_repeat}
 use Rattle.office_books.specs.declared.failures.Failures.{Failures}
 use Rattle.office_core.specs.EventRun.{Answered}
 use Rattle.office_core.specs.Failing.{FailsOutside}
@@ -25,10 +26,12 @@ use Rattle.office_program.specs.declared.entering.entries.Entry.TheVariants as e
 use Rattle.office_program.specs.declared.entering.wanted.Wanted.{Wanted}
 use Rattle.office_program.specs.declared.entering.wanted.Wanted.TheVariants as wanted
 use Rattle.office_program.specs.Entering.FileLines.{FileLine}
-use Rattle.office_program.specs.Entering.Lines.{IsEntry, IsFileEntry, IsListEntry, IsScriptEntry, IsWantedEntry, Telling, asked_by, file_request, wanted_in}
-use Rattle.office_program.specs.Entering.Course.{AreAnswered, AreComing, Came, Comes, Faulty, IsCameAnswered, IsCameOf, Taken, history_behind, lines_with, with_came}
+use Rattle.office_program.specs.Entering.Lines.{IsEntry, IsFileEntry, IsListEntry, IsScriptEntry, IsWantedEntry, Telling, asked_by, file_request, is_marked, wanted_in}
+use Rattle.office_program.specs.Entering.Course.{AreAnswered, AreComing, Came, Doubted, Faulty, IsCameAnswered, IsCameOf, Taken, Undecided, history_behind, lines_with, with_came}
+use Rattle.office_program.specs.Entering.Doubts.{doubt_of, repeat_in}
 use Rattle.office_program.specs.Entering.Course as course
 use Rattle.office_program.specs.Entering.Repeats.{ActsNoMore, AreSteady, HasActed, HasRepeated, HaveActed, InputsActOnce, IsRepeated, IsSameRequest, RequestsAreRepeated}
+use Rattle.office_program.proofs.EnteringLemmas.Doubts.{kept_undoubted}
 use Rattle.office_program.proofs.EnteringLemmas.FileWords.{one_line}
 use Rattle.office_program.proofs.EnteringLemmas.Kept.{Keeps, accepted_before, answers, keeps_first, keeps_on, kept_again}
 
@@ -80,8 +83,8 @@ same_wanted caller text wanted.Nothing a b first second = absurd first
 same_script : (caller : Option (List ℕ)) (text : List ℕ) (a b : Entry) → IsScriptEntry caller text a → IsScriptEntry caller text b → SameEntry a b
 same_script caller text a b first second =
     let said : second.said ≡ first.said = first.is.only second.said second.is.is in
-    same_wanted caller text (wanted_in first.said) a b first.comes
-    (subst (λ (s : ScriptLine). IsWantedEntry caller text (wanted_in s) b) said second.comes)
+    same_wanted caller text (wanted_in (is_marked text) first.said) a b first.comes
+    (subst (λ (s : ScriptLine). IsWantedEntry caller text (wanted_in (is_marked text) s) b) said second.comes)
 
 some_bytes : (a b : List ℕ) → Some a ≡ Some b → a ≡ b
 some_bytes a b h = cc h
@@ -106,15 +109,10 @@ same_entry tells caller text a b steady (inr first) (inr second) = same_script c
 
 -- ---- What was asked is kept
 
--- a request of the line is kept
-abbrev KeepsCame : History → Came → Type 0
-KeepsCame later (course.Asked one) =
-    (asked : Asked) × (kind : CommandKind) × (one.event ≡ event.Asked asked) × Keeps (facts_of later) asked kind
-KeepsCame later (Faulty rows) = ⊥
-
-abbrev KeepsEach : History → List Taken → Type 0
-KeepsEach later [] = Unit {0}
-KeepsEach later (one ∷ earlier) = KeepsCame later one.came × KeepsEach later earlier
+-- the request that a line comes to is kept
+abbrev KeepsEntry : History → Entry → Type 0
+KeepsEntry later (entry.Ask asked) = (kind : CommandKind) × Keeps (facts_of later) asked kind
+KeepsEntry later (entry.Faulty rows) = ⊥
 
 -- how a request was answered that was asked before, or accepted
 abbrev Acted : (history : History) (at : ℕ) (asked : Asked) → Result Answer Refusal → (kept : Option (Result CommandKind Refusal)) → (why : Option Refusal) → Type 0
@@ -154,13 +152,13 @@ GoesOn later history = (more : History) × (later ≡ more ++ history)
 keeps_acted : (later more history : History) (one : Answered) (asked : Asked) → one.event ≡ event.Asked asked
     → later ≡ more ++ with_answer history one.at (event.Asked asked) one.result → AreAccepted later
     → Acted history one.at asked one.result (kept_of (facts_of history) (event.Asked asked)) (refusal_of history one.at (event.Asked asked))
-    → KeepsCame later (course.Asked one) × GoesOn later history
+    → KeepsEntry later (entry.Ask asked) × GoesOn later history
 keeps_acted later more history one asked is goes accepted (inl again) =
     let here : later ≡ more ++ history =
     goes ∙ ap (λ (r : Result Answer Refusal). more ++ with_answer history one.at (event.Asked asked) r) again.1 in
     let kept = keeps_on more history asked again.0 (subst AreAccepted here accepted) (kept_again (facts_of history) asked again.0 again.2) in
     let P : History → Type 0 = λ h. Keeps (facts_of h) asked again.0 in
-    ((asked, again.0, is, subst P (sym here) kept), (more, here))
+    ((again.0, subst P (sym here) kept), (more, here))
 keeps_acted later more history one asked is goes accepted (inr new) =
     let next = Fed one.at (event.Asked asked) ∷ history in
     let here : later ≡ more ++ next =
@@ -169,13 +167,13 @@ keeps_acted later more history one asked is goes accepted (inr new) =
     let all = subst AreAccepted here accepted in
     let kept = keeps_on more next asked (kind_of asked.command) all (keeps_first history one.at asked (accepted_before more next all)) in
     let P : History → Type 0 = λ h. Keeps (facts_of h) asked (kind_of asked.command) in (
-      (asked, kind_of asked.command, is, subst P (sym here) kept),
+      (kind_of asked.command, subst P (sym here) kept),
       (more ++ Fed one.at (event.Asked asked) ∷ [], here ∙ sym (append_assoc more (Fed one.at (event.Asked asked) ∷ []) history)),
     )
 
 keeps_asked : (later more history : History) (one : Answered) (asked : Asked) (before after : Failures) → one.event ≡ event.Asked asked
     → later ≡ more ++ with_answer history one.at one.event one.result → AreAccepted later → IsAnswer history one.at one.event before after one.result
-    → IsOk one.result → KeepsCame later (course.Asked one) × GoesOn later history
+    → IsOk one.result → KeepsEntry later (entry.Ask asked) × GoesOn later history
 keeps_asked later more history one asked before after is goes accepted (inl told) ok =
     let P : Event → Type 0 = λ e. later ≡ more ++ with_answer history one.at e one.result in
     let Q : Event → Type 0 = λ e. one.result ≡ decision_of history one.at e in
@@ -184,19 +182,16 @@ keeps_asked later more history one asked before after is goes accepted (inl told
 keeps_asked later more history one asked before after is goes accepted (inr fails) ok = absurd (not_outside (IsAccepted history one.at one.event) one.result before after ok fails)
 
 keeps_entry : (later more history : History) (e : Entry) (came : Came) (before after : Failures) → IsCameOf e came → later ≡ more ++ with_came history came → AreAccepted later
-    → IsCameAnswered history before after came → HasActed came → KeepsCame later came × GoesOn later history
+    → IsCameAnswered history before after came → HasActed came → KeepsEntry later e × GoesOn later history
 keeps_entry later more history (entry.Ask asked) (course.Asked one) before after is goes accepted answered ok =
-    keeps_asked later more history one asked before after is goes accepted answered ok
+    keeps_asked later more history one asked before after is goes accepted answered.answer ok
 keeps_entry later more history (entry.Ask asked) (Faulty rows) before after is goes accepted answered ok = absurd ok
+keeps_entry later more history (entry.Ask asked) (Doubted at request mwh) before after is goes accepted answered ok = absurd ok
+keeps_entry later more history (entry.Ask asked) (Undecided at request why) before after is goes accepted answered ok = absurd ok
 keeps_entry later more history (entry.Faulty rows) (course.Asked one) before after is goes accepted answered ok = absurd is
 keeps_entry later more history (entry.Faulty rows) (Faulty told) before after is goes accepted answered ok = absurd ok
-
-keeps_each : (tells : Telling) (caller : Option (List ℕ)) (taken : List Taken) (past later more : History) (before after : Failures) → later ≡ more ++ history_behind past taken
-    → AreAccepted later → AreComing tells caller taken → AreAnswered past before after taken → HaveActed taken → KeepsEach later taken
-keeps_each tells caller [] past later more before after goes accepted are answered acted = tt
-keeps_each tells caller (one ∷ earlier) past later more before after goes accepted are answered acted =
-    let here = keeps_entry later more (history_behind past earlier) are.0.entry one.came answered.0 after are.0.comes goes accepted answered.2 acted.0 in
-    (here.0, keeps_each tells caller earlier past later here.1.0 before answered.0 here.1.1 accepted are.1 answered.1 acted.1)
+keeps_entry later more history (entry.Faulty rows) (Doubted at request mwh) before after is goes accepted answered ok = absurd ok
+keeps_entry later more history (entry.Faulty rows) (Undecided at request why) before after is goes accepted answered ok = absurd ok
 
 -- ---- What the same line asks is kept
 
@@ -210,28 +205,18 @@ keeps_same facts asked again kind same kept = record {
   done = kept.done;
 }
 
-same_asked : (a b : Asked) → event.Asked a ≡ event.Asked b → a ≡ b
-same_asked a b h = cc h
-
-repeats_by : (later : History) (one : Answered) (a b : Entry) (came : Came) → IsCameOf a (course.Asked one) → IsCameOf b came → SameEntry a b
-    → KeepsCame later (course.Asked one) → KeepsCame later came
-repeats_by later one (entry.Ask x) (entry.Ask y) (course.Asked two) first second same kept =
-    let asked : kept.0 ≡ x = same_asked kept.0 x (sym kept.2 ∙ first) in
-    let P : Asked → Type 0 = λ z. Keeps (facts_of later) z kept.1 in
-    (y, kept.1, second, keeps_same (facts_of later) x y kept.1 same (subst P asked kept.3))
-repeats_by later one (entry.Ask x) (entry.Ask y) (Faulty rows) first second same kept = absurd second
-repeats_by later one (entry.Ask x) (entry.Faulty y) came first second same kept = absurd same
-repeats_by later one (entry.Faulty x) b came first second same kept = absurd first
+repeats_by : (later : History) (a b : Entry) → SameEntry a b → KeepsEntry later a → KeepsEntry later b
+repeats_by later (entry.Ask x) (entry.Ask y) same kept = (kept.0, keeps_same (facts_of later) x y kept.0 same kept.1)
+repeats_by later (entry.Ask x) (entry.Faulty rows) same kept = absurd same
+repeats_by later (entry.Faulty rows) b same kept = absurd kept
 
 abbrev LineKept : Telling → (caller : Option (List ℕ)) → History → Line → Type 0
-LineKept tells caller later line = (came : Came) → Comes tells caller line.text came → KeepsCame later came
+LineKept tells caller later line = (e : Entry) → IsEntry tells caller line.text e → KeepsEntry later e
 
-line_kept : (tells : Telling) (caller : Option (List ℕ)) (later : History) (text : List ℕ) (first came : Came) → AreSteady tells → Comes tells caller text first
-    → KeepsCame later first → Comes tells caller text came → KeepsCame later came
-line_kept tells caller later text (course.Asked one) came steady comes kept again =
-    repeats_by later one comes.entry again.entry came comes.comes again.comes
-    (same_entry tells caller text comes.entry again.entry steady comes.is again.is) kept
-line_kept tells caller later text (Faulty rows) came steady comes kept again = absurd kept
+line_kept : (tells : Telling) (caller : Option (List ℕ)) (later : History) (line : Line) (e : Entry) → AreSteady tells → IsEntry tells caller line.text e
+    → KeepsEntry later e → LineKept tells caller later line
+line_kept tells caller later line e steady is kept = λ other again.
+    repeats_by later e other (same_entry tells caller line.text e other steady is again) kept
 
 abbrev EachLine : (Line → Type 0) → List Line → Type 0
 EachLine P [] = Unit {0}
@@ -249,11 +234,16 @@ each_out : (P : Line → Type 0) (again : List Taken) (rest : List Line) → Eac
 each_out P [] rest all = (tt, all)
 each_out P (two ∷ earlier) rest all = let more = each_out P earlier (two.line ∷ rest) all in ((more.1.0, more.0), more.1.1)
 
-each_kept : (tells : Telling) (caller : Option (List ℕ)) (later : History) (taken : List Taken) → AreSteady tells → AreComing tells caller taken → KeepsEach later taken
+each_kept : (tells : Telling) (caller : Option (List ℕ)) (taken : List Taken) (past later more : History) (before after : Failures) → AreSteady tells
+    → later ≡ more ++ history_behind past taken → AreAccepted later → AreComing tells caller taken → AreAnswered past before after taken → HaveActed taken
     → EachTaken (LineKept tells caller later) taken
-each_kept tells caller later [] steady are kept = tt
-each_kept tells caller later (one ∷ earlier) steady are kept =
-    ((λ came comes. line_kept tells caller later one.line.text one.came came steady are.0 kept.0 comes), each_kept tells caller later earlier steady are.1 kept.1)
+each_kept tells caller [] past later more before after steady goes accepted are answered acted = tt
+each_kept tells caller (one ∷ earlier) past later more before after steady goes accepted are answered acted =
+    let comes = are.0 in
+    let here = keeps_entry later more (history_behind past earlier) comes.entry one.came answered.0 after comes.comes goes accepted answered.2 acted.0 in (
+      line_kept tells caller later one.line comes.entry steady comes.is here.0,
+      each_kept tells caller earlier past later here.1.0 before answered.0 steady here.1.1 accepted are.1 answered.1 acted.1,
+    )
 
 -- ---- So nothing acts again
 
@@ -275,22 +265,36 @@ without_memory : (takes_memory : Type 0) (before after : Failures) (result : Res
 without_memory takes_memory before after (Ok given) none fails = fails
 without_memory takes_memory before after (Err why) none fails = outside_more takes_memory ⊥ before after why none fails
 
-stays_asked : (later : History) (one : Answered) (before after : Failures) → KeepsCame later (course.Asked one) → IsAnswer later one.at one.event before after one.result
+stays_asked : (later : History) (one : Answered) (asked : Asked) (kind : CommandKind) (before after : Failures) → one.event ≡ event.Asked asked
+    → Keeps (facts_of later) asked kind → IsAnswer later one.at one.event before after one.result
     → (with_answer later one.at one.event one.result ≡ later) × IsRepeated one.result
-stays_asked later one before after kept (inl told) =
-    let Q : Event → Type 0 = λ e. decision_of later one.at e ≡ Ok (answer.Again kept.1) in
-    let decision = subst Q (sym kept.2) (decided later one.at (event.Asked kept.0) kept.1 (answers (facts_of later) kept.0 kept.0 kept.1 refl refl refl kept.3)) in
-    let is : one.result ≡ Ok (answer.Again kept.1) = told.0 ∙ decision in
-    (ap (with_answer later one.at one.event) is, inl (kept.1, is))
-stays_asked later one before after kept (inr fails) =
-    let none = not_accepted later one.at one.event kept.0 kept.1 kept.2 kept.3 in
+stays_asked later one asked kind before after is keeps (inl told) =
+    let Q : Event → Type 0 = λ e. decision_of later one.at e ≡ Ok (answer.Again kind) in
+    let decision = subst Q (sym is) (decided later one.at (event.Asked asked) kind (answers (facts_of later) asked asked kind refl refl refl keeps)) in
+    let again : one.result ≡ Ok (answer.Again kind) = told.0 ∙ decision in
+    (ap (with_answer later one.at one.event) again, inl (kind, again))
+stays_asked later one asked kind before after is keeps (inr fails) =
+    let none = not_accepted later one.at one.event asked kind is keeps in
     let takes : Type 0 = IsAccepted later one.at one.event in
     (outside_same takes later one.at one.event one.result before after fails, inr (before, after, without_memory takes before after one.result none fails))
 
-stays_one : (later : History) (came : Came) (before after : Failures) → KeepsCame later came → IsCameAnswered later before after came
+-- What is kept is not doubted.
+not_doubted : (facts : List Fact) (at : ℕ) (asked request : Asked) (kind : CommandKind) (mwh : ℕ) → request ≡ asked → Keeps facts asked kind
+    → doubt_of facts at request ≡ Some mwh → ⊥
+not_doubted facts at asked request kind mwh is keeps doubt =
+    let repeat = as_repeat asked.request keeps.reply in
+    let kept : repeat_in facts asked ≡ Some repeat = rw (keeps.named, keeps.found) refl in
+    let none : (let o : Option ℕ = None in o) ≡ Some mwh = sym (kept_undoubted facts at asked repeat kept) ∙ sym (ap (doubt_of facts at) is) ∙ doubt in
+    cc none
+
+stays_one : (later : History) (e : Entry) (came : Came) (before after : Failures) → IsCameOf e came → KeepsEntry later e → IsCameAnswered later before after came
     → (with_came later came ≡ later) × HasRepeated came
-stays_one later (course.Asked one) before after kept answered = stays_asked later one before after kept answered
-stays_one later (Faulty rows) before after kept answered = absurd kept
+stays_one later (entry.Ask asked) (course.Asked one) before after is kept answered = stays_asked later one asked kept.0 before after is kept.1 answered.answer
+stays_one later (entry.Ask asked) (Faulty rows) before after is kept answered = absurd is
+stays_one later (entry.Ask asked) (Doubted at request mwh) before after is kept answered =
+    absurd (not_doubted (facts_of later) at asked request kept.0 mwh is kept.1 answered.0)
+stays_one later (entry.Ask asked) (Undecided at request why) before after is kept answered = (refl, (before, after, answered))
+stays_one later (entry.Faulty rows) came before after is kept answered = absurd kept
 
 stays : (tells : Telling) (caller : Option (List ℕ)) (later : History) (again : List Taken) (before after : Failures) → EachTaken (LineKept tells caller later) again
     → AreComing tells caller again → AreAnswered later before after again → ActsNoMore later again
@@ -298,13 +302,14 @@ stays tells caller later [] before after kept are answered = record { same = ref
 stays tells caller later (two ∷ earlier) before after kept are answered =
     let rest = stays tells caller later earlier before answered.0 kept.1 are.1 answered.1 in
     let P : History → Type 0 = λ h. IsCameAnswered h answered.0 after two.came in
-    let here = stays_one later two.came answered.0 after (kept.0 two.came are.0) (subst P rest.same answered.2) in
+    let comes = are.0 in
+    let here = stays_one later comes.entry two.came answered.0 after comes.comes (kept.0 comes.entry comes.is) (subst P rest.same answered.2) in
     record { same = ap (λ (h : History). with_came h two.came) rest.same ∙ here.0; repeated = (here.1, rest.repeated) }
 
 pub inputs_act_once : (tells : Telling) → AreSteady tells → InputsActOnce tells
 inputs_act_once tells steady caller lines past later taken again entered enters =
     let P : Line → Type 0 = LineKept tells caller later in
-    let kept = keeps_each tells caller taken past later enters.more entered.before entered.after enters.later_is enters.accepted entered.are entered.answered entered.acted in
-    let all : EachLine P lines = subst (EachLine P) (sym entered.whole) (each_in P taken [] (each_kept tells caller later taken steady entered.are kept) tt) in
+    let kept = each_kept tells caller taken past later enters.more entered.before entered.after steady enters.later_is enters.accepted entered.are entered.answered entered.acted in
+    let all : EachLine P lines = subst (EachLine P) (sym entered.whole) (each_in P taken [] kept tt) in
     let part = each_out P again enters.rest (subst (EachLine P) enters.part all) in
     stays tells caller later again enters.before enters.after part.0 enters.are enters.answered

@@ -1,5 +1,5 @@
 -- What asking one line does to an office, the clock and the writer, each as it was found and as it was left.
-use Rattle.std.specs.Prelude.{◌≡◌, ℕ, List, [], Option, Result, Ok, Err}
+use Rattle.std.specs.Prelude.{◌≡◌, ℕ, true, List, [], Option, Result, Ok, Err, IfOk}
 use Rattle.std.specs.Io.KnownBytes.{Appends}
 use Rattle.std.specs.declared.io.Error.{Error}
 use Rattle.std.specs.declared.io.Write as writers
@@ -7,21 +7,26 @@ use Rattle.command_io.specs.Lines.{Line}
 use Rattle.command_io.specs.declared.status.ExitStatus.{ExitStatus}
 use Rattle.command_io.specs.declared.status.ExitStatus.TheVariants.{Refused, Failed}
 use Rattle.socket_link.specs.declared.clock.Clock as clocks
-use Rattle.sun_points.specs.Writing.{GotPart}
+use Rattle.sun_points.specs.Writing.{GotPart, GotText}
 use Rattle.script_lines.specs.declared.line_fault.LineFault.{LineFault}
 use Rattle.script_lines.specs.declared.line_fault.LineFault.TheVariants.{Bad, Memory}
 use Rattle.script_text.specs.AnswerText.{accepted_text, bad_line, refused_line}
 use Rattle.office_events.specs.declared.answers.Answer.{Answer}
 use Rattle.office_events.specs.declared.events.Event.{Event}
 use Rattle.office_events.specs.declared.refusals.Refusal.{Refusal}
+use Rattle.office_rules.specs.History.{History}
+use Rattle.office_rules.specs.Refusals.{with_answer}
+use Rattle.office_books.specs.Ledgers.{Ledger}
 use Rattle.office_books.specs.declared.books.Books as stores
+use Rattle.office_books.specs.declared.failures.Failures.{Failures}
 use Rattle.office_core.specs.EventRun.{Answered}
-use Rattle.office_core.specs.Standing.{After, notes_in, outgoing_in}
+use Rattle.office_core.specs.Standing.{After, Stands, notes_in, outgoing_in}
+use Rattle.office_core.specs.Taking.{IsAnswer, failures_of}
 use Rattle.office_core.specs.declared.office.Office.{Office}
 use Rattle.office_rounds.specs.Between.{desk_of}
 use Rattle.office_program.specs.declared.entering.entries.Entry.{Entry}
 use Rattle.office_program.specs.declared.entering.progress.Progress.{Progress}
-use Rattle.office_program.specs.Entering.Course.{Asked, Came, EntersLine, IsCameOf, TakesLine}
+use Rattle.office_program.specs.Entering.Course.{Asked, Came, EntersLine, IsCameOf, TakesLine, progress_after, reply_text}
 use Rattle.office_program.specs.Entering.Lines.{Telling}
 
 -- the text of an office's reply to the event that it was just fed
@@ -36,14 +41,31 @@ TellsFault Bad number Failed old new = GotPart (bad_line number) old new
 TellsFault Memory number Failed old new = Appends old new []
 TellsFault _ number _ old new = ⊥
 
-module _ {B C W : Type 0} (b : stores.Ghosts B) (c : clocks.Ghosts C) (w : writers.Ghosts W) where
-  -- an event is asked
-  abbrev pub AsksNext : Event → Progress → (old new : Office B) → (before after : C)
-      → (had holds : W) → Result Progress Error → Type 0
-  AsksNext e progress old new before after had holds result = After b.ledger old new
-      (λ past. (one : Answered) × (one.event ≡ e) × TakesLine {E = Error} b.ledger past progress
-      (desk_of b c w old before had) (desk_of b c w new after holds) new result (Asked one))
+-- An event was asked at a moment, and its reply was printed, or a part of that where the writing failed.
+pub record IsAsked {B : Type 0} (ledger : B → Ledger) (past : History) (at : ℕ) (e : Event)
+    (progress : Progress) (before after : Failures) (had holds : Option (List ℕ)) (office : Office B)
+    (result : Result Progress Error) : Type 0 where
+  pub one : Answered
+  pub at_is : one.at ≡ at
+  pub event_is : one.event ≡ e
+  pub stands : Stands ledger (with_answer past one.at one.event one.result) office
+  pub answer : IsAnswer past one.at one.event before after one.result
+  pub text : GotText result (reply_text past one.at one.event one.result) had holds
+  pub next : IfOk result (λ next. next ≡ progress_after progress (Asked one))
 
+abbrev pub AsksAt : {B W : Type 0} → stores.Ghosts B → writers.Ghosts W → (at : ℕ) → Event
+    → Progress → (old new : Office B) → (had holds : W) → Result Progress Error → Type 0
+AsksAt b w at e progress old new had holds result = After b.ledger old new (λ past.
+    IsAsked b.ledger past at e progress (failures_of b.ledger old) (failures_of b.ledger new)
+    (w.contents had) (w.contents holds) new result)
+
+-- Why nothing is asked at a moment was printed, or a part of that where the writing failed.
+pub record TellsWhyNot (line : List ℕ) (at : ℕ) (had holds : Option (List ℕ))
+    (result : Result Progress Error) : Type 0 where
+  pub text : GotText result line had holds
+  pub next : IfOk result (λ next. next ≡ record { latest = at; refused = true })
+
+module _ {B C W : Type 0} (b : stores.Ghosts B) (c : clocks.Ghosts C) (w : writers.Ghosts W) where
   -- what a line came to is asked, or its faults are told
   abbrev pub EntersEntry : Entry → Progress → (old new : Office B) → (before after : C)
       → (had holds : W) → Result Progress Error → Type 0

@@ -1,6 +1,7 @@
 -- How far the lines of an input have come: what each was asked as and answered, what was printed, and where the office
 -- stands. Lists of lines that were taken stand latest first.
-use Rattle.std.specs.Prelude.{◌≡◌, ◌⊎◌, ◌||◌, ℕ, max, true, false, List, [], ◌∷◌, ◌++◌, Option, Result, Ok, Err, IfOk, is_err}
+use Rattle.std.specs.Prelude.{◌≡◌, ◌⊎◌, ◌||◌, ℕ, max, true, false, List, [], ◌∷◌, ◌++◌, codes, Option, Some, None, Result, Ok, Err, IfOk, is_err}
+use Rattle.std.specs.Fmt.{decimal}
 use Rattle.std.specs.List.{flat_map}
 use Rattle.std.specs.Io.KnownBytes.{Appends}
 use Rattle.command_io.specs.Lines.{Line}
@@ -11,16 +12,18 @@ use Rattle.socket_link.specs.Clocks.{TellsMoment}
 use Rattle.sun_points.specs.Writing.{GotPart, GotText}
 use Rattle.script_text.specs.AnswerText.{accepted_text, bad_line, fault_line, refused_line}
 use Rattle.office_events.specs.declared.answers.Answer.{Answer}
+use Rattle.office_events.specs.declared.events.Asked.{Asked as Request}
 use Rattle.office_events.specs.declared.events.Event.{Event}
 use Rattle.office_events.specs.declared.events.Event.TheVariants as event
 use Rattle.office_events.specs.declared.refusals.Refusal.{Refusal}
 use Rattle.office_events.specs.declared.refusals.Refusal.TheVariants.{Limit}
-use Rattle.office_rules.specs.History.{History}
+use Rattle.office_rules.specs.History.{History, facts_of}
 use Rattle.office_rules.specs.Notes.{notes_after, outgoing_after}
 use Rattle.office_rules.specs.Refusals.{with_answer}
 use Rattle.office_books.specs.declared.failures.Failures.{Failures}
 use Rattle.office_books.specs.Ledgers.{Ledger}
 use Rattle.office_core.specs.EventRun.{Answered}
+use Rattle.office_core.specs.Failing.{IsOutside}
 use Rattle.office_core.specs.Standing.{Stands}
 use Rattle.office_core.specs.Taking.{IsAnswer}
 use Rattle.office_core.specs.declared.office.Office.{Office}
@@ -28,17 +31,23 @@ use Rattle.office_rounds.specs.Rounds.{RoundState}
 use Rattle.office_program.specs.declared.entering.entries.Entry.{Entry}
 use Rattle.office_program.specs.declared.entering.entries.Entry.TheVariants as entry
 use Rattle.office_program.specs.declared.entering.progress.Progress.{Progress}
+use Rattle.office_program.specs.Entering.Doubts.{doubt_in, doubt_of}
 use Rattle.office_program.specs.Entering.Lines.{IsBad, IsEntry, Telling}
 
 -- ---- One line
 
--- What a line that isn't bad came to: it was asked, and answered; or its point list has faulty rows, and it was not asked.
+-- What a line that isn't bad came to: it was asked, and answered; or it was not asked. Then its point list has faulty rows; its
+-- entry by hand is doubted, which would book so many mWh; or the office refused to tell whether it is.
 pub data Came : Type 0 where
   Asked : Answered → Came
   Faulty : List FaultyRow → Came
+  Doubted : (at : ℕ) → Request → (mwh : ℕ) → Came
+  Undecided : (at : ℕ) → Request → Refusal → Came
 
 abbrev pub IsCameOf : Entry → Came → Type 0
 IsCameOf (entry.Ask asked) (Asked one) = one.event ≡ event.Asked asked
+IsCameOf (entry.Ask asked) (Doubted at request mwh) = request ≡ asked
+IsCameOf (entry.Ask asked) (Undecided at request why) = request ≡ asked
 IsCameOf (entry.Faulty rows) (Faulty told) = told ≡ rows
 IsCameOf _ _ = ⊥
 
@@ -51,16 +60,25 @@ pub record Comes (tells : Telling) (caller : Option (List ℕ)) (text : List ℕ
 -- what the office has accepted after it
 abbrev pub with_came : History → Came → History
 with_came past (Asked one) = with_answer past one.at one.event one.result
-with_came past (Faulty rows) = past
+with_came past _ = past
 
--- It is answered as the office's definitions say, or the office failed outside, which is noted.
+-- What is asked is not doubted.
+pub record IsAskedAndAnswered (past : History) (before after : Failures) (one : Answered) : Type 0
+  where
+    pub undoubted : doubt_in (facts_of past) one.at one.event ≡ None
+    pub answer : IsAnswer past one.at one.event before after one.result
+
+-- It is answered as the office's definitions say, or the office failed outside, which is noted; so does the office that refuses to
+-- tell whether it is doubted.
 abbrev pub IsCameAnswered : History → (before after : Failures) → Came → Type 0
-IsCameAnswered past before after (Asked one) =
-    IsAnswer past one.at one.event before after one.result
+IsCameAnswered past before after (Asked one) = IsAskedAndAnswered past before after one
 IsCameAnswered past before after (Faulty rows) = after ≡ before
+IsCameAnswered past before after (Doubted at request mwh) =
+    (doubt_of (facts_of past) at request ≡ Some mwh) × (after ≡ before)
+IsCameAnswered past before after (Undecided at request why) = IsOutside ⊥ before after why
 
--- What a script prints of the answer: an accepted event's notes and `ok`, or the number of the refusal; and a line for each
--- faulty row, and that the list is refused.
+-- What a script prints of the answer: an accepted event's notes and `ok`, or the number of the refusal; a line for each faulty
+-- row, and that the list is refused; and the energy that is doubted.
 abbrev pub reply_text : History → (at : ℕ) → Event → Result Answer Refusal → List ℕ
 reply_text past at e (Ok given) =
     accepted_text given (notes_after past at e (Ok given)) (outgoing_after past at e (Ok given))
@@ -69,11 +87,16 @@ reply_text past at e (Err why) = refused_line why
 abbrev pub faults_text : List FaultyRow → List ℕ
 faults_text rows = flat_map fault_line rows ++ refused_line Limit
 
+abbrev pub doubted_line : (mwh : ℕ) → List ℕ
+doubted_line mwh = codes "doubted " ++ decimal mwh ++ codes "\n"
+
 abbrev pub came_text : History → Came → List ℕ
 came_text past (Asked one) = reply_text past one.at one.event one.result
 came_text past (Faulty rows) = faults_text rows
+came_text past (Doubted at request mwh) = doubted_line mwh
+came_text past (Undecided at request why) = refused_line why
 
--- It is asked at the moment that the clock tells, or at that of the line before where that is later.
+-- It is asked, or would be, at the moment that the clock tells, or at that of the line before where that is later.
 pub record IsAskedAt (latest : ℕ) (begun now : Option (List ℕ)) (at : ℕ) : Type 0 where
   pub told : ℕ
   pub tells : TellsMoment begun now told
@@ -82,12 +105,16 @@ pub record IsAskedAt (latest : ℕ) (begun now : Option (List ℕ)) (at : ℕ) :
 abbrev pub IsTimed : (latest : ℕ) → (begun now : Option (List ℕ)) → Came → Type 0
 IsTimed latest begun now (Asked one) = IsAskedAt latest begun now one.at
 IsTimed latest begun now (Faulty rows) = now ≡ begun
+IsTimed latest begun now (Doubted at request mwh) = IsAskedAt latest begun now at
+IsTimed latest begun now (Undecided at request why) = IsAskedAt latest begun now at
 
--- the latest moment, and whether a line was refused or has faults, after one more
+-- the latest moment, and whether a line was refused or not asked, after one more
 abbrev pub progress_after : Progress → Came → Progress
 progress_after progress (Asked one) =
     record { latest = one.at; refused = progress.refused || is_err one.result }
 progress_after progress (Faulty rows) = record { latest = progress.latest; refused = true }
+progress_after progress (Doubted at request mwh) = record { latest = at; refused = true }
+progress_after progress (Undecided at request why) = record { latest = at; refused = true }
 
 -- The office stands after it, and it was answered at its moment.
 pub record Takes {B : Type 0} (ledger : B → Ledger) (past : History) (latest : ℕ)
@@ -173,8 +200,8 @@ text_after past [] = []
 text_after past (one ∷ earlier) =
     text_after past earlier ++ came_text (history_behind past earlier) one.came
 
--- Each was asked as it says, answered as the definitions say after those before it, at its moment; the office stands after
--- them.
+-- Each was asked as it says, or was not, answered as the definitions say after those before it, at its moment; the office stands
+-- after them.
 pub record AreTaken {B : Type 0} (ledger : B → Ledger) (tells : Telling)
     (caller : Option (List ℕ)) (past : History) (first : ℕ) (begun now : RoundState)
     (office : Office B) (taken : List Taken) : Type 0 where

@@ -1,6 +1,7 @@
--- What a line of an input asks of an office: it is a line of a script whose first word is the request's number, or it
--- names the file of a point list.
-use Rattle.std.specs.Prelude.{◌≡◌, ◌≢◌, ◌⊎◌, ℕ, Bool, true, false, List, [], ◌∷◌, ◌++◌, Option, Some, None, Result, Ok, Err, if◌then◌else◌}
+-- What a line of an input asks of an office: it is a line of a script whose first word is the request's number, and which may
+-- have a mark behind it; or it names the file of a point list.
+use Rattle.std.specs.Prelude.{◌≡◌, ◌≢◌, ◌⊎◌, ℕ, ◌-◌, nat_eq, Bool, true, false, List, [], ◌∷◌, ◌++◌, length, take, codes, Option, Some, None, Result, Ok, Err, if◌then◌else◌}
+use Rattle.std.specs.List.{ends_with}
 use Rattle.point_list.specs.Lists.{SpellsList, list_faults, rows_read}
 use Rattle.read_plan.specs.PlannedLists.{IsPlanned, Planned}
 use Rattle.office_events.specs.declared.commands.Command.{Command}
@@ -13,6 +14,7 @@ use Rattle.script_lines.specs.LineWords.Words.{words_of}
 use Rattle.script_lines.specs.Seen.{IsOnly}
 use Rattle.script_lines.specs.declared.line_fault.LineFault.{LineFault}
 use Rattle.script_lines.specs.declared.line_fault.LineFault.TheVariants.{Bad, Memory}
+use Rattle.script_lines.specs.declared.script.GivenList.{GivenList}
 use Rattle.script_lines.specs.declared.script.ScriptLine.{ScriptLine}
 use Rattle.script_lines.specs.declared.script.ScriptLine.TheVariants as line
 use Rattle.office_program.specs.declared.entering.wanted.Wanted.{Wanted}
@@ -25,6 +27,16 @@ use Rattle.office_program.specs.Entering.FileLines.{FileLine, IsFileLine, IsNoFi
 abbrev pub Telling : Type 1
 Telling = List ℕ → Option (List ℕ) → Type 0
 
+-- ---- The mark of a line
+
+-- A line may end with a mark, ` !`: the entry by hand that it asks is meant as it stands, whatever energy it books.
+abbrev pub is_marked : (text : List ℕ) → Bool
+is_marked text = ends_with nat_eq text (codes " !")
+
+-- what a line says before its mark, where it has one
+abbrev pub unmarked : (text : List ℕ) → List ℕ
+unmarked text = if is_marked text then take (length text - 2) text else text
+
 -- ---- A line of a script
 
 -- The commands that can be asked as requests: all but the start of polls.
@@ -33,19 +45,36 @@ is_request (command.StartPoll c) = false
 is_request (command.StartRound c) = false
 is_request _ = true
 
-abbrev pub wanted_by : (number : ℕ) → Command → Wanted
-wanted_by number c = if is_request c then wanted.Command number c else wanted.Nothing
+-- Those that make an entry by hand.
+abbrev pub is_by_hand : Command → Bool
+is_by_hand (command.Exchange c) = true
+is_by_hand (command.Reset c) = true
+is_by_hand (command.Rescale c) = true
+is_by_hand (command.Manual c) = true
+is_by_hand (command.Close c) = true
+is_by_hand _ = false
+
+-- Before a mark only an entry by hand asks something.
+abbrev pub can_be_asked : (marked : Bool) → Command → Bool
+can_be_asked marked c = if marked then is_by_hand c else is_request c
+
+abbrev pub wanted_by : (marked : Bool) → (number : ℕ) → Command → Wanted
+wanted_by marked number c =
+    if can_be_asked marked c then wanted.Command number c else wanted.Nothing
 
 -- events of devices ask nothing
-abbrev pub wanted_of : (number : ℕ) → Event → Wanted
-wanted_of number (event.Command c) = wanted_by number c
-wanted_of number _ = wanted.Nothing
+abbrev pub wanted_of : (marked : Bool) → (number : ℕ) → Event → Wanted
+wanted_of marked number (event.Command c) = wanted_by marked number c
+wanted_of marked number _ = wanted.Nothing
+
+abbrev pub wanted_list : (marked : Bool) → (number : ℕ) → GivenList → Wanted
+wanted_list marked number list = if marked then wanted.Nothing else wanted.List number list
 
 -- Of a script's lines these ask something: a command, by the number in the place of the moment, or a point list.
-abbrev pub wanted_in : ScriptLine → Wanted
-wanted_in (line.Event number e) = wanted_of number e
-wanted_in (line.List number list) = wanted.List number list
-wanted_in _ = wanted.Nothing
+abbrev pub wanted_in : (marked : Bool) → ScriptLine → Wanted
+wanted_in marked (line.Event number e) = wanted_of marked number e
+wanted_in marked (line.List number list) = wanted_list marked number list
+wanted_in marked _ = wanted.Nothing
 
 -- ---- What it comes to
 
@@ -72,7 +101,7 @@ IsListEntry caller number device text request (Ask asked) =
 IsListEntry caller number device text request (Faulty rows) =
     (list_faults (rows_read text) ≢ []) × (rows ≡ list_faults (rows_read text))
 
--- Of a script's line the bytes of the line are kept,
+-- Of a script's line the bytes of the line are kept, with its mark,
 abbrev pub IsWantedEntry : (caller : Option (List ℕ)) → (text : List ℕ) → Wanted → Entry → Type 0
 IsWantedEntry caller text (wanted.Command number c) entry =
     entry ≡ Ask (asked_by caller number text c)
@@ -82,8 +111,8 @@ IsWantedEntry caller text wanted.Nothing entry = ⊥
 
 pub record IsScriptEntry (caller : Option (List ℕ)) (text : List ℕ) (entry : Entry) : Type 0 where
   pub said : ScriptLine
-  pub is : IsOnly (words_of text) said
-  pub comes : IsWantedEntry caller text (wanted_in said) entry
+  pub is : IsOnly (words_of (unmarked text)) said
+  pub comes : IsWantedEntry caller text (wanted_in (is_marked text) said) entry
 
 -- and of one that names a file those, a line feed (10), and the bytes of the file.
 abbrev pub file_request : (text bytes : List ℕ) → List ℕ
@@ -109,8 +138,8 @@ LacksFile tells text =
     (named : FileLine) × IsFileLine (words_of text) named × tells named.name None
 
 abbrev pub IsNoRequest : (text : List ℕ) → Type 0
-IsNoRequest text =
-    (said : ScriptLine) → IsLine (words_of text) said → wanted_in said ≡ wanted.Nothing
+IsNoRequest text = (said : ScriptLine) → IsLine (words_of (unmarked text)) said
+    → wanted_in (is_marked text) said ≡ wanted.Nothing
 
 abbrev pub IsBad : Telling → (text : List ℕ) → Type 0
 IsBad tells text = LacksFile tells text ⊎ (IsNoFileLine (words_of text) × IsNoRequest text)

@@ -10,8 +10,8 @@ use Rattle.office_events.specs.declared.refusals.Refusal.{Refusal}
 use Rattle.office_rules.specs.History.{Fed, History, kind_of}
 use Rattle.office_rules.specs.Refusals.{AreAccepted, decision_of}
 use Rattle.office_books.specs.declared.failures.Failures.{Failures}
-use Rattle.office_core.specs.Failing.{FailsOutside}
-use Rattle.office_program.specs.Entering.Course.{AreAnswered, AreComing, Came, Faulty, Taken, history_behind, lines_with}
+use Rattle.office_core.specs.Failing.{FailsOutside, IsOutside}
+use Rattle.office_program.specs.Entering.Course.{AreAnswered, AreComing, Came, Taken, Undecided, history_behind, lines_with}
 use Rattle.office_program.specs.Entering.Course as course
 use Rattle.office_program.specs.Entering.Lines.{Telling}
 
@@ -37,13 +37,14 @@ AreSteady tells =
 -- Each line acted, or had acted before.
 abbrev pub HasActed : Came → Type 0
 HasActed (course.Asked one) = IsOk one.result
-HasActed (Faulty rows) = ⊥
+HasActed _ = ⊥
 
 abbrev pub HaveActed : List Taken → Type 0
 HaveActed [] = Unit {0}
 HaveActed (one ∷ earlier) = HasActed one.came × HaveActed earlier
 
--- The office answers that this was done before, or the books failed, or it had stopped. It takes no memory of its own.
+-- The office answers that this was done before, or the books failed, or it had stopped, maybe before it was asked. It takes no
+-- memory of its own.
 abbrev pub IsRepeated : Result Answer Refusal → Type 0
 IsRepeated result =
     ((kind : CommandKind) × (result ≡ Ok (answer.Again kind)))
@@ -51,7 +52,9 @@ IsRepeated result =
 
 abbrev pub HasRepeated : Came → Type 0
 HasRepeated (course.Asked one) = IsRepeated one.result
-HasRepeated (Faulty rows) = ⊥
+HasRepeated (Undecided at request why) =
+    (before after : Failures) × IsOutside ⊥ before after why
+HasRepeated _ = ⊥
 
 abbrev pub HaveRepeated : List Taken → Type 0
 HaveRepeated [] = Unit {0}

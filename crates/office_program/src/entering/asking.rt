@@ -2,23 +2,27 @@
 ghost use Rattle.std.specs.Prelude.{◌≡◌, IfOk, true};
 ghost use Rattle.office_rounds.specs.Passing.{Lasts};
 ghost use Rattle.sun_points.specs.Writing.{GotText};
-ghost use Rattle.office_program.specs.Entering.Asking.{AsksNext, EntersEntry, EntersNext, TellsFault, told_text};
+ghost use Rattle.script_text.specs.AnswerText.{refused_line};
+ghost use Rattle.office_program.specs.Entering.Asking.{AsksAt, EntersEntry, EntersNext, TellsFault, TellsWhyNot, told_text};
 ghost use Rattle.command_io.specs.Lines.{seen_line};
+ghost use Rattle.office_program.specs.Entering.Course as course;
 ghost use Rattle.office_program.specs.Entering.Course.{faults_text};
 
+use crate::entering::doubts::doubt_of;
 use crate::entering::entries::{Entry, entry_in};
 use crate::entering::files::NamedFiles;
 use crate::entering::progress::Progress;
 use command_io::{ExitStatus, InputLine};
 use office_books::Books;
 use office_core::Office;
-use office_events::{Answer, Event, Name, Refusal};
+use office_events::{Answer, Asked, Event, Name, Refusal};
 use point_list::FaultyRow;
 use script_lines::LineFault;
-use script_text::{write_accepted, write_bad_line, write_faults, write_refusal};
+use script_text::{Line, write_accepted, write_bad_line, write_faults, write_refusal};
 use socket_link::Clock;
 use std::alloc::Global;
 use std::io::{self, Write};
+use sun_points::Sink;
 
 // Prints what an office replied to the event that it was just fed.
 fn print_reply<B: Books, W: Write>(
@@ -35,24 +39,84 @@ fn print_reply<B: Books, W: Write>(
     }
 }
 
-// Asks at the moment that the clock tells, or at that of the line before where that is later, and prints the reply.
-fn ask<B: Books, C: Clock, W: Write>(
+// Asks at a moment, and prints the reply.
+fn ask_at<B: Books, W: Write>(
     office: &mut Office<B>,
     progress: Progress,
+    at: u64,
     event: &Event,
-    clock: &mut C,
     output: &mut W,
 ) -> io::Result<Progress>
-    ensures asks { AsksNext B.Books C.Clock W.Write event.now progress office.old office.new
-        clock.old clock.new output.old output.new result }
+    ensures asks { AsksAt B.Books W.Write at event.now progress office.old office.new
+        output.old output.new result }
     ensures lasts { Lasts B.ledger office.old office.new }
 {
-    let told = clock.now();
-    let at = progress.latest.max(told);
     let reply = office.feed(at, event);
     match print_reply(office, reply, output) {
         Ok(()) => Ok(progress.asked(at, reply.is_err())),
         Err(error) => Err(error),
+    }
+}
+
+fn doubted_line(mwh: u128) -> Line
+    ensures { result ≡ course.doubted_line mwh }
+{
+    let mut line = Line::new();
+    line.push_number(b"doubted ", mwh);
+    line.push(b"\n");
+    line
+}
+
+fn print_doubt<W: Write>(mwh: u128, output: &mut W) -> io::Result<()>
+    ensures { GotText result (course.doubted_line mwh)
+        (W.contents output.old) (W.contents output.new) }
+{
+    output.take_text(doubted_line(mwh).bytes())
+}
+
+// Prints what is doubted at a moment, and tells how far the lines have come then.
+fn tell_doubt<W: Write>(mwh: u128, at: u64, output: &mut W) -> io::Result<Progress>
+    ensures { TellsWhyNot (course.doubted_line mwh) at
+        (W.contents output.old) (W.contents output.new) result }
+{
+    match print_doubt(mwh, output) {
+        Ok(()) => Ok(Progress::unasked(at)),
+        Err(error) => Err(error),
+    }
+}
+
+// The same of why the office refuses to tell what is doubted.
+fn tell_undecided<W: Write>(why: Refusal, at: u64, output: &mut W) -> io::Result<Progress>
+    ensures { TellsWhyNot (refused_line why) at
+        (W.contents output.old) (W.contents output.new) result }
+{
+    match write_refusal(why, output) {
+        Ok(()) => Ok(Progress::unasked(at)),
+        Err(error) => Err(error),
+    }
+}
+
+// Asks a request at the moment that the clock tells, or at that of the line before where that is later, and prints the reply; or
+// prints what is doubted of it.
+fn ask<B: Books, C: Clock, W: Write>(
+    office: &mut Office<B>,
+    progress: Progress,
+    asked: Asked,
+    clock: &mut C,
+    output: &mut W,
+) -> io::Result<Progress>
+    ensures enters { EntersEntry B.Books C.Clock W.Write (Entry.Ask asked) progress
+        office.old office.new clock.old clock.new output.old output.new result }
+    ensures lasts { Lasts B.ledger office.old office.new }
+{
+    let told = clock.now();
+    let at = progress.latest.max(told);
+    match doubt_of(office, at, &asked) {
+        Ok(doubt) => match doubt {
+            Some(mwh) => tell_doubt(mwh, at, output),
+            None => ask_at(office, progress, at, &Event::Asked(asked), output),
+        },
+        Err(why) => tell_undecided(why, at, output),
     }
 }
 
@@ -82,7 +146,7 @@ fn tell_faults<W: Write>(
     }
 }
 
-// Asks what a line comes to, or tells the faults of its list.
+// Asks what a line comes to, or tells the faults of its list, or what is doubted.
 fn enter_entry<B: Books, C: Clock, W: Write>(
     office: &mut Office<B>,
     progress: Progress,
@@ -95,7 +159,7 @@ fn enter_entry<B: Books, C: Clock, W: Write>(
     ensures lasts { Lasts B.ledger office.old office.new }
 {
     match entry {
-        Entry::Ask(asked) => ask(office, progress, &Event::Asked(asked), clock, output),
+        Entry::Ask(asked) => ask(office, progress, asked, clock, output),
         Entry::Faulty(faults) => tell_faults(faults.rows(), progress, output),
     }
 }
@@ -113,7 +177,7 @@ fn tell_fault<W: Write>(fault: LineFault, number: u64, output: &mut W) -> ExitSt
     }
 }
 
-/// Asks what a line of an input asks, and prints the answer; or prints that the line is bad.
+/// Asks what a line of an input asks, and prints the answer; or prints why it isn't asked, or that it is bad.
 pub(crate) fn enter_line<B: Books, C: Clock, F: NamedFiles, W: Write>(
     alloc: Global,
     office: &mut Office<B>,

@@ -47,8 +47,9 @@ fn enter_text<B: Books, C: Clock, F: NamedFiles, W: Write>(
 /// line is asked at the moment that the clock tells, or at that of the line before where that is later.
 ///
 /// Each prints `ok` or `refused N`, or `row R fault N` for each faulty row of its point list and then `refused 12`; `bad line
-/// N` ends the command, and the rest isn't carried out. Where the opening is refused, `refused N` alone is printed. A caller
-/// that is no name has each line refused. The books are handed back.
+/// N` ends the command, and the rest isn't carried out. An entry by hand that is past what the meter's ceiling allows is not
+/// asked, unless its line ends with ` !`: it prints `doubted` and the mWh that it would book. Where the opening is refused,
+/// `refused N` alone is printed. A caller that is no name has no line accepted. The books are handed back.
 pub fn enter_books<B: Books, C: Clock, F: NamedFiles, W: Write>(
     alloc: Global,
     books: B,

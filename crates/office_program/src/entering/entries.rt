@@ -7,6 +7,7 @@ ghost use Rattle.office_program.specs.Entering.Lines.{ReadsEntry, ReadsFile, Rea
 
 use crate::entering::file_line::{FileLine, file_line};
 use crate::entering::files::NamedFiles;
+use crate::entering::marks::{is_marked, unmarked};
 use crate::entering::wanted::{Wanted, wanted_in};
 use office_events::{Asked, Command, Name, Piece, PlannedList, PutList};
 use point_list::{FaultyRows, ListFault, read_list};
@@ -98,12 +99,12 @@ fn wanted_entry(
     }
 }
 
-// The entry of a line of a script.
+// The entry of a line of a script, which may have a mark.
 fn script_entry(alloc: Global, caller: Option<Name>, line: &[u8]) -> Result<Entry, LineFault>
     ensures { ReadsScript caller line.now result }
 {
-    match ScriptLine::read(alloc, line) {
-        Ok(said) => wanted_entry(alloc, caller, line, wanted_in(said)),
+    match ScriptLine::read(alloc, unmarked(line)) {
+        Ok(said) => wanted_entry(alloc, caller, line, wanted_in(is_marked(line), said)),
         Err(fault) => Err(fault),
     }
 }

@@ -7,9 +7,9 @@ use command_io::ExitStatus;
 /// How far the lines of an input have come.
 #[derive(Clone, Copy, Debug, PartialEq, Eq)]
 pub(crate) struct Progress {
-    /// The moment of the latest that was asked.
+    /// The moment of the latest that was asked, or would have been but for a doubt.
     pub(crate) latest: u64,
-    /// Whether one was refused, or had a point list with faults.
+    /// Whether one was refused, or not asked.
     pub(crate) refused: bool,
 }
 
@@ -32,6 +32,13 @@ impl Progress {
             latest: at,
             refused: self.refused || refused,
         }
+    }
+
+    /// After one more that would have been asked at a moment, but was not.
+    pub(crate) fn unasked(at: u64) -> Progress
+        ensures { result ≡ record { latest = at; refused = true } }
+    {
+        Progress::from(at).faulty()
     }
 
     /// After one whose point list has faults.

@@ -2,6 +2,7 @@
 ghost use Rattle.std.specs.Prelude.{◌≡◌};
 ghost use Rattle.office_program.specs.Entering.Lines as lines;
 
+use crate::entering::marks::is_by_hand;
 use office_events::{Command, Event};
 use script_lines::{GivenList, ScriptLine};
 
@@ -34,36 +35,56 @@ fn is_request(command: &Command) -> bool
     }
 }
 
-fn wanted_by(number: u64, command: Command) -> Wanted
-    ensures { result ≡ lines.wanted_by number command }
+fn can_be_asked(marked: bool, command: &Command) -> bool
+    ensures { result ≡ lines.can_be_asked marked command.now }
 {
-    if is_request(&command) {
+    if marked {
+        is_by_hand(command)
+    } else {
+        is_request(command)
+    }
+}
+
+fn wanted_by(marked: bool, number: u64, command: Command) -> Wanted
+    ensures { result ≡ lines.wanted_by marked number command }
+{
+    if can_be_asked(marked, &command) {
         Wanted::Command(number, command)
     } else {
         Wanted::Nothing
     }
 }
 
-fn wanted_of(number: u64, event: Event) -> Wanted
-    ensures { result ≡ lines.wanted_of number event }
+fn wanted_of(marked: bool, number: u64, event: Event) -> Wanted
+    ensures { result ≡ lines.wanted_of marked number event }
 {
     match event {
         Event::Connected(_) => Wanted::Nothing,
         Event::Bytes(_, _) => Wanted::Nothing,
         Event::Tick => Wanted::Nothing,
         Event::Gone(_, _) => Wanted::Nothing,
-        Event::Command(command) => wanted_by(number, command),
+        Event::Command(command) => wanted_by(marked, number, command),
         Event::Asked(_) => Wanted::Nothing,
     }
 }
 
-/// What a line of a script asks.
-pub(crate) fn wanted_in(said: ScriptLine) -> Wanted
-    ensures { result ≡ lines.wanted_in said }
+fn wanted_list(marked: bool, number: u64, list: GivenList) -> Wanted
+    ensures { result ≡ lines.wanted_list marked number list }
+{
+    if marked {
+        Wanted::Nothing
+    } else {
+        Wanted::List(number, list)
+    }
+}
+
+/// What a line of a script asks, which may have a mark behind it.
+pub(crate) fn wanted_in(marked: bool, said: ScriptLine) -> Wanted
+    ensures { result ≡ lines.wanted_in marked said }
 {
     match said {
-        ScriptLine::Event { at, event } => wanted_of(at, event),
-        ScriptLine::List { at, list } => Wanted::List(at, list),
+        ScriptLine::Event { at, event } => wanted_of(marked, at, event),
+        ScriptLine::List { at, list } => wanted_list(marked, at, list),
         ScriptLine::Start { .. } => Wanted::Nothing,
         ScriptLine::Meter { .. } => Wanted::Nothing,
         ScriptLine::Intervals { .. } => Wanted::Nothing,

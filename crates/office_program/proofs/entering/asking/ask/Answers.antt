@@ -1,19 +1,36 @@
-use Rattle.std.proofs.Common.{refl}
+use Rattle.std.proofs.Common.{sym, ◌∙◌}
 use Rattle.office_rounds.specs.Between.{desk_of}
-use Rattle.office_program.proofs.EnteringLemmas.Asked.{asked, next_is}
+use Rattle.office_program.proofs.EnteringLemmas.Asked.{doubted, undecided, undoubted}
+use Rattle.office_program.proofs.EnteringLemmas.Doubts.{told_so, told_why}
 use Rattle.office_program.proofs.entering.asking.ask.Goals as goal
 
-pub returns-in-Ok-clause-asks : goal.returns-in-Ok-clause-asks
-returns-in-Ok-clause-asks g c = λ past stands clean.
-    asked g.B.Books.ledger past c.args.progress (desk_of g.B.Books g.C.Clock g.W.Write c.args.office.now c.args.clock.now c.args.output.now)
-    (desk_of g.B.Books g.C.Clock g.W.Write c.feed-reply.new.self c.now-told.new.self c.print_reply.new.output) c.feed-reply.new.self c.max-at.result c.now-told.result
-    c.args.event.now c.feed-reply.result _ _ c.now-told.ensures c.max-at.ensures (c.feed-reply.ensures.stands past stands clean)
-    (c.feed-reply.ensures.answers past stands clean) (c.feed-reply.ensures.told past stands clean) refl c.in-Ok.ensures
-    (next_is c.args.progress c.asked.result c.max-at.result c.args.event.now c.feed-reply.result c.is_err.result c.asked.ensures c.is_err.ensures.value)
+pub returns-in-Some-clause-enters : goal.returns-in-Some-clause-enters
+returns-in-Some-clause-enters g c = λ past stands clean.
+    let is = c.in-Ok.ensures.tells past stands clean in
+    let told = told_so g.B.Books.ledger past _ _ c.doubt_of.new.office _ c.in-Ok.doubt is in
+    doubted g.B.Books.ledger past c.args.progress (desk_of g.B.Books g.C.Clock g.W.Write c.args.office.now c.args.clock.now c.args.output.now)
+    (desk_of g.B.Books g.C.Clock g.W.Write c.doubt_of.new.office c.now-told.new.self c.tell_doubt.new.output) c.doubt_of.new.office c.max-at.result c.now-told.result
+    c.in-Some.mwh c.args.asked c.tell_doubt.result c.now-told.ensures c.max-at.ensures is.stands (sym told.0 ∙ c.in-Some.is) told.1 c.tell_doubt.ensures
 
-pub returns-in-Err-clause-asks : goal.returns-in-Err-clause-asks
-returns-in-Err-clause-asks g c = λ past stands clean.
-    asked g.B.Books.ledger past c.args.progress (desk_of g.B.Books g.C.Clock g.W.Write c.args.office.now c.args.clock.now c.args.output.now)
-    (desk_of g.B.Books g.C.Clock g.W.Write c.feed-reply.new.self c.now-told.new.self c.print_reply.new.output) c.feed-reply.new.self c.max-at.result c.now-told.result
-    c.args.event.now c.feed-reply.result _ _ c.now-told.ensures c.max-at.ensures (c.feed-reply.ensures.stands past stands clean)
-    (c.feed-reply.ensures.answers past stands clean) (c.feed-reply.ensures.told past stands clean) refl c.in-Err.ensures tt
+pub returns-in-None-clause-enters : goal.returns-in-None-clause-enters
+returns-in-None-clause-enters g c = λ past stands clean.
+    let was = c.ask_at.ensures.lasts.clean clean in
+    let is = c.in-Ok.ensures.tells past stands was in
+    let told = told_so g.B.Books.ledger past _ _ c.doubt_of.new.office _ c.in-Ok.doubt is in
+    undoubted g.B.Books.ledger past c.args.progress (desk_of g.B.Books g.C.Clock g.W.Write c.args.office.now c.args.clock.now c.args.output.now)
+    (desk_of g.B.Books g.C.Clock g.W.Write c.ask_at.new.office c.now-told.new.self c.ask_at.new.output) c.ask_at.new.office c.max-at.result c.now-told.result
+    c.args.asked _ c.ask_at.result c.now-told.ensures c.max-at.ensures (sym told.0 ∙ c.in-None.is) told.1 (c.ask_at.ensures.asks past is.stands clean)
+
+pub returns-in-None-clause-lasts : goal.returns-in-None-clause-lasts
+returns-in-None-clause-lasts g c =
+    let first = c.in-Ok.ensures.lasts in
+    let second = c.ask_at.ensures.lasts in
+    record { clean = λ clean. first.clean (second.clean clean); zone = second.zone ∙ first.zone }
+
+pub returns-in-Err-clause-enters : goal.returns-in-Err-clause-enters
+returns-in-Err-clause-enters g c = λ past stands clean.
+    let is = c.in-Err.ensures.tells past stands clean in
+    undecided g.B.Books.ledger past c.args.progress (desk_of g.B.Books g.C.Clock g.W.Write c.args.office.now c.args.clock.now c.args.output.now)
+    (desk_of g.B.Books g.C.Clock g.W.Write c.doubt_of.new.office c.now-told.new.self c.tell_undecided.new.output) c.doubt_of.new.office c.max-at.result c.now-told.result
+    c.args.asked c.in-Err.why c.tell_undecided.result c.now-told.ensures c.max-at.ensures is.stands
+    (told_why g.B.Books.ledger past _ _ c.doubt_of.new.office _ c.in-Err.why is) c.tell_undecided.ensures

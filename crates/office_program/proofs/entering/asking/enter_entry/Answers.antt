@@ -1,12 +1,11 @@
 use Rattle.std.proofs.Common.{refl}
 use Rattle.office_rounds.specs.Between.{desk_of}
-use Rattle.office_program.specs.Entering.Course.{Asked, Faulty}
+use Rattle.office_program.specs.Entering.Course.{Faulty}
 use Rattle.office_program.proofs.EnteringLemmas.Asked.{faulty}
 use Rattle.office_program.proofs.entering.asking.enter_entry.Goals as goal
 
 pub returns-in-Ask-clause-enters : goal.returns-in-Ask-clause-enters
-returns-in-Ask-clause-enters g c = λ past stands clean.
-    let done = c.ask.ensures.asks past stands clean in rw c.in-Ask.is (Asked done.0, done.1, done.2)
+returns-in-Ask-clause-enters g c = λ past stands clean. rw c.in-Ask.is (c.ask.ensures.enters past stands clean)
 
 pub returns-in-Faulty-clause-enters : goal.returns-in-Faulty-clause-enters
 returns-in-Faulty-clause-enters g c = λ past stands clean.

@@ -1,0 +1,198 @@
+-- Worked examples, computed from the definitions: an entry by hand is asked up to what the ceiling allows, and doubted from there on.
+use Rattle.std.proofs.Common.{◌≡◌, ℕ, ℤ, pos, negsuc, true, false, List, [], ◌∷◌, Option, Some, None, refl}
+use Rattle.std.specs.Prelude.{codes}
+use Rattle.energy_core.specs.Value.{unit_of}
+use Rattle.energy_core.specs.declared.entries.Entry.TheVariants as entry
+use Rattle.meter_journal.specs.declared.lines.EntryKind.TheVariants as kind
+use Rattle.office_events.specs.declared.answers.CommandKind.TheVariants as done
+use Rattle.office_events.specs.declared.commands.Command.{Command}
+use Rattle.office_events.specs.declared.commands.Command.TheVariants as command
+use Rattle.office_events.specs.declared.events.Asked.{Asked}
+use Rattle.office_events.specs.declared.facts.Fact.{Fact}
+use Rattle.office_events.specs.declared.facts.Fact.TheVariants as fact
+use Rattle.office_events.specs.declared.facts.Opening.{Opening}
+use Rattle.office_events.specs.declared.questions.Installation.{Installation}
+use Rattle.office_program.specs.Entering.Doubts.{doubt_of, doubted_at}
+use Rattle.office_program.specs.Entering.Lines.{is_marked, unmarked}
+
+abbrev main : List ℕ
+main = codes "main"
+
+abbrev m1 : List ℕ
+m1 = codes "m1"
+
+abbrev desk : List ℕ
+desk = codes "desk"
+
+-- ---- A meter that counts Wh, and at whose register at most 100 kW can flow: 100,000 counts an hour
+
+abbrev opening : (sf : ℤ) → (raw range : ℕ) → Opening
+opening sf raw range = record { meter = m1; register = main; ceiling = 100000; range = range; at = 1000; raw = raw; sf = sf }
+
+abbrev meter : (sf : ℤ) → (raw range : ℕ) → Installation
+meter sf raw range = record {
+  opening = opening sf raw range;
+  last = record { at = 1000; raw = raw; sf = sf };
+  total = 0;
+  ended = false;
+}
+
+abbrev wh : Installation
+wh = meter (pos 0) 5000 4294967296
+
+abbrev manual : (raw rolls : ℕ) → Option ℕ → Command
+manual raw rolls at = command.Manual (record { register = Some main; raw = raw; rolls = rolls; at = at })
+
+abbrev exchange : (last rolls : ℕ) → Command
+exchange last rolls = command.Exchange (record {
+  register = Some main;
+  last = last;
+  rolls = rolls;
+  meter = Some (codes "m2");
+  raw = 0;
+  sf = pos 0;
+  ceiling = 100000;
+  range = 4294967296;
+})
+
+-- The first count may have been all but due, so that it takes no energy.
+the_most_in_an_hour : doubted_at 4600 (manual 105001 0 None) wh ≡ None
+unfolding unit_of
+the_most_in_an_hour = refl
+
+one_count_more : doubted_at 4600 (manual 105002 0 None) wh ≡ Some 100002000
+unfolding unit_of
+one_count_more = refl
+
+a_second_later : doubted_at 4601 (manual 105002 0 None) wh ≡ None
+unfolding unit_of
+a_second_later = refl
+
+-- what was read half an hour before now
+the_most_half_an_hour_ago : doubted_at 4600 (manual 55001 0 (Some 2800)) wh ≡ None
+unfolding unit_of
+the_most_half_an_hour_ago = refl
+
+one_more_half_an_hour_ago : doubted_at 4600 (manual 55002 0 (Some 2800)) wh ≡ Some 50002000
+unfolding unit_of
+one_more_half_an_hour_ago = refl
+
+-- of the other entries by hand, the last number of the meter and the number before a change
+the_most_before_an_exchange : doubted_at 4600 (exchange 105001 0) wh ≡ None
+unfolding unit_of
+the_most_before_an_exchange = refl
+
+one_more_before_an_exchange : doubted_at 4600 (exchange 105002 0) wh ≡ Some 100002000
+unfolding unit_of
+one_more_before_an_exchange = refl
+
+the_most_at_the_end : doubted_at 4600 (command.Close (record { register = Some main; raw = 105001; rolls = 0 })) wh ≡ None
+unfolding unit_of
+the_most_at_the_end = refl
+
+one_more_at_the_end : doubted_at 4600 (command.Close (record { register = Some main; raw = 105002; rolls = 0 })) wh ≡ Some 100002000
+unfolding unit_of
+one_more_at_the_end = refl
+
+the_most_before_a_reset : doubted_at 4600 (command.Reset (record { register = Some main; before = 105001; after = 0 })) wh ≡ None
+unfolding unit_of
+the_most_before_a_reset = refl
+
+one_more_before_a_reset : doubted_at 4600 (command.Reset (record { register = Some main; before = 105002; after = 0 })) wh ≡ Some 100002000
+unfolding unit_of
+one_more_before_a_reset = refl
+
+the_most_before_another_scale :
+    doubted_at 4600 (command.Rescale (record { register = Some main; before = 105001; after = 105; sf = pos 3 })) wh ≡ None
+unfolding unit_of
+the_most_before_another_scale = refl
+
+one_more_before_another_scale :
+    doubted_at 4600 (command.Rescale (record { register = Some main; before = 105002; after = 105; sf = pos 3 })) wh ≡ Some 100002000
+unfolding unit_of
+one_more_before_another_scale = refl
+
+-- A full turn of the counter counts. A meter that turns over at 65,536 and counts thousandths of a Wh, a second after it showed 65,000:
+the_most_over_a_turn : doubted_at 1001 (manual 27242 1 None) (meter (negsuc 2) 65000 65536) ≡ None
+unfolding unit_of
+the_most_over_a_turn = refl
+
+one_more_over_a_turn : doubted_at 1001 (manual 27243 1 None) (meter (negsuc 2) 65000 65536) ≡ Some 27779
+unfolding unit_of
+one_more_over_a_turn = refl
+
+another_turn : doubted_at 1001 (manual 27242 2 None) (meter (negsuc 2) 65000 65536) ≡ Some 93314
+unfolding unit_of
+another_turn = refl
+
+-- What the office refuses is asked: it is no later, or goes back. No other command is doubted.
+no_later : doubted_at 1000 (manual 4000000000 0 None) wh ≡ None
+unfolding unit_of
+no_later = refl
+
+goes_back : doubted_at 1001 (manual 4999 0 None) wh ≡ None
+unfolding unit_of
+goes_back = refl
+
+an_installation : doubted_at 1001
+    (command.Install (record { register = Some main; meter = Some (codes "m2"); raw = 4000000000; sf = pos 0; ceiling = 1; range = 4294967296 })) wh ≡ None
+an_installation = refl
+
+-- ---- Requests
+
+abbrev asked : (request : List ℕ) → Asked
+asked request = record { caller = Some desk; number = 5; request = request; command = manual 105002 0 None }
+
+abbrev installed : List Fact
+installed = fact.Opening (opening (pos 0) 5000 4294967296) ∷ []
+
+abbrev line : List ℕ
+line = codes "5 manual main 105002 0"
+
+a_new_one : doubt_of installed 4600 (asked line) ≡ Some 100002000
+unfolding unit_of
+a_new_one = refl
+
+a_marked_one : doubt_of installed 4600 (asked (codes "5 manual main 105002 0 !")) ≡ None
+unfolding unit_of
+a_marked_one = refl
+
+abbrev kept : (request : List ℕ) → List Fact
+kept request = fact.Reply (record { caller = desk; number = 5; request = request; kind = done.Manual; at = 2000 }) ∷ installed
+
+one_that_is_kept : doubt_of (kept line) 4600 (asked line) ≡ None
+unfolding unit_of
+one_that_is_kept = refl
+
+one_of_a_number_that_is_kept : doubt_of (kept (codes "5 device inv 1 5 1")) 4600 (asked line) ≡ None
+unfolding unit_of
+one_of_a_number_that_is_kept = refl
+
+one_after_the_meter_was_closed :
+    doubt_of (fact.Entry (record { meter = m1; kind = kind.Closing; entry = entry.Step 2000 5001 0 }) ∷ installed) 4600 (asked line) ≡ None
+unfolding unit_of
+one_after_the_meter_was_closed = refl
+
+one_where_no_meter_is : doubt_of [] 4600 (asked line) ≡ None
+unfolding unit_of
+one_where_no_meter_is = refl
+
+-- ---- The mark
+
+a_mark : is_marked (codes "5 close main 6000 0 !") ≡ true
+a_mark = refl
+
+no_mark : is_marked (codes "5 close main 6000 0") ≡ false
+no_mark = refl
+
+no_word : is_marked (codes "5 close main 6000 0!") ≡ false
+no_word = refl
+
+not_the_last : is_marked (codes "5 close ! 6000 0") ≡ false
+not_the_last = refl
+
+what_was_said : unmarked (codes "5 close main 6000 0 !") ≡ codes "5 close main 6000 0"
+what_was_said = refl
+
+nothing_but_a_mark : unmarked (codes " !") ≡ []
+nothing_but_a_mark = refl

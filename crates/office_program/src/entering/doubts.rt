@@ -1,0 +1,159 @@
+//! Doubts about an entry by hand: whether its energy is past what the meter's ceiling allows.
+ghost use Rattle.std.specs.Prelude.{◌≡◌, ◌≤◌, ◌+◌, ◌*◌, ◌^◌};
+ghost use Rattle.std.specs.Option.{option_and_then};
+ghost use Rattle.office_rules.specs.History as history;
+ghost use Rattle.office_rules.specs.Meters.{if_open};
+ghost use Rattle.office_rules.specs.Ranges.{IsSound};
+ghost use Rattle.office_rounds.specs.Passing.{Lasts};
+ghost use Rattle.office_program.specs.Entering.Doubts as spec;
+ghost use Rattle.office_program.specs.Entering.Doubts.{TellsDoubt, doubt_of, doubted_in};
+
+use crate::entering::marks::is_marked;
+use energy_core::energy_up_to;
+use office_books::{Books, is_sound};
+use office_core::Office;
+use office_events::{Asked, Command, Installation, Name, Refusal};
+use office_rules::{facts_are_lawful, installations_are_in_range};
+
+// What a meter's counter would have reached that shows a number after so many full turns, had it not turned over.
+fn turned(row: &Installation, raw: u64, rolls: u64) -> u128
+    requires { IsSound row.now }
+    ensures value { result ≡ raw + rolls * row.now.opening.range }
+    ensures small { result ≤ 2 ^ 97 }
+{
+    u128::from(raw) + u128::from(rolls) * u128::from(row.opening.range)
+}
+
+// Whether an entry is later than the meter's last, and does not go back.
+fn goes_on(row: &Installation, moment: u64, up_to: u128) -> bool
+    ensures { result ≡ spec.goes_on row.now moment up_to }
+{
+    row.last.at < moment && u128::from(row.last.raw) <= up_to
+}
+
+// Whether a load of the ceiling can make the meter count so far. The first count may take no energy.
+fn is_within_ceiling(row: &Installation, moment: u64, up_to: u128) -> bool
+    requires sound { IsSound row.now }
+    requires small { up_to ≤ 2 ^ 97 }
+    ensures { result ≡ spec.is_within_ceiling row.now moment up_to }
+{
+    let energy = energy_up_to(&row.last, up_to.saturating_sub(1));
+    let seconds = moment.saturating_sub(row.last.at);
+    energy * 18 <= u128::from(row.opening.ceiling) * u128::from(seconds) * 5
+}
+
+// What an entry would book that is doubted.
+fn doubted_up_to(row: &Installation, moment: u64, up_to: u128) -> Option<u128>
+    requires sound { IsSound row.now }
+    requires small { up_to ≤ 2 ^ 97 }
+    ensures { result ≡ spec.doubted_up_to row.now moment up_to }
+{
+    if goes_on(row, moment, up_to) && !is_within_ceiling(row, moment, up_to) {
+        Some(energy_up_to(&row.last, up_to))
+    } else {
+        None
+    }
+}
+
+// What the entry of a command would book at a meter, where that is doubted.
+fn doubted_at(at: u64, command: &Command, row: &Installation) -> Option<u128>
+    requires { IsSound row.now }
+    ensures { result ≡ spec.doubted_at at command.now row.now }
+{
+    match command {
+        Command::AddDevice(_) => None,
+        Command::PutList(_) => None,
+        Command::AddRegister(_) => None,
+        Command::Install(_) => None,
+        Command::Exchange(c) => doubted_up_to(row, at, turned(row, c.last, c.rolls)),
+        Command::Reset(c) => doubted_up_to(row, at, u128::from(c.before)),
+        Command::Rescale(c) => doubted_up_to(row, at, u128::from(c.before)),
+        Command::Manual(c) => {
+            doubted_up_to(row, c.at.unwrap_or(at), turned(row, c.raw, c.rolls))
+        }
+        Command::Close(c) => doubted_up_to(row, at, turned(row, c.raw, c.rolls)),
+        Command::Void(_) => None,
+        Command::StartPoll(_) => None,
+        Command::StartRound(_) => None,
+    }
+}
+
+// The same of a meter that may be closed. Books answer no meter whose numbers are out of their ranges.
+fn doubted_if_open(at: u64, command: &Command, row: &Installation) -> Option<u128>
+    ensures { IsSound row.now
+        → result ≡ option_and_then (spec.doubted_at at command.now) (if_open row.now) }
+{
+    if row.ended || !is_sound(row) {
+        None
+    } else {
+        doubted_at(at, command, row)
+    }
+}
+
+// The register at which a command makes an entry by hand.
+fn corrected_at(command: &Command) -> Option<Name>
+    ensures { result ≡ history.corrected_at command.now }
+{
+    match command {
+        Command::AddDevice(_) => None,
+        Command::PutList(_) => None,
+        Command::AddRegister(_) => None,
+        Command::Install(_) => None,
+        Command::Exchange(c) => c.register,
+        Command::Reset(c) => c.register,
+        Command::Rescale(c) => c.register,
+        Command::Manual(c) => c.register,
+        Command::Close(c) => c.register,
+        Command::Void(_) => None,
+        Command::StartPoll(_) => None,
+        Command::StartRound(_) => None,
+    }
+}
+
+// What is doubted at the meter that is open at a register.
+fn doubted_in<B: Books>(
+    office: &mut Office<B>,
+    at: u64,
+    command: &Command,
+    register: &Option<Name>,
+) -> Result<Option<u128>, Refusal>
+    ensures tells { TellsDoubt B.ledger office.old office.new result
+        (λ facts. doubted_in facts at command.now register.now) }
+    ensures lasts { Lasts B.ledger office.old office.new }
+{
+    facts_are_lawful();
+    installations_are_in_range();
+    match office.installation(register) {
+        Ok(row) => Ok(doubted_if_open(at, command, &row)),
+        Err(why) => match why {
+            Refusal::NotFound => Ok(None),
+            _ => Err(why),
+        },
+    }
+}
+
+/// What a request would book at a moment, where that is doubted. The office is only asked.
+pub(crate) fn doubt_of<B: Books>(
+    office: &mut Office<B>,
+    at: u64,
+    asked: &Asked,
+) -> Result<Option<u128>, Refusal>
+    ensures tells { TellsDoubt B.ledger office.old office.new result
+        (λ facts. doubt_of facts at asked.now) }
+    ensures lasts { Lasts B.ledger office.old office.new }
+{
+    if is_marked(asked.request.as_slice()) {
+        return Ok(None);
+    }
+    let register = corrected_at(&asked.command);
+    if register.is_none() {
+        return Ok(None);
+    }
+    match office.repeat(&asked.caller, asked.number, asked.request.as_slice()) {
+        Ok(_) => Ok(None),
+        Err(why) => match why {
+            Refusal::NotFound => doubted_in(office, at, &asked.command, &register),
+            _ => Err(why),
+        },
+    }
+}

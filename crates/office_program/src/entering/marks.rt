@@ -1,0 +1,44 @@
+//! The mark of a line, ` !`: the entry by hand that it asks is meant as it stands.
+ghost use Rattle.std.specs.Prelude.{◌≡◌, ◌≤◌, IsTrue, length};
+ghost use Rattle.office_program.specs.Entering.Lines as lines;
+
+use office_events::Command;
+
+/// Whether a line ends with a mark.
+pub(crate) fn is_marked(line: &[u8]) -> bool
+    ensures marked { result ≡ lines.is_marked line.now }
+    ensures long { IsTrue result → 2 ≤ length line.now }
+{
+    line.ends_with(b" !")
+}
+
+/// What a line says before its mark, where it has one.
+pub(crate) fn unmarked(line: &[u8]) -> &[u8]
+    ensures { result.now ≡ lines.unmarked line.now }
+{
+    if is_marked(line) {
+        &line[..line.len() - 2]
+    } else {
+        line
+    }
+}
+
+/// A command that makes an entry by hand: no other may have a mark.
+pub(crate) fn is_by_hand(command: &Command) -> bool
+    ensures { result ≡ lines.is_by_hand command.now }
+{
+    match command {
+        Command::AddDevice(_) => false,
+        Command::PutList(_) => false,
+        Command::AddRegister(_) => false,
+        Command::Install(_) => false,
+        Command::Exchange(_) => true,
+        Command::Reset(_) => true,
+        Command::Rescale(_) => true,
+        Command::Manual(_) => true,
+        Command::Close(_) => true,
+        Command::Void(_) => false,
+        Command::StartPoll(_) => false,
+        Command::StartRound(_) => false,
+    }
+}
