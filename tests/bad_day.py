@@ -264,6 +264,10 @@ def clock_ahead(db):
     said = [line for line in run.said if "the books go to" in line]
     holds("and that is explained", len(said) == 1 and str(moments[1])[:7] in said[0], run.said)
     same("as before on standard output", run.lines, ["refused 3"])
+    report = Process("report", "--db", db, "--register", "main", **clock)
+    same("a report needs no clock", report.child.wait(20), 0)
+    time.sleep(0.5)
+    holds("and prints all days", report.lines[-1:] in (["end 1"], ["end 2"]), report.lines)
     set_clock("+700")
     holds("once the clock has passed it, it is", Process("run", *words, "--for", "2", **clock).wait_for("listening"))
     time.sleep(3)

@@ -1,10 +1,14 @@
 -- The definitions at both ends of each limit, as numbers.
+use Rattle.std.specs.Prelude.{pos, negsuc}
 use Rattle.std.proofs.Common.{◌≡◌, ℕ, ◌+◌, ◌==◌, ◌||◌, ◌&&◌, nat_le, nat_lt, Bool, true, false, if◌then◌else◌, List, [], ◌∷◌, length, Some, None, refl}
 use Rattle.sun_chain.specs.Image.{Words}
 use Rattle.sun_chain.specs.Tables.{common_table, inverter_table, meter_table, table_of}
+use Rattle.mb_wire.specs.declared.span.ReadFunction.TheVariants.{HoldingRegisters, InputRegisters}
 use Rattle.device_scan.specs.Answers.{Ask, settled}
+use Rattle.device_scan.specs.Counters.{counter_span, shown_by, shown_in, told}
 use Rattle.device_scan.specs.Scans.{nothing}
 use Rattle.device_scan.specs.Stages.{begun, holding, is_known, model_at, stage_after, wanted}
+use Rattle.device_scan.specs.declared.counter.CounterScale.TheVariants.{Fixed, Register}
 use Rattle.device_scan.specs.declared.stage.Stage.TheVariants.{Mark, Head, Ending, Registers, Over}
 
 -- two words that a device showed, at an address and the next
@@ -122,3 +126,61 @@ another_unit = refl
 
 excepted : settled one_read ((0 ∷ 7 ∷ 0 ∷ 0 ∷ 0 ∷ 3 ∷ 1 ∷ 131 ∷ 1 ∷ []) ∷ []) ≡ Some None
 excepted = refl
+
+-- ---- the registers of a counter and of its scale
+
+two_alone : counter_span HoldingRegisters 40000 (Fixed (pos 0)) ≡ Some (holding 40000 2)
+two_alone = refl
+
+by_function_4 : counter_span InputRegisters 10 (Fixed (pos 0)) ≡ Some (record { function = InputRegisters; address = 10; count = 2 })
+by_function_4 = refl
+
+scale_behind : counter_span HoldingRegisters 10 (Register 14) ≡ Some (holding 10 5)
+scale_behind = refl
+
+scale_before : counter_span HoldingRegisters 10 (Register 4) ≡ Some (holding 4 8)
+scale_before = refl
+
+scale_within : counter_span HoldingRegisters 10 (Register 11) ≡ Some (holding 10 2)
+scale_within = refl
+
+span_of_125 : counter_span HoldingRegisters 10 (Register 134) ≡ Some (holding 10 125)
+span_of_125 = refl
+
+span_of_126 : counter_span HoldingRegisters 10 (Register 135) ≡ None
+span_of_126 = refl
+
+last_two : counter_span HoldingRegisters 65534 (Fixed (pos 0)) ≡ Some (holding 65534 2)
+last_two = refl
+
+half_a_counter : counter_span HoldingRegisters 65535 (Fixed (pos 0)) ≡ None
+half_a_counter = refl
+
+-- ---- what words show
+
+high_word_first : shown_in 10 (1 ∷ 2 ∷ []) 10 (Fixed (pos 0)) ≡ Some (record { raw = 65538; sf = pos 0 })
+high_word_first = refl
+
+scale_is_read : shown_in 10 (1 ∷ 2 ∷ 0xFFFE ∷ []) 10 (Register 12) ≡ Some (record { raw = 65538; sf = negsuc 1 })
+scale_is_read = refl
+
+scale_stands_before : shown_in 9 (3 ∷ 0 ∷ 7 ∷ []) 10 (Register 9) ≡ Some (record { raw = 7; sf = pos 3 })
+scale_stands_before = refl
+
+least_scale : told 0xFFFD ≡ Some (negsuc 2)
+least_scale = refl
+
+below_the_least : told 0xFFFC ≡ None
+below_the_least = refl
+
+above_the_greatest : told 4 ≡ None
+above_the_greatest = refl
+
+not_implemented : told 0x8000 ≡ None
+not_implemented = refl
+
+four_by_hand : shown_in 10 (1 ∷ 2 ∷ []) 10 (Fixed (pos 4)) ≡ None
+four_by_hand = refl
+
+no_words : shown_by 10 None 10 (Fixed (pos 0)) ≡ None
+no_words = refl

@@ -3,4 +3,5 @@ pub mod Framing
 pub mod Settles
 pub mod Potentials
 pub mod Talking
+pub mod Showing
 mod Examples

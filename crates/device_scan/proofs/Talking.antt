@@ -1,6 +1,6 @@
 -- Tries, reads, and exchanges, one after the other.
 use Rattle.std.specs.Prelude.{slice_index}
-use Rattle.std.proofs.Common.{◌≡◌, ℕ, ◌+◌, ◌*◌, ◌<◌, ◌≤◌, List, [], ◌∷◌, ◌++◌, length, Option, None, Some, Result, Ok, Bool, true, false, ◌==◌, if◌then◌else◌, drop, refl, sym, ap, ◌∙◌, subst, append-nil, append_assoc, length-append, arith, option_map}
+use Rattle.std.proofs.Common.{◌≡◌, ℕ, ◌+◌, ◌*◌, ◌<◌, ◌≤◌, List, [], ◌∷◌, ◌++◌, length, Option, None, Some, Result, Ok, Bool, true, false, ◌==◌, if◌then◌else◌, drop, map, refl, sym, ap, ◌∙◌, subst, append-nil, append_assoc, length-append, arith, option_map}
 use Rattle.std.specs.List.{flat_map}
 use Rattle.std.specs.Prelude.{IfSome, Vec, unwrap_or, find}
 use Rattle.std.proofs.lemmas.List.Concat.{flat_map-append}
@@ -21,43 +21,49 @@ use Rattle.mb_wire.proofs.Answering.{registers_fit}
 use Rattle.sun_chain.specs.Image.{Words}
 use Rattle.sun_points.specs.Writing.{GotPart, GotText}
 use Rattle.device_scan.specs.Answers.{Ask, brought, is_reply, request_frame, words_in, words_seen}
-use Rattle.device_scan.specs.Lines.{AtOnce, Again, Garbles, Hears, HearsAnswer, Inquiry, Line, OnlyInquires, Reads, Tries, ask, inquiry_frame}
+use Rattle.device_scan.specs.Lines.{AtOnce, Again, Garbles, Hears, HearsAnswer, Inquiry, Line, OnlyInquires, OnlyRequests, Reads, Tries, ask, inquiry_frame, request_under}
 use Rattle.device_scan.specs.Scans.{Scans, AsksInTurn, Exchange, Talks, fresh, nothing, put_answer, words_after, words_told}
 use Rattle.device_scan.specs.Stages.{begun, stage_after, wanted}
 use Rattle.device_scan.specs.declared.stage.Stage.{Stage}
 use Rattle.device_scan.specs.declared.stage.Stage.TheVariants.{Mark, Head, Ending, Registers as InModel, Over}
 use Rattle.device_scan.proofs.Framing.{open_nil}
-use Rattle.device_scan.proofs.Gives.{got_both, got_kept, part_after}
+use Rattle.device_scan.proofs.Gives.{got_both, part_after}
 use Rattle.device_scan.proofs.Settles.{hears_both, hears_nothing}
 use Rattle.device_scan.proofs.Potentials.{less_potential, potential}
 
 -- ---- what is given
 
-pub inquires_one : {X E : Type 0} (unit : ℕ) (result : Result X E) (a b : Option (List ℕ)) (inquiry : Inquiry) → GotText result (inquiry_frame unit inquiry) a b → OnlyInquires unit result a b
-inquires_one unit result a b inquiry got =
-    (inquiry ∷ [], subst (λ (text : List ℕ). GotText result text a b) (sym (append-nil (inquiry_frame unit inquiry))) got)
+pub requests_one : {X E : Type 0} (unit : ℕ) (span : Span) (id : ℕ) (result : Result X E) (a b : Option (List ℕ)) → GotText result (request_under unit span id) a b → OnlyRequests unit span result a b
+requests_one unit span id result a b got =
+    (id ∷ [], omega arith, subst (λ (text : List ℕ). GotText result text a b) (sym (append-nil (request_under unit span id))) got)
 
-pub inquires_both : {X E : Type 0} (unit : ℕ) (result : Result X E) (a b c : Option (List ℕ)) → ((inquiries : List Inquiry) × Appends a b (flat_map (inquiry_frame unit) inquiries)) → OnlyInquires unit result b c → OnlyInquires unit result a c
-inquires_both unit result a b c first next = (
-  first.0 ++ next.0,
-  subst (λ (text : List ℕ). GotText result text a c)
-      (sym (flat_map-append (inquiry_frame unit) first.0 next.0))
-      (got_both result a b c (flat_map (inquiry_frame unit) first.0) (flat_map (inquiry_frame unit) next.0) first.1 next.1),
+pub requests_two : {X E : Type 0} (unit : ℕ) (span : Span) (id next : ℕ) (result : Result X E) (a b c : Option (List ℕ)) → Appends a b (request_under unit span id) → GotText result (request_under unit span next) b c → OnlyRequests unit span result a c
+requests_two unit span id next result a b c first second = (
+  id ∷ next ∷ [],
+  omega arith,
+  subst (λ (text : List ℕ). GotText result (request_under unit span id ++ text) a c)
+      (sym (append-nil (request_under unit span next)))
+      (got_both result a b c (request_under unit span id) (request_under unit span next) first second),
 )
-
-pub inquires_part : (unit : ℕ) (a b : Option (List ℕ)) (inquiry : Inquiry) → GotPart (inquiry_frame unit inquiry) a b → (inquiries : List Inquiry) × GotPart (flat_map (inquiry_frame unit) inquiries) a b
-inquires_part unit a b inquiry got =
-    (inquiry ∷ [], subst (λ (text : List ℕ). GotPart text a b) (sym (append-nil (inquiry_frame unit inquiry))) got)
-
--- nothing is given behind a request
-pub inquires_kept : {X E : Type 0} (unit : ℕ) (result : Result X E) (a b c : Option (List ℕ)) (inquiry : Inquiry) → Appends a b (inquiry_frame unit inquiry) → Keeps b c → OnlyInquires unit result a c
-inquires_kept unit result a b c inquiry got kept = inquires_one unit result a c inquiry (got_kept result a b c (inquiry_frame unit inquiry) got kept)
 
 -- a request of holding registers
 pub holding_frame : (id unit : ℕ) (function : ReadFunction) (address count : ℕ) → function ≡ HoldingRegisters
     → request_frame (record { id = id; unit = unit; span = record { function = function; address = address; count = count } }) ≡ inquiry_frame unit (record { id = id; address = address; count = count })
 holding_frame id unit function address count is =
     ap (λ (f : ReadFunction). request_frame (record { id = id; unit = unit; span = record { function = f; address = address; count = count } })) is
+
+abbrev inquiry_of : Span → ℕ → Inquiry
+inquiry_of span id = record { id = id; address = span.address; count = span.count }
+
+same_frames : (unit : ℕ) (span : Span) (ids : List ℕ) → span.function ≡ HoldingRegisters → flat_map (request_under unit span) ids ≡ flat_map (inquiry_frame unit) (map (inquiry_of span) ids)
+same_frames unit span [] is = refl
+same_frames unit span (id ∷ ids) is =
+    ap (λ (y : List ℕ). request_under unit span id ++ y) (same_frames unit span ids is)
+    ∙ ap (λ (y : List ℕ). y ++ flat_map (inquiry_frame unit) (map (inquiry_of span) ids)) (holding_frame id unit span.function span.address span.count is)
+
+pub inquires_of : {X E : Type 0} (unit : ℕ) (span : Span) (result : Result X E) (a b : Option (List ℕ)) → span.function ≡ HoldingRegisters → OnlyRequests unit span result a b → OnlyInquires unit result a b
+inquires_of unit span result a b is requests =
+    (map (inquiry_of span) requests.0, subst (λ (text : List ℕ). GotText result text a b) (same_frames unit span requests.0 is) requests.2)
 
 same_function : (one other : Span) → Some one ≡ Some other → one.function ≡ other.function
 same_function one other is = let same : one ≡ other = cc in ap (λ (s : Span). s.function) same

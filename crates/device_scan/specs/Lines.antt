@@ -1,5 +1,5 @@
 -- What passes over a link while a device is asked, where the bytes of the link are known.
-use Rattle.std.specs.Prelude.{◌≡◌, ℕ, ◌+◌, ◌%◌, Bool, true, false, List, ◌++◌, Vec, IfOk, Ok, Err, Some, None, unwrap_or}
+use Rattle.std.specs.Prelude.{◌≡◌, ℕ, ◌+◌, ◌%◌, ◌≤◌, Bool, true, false, List, ◌++◌, length, Vec, IfOk, Ok, Err, Some, None, unwrap_or}
 use Rattle.std.specs.Io.KnownBytes.{Appends, Consumes}
 use Rattle.std.specs.List.{flat_map}
 use Rattle.std.specs.declared.option.Option.{Option}
@@ -96,6 +96,17 @@ abbrev pub AnswersRead : {Z E : Type 0} → (unit : ℕ) → Result (Option (Vec
     → (old new : Line) → Span → Type 0
 AnswersRead unit result old new span =
     IfOk result (λ answer. Reads unit old new span (words_seen answer))
+
+-- the request for registers under an identifier
+abbrev pub request_under : (unit : ℕ) → Span → (id : ℕ) → List ℕ
+request_under unit span id = request_frame (record { id = id; unit = unit; span = span })
+
+-- nothing is given but such requests, two at most, of the last of them maybe a part where the call failed
+abbrev pub OnlyRequests : {X E : Type 0} → (unit : ℕ) → Span → Result X E
+    → (old new : Option (List ℕ)) → Type 0
+OnlyRequests unit span result old new =
+    (ids : List ℕ) × (length ids ≤ 2)
+    × GotText result (flat_map (request_under unit span) ids) old new
 
 -- an identifier, and holding registers: what function 3 asks for
 pub record Inquiry : Type 0 where

@@ -3,13 +3,14 @@ ghost use Rattle.std.specs.Prelude.{◌≡◌, ◌≤◌, ◌+◌, ◌*◌, [], 
 ghost use Rattle.mb_wire.specs.Frames.{IsOpen};
 ghost use Rattle.mb_wire.specs.Links.{risen};
 ghost use Rattle.mb_wire.specs.Spans.{span_view};
+ghost use Rattle.sun_points.specs.Writing.{GotText};
 ghost use Rattle.device_scan.specs.declared.hearing.TheConstants.{MOST_TAKES};
 
 use crate::asking::give_request;
 use crate::fault::ScanFault;
 use crate::hearing::{Answer, hear};
 use crate::tries::Try;
-use mb_wire::{FrameReader, Link, LinkFailed, ReadFunction, ReadSpan};
+use mb_wire::{FrameReader, Link, LinkFailed, ReadSpan};
 use std::alloc::Global;
 
 /// The bytes since the last frame's end, the unit that is asked, and the next transaction identifier.
@@ -21,8 +22,8 @@ pub(crate) struct Client {
 }
 
 impl Client {
-    ghost use Rattle.device_scan.specs.Lines.{AnswersRead, AnswersTry, Garbles, OnlyInquires};
-    ghost use Rattle.device_scan.specs.Lines.{has_failed, is_gone, line};
+    ghost use Rattle.device_scan.specs.Lines.{AnswersRead, AnswersTry, Garbles, OnlyRequests};
+    ghost use Rattle.device_scan.specs.Lines.{has_failed, is_gone, line, request_under};
 
     pub(crate) fn new(unit: u8) -> Self
         ensures open { IsOpen result.reader.rest }
@@ -45,13 +46,13 @@ impl Client {
         span: ReadSpan,
     ) -> Result<Answer, ScanFault>
         requires open { IsOpen self.old.reader.rest }
-        requires holding { span.function ≡ ReadFunction.HoldingRegisters }
         ensures tried { AnswersTry self.old.unit result
             (line (L.remaining link.old) (L.given link.old) self.old)
             (line (L.remaining link.new) (L.given link.new) self.new) (span_view span) }
         ensures garbled { result ≡ Err ScanFault.Garbled
             → Garbles (L.remaining link.old) (L.remaining link.new) self.old.reader.rest }
-        ensures asks { OnlyInquires self.old.unit result (L.given link.old) (L.given link.new) }
+        ensures asks { GotText result (request_under self.old.unit (span_view span) self.old.next)
+            (L.given link.old) (L.given link.new) }
         ensures failures { L.failed link.new ≡ risen (has_failed result) (L.failed link.old) }
         ensures ends { L.ended link.new ≡ risen (is_gone result) (L.ended link.old) }
         ensures takes { L.taken link.new ≤ L.taken link.old + MOST_TAKES }
@@ -77,14 +78,14 @@ impl Client {
         span: ReadSpan,
     ) -> Result<Answer, ScanFault>
         requires open { IsOpen self.old.reader.rest }
-        requires holding { span.function ≡ ReadFunction.HoldingRegisters }
         ensures read { AnswersRead self.old.unit result
             (line (L.remaining link.old) (L.given link.old) self.old)
             (line (L.remaining link.new) (L.given link.new) self.new) (span_view span) }
         ensures open { IfOk result (λ answer. IsOpen self.new.reader.rest) }
         ensures garbled { result ≡ Err ScanFault.Garbled
             → Garbles (L.remaining link.old) (L.remaining link.new) self.old.reader.rest }
-        ensures asks { OnlyInquires self.old.unit result (L.given link.old) (L.given link.new) }
+        ensures asks { OnlyRequests self.old.unit (span_view span) result
+            (L.given link.old) (L.given link.new) }
         ensures failures { L.failed link.new ≡ risen (has_failed result) (L.failed link.old) }
         ensures ends { L.ended link.new ≡ risen (is_gone result) (L.ended link.old) }
         ensures takes { L.taken link.new ≤ L.taken link.old + 2 * MOST_TAKES }

@@ -1,9 +1,9 @@
-//! Why a scan was broken off.
+//! Why a scan, or the read of a counter, was broken off.
 use std::error::Error;
 use std::fmt;
 use std::fmt::{Display, Formatter};
 
-/// Why a scan was broken off.
+/// Why a scan, or the read of a counter, was broken off.
 #[derive(Clone, Copy, Debug, PartialEq, Eq)]
 pub enum ScanFault {
     /// The device closed the connection.

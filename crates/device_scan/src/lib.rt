@@ -1,8 +1,9 @@
-//! A scan: the words of a device in which its chain of SunSpec models stands, read over a live link.
+//! A scan: the words of a device in which its chain of SunSpec models stands, read over a live link; and what one counter shows.
 #![tactic(auto)]
 
 mod asking;
 mod client;
+mod counter;
 mod fault;
 mod hearing;
 mod known;
@@ -12,6 +13,7 @@ mod stage;
 mod tries;
 mod words;
 
+pub use counter::{CounterScale, Shown, read_counter};
 pub use fault::ScanFault;
 pub use hearing::MOST_TAKES;
 pub use scan::Scan;

@@ -1,5 +1,5 @@
 //! Commands of the program over books in memory, also where the clock was set back.
-use crate::office::metered;
+use crate::office::{metered, polled};
 use command_io::ExitStatus;
 use memory_books::ListBooks;
 use office_events::Refusal;
@@ -22,8 +22,12 @@ fn taken(rt: &HostRuntime) -> Result<(TcpListener, u16), Fail> {
     Ok((listener, port))
 }
 
-// A clock that was set back is `refused 3`, and a register that isn't there `refused 1`.
-static REPORTS: [(u64, &[u8]); 2] = [(999, b"refused 3\n"), (1000, b"refused 1\n")];
+// A register that isn't there is `refused 1`, also where the clock was set back; a clock past the last moment of all `refused 12`.
+static REPORTS: [(u64, &[u8]); 3] = [
+    (999, b"refused 1\n"),
+    (1000, b"refused 1\n"),
+    (4_102_444_801, b"refused 12\n"),
+];
 
 #[test]
 fn a_report_is_refused(rt: HostRuntime) -> Result<(), Fail> {
@@ -35,6 +39,23 @@ fn a_report_is_refused(rt: HostRuntime) -> Result<(), Fail> {
         let done = report_books(rt.alloc(), books, "none", &mut clock, &mut printed);
         assert_eq!(rt; done.end, ExitStatus::Refused);
         assert_eq!(rt; printed.as_slice(), *text);
+    }
+    Ok(())
+}
+
+// A reading of 200 Wh at moment 1900, in the first day of all, by a clock that was set back and by one that was not.
+const REPORTED: &[u8] = b"1970-01-01   2                   200000\nend 1\n";
+
+#[test]
+fn a_report_needs_no_clock(rt: HostRuntime) -> Result<(), Fail> {
+    for moment in [0, 1899, 5000] {
+        let books = polled(rt.alloc())?.into_books();
+        let moments = [moment];
+        let mut clock = FixedClock::new(&moments);
+        let mut printed = Vec::new(rt.alloc());
+        let done = report_books(rt.alloc(), books, "main", &mut clock, &mut printed);
+        assert_eq!(rt; done.end, ExitStatus::Fine);
+        assert_eq!(rt; printed.as_slice(), REPORTED);
     }
     Ok(())
 }

@@ -42,6 +42,8 @@ mod point_types;
 #[cfg(test)]
 mod point_values;
 #[cfg(test)]
+mod read_counters;
+#[cfg(test)]
 mod register_texts;
 #[cfg(test)]
 mod row_faults;

@@ -1,8 +1,9 @@
 -- What the opening of an office over books leaves.
-use Rattle.std.specs.Prelude.{◌≡◌, ◌⊎◌, ℕ, List, ◌∷◌, None, Some, Result, Ok, Err, IfErr}
+use Rattle.std.specs.Prelude.{◌≡◌, ◌⊎◌, ℕ, max, List, ◌∷◌, None, Some, Result, Ok, Err, IfErr}
 use Rattle.std.specs.declared.alloc.Global.{Global}
 use Rattle.std.specs.declared.vec.Vec.{Vec}
 use Rattle.office_events.specs.declared.refusals.Refusal.{Refusal}
+use Rattle.office_rules.specs.Facts.{latest_in}
 use Rattle.office_rules.specs.History.{History, Opened, facts_of, slots_of}
 use Rattle.office_rules.specs.Refusals.{opening_refusal_of}
 use Rattle.office_booking.specs.declared.sessions.slots.Slot.{Slot}
@@ -34,6 +35,10 @@ abbrev pub LeavesOpening : {B : Type 0} → (B → Ledger) → (books : B) → (
     → Office B → Type 0
 LeavesOpening ledger books at past office = (ledger (books_in office)).is_clean
     → Leaves (ledger books) (ledger (books_in office)) (LeftByOpening past at (Ok office))
+
+-- The moment at which an office is opened to be asked: the one that is given, or the latest that is recorded where that is later.
+abbrev pub asking_moment : History → (given : ℕ) → ℕ
+asking_moment past given = max given (latest_in (facts_of past))
 
 -- The books stand after the opening, and there is a slot for each device.
 pub record IsReopened (past : History) (at : ℕ) (old new : Ledger) (slots : List Slot) :

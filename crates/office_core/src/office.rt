@@ -2,20 +2,22 @@
 ghost use Rattle.std.specs.Prelude.{◌≡◌, ◌≤◌, ◌∷◌, true, false, None, Ok, Err};
 ghost use Rattle.std.specs.Prelude.{IfOk, IfErr, MatchResult};
 ghost use Rattle.std.specs.Option.{option_and_then};
-ghost use Rattle.office_rules.specs.Facts.{moment_limit};
+ghost use Rattle.office_rules.specs.Facts.{device_of, register_of, moment_limit};
 ghost use Rattle.office_rules.specs.History.{History, Opened};
-ghost use Rattle.office_rules.specs.Meters.{meter_of};
+ghost use Rattle.office_rules.specs.Meters.{meter_of, installation_at};
 ghost use Rattle.office_rules.specs.Readings.{poll_row_of};
 ghost use Rattle.office_rules.specs.Refusals.{refusal_of, with_answer};
 ghost use Rattle.office_rules.specs.Sessions.{command_in};
 ghost use Rattle.office_booking.specs.Sessions.Places.{AsksOnSlot};
 ghost use Rattle.office_booking.specs.Sessions.Ranges.{AsksInRange};
+ghost use Rattle.office_books.specs.Repeats.{repeat_of};
 ghost use Rattle.office_core.specs.Asking.{OnlyAsks, TakesRows, intervals_of};
 ghost use Rattle.office_core.specs.Asking.{TellsRow, TellsDays, TellsRows};
 ghost use Rattle.office_core.specs.Events as events;
 ghost use Rattle.office_core.specs.Failing.{IsNotForWantOfDay};
 ghost use Rattle.office_core.specs.Leaving.{BooksStand};
 ghost use Rattle.office_core.specs.Reopening.{HandsBackUnopened, LeavesOpening, Passed};
+ghost use Rattle.office_core.specs.Reopening.{asking_moment};
 ghost use Rattle.office_core.specs.Site.{TellsSite};
 ghost use Rattle.office_core.specs.Standing.{After, IsFresh, Stands, StandsIfClean};
 ghost use Rattle.office_core.specs.Standing.{books_in, is_stopped, notes_in, outgoing_in};
@@ -29,8 +31,8 @@ use crate::site::SiteRow;
 use crate::{questions, site};
 use interval_core::{DayTotal, Share};
 use office_booking::{Outgoing, Slot, carry_out, settle_event};
-use office_books::{Books, RowSink};
-use office_events::{Answer, Event, Installation, Name, Note, PollRow, Refusal};
+use office_books::{Books, Repeat, RowSink};
+use office_events::{Answer, Device, Event, Installation, Name, Note, PollRow, Refusal, Register};
 use office_rules::facts_are_lawful;
 use std::alloc::Global;
 
@@ -72,6 +74,30 @@ impl<B: Books> Office<B> {
                 outgoing: Outgoing::none(),
                 notes: Vec::new(alloc),
             }),
+        }
+    }
+
+    /// Opens an office that is to be asked: at a moment, or at the latest that the books hold where that is later, since
+    /// questions need no clock. In all else it is an opening as any other: polls that wait are lost.
+    pub fn open_to_ask(
+        alloc: Global,
+        mut books: B,
+        moment: u64,
+    ) -> Result<Office<B>, (B, Refusal)>
+        ensures opened { (past : History) → BooksStand (B.ledger books) past
+            → IfOk result (StandsIfClean B.ledger (Opened (asking_moment past moment) ∷ past)) }
+        ensures leaves { (past : History) → BooksStand (B.ledger books) past
+            → IfOk result (LeavesOpening B.ledger books (asking_moment past moment) past) }
+        ensures fresh { IfOk result (λ office. IsFresh office) }
+        ensures refused { (past : History) → BooksStand (B.ledger books) past
+            → IfErr result (HandsBackUnopened B.ledger books (asking_moment past moment) past) }
+        ensures passed { MatchResult result
+            (λ office. Passed (B.ledger books) (B.ledger (books_in office)) (Ok office))
+            (λ e. Passed {T = B} (B.ledger books) (B.ledger e.0) (Err e.1)) }
+    {
+        match books.latest() {
+            Err(fault) => Err((books, Refusal::from(fault))),
+            Ok(latest) => Office::open(alloc, books, moment.max(latest)),
         }
     }
 
@@ -163,6 +189,32 @@ impl<B: Books> Office<B> {
         answer
     }
 
+    /// The device of a name. `None` is a name that no device can have.
+    pub fn device(&mut self, name: &Option<Name>) -> Result<Device, Refusal>
+        ensures found { TellsRow B.ledger self.old self.new result
+            (λ facts. option_and_then (device_of facts) name.now) }
+        ensures asks { OnlyAsks B.ledger self.old self.new result }
+        ensures no_day { IfErr result IsNotForWantOfDay }
+    {
+        if self.stopped {
+            return Err(Refusal::Stopped);
+        }
+        questions::device(&mut self.books, name)
+    }
+
+    /// The register of a name. `None` is a name that no register can have.
+    pub fn register(&mut self, name: &Option<Name>) -> Result<Register, Refusal>
+        ensures found { TellsRow B.ledger self.old self.new result
+            (λ facts. option_and_then (register_of facts) name.now) }
+        ensures asks { OnlyAsks B.ledger self.old self.new result }
+        ensures no_day { IfErr result IsNotForWantOfDay }
+    {
+        if self.stopped {
+            return Err(Refusal::Stopped);
+        }
+        questions::register(&mut self.books, name)
+    }
+
     /// The installation of a meter, as it stands. `None` is a name that no meter can have.
     pub fn meter(&mut self, name: &Option<Name>) -> Result<Installation, Refusal>
         ensures found { TellsRow B.ledger self.old self.new result
@@ -174,6 +226,38 @@ impl<B: Books> Office<B> {
             return Err(Refusal::Stopped);
         }
         questions::meter(&mut self.books, name)
+    }
+
+    /// The latest installation at a register, open or closed, as it stands. `None` is a name that no register can have.
+    pub fn installation(&mut self, register: &Option<Name>) -> Result<Installation, Refusal>
+        ensures found { TellsRow B.ledger self.old self.new result
+            (λ facts. option_and_then (installation_at facts) register.now) }
+        ensures asks { OnlyAsks B.ledger self.old self.new result }
+        ensures no_day { IfErr result IsNotForWantOfDay }
+    {
+        if self.stopped {
+            return Err(Refusal::Stopped);
+        }
+        questions::installation(&mut self.books, register)
+    }
+
+    /// What a request is to the one that is kept under its caller and number: the same, or another. Where none is kept, it is
+    /// not found, and would be asked anew.
+    pub fn repeat(
+        &mut self,
+        caller: &Option<Name>,
+        number: u64,
+        request: &[u8],
+    ) -> Result<Repeat, Refusal>
+        ensures found { TellsRow B.ledger self.old self.new result
+            (λ facts. option_and_then (λ name. repeat_of facts name number request.now) caller.now) }
+        ensures asks { OnlyAsks B.ledger self.old self.new result }
+        ensures no_day { IfErr result IsNotForWantOfDay }
+    {
+        if self.stopped {
+            return Err(Refusal::Stopped);
+        }
+        questions::repeat(&mut self.books, caller, number, request)
     }
 
     /// The poll of a number, and how it ended, if it has.

@@ -1,8 +1,11 @@
 //! Questions, asked of the books.
-ghost use Rattle.std.specs.Prelude.{◌≡◌, ◌<◌, ◌^◌, length, IfErr};
+ghost use Rattle.std.specs.Prelude.{◌≡◌, ◌<◌, ◌^◌, length, find, reverse, IfErr};
 ghost use Rattle.std.specs.Option.{option_and_then};
-ghost use Rattle.office_rules.specs.Meters.{meter_of};
+ghost use Rattle.office_rules.specs.Facts.{device_of, register_of, same};
+ghost use Rattle.office_rules.specs.Meters.{meter_of, installation_at};
 ghost use Rattle.office_rules.specs.Readings.{poll_row_of};
+ghost use Rattle.office_books.specs.Ledgers.{Finds, OnlyReads};
+ghost use Rattle.office_books.specs.Repeats.{repeat_of};
 ghost use Rattle.office_books.specs.Rows.{TakesAll};
 ghost use Rattle.office_core.specs.Asking.{ListsDays, Asks, DaysIn, FoundIn, RowsIn, TakesRows};
 ghost use Rattle.office_core.specs.Asking.{answered, intervals_of};
@@ -10,8 +13,8 @@ ghost use Rattle.office_core.specs.Failing.{IsNotForWantOfDay};
 
 use crate::day_sink::DaySink;
 use interval_core::{DayTotal, Share};
-use office_books::{Books, BooksFault, RowSink};
-use office_events::{Installation, Name, PollRow, Refusal};
+use office_books::{Books, BooksFault, Repeat, RowSink};
+use office_events::{Device, Installation, Name, PollRow, Refusal, Register};
 use office_rules::registers_are_in_turn;
 use std::alloc::Global;
 
@@ -26,6 +29,58 @@ fn found<T: Drop>(answer: Result<Option<T>, BooksFault>) -> Result<T, Refusal>
     }
 }
 
+/// The last of the devices that has a name.
+#[tactic(auto, using(office_rules::proofs::Lists::find_more))]
+fn last_named(devices: &[Device], name: &Name) -> Option<Device>
+    ensures { result ≡ find (λ device. same device.name name.now) (reverse devices.now) }
+{
+    let mut last = None;
+    for device in devices {
+        if device.name.is(name) {
+            last = Some(*device);
+        }
+    }
+    last
+}
+
+/// The device of a name, among all: there are at most 64.
+fn device_in<B: Books>(books: &mut B, name: &Name) -> Result<Option<Device>, BooksFault>
+    ensures found { Finds (B.ledger books.old) (B.ledger books.new) result
+        (λ known row. row ≡ device_of known name.now) }
+    ensures reads { OnlyReads (B.ledger books.old) (B.ledger books.new) result }
+{
+    match books.devices() {
+        Ok(devices) => Ok(last_named(&devices, name)),
+        Err(fault) => Err(fault),
+    }
+}
+
+/// The device of a name.
+pub fn device<B: Books>(books: &mut B, name: &Option<Name>) -> Result<Device, Refusal>
+    ensures found { FoundIn (B.ledger books.old) (B.ledger books.new) result
+        (λ known. option_and_then (device_of known) name.now) }
+    ensures asks { Asks (B.ledger books.old) (B.ledger books.new) result }
+    ensures no_day { IfErr result IsNotForWantOfDay }
+{
+    let Some(name) = name else {
+        return Err(Refusal::NotFound);
+    };
+    found(device_in(books, name))
+}
+
+/// The register of a name.
+pub fn register<B: Books>(books: &mut B, name: &Option<Name>) -> Result<Register, Refusal>
+    ensures found { FoundIn (B.ledger books.old) (B.ledger books.new) result
+        (λ known. option_and_then (register_of known) name.now) }
+    ensures asks { Asks (B.ledger books.old) (B.ledger books.new) result }
+    ensures no_day { IfErr result IsNotForWantOfDay }
+{
+    let Some(name) = name else {
+        return Err(Refusal::NotFound);
+    };
+    found(books.register(name))
+}
+
 /// The installation of a meter, as it stands.
 pub fn meter<B: Books>(books: &mut B, name: &Option<Name>) -> Result<Installation, Refusal>
     ensures found { FoundIn (B.ledger books.old) (B.ledger books.new) result
@@ -37,6 +92,40 @@ pub fn meter<B: Books>(books: &mut B, name: &Option<Name>) -> Result<Installatio
         return Err(Refusal::NotFound);
     };
     found(books.meter(name))
+}
+
+/// The latest installation at a register, as it stands.
+pub fn installation<B: Books>(
+    books: &mut B,
+    register: &Option<Name>,
+) -> Result<Installation, Refusal>
+    ensures found { FoundIn (B.ledger books.old) (B.ledger books.new) result
+        (λ known. option_and_then (installation_at known) register.now) }
+    ensures asks { Asks (B.ledger books.old) (B.ledger books.new) result }
+    ensures no_day { IfErr result IsNotForWantOfDay }
+{
+    let Some(name) = register else {
+        return Err(Refusal::NotFound);
+    };
+    found(books.installation(name))
+}
+
+/// What a request is to the one that is kept under its caller and number.
+pub fn repeat<B: Books>(
+    books: &mut B,
+    caller: &Option<Name>,
+    number: u64,
+    request: &[u8],
+) -> Result<Repeat, Refusal>
+    ensures found { FoundIn (B.ledger books.old) (B.ledger books.new) result
+        (λ known. option_and_then (λ name. repeat_of known name number request.now) caller.now) }
+    ensures asks { Asks (B.ledger books.old) (B.ledger books.new) result }
+    ensures no_day { IfErr result IsNotForWantOfDay }
+{
+    let Some(name) = caller else {
+        return Err(Refusal::NotFound);
+    };
+    found(books.repeat(name, number, request))
 }
 
 /// The poll of a number, and how it ended, if it has.

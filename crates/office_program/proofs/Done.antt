@@ -1,12 +1,14 @@
 -- What was done with an office that was opened.
-use Rattle.std.proofs.Common.{◌≡◌, inr, ℕ, List, Option, ◌∷◌, refl, subst}
+use Rattle.std.proofs.Common.{◌≡◌, inr, ℕ, List, Option, ◌∷◌, subst}
 use Rattle.command_io.specs.declared.status.ExitStatus.{ExitStatus}
 use Rattle.office_events.specs.Names.{named}
 use Rattle.office_rules.specs.History.{History, Opened}
 use Rattle.office_books.specs.Ledgers.{Ledger}
+use Rattle.office_core.specs.Reopening.{asking_moment}
 use Rattle.office_core.specs.Standing.{After, books_in}
 use Rattle.office_core.specs.Taking.{failures_of}
 use Rattle.office_core.specs.declared.office.Office.{Office}
+use Rattle.office_program.specs.Texts.AskedOffice.{OpensToAsk}
 use Rattle.office_program.specs.Texts.OpenedOffice.{Opens}
 use Rattle.office_program.specs.Texts.Reports.{Asks, ReportPrints}
 use Rattle.office_program.specs.Texts.EndTexts.{TellsEnd}
@@ -30,7 +32,7 @@ pub reported : {B W : Type 0} (ledger : B → Ledger) (contents : W → Option (
     (name : Option (List ℕ)) (moments later : Option (List ℕ)) (books back : B) (opened left : Office B) (before silent : W)
     (holds : Option (List ℕ)) (status : ExitStatus)
     → name ≡ named register
-    → ((ledger (books_in opened)).is_clean → Opens ledger past moments later opened)
+    → ((ledger (books_in opened)).is_clean → OpensToAsk ledger past moments later opened)
     → silent ≡ before
     → After ledger opened left (λ behind. TellsEnd (ReportPrints (ledger (books_in opened)).zone behind name
     (failures_of ledger opened) (failures_of ledger left)) status (contents silent) holds)
@@ -39,19 +41,17 @@ pub reported : {B W : Type 0} (ledger : B → Ledger) (contents : W → Option (
 reported {W = W} ledger contents past register name moments later books back opened left before silent holds status names opens same prints asks is clean =
     let whole = kept ledger left back is clean in
     let behind = opens (asks.only.clean whole) in
-    let P : W → Type 0 = λ w. TellsEnd (ReportPrints (ledger (books_in opened)).zone (Opened behind.at ∷ past) name
+    let P : W → Type 0 = λ w. TellsEnd (ReportPrints (ledger (books_in opened)).zone (Opened (asking_moment past behind.told) ∷ past) name
     (failures_of ledger opened) (failures_of ledger left)) status (contents w) holds in
-    let Q : Option (List ℕ) → Type 0 = λ n. TellsEnd (ReportPrints (ledger (books_in opened)).zone (Opened behind.at ∷ past) n
+    let Q : Option (List ℕ) → Type 0 = λ n. TellsEnd (ReportPrints (ledger (books_in opened)).zone (Opened (asking_moment past behind.told) ∷ past) n
     (failures_of ledger opened) (failures_of ledger left)) status (contents before) holds in
     inr (record {
-      then = later;
       opened = opened;
       opens = behind;
       left = left;
       does = record {
         prints = subst Q names (subst P same (prints _ behind.stands whole));
         stands = asks.only.stands _ behind.stands;
-        once = refl;
       };
       handed = is;
     })
@@ -60,7 +60,7 @@ pub range_reported : {B W : Type 0} (ledger : B → Ledger) (contents : W → Op
     (name : Option (List ℕ)) (form : ReportForm) (moments later : Option (List ℕ)) (books back : B) (opened left : Office B) (before silent : W)
     (holds : Option (List ℕ)) (status : ExitStatus)
     → name ≡ named register
-    → ((ledger (books_in opened)).is_clean → Opens ledger past moments later opened)
+    → ((ledger (books_in opened)).is_clean → OpensToAsk ledger past moments later opened)
     → silent ≡ before
     → After ledger opened left (λ behind. TellsEnd (RangePrints (ledger (books_in opened)).zone behind name form
     (failures_of ledger opened) (failures_of ledger left)) status (contents silent) holds)
@@ -69,19 +69,17 @@ pub range_reported : {B W : Type 0} (ledger : B → Ledger) (contents : W → Op
 range_reported {W = W} ledger contents past register name form moments later books back opened left before silent holds status names opens same prints asks is clean =
     let whole = kept ledger left back is clean in
     let behind = opens (asks.only.clean whole) in
-    let P : W → Type 0 = λ w. TellsEnd (RangePrints (ledger (books_in opened)).zone (Opened behind.at ∷ past) name form
+    let P : W → Type 0 = λ w. TellsEnd (RangePrints (ledger (books_in opened)).zone (Opened (asking_moment past behind.told) ∷ past) name form
     (failures_of ledger opened) (failures_of ledger left)) status (contents w) holds in
-    let Q : Option (List ℕ) → Type 0 = λ n. TellsEnd (RangePrints (ledger (books_in opened)).zone (Opened behind.at ∷ past) n form
+    let Q : Option (List ℕ) → Type 0 = λ n. TellsEnd (RangePrints (ledger (books_in opened)).zone (Opened (asking_moment past behind.told) ∷ past) n form
     (failures_of ledger opened) (failures_of ledger left)) status (contents before) holds in
     inr (record {
-      then = later;
       opened = opened;
       opens = behind;
       left = left;
       does = record {
         prints = subst Q names (subst P same (prints _ behind.stands whole));
         stands = asks.only.stands _ behind.stands;
-        once = refl;
       };
       handed = is;
     })

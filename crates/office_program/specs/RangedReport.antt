@@ -1,5 +1,5 @@
 -- A report on a range of days over books.
-use Rattle.std.specs.Prelude.{◌≡◌, ◌⊎◌, ℕ, List, Option}
+use Rattle.std.specs.Prelude.{◌⊎◌, ℕ, List, Option}
 use Rattle.std.specs.declared.io.Write as writers
 use Rattle.socket_link.specs.declared.clock.Clock as clocks
 use Rattle.command_io.specs.declared.status.ExitStatus.{ExitStatus}
@@ -11,28 +11,27 @@ use Rattle.office_books.specs.declared.books.Books as stores
 use Rattle.office_core.specs.Standing.{Stands, books_in}
 use Rattle.office_core.specs.Taking.{failures_of}
 use Rattle.office_core.specs.declared.office.Office.{Office}
-use Rattle.office_program.specs.Texts.OpenedOffice.{TellsUnopened}
+use Rattle.office_program.specs.Texts.AskedOffice.{TellsUnasked}
 use Rattle.office_program.specs.Texts.RangedReports.{RangePrints}
 use Rattle.office_program.specs.Texts.EndTexts.{TellsEnd}
-use Rattle.office_program.specs.Opened.{OverStanding, WithOffice}
+use Rattle.office_program.specs.Opened.{OverStanding, WithAsked}
 
 -- All rows of the register's days in the form were printed, or why there are none; and the office was only asked.
 pub record ReportsRange {B : Type 0} (ledger : B → Ledger) (register : Option (List ℕ))
-    (form : ReportForm) (later had holds : Option (List ℕ)) (status : ExitStatus)
-    (behind : History) (then : Option (List ℕ)) (opened left : Office B) : Type 0 where
+    (form : ReportForm) (had holds : Option (List ℕ)) (status : ExitStatus) (behind : History)
+    (opened left : Office B) : Type 0 where
   pub prints : TellsEnd (RangePrints (ledger (books_in opened)).zone behind register form
       (failures_of ledger opened) (failures_of ledger left)) status had holds
   pub stands : Stands ledger behind left
-  pub once : then ≡ later
 
--- The opening was refused, and that alone was printed; or the office was opened, and reported. The clock was asked once.
+-- The opening was refused, and that alone was printed; or the office was opened to be asked, and reported.
 abbrev pub TellsRange : {B : Type 0} → (B → Ledger) → (past : History) → (register : List ℕ)
     → ReportForm → (moments later : Option (List ℕ)) → (books back : B)
     → (had holds : Option (List ℕ)) → ExitStatus → Type 0
 TellsRange ledger past register form moments later books back had holds status =
-    TellsUnopened past moments later (ledger books) (ledger back) status had holds
-    ⊎ WithOffice ledger past moments back
-    (ReportsRange ledger (named register) form later had holds status)
+    TellsUnasked past moments later (ledger books) (ledger back) status had holds
+    ⊎ WithAsked ledger past moments later back
+    (ReportsRange ledger (named register) form had holds status)
 
 -- So it is of the books, the clock and the writer, each as it was found and as it was left.
 abbrev pub RangeOver : {B C W : Type 0} → stores.Ghosts B → clocks.Ghosts C → writers.Ghosts W

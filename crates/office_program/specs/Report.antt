@@ -1,5 +1,5 @@
 -- A report over books.
-use Rattle.std.specs.Prelude.{◌≡◌, ◌⊎◌, ℕ, List, Option}
+use Rattle.std.specs.Prelude.{◌⊎◌, ℕ, List, Option}
 use Rattle.std.specs.declared.io.Write as writers
 use Rattle.socket_link.specs.declared.clock.Clock as clocks
 use Rattle.command_io.specs.declared.status.ExitStatus.{ExitStatus}
@@ -10,28 +10,25 @@ use Rattle.office_books.specs.declared.books.Books as stores
 use Rattle.office_core.specs.Standing.{Stands, books_in}
 use Rattle.office_core.specs.Taking.{failures_of}
 use Rattle.office_core.specs.declared.office.Office.{Office}
-use Rattle.office_program.specs.Texts.OpenedOffice.{TellsUnopened}
+use Rattle.office_program.specs.Texts.AskedOffice.{TellsUnasked}
 use Rattle.office_program.specs.Texts.Reports.{ReportPrints}
 use Rattle.office_program.specs.Texts.EndTexts.{TellsEnd}
-use Rattle.office_program.specs.Opened.{OverStanding, WithOffice}
+use Rattle.office_program.specs.Opened.{OverStanding, WithAsked}
 
 -- All days of the register were printed, or why there are none; and the office was only asked.
-pub record Reports {B : Type 0} (ledger : B → Ledger) (register later had holds : Option (List ℕ))
-    (status : ExitStatus) (behind : History) (then : Option (List ℕ)) (opened left : Office B)
-    : Type 0 where
+pub record Reports {B : Type 0} (ledger : B → Ledger) (register had holds : Option (List ℕ))
+    (status : ExitStatus) (behind : History) (opened left : Office B) : Type 0 where
   pub prints : TellsEnd (ReportPrints (ledger (books_in opened)).zone behind register
       (failures_of ledger opened) (failures_of ledger left)) status had holds
   pub stands : Stands ledger behind left
-  pub once : then ≡ later
 
--- The opening was refused, and that alone was printed; or the office was opened, and reported. The clock was asked once.
+-- The opening was refused, and that alone was printed; or the office was opened to be asked, and reported.
 abbrev pub TellsReport : {B : Type 0} → (B → Ledger) → (past : History) → (register : List ℕ)
     → (moments later : Option (List ℕ)) → (books back : B) → (had holds : Option (List ℕ))
     → ExitStatus → Type 0
 TellsReport ledger past register moments later books back had holds status =
-    TellsUnopened past moments later (ledger books) (ledger back) status had holds
-    ⊎ WithOffice ledger past moments back
-    (Reports ledger (named register) later had holds status)
+    TellsUnasked past moments later (ledger books) (ledger back) status had holds
+    ⊎ WithAsked ledger past moments later back (Reports ledger (named register) had holds status)
 
 -- So it is of the books, the clock and the writer, each as it was found and as it was left.
 abbrev pub ReportsOver : {B C W : Type 0} → stores.Ghosts B → clocks.Ghosts C → writers.Ghosts W

@@ -17,4 +17,6 @@ pub use http_port::{ServeEnd, serve_books};
 pub use port_round::{PATIENCE, PollEnd, poll_books};
 pub use ranged_report::report_range_books;
 pub use report::report_books;
-pub use texts::{open_office, poll_round, report_days, report_range, round_status};
+pub use texts::{
+    open_office, open_office_to_ask, poll_round, report_days, report_range, round_status,
+};

@@ -3,7 +3,7 @@ ghost use Rattle.office_program.specs.Texts.Passing.{Lasts};
 ghost use Rattle.office_program.specs.RangedReport.{RangeOver};
 
 use crate::command_end::CommandEnd;
-use crate::texts::{open_office, report_range};
+use crate::texts::{open_office_to_ask, report_range};
 use command_io::ExitStatus;
 use energy_report::ReportForm;
 use office_books::Books;
@@ -12,7 +12,7 @@ use socket_link::Clock;
 use std::alloc::Global;
 use std::io::Write;
 
-/// Opens an office over books at the moment that the clock tells, and prints the energy of a register on the days of a range,
+/// Opens an office over books to ask it, as `report_books` does, and prints the energy of a register on the days of a range,
 /// by periods, in a unit and a format. All its days are added up, also those outside of the range. Where the opening or the
 /// report is refused, `refused N` alone is printed. A text that is no name is a register that isn't there. The books are
 /// handed back.
@@ -28,7 +28,7 @@ pub fn report_range_books<B: Books, C: Clock, W: Write>(
         clock.old clock.new output.old output.new result.end }
     ensures lasts { Lasts (B.ledger books) (B.ledger result.books) }
 {
-    match open_office(alloc, books, clock, output) {
+    match open_office_to_ask(alloc, books, clock, output) {
         Ok(mut office) => {
             let name = Name::new(register.as_bytes());
             let end = report_range(&mut office, &name, form, output);

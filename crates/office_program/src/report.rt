@@ -3,7 +3,7 @@ ghost use Rattle.office_program.specs.Texts.Passing.{Lasts};
 ghost use Rattle.office_program.specs.Report.{ReportsOver};
 
 use crate::command_end::CommandEnd;
-use crate::texts::{open_office, report_days};
+use crate::texts::{open_office_to_ask, report_days};
 use command_io::ExitStatus;
 use office_books::Books;
 use office_events::Name;
@@ -11,9 +11,10 @@ use socket_link::Clock;
 use std::alloc::Global;
 use std::io::Write;
 
-/// Opens an office over books at the moment that the clock tells, and prints the energy of a register by civil days, a line
-/// a day, and then how many they are. Where the opening or the report is refused, `refused N` alone is printed. A text that
-/// is no name is a register that isn't there. The books are handed back.
+/// Opens an office over books to ask it, and prints the energy of a register by civil days, a line a day, and then how many
+/// they are. It is opened at the moment that the clock tells, or at the latest that the books hold where that is later: a clock
+/// that was set back hides no energy. Where the opening or the report is refused, `refused N` alone is printed. A text that is
+/// no name is a register that isn't there. The books are handed back.
 pub fn report_books<B: Books, C: Clock, W: Write>(
     alloc: Global,
     books: B,
@@ -25,7 +26,7 @@ pub fn report_books<B: Books, C: Clock, W: Write>(
         clock.old clock.new output.old output.new result.end }
     ensures lasts { Lasts (B.ledger books) (B.ledger result.books) }
 {
-    match open_office(alloc, books, clock, output) {
+    match open_office_to_ask(alloc, books, clock, output) {
         Ok(mut office) => {
             let end = report_days(&mut office, &Name::new(register.as_bytes()), output);
             CommandEnd {

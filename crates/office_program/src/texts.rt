@@ -6,7 +6,7 @@ mod ranged_report;
 mod report;
 mod round;
 
-pub use opened_office::{Unopened, open_office};
+pub use opened_office::{Unopened, open_office, open_office_to_ask};
 pub use ranged_report::report_range;
 pub use report::report_days;
 pub use round::{poll_round, round_status};

@@ -1,6 +1,7 @@
 //! Requests that are sent again.
 use crate::offices::{command_of, new_office};
 use crate::scripts::{READ, print, prints};
+use office_books::Repeat;
 use office_events::{Answer, Asked, CommandKind, Event, Name, Piece, Refusal};
 use std::alloc::Global;
 
@@ -160,6 +161,22 @@ fn asked(alloc: Global, request: &Request) -> Option<(u64, Event)> {
     Some((at, event))
 }
 
+// What a request would be, asked anew: its caller, number and bytes.
+type Repeated = (&'static [u8], u64, &'static str, Result<Repeat, Refusal>);
+
+static REPEATED: [Repeated; 5] = [
+    (
+        b"desk",
+        7,
+        "exchange",
+        Ok(Repeat::Same(CommandKind::Exchange)),
+    ),
+    (b"desk", 7, "exchange, once more", Ok(Repeat::Other)),
+    (b"desk", 99, "exchange", Err(Refusal::NotFound)),
+    (b"nobody", 7, "exchange", Err(Refusal::NotFound)),
+    (b"", 7, "exchange", Err(Refusal::NotFound)),
+];
+
 #[test]
 fn requests_act_once(rt: HostRuntime) {
     let mut office = new_office(&rt, rt.alloc());
@@ -171,4 +188,8 @@ fn requests_act_once(rt: HostRuntime) {
         assert_eq!(rt; office.outgoing().is_empty(), !is_start, "at {place}");
     }
     prints(&rt, rt.alloc(), &mut office, ROWS, PRINTED);
+    for (caller, number, bytes, expected) in REPEATED {
+        let found = office.repeat(&Name::new(caller), number, bytes.as_bytes());
+        assert_eq!(rt; found, expected, "{number}");
+    }
 }

@@ -2,7 +2,7 @@
 use crate::offices::{Tried, event_of, new_office, office_with};
 use energy_core::Last;
 use office_core::SiteRow;
-use office_events::{Installation, Name, Refusal, StoreCause};
+use office_events::{Installation, Name, Refusal, ScaleSource, StoreCause};
 use std::alloc::Global;
 use std::process::Abort;
 
@@ -76,6 +76,66 @@ fn a_site_has_each_register_and_its_latest_meter(rt: HostRuntime) {
     assert!(rt; are_rows(&rows));
     let again = office.site().ok().expect(&rt, "rows again");
     assert!(rt; again == rows);
+}
+
+#[test]
+fn a_register_has_its_latest_meter(rt: HostRuntime) {
+    let mut office = built(&rt, rt.alloc(), 0);
+    for (_, register, told) in ROWS {
+        match (office.installation(&Name::new(register)), told) {
+            (Ok(meter), Some(told)) => assert!(rt; is_meter(&meter, told)),
+            (answer, _) => assert_eq!(rt; answer.err(), Some(Refusal::NotFound)),
+        }
+    }
+    assert_eq!(rt;
+        office.installation(&Name::new(b"m1")).err(),
+        Some(Refusal::NotFound)
+    );
+    assert_eq!(rt; office.installation(&None).err(), Some(Refusal::NotFound));
+}
+
+// The names of the devices, and their units.
+static UNITS: [(&[u8], u8); 2] = [(b"roof", 1), (b"inv", 2)];
+
+#[test]
+fn a_device_is_told_by_its_name(rt: HostRuntime) {
+    let mut office = built(&rt, rt.alloc(), 0);
+    for (name, unit) in UNITS {
+        let device = office.device(&Name::new(name)).ok().expect(&rt, "a device");
+        assert_eq!(rt; Some(device.name), Name::new(name));
+        assert_eq!(rt; device.unit, unit);
+    }
+    assert_eq!(rt;
+        office.device(&Name::new(b"main")).err(),
+        Some(Refusal::NotFound)
+    );
+    assert_eq!(rt; office.device(&None).err(), Some(Refusal::NotFound));
+}
+
+// The names of the registers, their addresses and scales.
+static PLACES: [(&[u8], u16, ScaleSource); 3] = [
+    (b"main", 40094, ScaleSource::Register(40096)),
+    (b"export", 40098, ScaleSource::Fixed(-3)),
+    (b"solo", 40094, ScaleSource::Fixed(2)),
+];
+
+#[test]
+fn a_register_is_told_by_its_name(rt: HostRuntime) {
+    let mut office = built(&rt, rt.alloc(), 0);
+    for (name, address, scale) in PLACES {
+        let register = office
+            .register(&Name::new(name))
+            .ok()
+            .expect(&rt, "a register");
+        assert_eq!(rt; Some(register.name), Name::new(name));
+        assert_eq!(rt; register.address, address);
+        assert_eq!(rt; register.scale, scale);
+    }
+    assert_eq!(rt;
+        office.register(&Name::new(b"roof")).err(),
+        Some(Refusal::NotFound)
+    );
+    assert_eq!(rt; office.register(&None).err(), Some(Refusal::NotFound));
 }
 
 #[test]

@@ -12,8 +12,12 @@ use std::process::Abort;
 // It refuses each question.
 fn refuse_questions(rt: &impl Abort, alloc: Global, office: &mut Tried) {
     const STOPPED: Option<Refusal> = Some(Refusal::Stopped);
+    assert_eq!(rt; office.device(&inv()).err(), STOPPED);
+    assert_eq!(rt; office.register(&inv()).err(), STOPPED);
     assert_eq!(rt; office.meter(&inv()).err(), STOPPED);
     assert_eq!(rt; office.poll(1).err(), STOPPED);
+    assert_eq!(rt; office.installation(&inv()).err(), STOPPED);
+    assert_eq!(rt; office.repeat(&inv(), 1, b"").err(), STOPPED);
     assert_eq!(rt; office.site().err(), STOPPED);
     let mut shares: KeptRows<Share> = KeptRows::new(alloc);
     assert_eq!(rt; office.intervals(&inv(), &mut shares).err(), STOPPED);

@@ -1,8 +1,8 @@
 //! The table `meta`.
-ghost use Rattle.std.specs.Prelude.{◌≡◌, ◌≤◌, [], ◌∷◌};
+ghost use Rattle.std.specs.Prelude.{◌≤◌, [], ◌∷◌};
 ghost use Rattle.sqlite.specs.Held.{state};
 ghost use Rattle.store_tables.specs.Content.{Edits, with_row, changed_where};
-ghost use Rattle.store_tables.specs.Steps.{Steps};
+ghost use Rattle.store_tables.specs.Steps.{Steps, IsSameBorrow};
 ghost use Rattle.store_tables.specs.Answer.{every};
 ghost use Rattle.store_files.specs.Meta.{meta, meta_columns, with_version};
 
@@ -10,7 +10,7 @@ use sqlite::{Alter, Connection, Error, Row, Transaction, params};
 
 /// Marks new tables as those of version 3, with this zone.
 pub(crate) fn insert_meta<S: Alter>(tx: &mut Transaction<'_, S>, zone: &str) -> Result<usize, Error>
-    ensures same_reference { tx.new.conn.ghost_name ≡ tx.old.conn.ghost_name }
+    ensures same_reference { IsSameBorrow tx.old.conn tx.new.conn }
     ensures does { Steps (state S.Store tx.old.conn.now) (state S.Store tx.new.conn.now) result
         (Edits meta meta_columns (with_row (record { version = 3; zone = zone.now }))) }
 {
@@ -22,7 +22,7 @@ pub(crate) fn insert_meta<S: Alter>(tx: &mut Transaction<'_, S>, zone: &str) -> 
 
 /// Marks the tables as those of version 3.
 pub(crate) fn set_version<S: Alter>(tx: &mut Transaction<'_, S>) -> Result<usize, Error>
-    ensures same_reference { tx.new.conn.ghost_name ≡ tx.old.conn.ghost_name }
+    ensures same_reference { IsSameBorrow tx.old.conn tx.new.conn }
     ensures does { Steps (state S.Store tx.old.conn.now) (state S.Store tx.new.conn.now) result
         (Edits meta meta_columns (changed_where every (with_version 3))) }
 {

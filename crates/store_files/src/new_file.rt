@@ -1,7 +1,7 @@
 //! How a file is made.
 ghost use Rattle.std.specs.Prelude.{◌≡◌, ◌≢◌, ◌⊎◌, ◌↔◌, false, IsTrue, Err, IfOk, IfErr};
 ghost use Rattle.sqlite.specs.Held.{state};
-ghost use Rattle.store_tables.specs.Steps.{StepsTo, TransactsTo};
+ghost use Rattle.store_tables.specs.Steps.{StepsTo, TransactsTo, IsSameBorrow};
 ghost use Rattle.store_files.specs.Layouts.{no_schema};
 ghost use Rattle.interval_core.specs.Zone.{HasRule};
 ghost use Rattle.store_files.specs.Zones.{IsZone};
@@ -26,7 +26,7 @@ fn is_blank(schema: &Schema) -> bool
 
 /// All tables, and the row of `meta`.
 fn fill<S: Alter>(tx: &mut Transaction<'_, S>, zone: &str) -> Result<usize, Error>
-    ensures same_reference { tx.new.conn.ghost_name ≡ tx.old.conn.ghost_name }
+    ensures same_reference { IsSameBorrow tx.old.conn tx.new.conn }
     ensures does { StepsTo (state S.Store tx.old.conn.now) (state S.Store tx.new.conn.now) result
         (Makes zone.now) }
 {

@@ -1,13 +1,12 @@
 //! The texts that make the tables, in order.
-ghost use Rattle.std.specs.Prelude.{◌≡◌};
 ghost use Rattle.sqlite.specs.Held.{state};
-ghost use Rattle.store_tables.specs.Steps.{StepsTo};
+ghost use Rattle.store_tables.specs.Steps.{StepsTo, IsSameBorrow};
 ghost use Rattle.store_files.specs.Growing.{Grows};
 
 use sqlite::{Alter, Error, Transaction};
 
 fn create_meta<S: Alter>(tx: &mut Transaction<'_, S>) -> Result<usize, Error>
-    ensures same_reference { tx.new.conn.ghost_name ≡ tx.old.conn.ghost_name }
+    ensures same_reference { IsSameBorrow tx.old.conn tx.new.conn }
     ensures does { StepsTo (state S.Store tx.old.conn.now) (state S.Store tx.new.conn.now) result
         (Grows 0 1) }
 {
@@ -18,7 +17,7 @@ fn create_meta<S: Alter>(tx: &mut Transaction<'_, S>) -> Result<usize, Error>
 }
 
 fn create_devices<S: Alter>(tx: &mut Transaction<'_, S>) -> Result<usize, Error>
-    ensures same_reference { tx.new.conn.ghost_name ≡ tx.old.conn.ghost_name }
+    ensures same_reference { IsSameBorrow tx.old.conn tx.new.conn }
     ensures does { StepsTo (state S.Store tx.old.conn.now) (state S.Store tx.new.conn.now) result
         (Grows 1 2) }
 {
@@ -29,7 +28,7 @@ fn create_devices<S: Alter>(tx: &mut Transaction<'_, S>) -> Result<usize, Error>
 }
 
 fn create_points<S: Alter>(tx: &mut Transaction<'_, S>) -> Result<usize, Error>
-    ensures same_reference { tx.new.conn.ghost_name ≡ tx.old.conn.ghost_name }
+    ensures same_reference { IsSameBorrow tx.old.conn tx.new.conn }
     ensures does { StepsTo (state S.Store tx.old.conn.now) (state S.Store tx.new.conn.now) result
         (Grows 2 3) }
 {
@@ -40,7 +39,7 @@ fn create_points<S: Alter>(tx: &mut Transaction<'_, S>) -> Result<usize, Error>
 }
 
 fn create_registers<S: Alter>(tx: &mut Transaction<'_, S>) -> Result<usize, Error>
-    ensures same_reference { tx.new.conn.ghost_name ≡ tx.old.conn.ghost_name }
+    ensures same_reference { IsSameBorrow tx.old.conn tx.new.conn }
     ensures does { StepsTo (state S.Store tx.old.conn.now) (state S.Store tx.new.conn.now) result
         (Grows 3 4) }
 {
@@ -51,7 +50,7 @@ fn create_registers<S: Alter>(tx: &mut Transaction<'_, S>) -> Result<usize, Erro
 }
 
 fn create_installations<S: Alter>(tx: &mut Transaction<'_, S>) -> Result<usize, Error>
-    ensures same_reference { tx.new.conn.ghost_name ≡ tx.old.conn.ghost_name }
+    ensures same_reference { IsSameBorrow tx.old.conn tx.new.conn }
     ensures does { StepsTo (state S.Store tx.old.conn.now) (state S.Store tx.new.conn.now) result
         (Grows 4 5) }
 {
@@ -62,7 +61,7 @@ fn create_installations<S: Alter>(tx: &mut Transaction<'_, S>) -> Result<usize, 
 }
 
 fn create_entries<S: Alter>(tx: &mut Transaction<'_, S>) -> Result<usize, Error>
-    ensures same_reference { tx.new.conn.ghost_name ≡ tx.old.conn.ghost_name }
+    ensures same_reference { IsSameBorrow tx.old.conn tx.new.conn }
     ensures does { StepsTo (state S.Store tx.old.conn.now) (state S.Store tx.new.conn.now) result
         (Grows 5 6) }
 {
@@ -73,7 +72,7 @@ fn create_entries<S: Alter>(tx: &mut Transaction<'_, S>) -> Result<usize, Error>
 }
 
 fn create_polls<S: Alter>(tx: &mut Transaction<'_, S>) -> Result<usize, Error>
-    ensures same_reference { tx.new.conn.ghost_name ≡ tx.old.conn.ghost_name }
+    ensures same_reference { IsSameBorrow tx.old.conn tx.new.conn }
     ensures does { StepsTo (state S.Store tx.old.conn.now) (state S.Store tx.new.conn.now) result
         (Grows 6 7) }
 {
@@ -84,7 +83,7 @@ fn create_polls<S: Alter>(tx: &mut Transaction<'_, S>) -> Result<usize, Error>
 }
 
 fn create_holds<S: Alter>(tx: &mut Transaction<'_, S>) -> Result<usize, Error>
-    ensures same_reference { tx.new.conn.ghost_name ≡ tx.old.conn.ghost_name }
+    ensures same_reference { IsSameBorrow tx.old.conn tx.new.conn }
     ensures does { StepsTo (state S.Store tx.old.conn.now) (state S.Store tx.new.conn.now) result
         (Grows 7 8) }
 {
@@ -95,7 +94,7 @@ fn create_holds<S: Alter>(tx: &mut Transaction<'_, S>) -> Result<usize, Error>
 }
 
 fn create_outcomes<S: Alter>(tx: &mut Transaction<'_, S>) -> Result<usize, Error>
-    ensures same_reference { tx.new.conn.ghost_name ≡ tx.old.conn.ghost_name }
+    ensures same_reference { IsSameBorrow tx.old.conn tx.new.conn }
     ensures does { StepsTo (state S.Store tx.old.conn.now) (state S.Store tx.new.conn.now) result
         (Grows 8 9) }
 {
@@ -106,7 +105,7 @@ fn create_outcomes<S: Alter>(tx: &mut Transaction<'_, S>) -> Result<usize, Error
 }
 
 fn create_intervals<S: Alter>(tx: &mut Transaction<'_, S>) -> Result<usize, Error>
-    ensures same_reference { tx.new.conn.ghost_name ≡ tx.old.conn.ghost_name }
+    ensures same_reference { IsSameBorrow tx.old.conn tx.new.conn }
     ensures does { StepsTo (state S.Store tx.old.conn.now) (state S.Store tx.new.conn.now) result
         (Grows 9 10) }
 {
@@ -117,7 +116,7 @@ fn create_intervals<S: Alter>(tx: &mut Transaction<'_, S>) -> Result<usize, Erro
 }
 
 fn create_replies<S: Alter>(tx: &mut Transaction<'_, S>) -> Result<usize, Error>
-    ensures same_reference { tx.new.conn.ghost_name ≡ tx.old.conn.ghost_name }
+    ensures same_reference { IsSameBorrow tx.old.conn tx.new.conn }
     ensures does { StepsTo (state S.Store tx.old.conn.now) (state S.Store tx.new.conn.now) result
         (Grows 10 11) }
 {
@@ -128,7 +127,7 @@ fn create_replies<S: Alter>(tx: &mut Transaction<'_, S>) -> Result<usize, Error>
 }
 
 fn create_ranges<S: Alter>(tx: &mut Transaction<'_, S>) -> Result<usize, Error>
-    ensures same_reference { tx.new.conn.ghost_name ≡ tx.old.conn.ghost_name }
+    ensures same_reference { IsSameBorrow tx.old.conn tx.new.conn }
     ensures does { StepsTo (state S.Store tx.old.conn.now) (state S.Store tx.new.conn.now) result
         (Grows 11 12) }
 {
@@ -139,7 +138,7 @@ fn create_ranges<S: Alter>(tx: &mut Transaction<'_, S>) -> Result<usize, Error>
 }
 
 pub(crate) fn create_voids<S: Alter>(tx: &mut Transaction<'_, S>) -> Result<usize, Error>
-    ensures same_reference { tx.new.conn.ghost_name ≡ tx.old.conn.ghost_name }
+    ensures same_reference { IsSameBorrow tx.old.conn tx.new.conn }
     ensures does { StepsTo (state S.Store tx.old.conn.now) (state S.Store tx.new.conn.now) result
         (Grows 12 13) }
 {
@@ -151,7 +150,7 @@ pub(crate) fn create_voids<S: Alter>(tx: &mut Transaction<'_, S>) -> Result<usiz
 
 /// The tables of the file, of devices, points and registers.
 fn create_lists<S: Alter>(tx: &mut Transaction<'_, S>) -> Result<usize, Error>
-    ensures same_reference { tx.new.conn.ghost_name ≡ tx.old.conn.ghost_name }
+    ensures same_reference { IsSameBorrow tx.old.conn tx.new.conn }
     ensures does { StepsTo (state S.Store tx.old.conn.now) (state S.Store tx.new.conn.now) result
         (Grows 0 4) }
 {
@@ -163,7 +162,7 @@ fn create_lists<S: Alter>(tx: &mut Transaction<'_, S>) -> Result<usize, Error>
 
 /// The tables of installations, entries, polls and held readings.
 fn create_meters<S: Alter>(tx: &mut Transaction<'_, S>) -> Result<usize, Error>
-    ensures same_reference { tx.new.conn.ghost_name ≡ tx.old.conn.ghost_name }
+    ensures same_reference { IsSameBorrow tx.old.conn tx.new.conn }
     ensures does { StepsTo (state S.Store tx.old.conn.now) (state S.Store tx.new.conn.now) result
         (Grows 4 8) }
 {
@@ -175,7 +174,7 @@ fn create_meters<S: Alter>(tx: &mut Transaction<'_, S>) -> Result<usize, Error>
 
 /// The tables of outcomes, interval rows and kept requests.
 fn create_answers<S: Alter>(tx: &mut Transaction<'_, S>) -> Result<usize, Error>
-    ensures same_reference { tx.new.conn.ghost_name ≡ tx.old.conn.ghost_name }
+    ensures same_reference { IsSameBorrow tx.old.conn tx.new.conn }
     ensures does { StepsTo (state S.Store tx.old.conn.now) (state S.Store tx.new.conn.now) result
         (Grows 8 11) }
 {
@@ -186,7 +185,7 @@ fn create_answers<S: Alter>(tx: &mut Transaction<'_, S>) -> Result<usize, Error>
 
 /// The tables of version 1.
 fn create_first<S: Alter>(tx: &mut Transaction<'_, S>) -> Result<usize, Error>
-    ensures same_reference { tx.new.conn.ghost_name ≡ tx.old.conn.ghost_name }
+    ensures same_reference { IsSameBorrow tx.old.conn tx.new.conn }
     ensures does { StepsTo (state S.Store tx.old.conn.now) (state S.Store tx.new.conn.now) result
         (Grows 0 11) }
 {
@@ -197,7 +196,7 @@ fn create_first<S: Alter>(tx: &mut Transaction<'_, S>) -> Result<usize, Error>
 
 /// The tables that versions 2 and 3 brought.
 pub(crate) fn create_last<S: Alter>(tx: &mut Transaction<'_, S>) -> Result<usize, Error>
-    ensures same_reference { tx.new.conn.ghost_name ≡ tx.old.conn.ghost_name }
+    ensures same_reference { IsSameBorrow tx.old.conn tx.new.conn }
     ensures does { StepsTo (state S.Store tx.old.conn.now) (state S.Store tx.new.conn.now) result
         (Grows 11 13) }
 {
@@ -207,7 +206,7 @@ pub(crate) fn create_last<S: Alter>(tx: &mut Transaction<'_, S>) -> Result<usize
 
 /// All tables.
 pub(crate) fn create_tables<S: Alter>(tx: &mut Transaction<'_, S>) -> Result<usize, Error>
-    ensures same_reference { tx.new.conn.ghost_name ≡ tx.old.conn.ghost_name }
+    ensures same_reference { IsSameBorrow tx.old.conn tx.new.conn }
     ensures does { StepsTo (state S.Store tx.old.conn.now) (state S.Store tx.new.conn.now) result
         (Grows 0 13) }
 {

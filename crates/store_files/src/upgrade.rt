@@ -5,7 +5,7 @@ ghost use Rattle.sqlite.specs.declared.types.Value.TheVariants.{Text};
 ghost use Rattle.sqlite.specs.State.{HasCleanDisk, KeepsCommit, Survives};
 ghost use Rattle.sqlite.specs.Held.{state};
 ghost use Rattle.store_tables.specs.Content.{Content, AreTablesIn};
-ghost use Rattle.store_tables.specs.Steps.{Steps, StepsTo, TransactsTo};
+ghost use Rattle.store_tables.specs.Steps.{Steps, StepsTo, TransactsTo, IsSameBorrow};
 ghost use Rattle.store_files.specs.declared.layouts.Layout.TheVariants.{First as TheFirst};
 ghost use Rattle.store_files.specs.Layouts.{schema_of};
 ghost use Rattle.store_files.specs.Upgrade.{ShowsMeters, GivesRanges, BringsFirst, BringsSecond};
@@ -43,7 +43,7 @@ fn meter_in(row: &Row) -> Result<String, Error>
 
 /// The range of a counter that turns over at 2^32, for the meter of each row.
 fn give_ranges<S: Alter>(tx: &mut Transaction<'_, S>, meters: &[Row]) -> Result<(), Error>
-    ensures same_reference { tx.new.conn.ghost_name ≡ tx.old.conn.ghost_name }
+    ensures same_reference { IsSameBorrow tx.old.conn tx.new.conn }
     ensures does { Steps (state S.Store tx.old.conn.now) (state S.Store tx.new.conn.now) result
         (GivesRanges meters.now) }
 {
@@ -55,7 +55,7 @@ fn give_ranges<S: Alter>(tx: &mut Transaction<'_, S>, meters: &[Row]) -> Result<
 }
 
 fn bring_first<S: Alter>(tx: &mut Transaction<'_, S>, meters: &[Row]) -> Result<usize, Error>
-    ensures same_reference { tx.new.conn.ghost_name ≡ tx.old.conn.ghost_name }
+    ensures same_reference { IsSameBorrow tx.old.conn tx.new.conn }
     ensures does { StepsTo (state S.Store tx.old.conn.now) (state S.Store tx.new.conn.now) result
         (BringsFirst meters.now) }
 {
@@ -65,7 +65,7 @@ fn bring_first<S: Alter>(tx: &mut Transaction<'_, S>, meters: &[Row]) -> Result<
 }
 
 fn bring_second<S: Alter>(tx: &mut Transaction<'_, S>) -> Result<usize, Error>
-    ensures same_reference { tx.new.conn.ghost_name ≡ tx.old.conn.ghost_name }
+    ensures same_reference { IsSameBorrow tx.old.conn tx.new.conn }
     ensures does { StepsTo (state S.Store tx.old.conn.now) (state S.Store tx.new.conn.now) result
         BringsSecond }
 {

@@ -1,10 +1,16 @@
 -- What a call leaves of a connection inside a transaction, and after one.
 use Rattle.std.specs.Prelude.{◌≡◌, Result, IsTrue, OnOk, OnErr}
+use Rattle.std.specs.Borrow.{MutBor}
 use Rattle.sqlite.specs.Effect.{Database}
 use Rattle.sqlite.specs.Schema.{Schema}
 use Rattle.sqlite.specs.State.{State, HasCleanDisk, KeepsCommit, Survives}
 use Rattle.store_tables.specs.Schema.{books_schema}
 use Rattle.store_tables.specs.Content.{Content, AreTablesIn}
+
+-- the same borrow, by the name under which proofs know it: what is written through the one is what is
+-- found through the other
+abbrev pub IsSameBorrow : {X : Type 0} → MutBor X → MutBor X → Type 0
+IsSameBorrow old new = new.ghost_name ≡ old.ghost_name
 
 -- the tables hold what is made of what they held
 abbrev pub TurnsIn : Schema → (Content → Content → Type 0) → Database → Database → Type 0

@@ -2,6 +2,7 @@
 ghost use Rattle.std.specs.Prelude.{◌≡◌, ◌≢◌, IfOk, IfErr};
 ghost use Rattle.office_core.specs.Standing.{IsFresh};
 ghost use Rattle.office_program.specs.Texts.OpenedOffice.{LastsInside, OpensOver, RefusesOver};
+ghost use Rattle.office_program.specs.Texts.AskedOffice.{OpensToAskOver, RefusesToAskOver};
 
 use crate::texts::end_texts::print_refusal;
 use command_io::ExitStatus;
@@ -36,6 +37,32 @@ pub fn open_office<B: Books, C: Clock, W: Write>(
 {
     let moment = clock.now();
     match Office::open(alloc, books, moment) {
+        Ok(office) => Ok(office),
+        Err((books, why)) => Err(Unopened {
+            books,
+            status: print_refusal(why, output),
+        }),
+    }
+}
+
+/// Opens an office over books to ask it: at the moment that the clock tells, or at the latest that the books hold where that is
+/// later, since questions need no clock. Where that is refused, `refused N` is printed, and the command ends.
+pub fn open_office_to_ask<B: Books, C: Clock, W: Write>(
+    alloc: Global,
+    books: B,
+    clock: &mut C,
+    output: &mut W,
+) -> Result<Office<B>, Unopened<B>>
+    ensures opened { OpensToAskOver B.Books C.Clock books clock.old clock.new result }
+    ensures fresh { IfOk result (λ office. IsFresh office) }
+    ensures silent { IfOk result (λ office. output.new ≡ output.old) }
+    ensures refused { RefusesToAskOver B.Books C.Clock W.Write books clock.old clock.new
+        output.old output.new result }
+    ensures ends { IfErr result (λ e. e.status ≢ ExitStatus.Fine) }
+    ensures lasts { LastsInside B.ledger books result }
+{
+    let moment = clock.now();
+    match Office::open_to_ask(alloc, books, moment) {
         Ok(office) => Ok(office),
         Err((books, why)) => Err(Unopened {
             books,

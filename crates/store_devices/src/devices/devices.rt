@@ -1,8 +1,7 @@
 //! The table `devices`.
-ghost use Rattle.std.specs.Prelude.{◌≡◌};
 ghost use Rattle.sqlite.specs.Held.{state};
 ghost use Rattle.store_tables.specs.Content.{Edits, with_row};
-ghost use Rattle.store_tables.specs.Steps.{Steps};
+ghost use Rattle.store_tables.specs.Steps.{Steps, IsSameBorrow};
 ghost use Rattle.store_tables.specs.Answer.{LastFirst, FirstFirst, every};
 ghost use Rattle.store_tables.specs.Asking.{Asks, AsksInside, TellsRows, Shows, ShowsFirst};
 ghost use Rattle.store_devices.specs.Devices.Rows.{device_columns, device_shown, device_place};
@@ -20,7 +19,7 @@ pub fn insert_device<S: Alter>(
     device: DeviceRow,
 ) -> Result<usize, Error>
     requires sound { IsSoundDevice device }
-    ensures same_reference { tx.new.conn.ghost_name ≡ tx.old.conn.ghost_name }
+    ensures same_reference { IsSameBorrow tx.old.conn tx.new.conn }
     ensures does { Steps (state S.Store tx.old.conn.now) (state S.Store tx.new.conn.now) result
         (Edits devices device_columns (with_row (record { name = name.now; row = device }))) }
 {
@@ -51,7 +50,7 @@ pub fn device_rows<S: Alter>(conn: &mut Connection<S>) -> Result<Vec<Row>, Error
 
 /// The place of the last device inside a transaction, if there is one, in its first column.
 pub fn last_device_rows<S: Alter>(tx: &mut Transaction<'_, S>) -> Result<Vec<Row>, Error>
-    ensures same_reference { tx.new.conn.ghost_name ≡ tx.old.conn.ghost_name }
+    ensures same_reference { IsSameBorrow tx.old.conn tx.new.conn }
     ensures asks { AsksInside S.Store tx.old.conn.now tx.new.conn.now result }
     ensures shows { TellsRows S.Store tx.old.conn.now tx.new.conn.now devices device_columns result
         (ShowsFirst every (LastFirst device_place) device_place_shown) }

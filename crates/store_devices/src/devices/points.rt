@@ -1,8 +1,8 @@
 //! The table `points`.
-ghost use Rattle.std.specs.Prelude.{◌≡◌, All};
+ghost use Rattle.std.specs.Prelude.{All};
 ghost use Rattle.sqlite.specs.Held.{state};
 ghost use Rattle.store_tables.specs.Content.{Edits, with_row, without_where};
-ghost use Rattle.store_tables.specs.Steps.{Steps};
+ghost use Rattle.store_tables.specs.Steps.{Steps, IsSameBorrow};
 ghost use Rattle.store_tables.specs.Answer.{FirstFirst};
 ghost use Rattle.store_tables.specs.Asking.{Asks, TellsRows, Shows};
 ghost use Rattle.store_devices.specs.Devices.Rows.{listed_as, point_columns, point_shown, point_place};
@@ -23,7 +23,7 @@ fn insert_point<'a, S: Alter>(
     point: PointRow,
 ) -> Result<usize, Error>
     requires sound { IsSoundPoint point }
-    ensures same_reference { tx.new.conn.ghost_name ≡ tx.old.conn.ghost_name }
+    ensures same_reference { IsSameBorrow tx.old.conn tx.new.conn }
     ensures does { Steps (state S.Store tx.old.conn.now) (state S.Store tx.new.conn.now) result
         (Edits trees.points point_columns
         (with_row (listed_as device.now name.now kind.now scale.now point))) }
@@ -46,7 +46,7 @@ fn insert_point<'a, S: Alter>(
 
 /// Takes away the points of a device's list.
 fn drop_points<S: Alter>(tx: &mut Transaction<'_, S>, device: &str) -> Result<usize, Error>
-    ensures same_reference { tx.new.conn.ghost_name ≡ tx.old.conn.ghost_name }
+    ensures same_reference { IsSameBorrow tx.old.conn tx.new.conn }
     ensures does { Steps (state S.Store tx.old.conn.now) (state S.Store tx.new.conn.now) result
         (Edits trees.points point_columns (without_where (is_point_of device.now))) }
 {
@@ -60,7 +60,7 @@ fn insert_points<S: Alter>(
     points: &[Point],
 ) -> Result<(), Error>
     requires sound { All (λ p. IsSoundPoint p.row) points.now }
-    ensures same_reference { tx.new.conn.ghost_name ≡ tx.old.conn.ghost_name }
+    ensures same_reference { IsSameBorrow tx.old.conn tx.new.conn }
     ensures does { Steps (state S.Store tx.old.conn.now) (state S.Store tx.new.conn.now) result
         (Edits trees.points point_columns (with_points device.now points.now)) }
 {
@@ -84,7 +84,7 @@ pub fn replace_points<S: Alter>(
     points: &[Point],
 ) -> Result<(), Error>
     requires sound { All (λ p. IsSoundPoint p.row) points.now }
-    ensures same_reference { tx.new.conn.ghost_name ≡ tx.old.conn.ghost_name }
+    ensures same_reference { IsSameBorrow tx.old.conn tx.new.conn }
     ensures does { Steps (state S.Store tx.old.conn.now) (state S.Store tx.new.conn.now) result
         (Edits trees.points point_columns (with_list device.now points.now)) }
 {

@@ -3,7 +3,7 @@ ghost use Rattle.std.specs.Prelude.{◌≡◌, IfOk, IfSome};
 ghost use Rattle.sqlite.specs.declared.types.Value.TheVariants.{Int};
 ghost use Rattle.sqlite.specs.Held.{state};
 ghost use Rattle.store_tables.specs.Content.{Edits, with_row};
-ghost use Rattle.store_tables.specs.Steps.{Steps};
+ghost use Rattle.store_tables.specs.Steps.{Steps, IsSameBorrow};
 ghost use Rattle.store_tables.specs.Answer.{IsFound, AnyOrder, LastFirst, FirstFirst, every};
 ghost use Rattle.store_tables.specs.Asking.{Asks, AsksInside, TellsAnswer, LooksUp};
 ghost use Rattle.store_tables.specs.Asking.{TellsRows, Shows, ShowsFirst};
@@ -48,7 +48,7 @@ pub fn insert_register<S: Alter>(
     register: RegisterRow,
 ) -> Result<usize, Error>
     requires sound { IsSoundRegister register }
-    ensures same_reference { tx.new.conn.ghost_name ≡ tx.old.conn.ghost_name }
+    ensures same_reference { IsSameBorrow tx.old.conn tx.new.conn }
     ensures does { Steps (state S.Store tx.old.conn.now) (state S.Store tx.new.conn.now) result
         (Edits registers register_columns (with_row (registered_as name.now device.now register))) }
 {
@@ -133,7 +133,7 @@ pub fn register_count<S: Alter>(conn: &mut Connection<S>, device: &str) -> Resul
 
 /// The place of the last register inside a transaction, if there is one, in its first column.
 pub fn last_register_rows<S: Alter>(tx: &mut Transaction<'_, S>) -> Result<Vec<Row>, Error>
-    ensures same_reference { tx.new.conn.ghost_name ≡ tx.old.conn.ghost_name }
+    ensures same_reference { IsSameBorrow tx.old.conn tx.new.conn }
     ensures asks { AsksInside S.Store tx.old.conn.now tx.new.conn.now result }
     ensures shows { TellsRows S.Store tx.old.conn.now tx.new.conn.now
         registers register_columns result

@@ -1,8 +1,7 @@
 //! The table `holds`.
-ghost use Rattle.std.specs.Prelude.{◌≡◌};
 ghost use Rattle.sqlite.specs.Held.{state};
 ghost use Rattle.store_tables.specs.Content.{Edits, with_row};
-ghost use Rattle.store_tables.specs.Steps.{Steps};
+ghost use Rattle.store_tables.specs.Steps.{Steps, IsSameBorrow};
 ghost use Rattle.store_tables.specs.Answer.{LastFirst, every};
 ghost use Rattle.store_tables.specs.Asking.{AsksInside, TellsRows, ShowsFirst};
 ghost use Rattle.store_devices.specs.Polls.Rows.{hold_columns, hold_place, hold_place_shown, IsSoundHold};
@@ -19,7 +18,7 @@ pub fn insert_hold<S: Alter>(
     hold: HoldRow,
 ) -> Result<usize, Error>
     requires sound { IsSoundHold hold }
-    ensures same_reference { tx.new.conn.ghost_name ≡ tx.old.conn.ghost_name }
+    ensures same_reference { IsSameBorrow tx.old.conn tx.new.conn }
     ensures does { Steps (state S.Store tx.old.conn.now) (state S.Store tx.new.conn.now) result
         (Edits holds hold_columns (with_row (record { meter = meter.now; row = hold }))) }
 {
@@ -43,7 +42,7 @@ pub fn insert_hold<S: Alter>(
 
 /// The place of the last held reading inside a transaction, if there is one, in its first column.
 pub fn last_hold_rows<S: Alter>(tx: &mut Transaction<'_, S>) -> Result<Vec<Row>, Error>
-    ensures same_reference { tx.new.conn.ghost_name ≡ tx.old.conn.ghost_name }
+    ensures same_reference { IsSameBorrow tx.old.conn tx.new.conn }
     ensures asks { AsksInside S.Store tx.old.conn.now tx.new.conn.now result }
     ensures shows { TellsRows S.Store tx.old.conn.now tx.new.conn.now holds hold_columns result
         (ShowsFirst every (LastFirst hold_place) hold_place_shown) }

@@ -1,8 +1,8 @@
 //! All interval rows of a meter at once.
-ghost use Rattle.std.specs.Prelude.{◌≡◌, All};
+ghost use Rattle.std.specs.Prelude.{All};
 ghost use Rattle.sqlite.specs.Held.{state};
 ghost use Rattle.store_tables.specs.Content.{Edits, with_row, without_where};
-ghost use Rattle.store_tables.specs.Steps.{Steps};
+ghost use Rattle.store_tables.specs.Steps.{Steps, IsSameBorrow};
 ghost use Rattle.store_facts.specs.Intervals.Trees.{intervals};
 ghost use Rattle.store_facts.specs.Intervals.Rows.{interval_columns, is_of, IsSoundShare};
 ghost use Rattle.store_facts.specs.Intervals.Replacement.{row_from, with_rows, ReplacesShares};
@@ -19,7 +19,7 @@ fn insert_row<S: Alter>(
     mwh: u64,
 ) -> Result<usize, Error>
     requires sound { IsSoundShare (record { start = start; mwh = mwh }) }
-    ensures same_reference { tx.new.conn.ghost_name ≡ tx.old.conn.ghost_name }
+    ensures same_reference { IsSameBorrow tx.old.conn tx.new.conn }
     ensures does { Steps (state S.Store tx.old.conn.now) (state S.Store tx.new.conn.now) result
         (Edits intervals interval_columns (with_row (row_from meter.now start mwh))) }
 {
@@ -33,7 +33,7 @@ fn insert_row<S: Alter>(
 
 /// Takes away the rows of a meter.
 fn drop_rows<S: Alter>(tx: &mut Transaction<'_, S>, meter: &str) -> Result<usize, Error>
-    ensures same_reference { tx.new.conn.ghost_name ≡ tx.old.conn.ghost_name }
+    ensures same_reference { IsSameBorrow tx.old.conn tx.new.conn }
     ensures does { Steps (state S.Store tx.old.conn.now) (state S.Store tx.new.conn.now) result
         (Edits intervals interval_columns (without_where (is_of meter.now))) }
 {
@@ -47,7 +47,7 @@ fn insert_rows<S: Alter>(
     shares: &[Share],
 ) -> Result<(), Error>
     requires sound { All IsSoundShare shares.now }
-    ensures same_reference { tx.new.conn.ghost_name ≡ tx.old.conn.ghost_name }
+    ensures same_reference { IsSameBorrow tx.old.conn tx.new.conn }
     ensures does { Steps (state S.Store tx.old.conn.now) (state S.Store tx.new.conn.now) result
         (Edits intervals interval_columns (with_rows meter.now shares.now)) }
 {
@@ -64,7 +64,7 @@ pub fn replace_shares<S: Alter>(
     shares: &[Share],
 ) -> Result<(), Error>
     requires sound { All IsSoundShare shares.now }
-    ensures same_reference { tx.new.conn.ghost_name ≡ tx.old.conn.ghost_name }
+    ensures same_reference { IsSameBorrow tx.old.conn tx.new.conn }
     ensures does { Steps (state S.Store tx.old.conn.now) (state S.Store tx.new.conn.now) result
         (ReplacesShares meter.now shares.now) }
 {

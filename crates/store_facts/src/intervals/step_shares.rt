@@ -1,7 +1,7 @@
 //! What a step brings to the table `intervals`.
-ghost use Rattle.std.specs.Prelude.{◌≡◌, ◌<◌, ◌≤◌, [], ◌∷◌};
+ghost use Rattle.std.specs.Prelude.{◌<◌, ◌≤◌, [], ◌∷◌};
 ghost use Rattle.sqlite.specs.Held.{state};
-ghost use Rattle.store_tables.specs.Steps.{Steps};
+ghost use Rattle.store_tables.specs.Steps.{Steps, IsSameBorrow};
 ghost use Rattle.energy_core.specs.Account.{intervals_touched};
 ghost use Rattle.interval_core.specs.Share.{shares_of};
 ghost use Rattle.store_tables.specs.Limits.{latest_moment};
@@ -21,7 +21,7 @@ fn add_share<S: Alter>(
     share: Share,
 ) -> Result<usize, Error>
     requires sound { IsSoundShare share }
-    ensures same_reference { tx.new.conn.ghost_name ≡ tx.old.conn.ghost_name }
+    ensures same_reference { IsSameBorrow tx.old.conn tx.new.conn }
     ensures does { Steps (state S.Store tx.old.conn.now) (state S.Store tx.new.conn.now) result
         (BooksShares meter.now (share ∷ [])) }
 {
@@ -43,7 +43,7 @@ pub fn book_step<S: Alter>(
     requires intervals { intervals_touched step.now.from step.now.till ≤ MAX_INTERVALS }
     requires energy { step.now.mwh ≤ greatest_total }
     requires till { step.now.till ≤ latest_moment }
-    ensures same_reference { tx.new.conn.ghost_name ≡ tx.old.conn.ghost_name }
+    ensures same_reference { IsSameBorrow tx.old.conn tx.new.conn }
     ensures does { Steps (state S.Store tx.old.conn.now) (state S.Store tx.new.conn.now) result
         (BooksShares meter.now (shares_of step.now)) }
 {

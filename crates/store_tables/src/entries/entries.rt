@@ -1,8 +1,8 @@
 //! The table `entries`.
-ghost use Rattle.std.specs.Prelude.{◌≡◌, ◌≤◌, IfOk, IfSome};
+ghost use Rattle.std.specs.Prelude.{◌≤◌, IfOk, IfSome};
 ghost use Rattle.sqlite.specs.Held.{state};
 ghost use Rattle.store_tables.specs.Content.{Edits, with_row, changed_where};
-ghost use Rattle.store_tables.specs.Steps.{Steps};
+ghost use Rattle.store_tables.specs.Steps.{Steps, IsSameBorrow};
 ghost use Rattle.store_tables.specs.Answer.{IsFound, AnyOrder, LastFirst, FirstFirst};
 ghost use Rattle.store_tables.specs.Asking.{Asks, AsksInside, LooksUp, TellsRows, Shows};
 ghost use Rattle.store_tables.specs.Asking.{ShowsFirst};
@@ -28,7 +28,7 @@ pub fn insert_entry<S: Alter>(
     entry: EntryRow,
 ) -> Result<usize, Error>
     requires sound { IsSoundEntry entry }
-    ensures same_reference { tx.new.conn.ghost_name ≡ tx.old.conn.ghost_name }
+    ensures same_reference { IsSameBorrow tx.old.conn tx.new.conn }
     ensures does { Steps (state S.Store tx.old.conn.now) (state S.Store tx.new.conn.now) result
         (Edits entries entry_columns (with_row (record { meter = meter.now; entry = entry }))) }
 {
@@ -58,7 +58,7 @@ pub fn set_rolls<S: Alter>(
     rolls: u8,
 ) -> Result<usize, Error>
     requires place { place ≤ greatest_place }
-    ensures same_reference { tx.new.conn.ghost_name ≡ tx.old.conn.ghost_name }
+    ensures same_reference { IsSameBorrow tx.old.conn tx.new.conn }
     ensures does { Steps (state S.Store tx.old.conn.now) (state S.Store tx.new.conn.now) result
         (Edits entries entry_columns (changed_where (is_entry meter.now place) (rolled rolls))) }
 {
@@ -115,7 +115,7 @@ pub fn last_entry_rows<S: Alter>(
     tx: &mut Transaction<'_, S>,
     meter: &str,
 ) -> Result<Vec<Row>, Error>
-    ensures same_reference { tx.new.conn.ghost_name ≡ tx.old.conn.ghost_name }
+    ensures same_reference { IsSameBorrow tx.old.conn tx.new.conn }
     ensures asks { AsksInside S.Store tx.old.conn.now tx.new.conn.now result }
     ensures shows { TellsRows S.Store tx.old.conn.now tx.new.conn.now entries entry_columns result
         (ShowsFirst (is_of meter.now) (LastFirst entry_place) place_shown) }

@@ -1,10 +1,10 @@
 //! The entries and voids of a meter, asked for inside a transaction.
-ghost use Rattle.std.specs.Prelude.{◌≡◌};
 ghost use Rattle.store_tables.specs.Answer.{FirstFirst};
 ghost use Rattle.store_tables.specs.Asking.{AsksInside, TellsRows, Shows};
 ghost use Rattle.store_tables.specs.Entries.Rows.{entry_columns, entry_shown, entry_place, is_of};
 ghost use Rattle.store_tables.specs.Entries.Rows.{voided_columns, voided_shown, voided_place, is_void_of};
 ghost use Rattle.store_tables.specs.Entries.Trees.{entries, voids};
+ghost use Rattle.store_tables.specs.Steps.{IsSameBorrow};
 
 use sqlite::{Alter, Error, Row, Transaction, params};
 
@@ -13,7 +13,7 @@ pub fn entry_rows_inside<S: Alter>(
     tx: &mut Transaction<'_, S>,
     meter: &str,
 ) -> Result<Vec<Row>, Error>
-    ensures same_reference { tx.new.conn.ghost_name ≡ tx.old.conn.ghost_name }
+    ensures same_reference { IsSameBorrow tx.old.conn tx.new.conn }
     ensures asks { AsksInside S.Store tx.old.conn.now tx.new.conn.now result }
     ensures shows { TellsRows S.Store tx.old.conn.now tx.new.conn.now entries entry_columns result
         (Shows (is_of meter.now) (FirstFirst entry_place) entry_shown) }
@@ -26,7 +26,7 @@ pub fn void_rows_inside<S: Alter>(
     tx: &mut Transaction<'_, S>,
     meter: &str,
 ) -> Result<Vec<Row>, Error>
-    ensures same_reference { tx.new.conn.ghost_name ≡ tx.old.conn.ghost_name }
+    ensures same_reference { IsSameBorrow tx.old.conn tx.new.conn }
     ensures asks { AsksInside S.Store tx.old.conn.now tx.new.conn.now result }
     ensures shows { TellsRows S.Store tx.old.conn.now tx.new.conn.now voids voided_columns result
         (Shows (is_void_of meter.now) (FirstFirst voided_place) voided_shown) }

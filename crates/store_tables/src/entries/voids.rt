@@ -1,8 +1,8 @@
 //! The table `voids`.
-ghost use Rattle.std.specs.Prelude.{◌≡◌, ◌≤◌};
+ghost use Rattle.std.specs.Prelude.{◌≤◌};
 ghost use Rattle.sqlite.specs.Held.{state};
 ghost use Rattle.store_tables.specs.Content.{Edits, with_row};
-ghost use Rattle.store_tables.specs.Steps.{Steps};
+ghost use Rattle.store_tables.specs.Steps.{Steps, IsSameBorrow};
 ghost use Rattle.store_tables.specs.Answer.{FirstFirst};
 ghost use Rattle.store_tables.specs.Asking.{Asks, TellsRows, Shows};
 ghost use Rattle.store_tables.specs.Limits.{IsPlace, latest_moment};
@@ -25,7 +25,7 @@ pub fn insert_void<S: Alter>(
 ) -> Result<usize, Error>
     requires place { IsPlace place }
     requires moment { moment ≤ latest_moment }
-    ensures same_reference { tx.new.conn.ghost_name ≡ tx.old.conn.ghost_name }
+    ensures same_reference { IsSameBorrow tx.old.conn tx.new.conn }
     ensures does { Steps (state S.Store tx.old.conn.now) (state S.Store tx.new.conn.now) result
         (Edits voids voided_columns (with_row (voided_at meter.now place moment))) }
 {

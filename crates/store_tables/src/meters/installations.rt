@@ -2,7 +2,7 @@
 ghost use Rattle.std.specs.Prelude.{◌≡◌, IfOk, IfSome};
 ghost use Rattle.sqlite.specs.Held.{state};
 ghost use Rattle.store_tables.specs.Content.{Edits, with_row, changed_where};
-ghost use Rattle.store_tables.specs.Steps.{Steps};
+ghost use Rattle.store_tables.specs.Steps.{Steps, IsSameBorrow};
 ghost use Rattle.store_tables.specs.Answer.{IsFound, IsLast, AnyOrder, LastFirst, every};
 ghost use Rattle.store_tables.specs.Asking.{Asks, AsksInside, TellsRows, ShowsFirst, LooksUp};
 ghost use Rattle.store_tables.specs.Limits.{IsPlace};
@@ -40,7 +40,7 @@ pub fn insert_installation<S: Alter>(
     row: InstallationRow,
 ) -> Result<usize, Error>
     requires sound { IsSoundInstallation row }
-    ensures same_reference { tx.new.conn.ghost_name ≡ tx.old.conn.ghost_name }
+    ensures same_reference { IsSameBorrow tx.old.conn tx.new.conn }
     ensures does { Steps (state S.Store tx.old.conn.now) (state S.Store tx.new.conn.now) result
         (Edits installations installed_columns (with_row (meter_at meter.now register.now row))) }
 {
@@ -73,7 +73,7 @@ pub fn update_last<S: Alter>(
     last: LastRow,
 ) -> Result<usize, Error>
     requires sound { IsSoundLast last }
-    ensures same_reference { tx.new.conn.ghost_name ≡ tx.old.conn.ghost_name }
+    ensures same_reference { IsSameBorrow tx.old.conn tx.new.conn }
     ensures does { Steps (state S.Store tx.old.conn.now) (state S.Store tx.new.conn.now) result
         (Edits installations installed_columns (changed_where (is_meter meter.now) (moved last))) }
 {
@@ -88,7 +88,7 @@ pub fn update_last<S: Alter>(
 
 /// Says that a meter was closed.
 pub fn end_installation<S: Alter>(tx: &mut Transaction<'_, S>, meter: &str) -> Result<usize, Error>
-    ensures same_reference { tx.new.conn.ghost_name ≡ tx.old.conn.ghost_name }
+    ensures same_reference { IsSameBorrow tx.old.conn tx.new.conn }
     ensures does { Steps (state S.Store tx.old.conn.now) (state S.Store tx.new.conn.now) result
         (Edits installations installed_columns (changed_where (is_meter meter.now) ended)) }
 {
@@ -178,7 +178,7 @@ pub fn installation_rows<S: Alter>(
     tx: &mut Transaction<'_, S>,
     meter: &str,
 ) -> Result<Vec<Row>, Error>
-    ensures same_reference { tx.new.conn.ghost_name ≡ tx.old.conn.ghost_name }
+    ensures same_reference { IsSameBorrow tx.old.conn tx.new.conn }
     ensures asks { AsksInside S.Store tx.old.conn.now tx.new.conn.now result }
     ensures shows { TellsRows S.Store tx.old.conn.now tx.new.conn.now
         installations installed_columns result
@@ -189,7 +189,7 @@ pub fn installation_rows<S: Alter>(
 
 /// The place of the last installation inside a transaction, if there is one, in its first column.
 pub fn last_installation_rows<S: Alter>(tx: &mut Transaction<'_, S>) -> Result<Vec<Row>, Error>
-    ensures same_reference { tx.new.conn.ghost_name ≡ tx.old.conn.ghost_name }
+    ensures same_reference { IsSameBorrow tx.old.conn tx.new.conn }
     ensures asks { AsksInside S.Store tx.old.conn.now tx.new.conn.now result }
     ensures shows { TellsRows S.Store tx.old.conn.now tx.new.conn.now
         installations installed_columns result

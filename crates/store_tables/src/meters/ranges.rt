@@ -1,8 +1,8 @@
 //! The table `ranges`.
-ghost use Rattle.std.specs.Prelude.{◌≡◌, IfOk, IfSome};
+ghost use Rattle.std.specs.Prelude.{IfOk, IfSome};
 ghost use Rattle.sqlite.specs.Held.{state};
 ghost use Rattle.store_tables.specs.Content.{Edits, with_row};
-ghost use Rattle.store_tables.specs.Steps.{Steps};
+ghost use Rattle.store_tables.specs.Steps.{Steps, IsSameBorrow};
 ghost use Rattle.store_tables.specs.Answer.{IsFound, AnyOrder};
 ghost use Rattle.store_tables.specs.Asking.{Asks, AsksInside, TellsRows, ShowsFirst, LooksUp};
 ghost use Rattle.store_tables.specs.Meters.Rows.{ranged_columns, range_shown, is_range_of, HasRange};
@@ -23,7 +23,7 @@ pub fn insert_range<S: Alter>(
     range: u64,
 ) -> Result<usize, Error>
     requires sound { IsRange range }
-    ensures same_reference { tx.new.conn.ghost_name ≡ tx.old.conn.ghost_name }
+    ensures same_reference { IsSameBorrow tx.old.conn tx.new.conn }
     ensures does { Steps (state S.Store tx.old.conn.now) (state S.Store tx.new.conn.now) result
         (Edits ranges ranged_columns (with_row (record { meter = meter.now; range = range }))) }
 {
@@ -55,7 +55,7 @@ pub fn range_of<S: Alter>(conn: &mut Connection<S>, meter: &str) -> Result<Optio
 
 /// The row of a meter inside a transaction, if there is one; `read_range` reads it.
 pub fn range_rows<S: Alter>(tx: &mut Transaction<'_, S>, meter: &str) -> Result<Vec<Row>, Error>
-    ensures same_reference { tx.new.conn.ghost_name ≡ tx.old.conn.ghost_name }
+    ensures same_reference { IsSameBorrow tx.old.conn tx.new.conn }
     ensures asks { AsksInside S.Store tx.old.conn.now tx.new.conn.now result }
     ensures shows { TellsRows S.Store tx.old.conn.now tx.new.conn.now ranges ranged_columns result
         (ShowsFirst (is_range_of meter.now) AnyOrder range_shown) }

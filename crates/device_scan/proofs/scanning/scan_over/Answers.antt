@@ -1,10 +1,12 @@
-use Rattle.std.proofs.Common.{◌≡◌, Err, refl, sym, ap, ◌∙◌}
+use Rattle.std.proofs.Common.{Global, ◌≡◌, ℕ, Option, Ok, Err, refl, sym, ap, ◌∙◌}
+use Rattle.std.specs.Prelude.{Vec}
 use Rattle.mb_wire.specs.Spans.{span_view}
 use Rattle.device_scan.specs.Answers.{words_seen}
 use Rattle.device_scan.specs.Scans.{stage_of, words_of}
+use Rattle.device_scan.specs.declared.fault.ScanFault.{ScanFault}
 use Rattle.device_scan.specs.declared.fault.ScanFault.TheVariants.{Garbled}
 use Rattle.device_scan.proofs.Settles.{garbles_both}
-use Rattle.device_scan.proofs.Talking.{going_begun, going_ends, going_more, going_part, part_of_all, reads_full, seen_full, smaller}
+use Rattle.device_scan.proofs.Talking.{going_begun, going_ends, going_more, going_part, inquires_of, part_of_all, reads_full, seen_full, smaller, wanted_holding}
 use Rattle.device_scan.proofs.scanning.scan_over.Goals as goal
 
 pub loop-span-init : goal.loop-span-init
@@ -32,7 +34,10 @@ loop-span-preserved g c =
           (g.L.Link.remaining c.read.new.link) (g.L.Link.given c.read.new.link) c.loop-span.client.unit c.read.new.self.unit c.loop-span.client.reader.rest c.read.new.self.reader.rest
           c.loop-span.client.next c.read.new.self.next (words_of c.loop-span.scan) (words_of c.take_in.new.scan) (stage_of c.loop-span.scan) (stage_of c.take_in.new.scan)
           (g.L.Link.taken c.args.link.now) (g.L.Link.taken c.loop-span.link) (g.L.Link.taken c.read.new.link) (span_view c.in-Some.span) (words_seen c.in-Ok.answer)
-          before.going (sym c.in-Some.ensures) c.in-Ok.ensures.read c.in-Ok.ensures.asks c.in-Ok.ensures.unit c.in-Ok.ensures.takes c.in-Ok-take_in.ensures.words c.in-Ok-take_in.ensures.stage;
+          before.going (sym c.in-Some.ensures) c.in-Ok.ensures.read
+          (inquires_of {E = ScanFault} c.loop-span.client.unit (span_view c.in-Some.span) (Ok c.in-Ok.answer) (g.L.Link.given c.loop-span.link) (g.L.Link.given c.read.new.link)
+          (wanted_holding (stage_of c.loop-span.scan) (span_view c.in-Some.span) c.in-Some.ensures) c.in-Ok.ensures.asks)
+          c.in-Ok.ensures.unit c.in-Ok.ensures.takes c.in-Ok-take_in.ensures.words c.in-Ok-take_in.ensures.stage;
       failures = c.in-Ok.ensures.failures ∙ before.failures;
       ends = c.in-Ok.ensures.ends ∙ before.ends;
     }
@@ -40,11 +45,15 @@ loop-span-preserved g c =
 pub returns-in-Err-take_in-clause-asks : goal.returns-in-Err-take_in-clause-asks
 returns-in-Err-take_in-clause-asks g c =
     going_part _ _ _ _ (g.L.Link.given c.loop-span.link) (g.L.Link.given c.read.new.link) _ _ _ _ _ _ _ c.loop-span.invariant.going
-    (part_of_all (g.L.Link.given c.loop-span.link) (g.L.Link.given c.read.new.link) c.loop-span.client.unit c.in-Ok.ensures.asks)
+    (part_of_all (g.L.Link.given c.loop-span.link) (g.L.Link.given c.read.new.link) c.loop-span.client.unit
+    (inquires_of {E = ScanFault} c.loop-span.client.unit (span_view c.in-Some.span) (Ok c.in-Ok.answer) (g.L.Link.given c.loop-span.link) (g.L.Link.given c.read.new.link)
+    (wanted_holding (stage_of c.loop-span.scan) (span_view c.in-Some.span) c.in-Some.ensures) c.in-Ok.ensures.asks))
 
 pub returns-in-Err-clause-asks : goal.returns-in-Err-clause-asks
 returns-in-Err-clause-asks g c =
-    going_part _ _ _ _ (g.L.Link.given c.loop-span.link) (g.L.Link.given c.read.new.link) _ _ _ _ _ _ _ c.loop-span.invariant.going c.in-Err.ensures.asks
+    going_part _ _ _ _ (g.L.Link.given c.loop-span.link) (g.L.Link.given c.read.new.link) _ _ _ _ _ _ _ c.loop-span.invariant.going
+    (inquires_of {X = Option (Vec ℕ Global)} c.loop-span.client.unit (span_view c.in-Some.span) (Err c.in-Err.fault) (g.L.Link.given c.loop-span.link) (g.L.Link.given c.read.new.link)
+    (wanted_holding (stage_of c.loop-span.scan) (span_view c.in-Some.span) c.in-Some.ensures) c.in-Err.ensures.asks)
 
 pub returns-in-Err-clause-garbled : goal.returns-in-Err-clause-garbled
 returns-in-Err-clause-garbled g c = λ garbled.

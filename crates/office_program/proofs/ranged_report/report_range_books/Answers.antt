@@ -7,6 +7,6 @@ pub returns-in-Ok-clause-tells : goal.returns-in-Ok-clause-tells
 returns-in-Ok-clause-tells g c = λ past stand clean.
     let name : c.new-name.result ≡ named c.args.register.now = search rules in
     range_reported g.B.Books.ledger g.W.Write.contents past c.args.register.now c.new-name.result c.args.form.now _ _ c.args.books c.into_books.result c.in-Ok.office
-    c.report_range-end.new.office c.args.output.now c.open_office.new.output _ c.report_range-end.result name
+    c.report_range-end.new.office c.args.output.now c.open_office_to_ask.new.output _ c.report_range-end.result name
     (c.in-Ok.ensures.opened past stand) c.in-Ok.ensures.silent c.report_range-end.ensures.prints c.report_range-end.ensures.asks
     c.into_books.ensures clean

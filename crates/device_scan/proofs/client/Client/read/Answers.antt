@@ -1,9 +1,12 @@
-use Rattle.std.proofs.Common.{ℕ, refl, subst}
+use Rattle.std.proofs.Common.{Global, ℕ, Option, Some, Ok, Err, refl, subst}
+use Rattle.std.specs.Prelude.{Vec}
 use Rattle.mb_wire.specs.Spans.{span_view}
+use Rattle.sun_points.specs.Writing.{GotText}
 use Rattle.device_scan.specs.Answers.{words_seen}
-use Rattle.device_scan.specs.Lines.{AtOnce, Again, OnlyInquires, Reads, Tries, line}
+use Rattle.device_scan.specs.Lines.{AtOnce, Again, Reads, Tries, line, request_under}
+use Rattle.device_scan.specs.declared.fault.ScanFault.{ScanFault}
 use Rattle.device_scan.proofs.Settles.{garbles_both, if_ok_then}
-use Rattle.device_scan.proofs.Talking.{inquires_both}
+use Rattle.device_scan.proofs.Talking.{requests_one, requests_two}
 use Rattle.device_scan.proofs.client.Client.read.Goals as goal
 
 pub returns-in-Ok-Some-clause-read : goal.returns-in-Ok-Some-clause-read
@@ -28,10 +31,22 @@ pub returns-in-Ok-None-clause-garbled : goal.returns-in-Ok-None-clause-garbled
 returns-in-Ok-None-clause-garbled g c = λ garbled.
     garbles_both _ _ _ _ _ c.in-Ok-None.ensures.tried.heard.came c.in-Ok-None.ensures.tried.heard.hears (c.try_once-in-Ok-None.ensures.garbled garbled)
 
+pub returns-in-Ok-Some-clause-asks : goal.returns-in-Ok-Some-clause-asks
+returns-in-Ok-Some-clause-asks g c =
+    requests_one {E = ScanFault} c.args.self.now.unit (span_view c.args.span) c.args.self.now.next (Ok (Some c.in-Ok-Some.words))
+    (g.L.Link.given c.args.link.now) (g.L.Link.given c.try_once.new.link) c.in-Ok-Some.ensures.asks
+
 pub returns-in-Ok-None-clause-asks : goal.returns-in-Ok-None-clause-asks
 returns-in-Ok-None-clause-asks g c =
     let old = g.L.Link.given c.args.link.now in
     let mid = g.L.Link.given c.try_once.new.link in
     let new = g.L.Link.given c.try_once-in-Ok-None.new.link in
-    inquires_both c.args.self.now.unit c.try_once-in-Ok-None.result old mid new c.in-Ok-None.ensures.asks
-    (subst (λ (u : ℕ). OnlyInquires u c.try_once-in-Ok-None.result mid new) c.in-Ok-None.ensures.unit c.try_once-in-Ok-None.ensures.asks)
+    let span = span_view c.args.span in
+    let next = c.try_once.new.self.next in
+    requests_two c.args.self.now.unit span c.args.self.now.next next c.try_once-in-Ok-None.result old mid new c.in-Ok-None.ensures.asks
+    (subst (λ (u : ℕ). GotText c.try_once-in-Ok-None.result (request_under u span next) mid new) c.in-Ok-None.ensures.unit c.try_once-in-Ok-None.ensures.asks)
+
+pub returns-in-Err-clause-asks : goal.returns-in-Err-clause-asks
+returns-in-Err-clause-asks g c =
+    requests_one {X = Option (Vec ℕ Global)} c.args.self.now.unit (span_view c.args.span) c.args.self.now.next (Err c.in-Err.fault)
+    (g.L.Link.given c.args.link.now) (g.L.Link.given c.try_once.new.link) c.in-Err.ensures.asks

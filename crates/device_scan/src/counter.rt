@@ -1,0 +1,155 @@
+//! A counter of a device, read once.
+ghost use Rattle.std.specs.Prelude.{◌≡◌, ◌≤◌, ◌+◌, ◌*◌, [], Err, Some, IfOk};
+ghost use Rattle.std.specs.Option.{option_map};
+ghost use Rattle.mb_wire.specs.Links.{risen};
+ghost use Rattle.mb_wire.specs.Spans.{span_view};
+ghost use Rattle.device_scan.specs.Counters as specs;
+ghost use Rattle.device_scan.specs.Counters.{AsksCounter, ShowsCounter, counter_span};
+ghost use Rattle.device_scan.specs.Lines.{Garbles, has_failed, is_gone};
+ghost use Rattle.device_scan.specs.declared.hearing.TheConstants.{MOST_TAKES};
+
+use crate::client::Client;
+use crate::fault::ScanFault;
+use mb_wire::{ADDRESSES, Link, MAX_READ_REGISTERS, ReadFunction, ReadSpan};
+use std::alloc::Global;
+use sun_points::{acc32, sunssf};
+
+/// Where the scale of a counter comes from.
+#[derive(Clone, Copy, Debug, PartialEq, Eq)]
+pub enum CounterScale {
+    /// It is this one.
+    Fixed(i16),
+    /// The device tells it in the `sunssf` register at this address.
+    Register(u16),
+}
+
+/// What a counter shows: a count, and the power of ten that it is of.
+#[derive(Clone, Copy, Debug, PartialEq, Eq)]
+pub struct Shown {
+    pub raw: u32,
+    pub sf: i16,
+}
+
+// The first of the registers of a counter and of its scale.
+fn first_register(address: u16, scale: CounterScale) -> u16
+    ensures { result ≡ specs.first_register address scale }
+{
+    match scale {
+        CounterScale::Fixed(_) => address,
+        CounterScale::Register(at) => address.min(at),
+    }
+}
+
+// The address behind the last of them.
+fn end_register(address: u16, scale: CounterScale) -> u32
+    ensures { result ≡ specs.end_register address scale }
+{
+    let end = u32::from(address) + 2;
+    match scale {
+        CounterScale::Fixed(_) => end,
+        CounterScale::Register(at) => end.max(u32::from(at) + 1),
+    }
+}
+
+// The registers that have to be read.
+fn span_of(function: ReadFunction, address: u16, scale: CounterScale) -> Option<ReadSpan>
+    ensures { option_map span_view result ≡ counter_span function address scale }
+{
+    let first = first_register(address, scale);
+    let end = end_register(address, scale);
+    let count = end - u32::from(first);
+    if count <= u32::from(MAX_READ_REGISTERS) && end <= ADDRESSES {
+        Some(ReadSpan {
+            function,
+            address: first,
+            count: count as u16,
+        })
+    } else {
+        None
+    }
+}
+
+// The word at an address, among those from the first address on; 0 where there is none.
+fn word_at(first: u16, words: &[u16], address: u32) -> u16
+    ensures { result ≡ specs.word_at first words.now address }
+{
+    let place = address.saturating_sub(u32::from(first));
+    words.get(place as usize).copied().unwrap_or(0)
+}
+
+// The scale, if a counter may have it.
+fn allowed(sf: i16) -> Option<i16>
+    ensures { result ≡ specs.allowed sf }
+{
+    if -3 <= sf && sf <= 3 { Some(sf) } else { None }
+}
+
+// The scale that a sunssf register tells.
+fn told(word: u16) -> Option<i16>
+    ensures { result ≡ specs.told word }
+{
+    if word == 0x8000 {
+        None
+    } else {
+        allowed(sunssf(word))
+    }
+}
+
+// The scale of a counter.
+fn scale_in(first: u16, words: &[u16], scale: CounterScale) -> Option<i16>
+    ensures { result ≡ specs.scale_in first words.now scale }
+{
+    match scale {
+        CounterScale::Fixed(sf) => allowed(sf),
+        CounterScale::Register(at) => told(word_at(first, words, u32::from(at))),
+    }
+}
+
+// What the words from an address on show of a counter.
+fn shown_in(first: u16, words: &[u16], address: u16, scale: CounterScale) -> Option<Shown>
+    ensures { result ≡ specs.shown_in first words.now address scale }
+{
+    let high = word_at(first, words, u32::from(address));
+    let low = word_at(first, words, u32::from(address) + 1);
+    match scale_in(first, words, scale) {
+        Some(sf) => Some(Shown {
+            raw: acc32(high, low),
+            sf,
+        }),
+        None => None,
+    }
+}
+
+/// What a counter shows now, asked of a unit over a link to it that was just made: two registers from an address on, the high
+/// word first, and its scale. They are asked for together, and once more where no words came. `None`: no words came at
+/// either try, the register of the scale is not implemented, the scale is not from -3 to 3, or no read can bring all
+/// registers, and then nothing is asked.
+pub fn read_counter<L: Link>(
+    alloc: Global,
+    link: &mut L,
+    unit: u8,
+    function: ReadFunction,
+    address: u16,
+    scale: CounterScale,
+) -> Result<Option<Shown>, ScanFault>
+    ensures shown { IfOk result (ShowsCounter unit (counter_span function address scale)
+        (L.remaining link.old) (L.given link.old) (L.remaining link.new) (L.given link.new)
+        address scale) }
+    ensures asks { AsksCounter unit (counter_span function address scale) result
+        (L.given link.old) (L.given link.new) }
+    ensures garbled { result ≡ Err ScanFault.Garbled
+        → Garbles (L.remaining link.old) (L.remaining link.new) [] }
+    ensures failures { L.failed link.new ≡ risen (has_failed result) (L.failed link.old) }
+    ensures ends { L.ended link.new ≡ risen (is_gone result) (L.ended link.old) }
+    ensures takes { L.taken link.new ≤ L.taken link.old + 2 * MOST_TAKES }
+{
+    let Some(span) = span_of(function, address, scale) else {
+        return Ok(None);
+    };
+    let mut client = Client::new(unit);
+    match client.read(alloc, link, span) {
+        Ok(Some(words)) => Ok(shown_in(span.address, &words, address, scale)),
+        Ok(None) => Ok(None),
+        Err(fault) => Err(fault),
+    }
+}

@@ -1,0 +1,170 @@
+//! What a counter shows over a link.
+use crate::stand_in_link::StandInLink;
+use device_scan::{CounterScale, ScanFault, Shown, read_counter};
+use mb_device::{Area, Bank, Kind, Trick};
+use mb_wire::{MemoryLink, ReadFunction};
+use std::alloc::Global;
+use std::test::Fail;
+
+static AREAS: [Area; 2] = [
+    Area {
+        kind: Kind::Holding,
+        start: 40000,
+        count: 130,
+    },
+    Area {
+        kind: Kind::Input,
+        start: 40000,
+        count: 130,
+    },
+];
+
+// A counter of input registers with scales behind and before it, one of holding registers, and scales that no counter has.
+static WORDS: [(Kind, u16, u16); 9] = [
+    (Kind::Holding, 40000, 1),
+    (Kind::Holding, 40001, 2),
+    (Kind::Input, 40000, 0xFFFD),
+    (Kind::Input, 40010, 2),
+    (Kind::Input, 40011, 3),
+    (Kind::Input, 40014, 3),
+    (Kind::Input, 40015, 0x8000),
+    (Kind::Input, 40016, 4),
+    (Kind::Input, 40017, 0xFFFC),
+];
+
+fn meter(alloc: Global) -> Result<Bank, Fail> {
+    let mut bank = Bank::new(alloc, &AREAS).ok().ok_or("no bank")?;
+    for (kind, address, word) in &WORDS {
+        bank.set(*kind, *address, *word);
+    }
+    Ok(bank)
+}
+
+const HOLDING: ReadFunction = ReadFunction::HoldingRegisters;
+
+const INPUT: ReadFunction = ReadFunction::InputRegisters;
+
+// How a counter is read, and what it shows.
+type Counter = (ReadFunction, u16, CounterScale, (u32, i16));
+
+static COUNTERS: [Counter; 6] = [
+    (HOLDING, 40000, CounterScale::Fixed(0), (65538, 0)),
+    (HOLDING, 40000, CounterScale::Fixed(-3), (65538, -3)),
+    (INPUT, 40010, CounterScale::Fixed(3), (131_075, 3)),
+    (INPUT, 40010, CounterScale::Register(40014), (131_075, 3)),
+    (INPUT, 40010, CounterScale::Register(40000), (131_075, -3)),
+    (INPUT, 40005, CounterScale::Register(40129), (0, 0)),
+];
+
+#[test]
+fn a_counter_is_read_with_its_scale(rt: HostRuntime) -> Result<(), Fail> {
+    let mut link = StandInLink::new(meter(rt.alloc())?, &[]);
+    for (function, address, scale, (raw, sf)) in &COUNTERS {
+        let found = read_counter(rt.alloc(), &mut link, 1, *function, *address, *scale);
+        let (raw, sf) = (*raw, *sf);
+        assert!(rt; found == Ok(Some(Shown { raw, sf })), "{address}");
+    }
+    assert!(rt; link.gives() == 6);
+    Ok(())
+}
+
+// Counters that show nothing, and how often something is asked for.
+static UNSHOWN: [(ReadFunction, u16, CounterScale, u64); 7] = [
+    // a scale that is not implemented, and scales out of range
+    (INPUT, 40010, CounterScale::Register(40015), 1),
+    (INPUT, 40010, CounterScale::Register(40016), 1),
+    (INPUT, 40010, CounterScale::Register(40017), 1),
+    (INPUT, 40010, CounterScale::Fixed(4), 1),
+    // registers that the device doesn't have
+    (HOLDING, 40129, CounterScale::Fixed(0), 2),
+    // 126 registers, and half a counter at the last address
+    (INPUT, 40004, CounterScale::Register(40129), 0),
+    (INPUT, 65535, CounterScale::Fixed(0), 0),
+];
+
+#[test]
+fn a_counter_without_a_scale_or_words_shows_nothing(rt: HostRuntime) -> Result<(), Fail> {
+    let mut link = StandInLink::new(meter(rt.alloc())?, &[]);
+    for (function, address, scale, gives) in &UNSHOWN {
+        let before = link.gives();
+        let found = read_counter(rt.alloc(), &mut link, 1, *function, *address, *scale);
+        assert!(rt; found == Ok(None), "{address}");
+        assert!(rt; link.gives() == before.saturating_add(*gives), "{address}");
+    }
+    Ok(())
+}
+
+// What a counter shows.
+fn shown(raw: u32, sf: i16) -> Option<Shown> {
+    Some(Shown { raw, sf })
+}
+
+// The counter with the scale behind it, under tricks.
+fn tricked(
+    alloc: Global,
+    tricks: &[(u64, Trick)],
+) -> Result<Result<Option<Shown>, ScanFault>, Fail> {
+    let mut link = StandInLink::new(meter(alloc)?, tricks);
+    let scale = CounterScale::Register(40014);
+    Ok(read_counter(alloc, &mut link, 1, INPUT, 40010, scale))
+}
+
+static ONCE: [Trick; 5] = [
+    Trick::Drop,
+    Trick::Twice,
+    Trick::Later,
+    Trick::Id,
+    Trick::Unit,
+];
+
+#[test]
+fn a_counter_is_asked_for_twice(rt: HostRuntime) -> Result<(), Fail> {
+    for trick in &ONCE {
+        let found = tricked(rt.alloc(), &[(1, *trick)])?;
+        assert!(rt; found == Ok(shown(131_075, 3)));
+    }
+    let silent = tricked(rt.alloc(), &[(1, Trick::Drop), (2, Trick::Drop)])?;
+    assert!(rt; silent == Ok(None));
+    Ok(())
+}
+
+#[test]
+fn a_connection_that_breaks_shows_nothing(rt: HostRuntime) -> Result<(), Fail> {
+    let cut = tricked(rt.alloc(), &[(1, Trick::Cut(5))])?;
+    assert!(rt; cut == Err(ScanFault::Gone));
+    let garbled = tricked(rt.alloc(), &[(1, Trick::Garble)])?;
+    assert!(rt; garbled == Err(ScanFault::Garbled));
+    Ok(())
+}
+
+// An exception to the first request, and the words to the second.
+static EXCEPTION_THEN_WORDS: [u8; 22] = [
+    0, 1, 0, 0, 0, 3, 7, 0x84, 6, 0, 2, 0, 0, 0, 7, 7, 4, 4, 0, 1, 0, 2,
+];
+
+// Both requests: two input registers from 40010 on, of unit 7.
+static REQUESTS: [u8; 24] = [
+    0, 1, 0, 0, 0, 6, 7, 4, 0x9C, 0x4A, 0, 2, 0, 2, 0, 0, 0, 6, 7, 4, 0x9C, 0x4A, 0, 2,
+];
+
+#[test]
+fn words_may_come_behind_an_exception(rt: HostRuntime) {
+    let mut given = [0; 36];
+    let mut link = MemoryLink::new(&EXCEPTION_THEN_WORDS, &mut given, 9, None);
+    let scale = CounterScale::Fixed(-1);
+    let found = read_counter(rt.alloc(), &mut link, 7, INPUT, 40010, scale);
+    assert!(rt; found == Ok(shown(65538, -1)));
+    assert!(rt; link.given() == REQUESTS.as_slice());
+}
+
+#[test]
+fn a_failing_link_shows_nothing(rt: HostRuntime) {
+    // the first give, the second, and the first take
+    for call in 1..4u64 {
+        let mut given = [0; 36];
+        let mut link = MemoryLink::new(&EXCEPTION_THEN_WORDS, &mut given, 9, Some(call));
+        let scale = CounterScale::Fixed(-1);
+        let found = read_counter(rt.alloc(), &mut link, 7, INPUT, 40010, scale);
+        assert!(rt; found == Err(ScanFault::Failed), "{call}");
+    }
+}

@@ -1,0 +1,65 @@
+-- The opening of an office that is to be asked: at the moment that a clock tells, or at the latest that the books hold where
+-- that is later.
+use Rattle.std.specs.Prelude.{ℕ, List, ◌∷◌, Option, Result, IfOk, IfErr}
+use Rattle.std.specs.declared.io.Write as writers
+use Rattle.socket_link.specs.declared.clock.Clock as a_clock
+use Rattle.command_io.specs.declared.status.ExitStatus.{ExitStatus}
+use Rattle.command_io.specs.declared.status.ExitStatus.TheVariants.{Refused}
+use Rattle.office_events.specs.declared.refusals.Refusal.{Refusal}
+use Rattle.office_rules.specs.History.{History, Opened}
+use Rattle.office_books.specs.Ledgers.{Ledger}
+use Rattle.office_books.specs.declared.books.Books as stores
+use Rattle.office_core.specs.Leaving.{BooksStand}
+use Rattle.office_core.specs.Reopening.{IsNotOpened, asking_moment}
+use Rattle.office_core.specs.Standing.{Stands, books_in}
+use Rattle.office_core.specs.declared.office.Office.{Office}
+use Rattle.script_text.specs.AnswerText.{refused_line}
+use Rattle.socket_link.specs.Clocks as clocks
+use Rattle.office_program.specs.Texts.EndTexts.{IsTold}
+use Rattle.office_program.specs.declared.texts.opened_office.Unopened.{Unopened}
+
+-- The office stands after its opening: what waited is lost.
+pub record OpensToAsk {B : Type 0} (ledger : B → Ledger) (past : History)
+    (moments later : Option (List ℕ)) (office : Office B) : Type 0 where
+  pub told : ℕ
+  pub timed : clocks.TellsMoment moments later told
+  pub stands : Stands ledger (Opened (asking_moment past told) ∷ past) office
+
+-- So it does, unless a wrong answer of a store was taken as true.
+abbrev pub OpensToAskWhereClean : {B : Type 0} → (B → Ledger) → (past : History)
+    → (moments later : Option (List ℕ)) → Office B → Type 0
+OpensToAskWhereClean ledger past moments later office =
+    (ledger (books_in office)).is_clean → OpensToAsk ledger past moments later office
+
+-- The opening is refused as its definition says, or failed outside; the books stand as they did, and the reason is printed.
+pub record TellsUnasked (past : History) (moments later : Option (List ℕ)) (old new : Ledger)
+    (status : ExitStatus) (had holds : Option (List ℕ)) : Type 0 where
+  pub told : ℕ
+  pub timed : clocks.TellsMoment moments later told
+  pub why : Refusal
+  pub refused : IsNotOpened past (asking_moment past told) old new why
+  pub printed : IsTold (refused_line why) Refused status had holds
+
+-- So it is with the books handed back, unless a wrong answer of a store was taken as true.
+abbrev pub TellsUnaskedWhereClean : {B : Type 0} → (B → Ledger) → (past : History)
+    → (moments later : Option (List ℕ)) → (books : B) → (had holds : Option (List ℕ))
+    → Unopened B → Type 0
+TellsUnaskedWhereClean ledger past moments later books had holds unopened =
+    (ledger unopened.books).is_clean → TellsUnasked past moments later (ledger books)
+    (ledger unopened.books) unopened.status had holds
+
+-- Over books that stand after what was accepted before an office is opened so.
+abbrev pub OpensToAskOver : {B C : Type 0} → stores.Ghosts B → a_clock.Ghosts C → (books : B)
+    → (before after : C) → Result (Office B) (Unopened B) → Type 0
+OpensToAskOver b c books before after result =
+    (past : History) → BooksStand (b.ledger books) past
+    → IfOk result (OpensToAskWhereClean b.ledger past (c.moments before) (c.moments after))
+
+-- Over such books an opening that is refused is told so.
+abbrev pub RefusesToAskOver : {B C W : Type 0} → stores.Ghosts B → a_clock.Ghosts C
+    → writers.Ghosts W → (books : B) → (before after : C) → (had holds : W)
+    → Result (Office B) (Unopened B) → Type 0
+RefusesToAskOver b c w books before after had holds result =
+    (past : History) → BooksStand (b.ledger books) past
+    → IfErr result (TellsUnaskedWhereClean b.ledger past (c.moments before) (c.moments after) books
+    (w.contents had) (w.contents holds))
