@@ -1,5 +1,5 @@
 -- How setting up goes: what was written, and what is set up then.
-use Rattle.std.specs.Prelude.{◌≡◌, ℕ, List, Option, Ok, Err, IfSome, ⊤}
+use Rattle.std.specs.Prelude.{◌≡◌, ◌⊎◌, ℕ, List, [], Option, Ok, Err, IfSome}
 use Rattle.std.specs.Io.KnownBytes.{Appends}
 use Rattle.std.specs.declared.result.Result.{Result}
 use Rattle.script_lines.specs.Bank.Forms.{IsBankLine}
@@ -10,16 +10,24 @@ use Rattle.command_io.specs.declared.status.ExitStatus.TheVariants.{Fine, Refuse
 use Rattle.script_text.specs.AnswerText.{bad_line}
 use Rattle.script_lines.specs.LineWords.Words.{words_of}
 use Rattle.script_run.specs.Bank.Settings.{Setting, after_line, IsUnset, takes}
-use Rattle.script_run.specs.Bank.Texts.{InputSetsUp, IsBad, SetsUp, taken_text}
+use Rattle.script_run.specs.Bank.Texts.{InputBegins, InputSetsUp, IsBad, LineBegins, SetUpBegins, SetsUp, taken_text}
+use Rattle.sun_points.specs.Writing.{GotPart}
 
--- a line was carried out, or memory or the writer failed
+-- a line was carried out; or memory or the writer failed, and a part of what it prints was written
 abbrev pub Carries : Setting → BankLine → Result (Unit {0}) ExitStatus → Setting
     → (output output' : Option (List ℕ)) → Type 0
 Carries now said (Ok done) next output output' =
     (next ≡ after_line now said) × Appends output output' (taken_text (takes now.maps said))
 Carries now said (Err Fine) next output output' = ⊥
 Carries now said (Err Refused) next output output' = ⊥
-Carries now said (Err Failed) next output output' = ⊤
+Carries now said (Err Failed) next output output' =
+    GotPart (taken_text (takes now.maps said)) output output'
+
+-- what was written is what is printed
+pub record Writes (Prints : List ℕ → Type 0) (output output' : Option (List ℕ)) : Type 0 where
+  pub printed : List ℕ
+  pub appended : Appends output output' printed
+  pub prints : Prints printed
 
 -- a line that is one was carried out
 pub record LineRan (now : Setting) (line : Line) (next : Setting)
@@ -35,13 +43,8 @@ LineRuns now line (Ok done) next output output' = LineRan now line next output o
 LineRuns now line (Err Fine) next output output' = ⊥
 LineRuns now line (Err Refused) next output output' =
     IsBad line × Appends output output' (bad_line line.number)
-LineRuns now line (Err Failed) next output output' = ⊤
-
--- what was written is what is printed
-pub record Writes (Prints : List ℕ → Type 0) (output output' : Option (List ℕ)) : Type 0 where
-  pub printed : List ℕ
-  pub appended : Appends output output' printed
-  pub prints : Prints printed
+LineRuns now line (Err Failed) next output output' =
+    Writes (λ part. LineBegins now line part) output output'
 
 abbrev pub TextRuns : Setting → (text : List ℕ) → Result (Unit {0}) ExitStatus → Setting
     → (output output' : Option (List ℕ)) → Type 0
@@ -50,7 +53,8 @@ TextRuns now text (Ok done) next output output' =
 TextRuns now text (Err Fine) next output output' = ⊥
 TextRuns now text (Err Refused) next output output' =
     Writes (λ printed. SetsUp now (speaking_lines text) printed (Err Refused)) output output'
-TextRuns now text (Err Failed) next output output' = ⊤
+TextRuns now text (Err Failed) next output output' =
+    Writes (λ part. SetUpBegins now (speaking_lines text) part) output output'
 
 -- an input, from a stand-in that has no addresses and plays no tricks
 pub record InputRuns (input : List ℕ) (ended : Result Setting ExitStatus)
@@ -59,6 +63,13 @@ pub record InputRuns (input : List ℕ) (ended : Result Setting ExitStatus)
   pub unset : IsUnset begun
   pub writes : Writes (λ printed. InputSetsUp begun input printed ended) output output'
 
+-- it was broken off
+pub record InputBreaks (input : List ℕ) (output output' : Option (List ℕ)) : Type 0 where
+  pub begun : Setting
+  pub unset : IsUnset begun
+  pub writes : Writes (λ part. InputBegins begun input part) output output'
+
+-- Where it failed, nothing was written, or a beginning of what is printed.
 abbrev pub SetUp : (input : Option (List ℕ)) → Result Setting ExitStatus
     → (output output' : Option (List ℕ)) → Type 0
 SetUp input (Ok setup) output output' =
@@ -66,4 +77,5 @@ SetUp input (Ok setup) output output' =
 SetUp input (Err Fine) output output' = ⊥
 SetUp input (Err Refused) output output' =
     IfSome input (λ all. InputRuns all (Err Refused) output output')
-SetUp input (Err Failed) output output' = ⊤
+SetUp input (Err Failed) output output' =
+    IfSome input (λ all. Appends output output' [] ⊎ InputBreaks all output output')

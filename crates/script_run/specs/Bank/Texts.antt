@@ -11,6 +11,7 @@ use Rattle.office_events.specs.declared.refusals.Refusal.TheVariants.{Limit}
 use Rattle.script_text.specs.AnswerText.{bad_line, refused_line}
 use Rattle.script_lines.specs.LineWords.Words.{words_of}
 use Rattle.script_run.specs.Bank.Settings.{Setting, after_line, takes}
+use Rattle.script_run.specs.Replaying.Lines.{BeginsText}
 
 -- nothing is printed of a line that the bank takes
 abbrev pub taken_text : Bool → List ℕ
@@ -31,8 +32,30 @@ SetsUp now (first ∷ lines) printed ended =
     × ((rest : List ℕ) × (printed ≡ taken_text (takes now.maps said) ++ rest)
     × SetsUp (after_line now said) lines rest ended))
 
+-- What is there of what a line prints: nothing, or a part of it.
+abbrev pub LineBegins : Setting → Line → (part : List ℕ) → Type 0
+LineBegins now first part =
+    (part ≡ [])
+    ⊎ ((IsBad first × BeginsText part (bad_line first.number))
+    ⊎ ((said : BankLine) × IsBankLine (words_of first.text) said
+    × BeginsText part (taken_text (takes now.maps said))))
+
+-- What is there where setting up was broken off: what some first lines print, and the beginning of what the next one prints.
+abbrev pub SetUpBegins : Setting → List Line → (part : List ℕ) → Type 0
+SetUpBegins now [] part = part ≡ []
+SetUpBegins now (first ∷ lines) part =
+    LineBegins now first part
+    ⊎ ((said : BankLine) × IsBankLine (words_of first.text) said
+    × ((rest : List ℕ) × (part ≡ taken_text (takes now.maps said) ++ rest)
+    × SetUpBegins (after_line now said) lines rest))
+
 -- an input sets up what its lines do, where it isn't too long
 pub record InputSetsUp (now : Setting) (input printed : List ℕ) (ended : Result Setting ExitStatus) :
     Type 0 where
   pub long : most_bytes < length input → (printed ≡ too_long) × (ended ≡ Err Refused)
   pub lines : length input ≤ most_bytes → SetsUp now (speaking_lines input) printed ended
+
+-- so far as it goes, where it is broken off
+pub record InputBegins (now : Setting) (input part : List ℕ) : Type 0 where
+  pub long : most_bytes < length input → BeginsText part too_long
+  pub lines : length input ≤ most_bytes → SetUpBegins now (speaking_lines input) part
