@@ -16,9 +16,9 @@ type Report = (Result<ExitStatus, OpenFault>, Vec<u8>);
 /// A register, a moment, how the report of it ends, and what it prints.
 pub(crate) type Row = (&'static str, u64, ExitStatus, &'static [u8]);
 
-/// Reports of the day, where the clock was set back to before its last event, and after it.
+/// Reports of the day, where the clock was set back to before its last event, and after it: a report needs no clock.
 pub(crate) static KNOWN: [Row; 2] = [
-    ("main", 3699, ExitStatus::Refused, b"refused 3\n"),
+    ("main", 3699, ExitStatus::Fine, REPORTED),
     ("main", 5000, ExitStatus::Fine, REPORTED),
 ];
 
