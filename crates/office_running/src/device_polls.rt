@@ -329,7 +329,7 @@ impl Polling {
         }
     }
 
-    /// Feeds what happens at a place, a piece of bytes at most.
+    /// Feeds what happens at a place, a piece of bytes at most. It answers whether anything did.
     #[tactic(auto, using(crate::proofs::Going::goes_none, crate::proofs::Going::goes_both))]
     pub(crate) fn attend<B: Books>(
         &mut self,
@@ -337,12 +337,16 @@ impl Polling {
         office: &mut Office<B>,
         voice: &mut Voice,
         now: Now,
-    )
+    ) -> bool
         ensures { (names : List (List ℕ))
             → Goes names now.moment B.ledger office.old office.new }
     {
-        if let Some(device_event) = self.device_event(place, voice, now) {
-            self.feed(device_event, office, voice, now);
+        match self.device_event(place, voice, now) {
+            Some(device_event) => {
+                self.feed(device_event, office, voice, now);
+                true
+            }
+            None => false,
         }
     }
 }

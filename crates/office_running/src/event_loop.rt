@@ -136,32 +136,64 @@ impl Running {
         }
     }
 
-    // Goes on with each device.
-    fn attend_devices<B: Books>(&mut self, office: &mut Office<B>, now: Now)
-        ensures { (names : List (List ℕ))
-            → Goes names now.moment B.ledger office.old office.new }
-    {
-        for place in 0..self.polling.count() {
-            self.polling.attend(place, office, &mut self.voice, now);
-        }
-    }
-
-    // Goes on with each connection.
+    // Goes on with each connection, also with those that are new.
     fn attend_peers<B: Books>(&mut self, names: &[&str], office: &mut Office<B>, now: Now)
         ensures { Goes (texts names.now) now.moment B.ledger office.old office.new }
     {
+        self.serving.accept(self.poll.registry(), now.time);
         for place in 0..MOST_PEERS {
             self.serving.attend(place, names, office, &self.voice, now);
         }
     }
 
-    // Goes on with all.
-    fn go_on<R: Net, B: Books>(&mut self, rt: &R, names: &[&str], office: &mut Office<B>, now: Now)
+    // Goes on with the device of a place, and where something had come of it, with the peers that have asked meanwhile: they
+    // wait for what one device brought, and not for all.
+    #[tactic(auto, using(crate::proofs::Going::goes_both))]
+    fn attend_device<B: Books>(
+        &mut self,
+        place: usize,
+        names: &[&str],
+        events: &mut Events<Global>,
+        office: &mut Office<B>,
+        now: Now,
+    )
         ensures { Goes (texts names.now) now.moment B.ledger office.old office.new }
     {
+        let has_fed = self.polling.attend(place, office, &mut self.voice, now);
+        if has_fed && self.look(events, 0).is_ok() {
+            self.attend_peers(names, office, now);
+        }
+    }
+
+    // Goes on with each device.
+    fn attend_devices<B: Books>(
+        &mut self,
+        names: &[&str],
+        events: &mut Events<Global>,
+        office: &mut Office<B>,
+        now: Now,
+    )
+        ensures { Goes (texts names.now) now.moment B.ledger office.old office.new }
+    {
+        for place in 0..self.polling.count() {
+            self.attend_device(place, names, events, office, now);
+        }
+    }
+
+    // Goes on with all.
+    fn go_on<R: Net, B: Books>(
+        &mut self,
+        rt: &R,
+        names: &[&str],
+        events: &mut Events<Global>,
+        office: &mut Office<B>,
+        now: Now,
+    )
+        ensures { Goes (texts names.now) now.moment B.ledger office.old office.new }
+    {
+        self.serving.begin_turn();
         self.tick(rt, office, now);
-        self.attend_devices(office, now);
-        self.serving.accept(self.poll.registry(), now.time);
+        self.attend_devices(names, events, office, now);
         self.attend_peers(names, office, now);
     }
 
@@ -185,13 +217,14 @@ impl Running {
         &mut self,
         rt: &R,
         names: &[&str],
+        events: &mut Events<Global>,
         office: &mut Office<B>,
         now: Now,
         until: u64,
     ) -> bool
         ensures { Goes (texts names.now) now.moment B.ledger office.old office.new }
     {
-        self.go_on(rt, names, office, now);
+        self.go_on(rt, names, events, office, now);
         if now.time < until {
             return false;
         }
@@ -318,7 +351,7 @@ impl Running {
             time: self.time,
             moment,
         };
-        let is_over = self.act(rt, names, office, now, until);
+        let is_over = self.act(rt, names, events, office, now, until);
         self.rest(rt, time, events, now, output, errors, is_over)?;
         self.end_turn(rt, time, events, office, now);
         Ok(is_over)

@@ -28,6 +28,8 @@ pub(crate) struct Serving {
     router: Router<Route>,
     peers: Peers,
     connections: Vec<Option<Peer>>,
+    /// How many requests may still be replied to in this turn.
+    left: usize,
 }
 
 // Whether the connection of a place has something that was not looked at.
@@ -81,7 +83,13 @@ impl Serving {
             router,
             peers: Peers::new(),
             connections,
+            left: MOST_PEERS,
         })
+    }
+
+    /// A turn begins, in which so many requests are replied to as there are places: devices wait for no more.
+    pub(crate) fn begin_turn(&mut self) {
+        self.left = MOST_PEERS;
     }
 
     /// Something may have come for a token.
@@ -227,7 +235,7 @@ impl Serving {
 
     // Takes the connection of a place whose turn it is.
     fn take_ready(&mut self, place: usize) -> Option<Peer> {
-        if place < self.connections.len() && is_ready(&self.connections[place]) {
+        if self.left > 0 && place < self.connections.len() && is_ready(&self.connections[place]) {
             return self.connections[place].take();
         }
         None
@@ -262,6 +270,7 @@ impl Serving {
             return;
         };
         if peer.hear(&self.router) {
+            self.left = self.left.saturating_sub(1);
             let asked = self.reply(names, &peer.asked, office, voice, now);
             peer.take(asked);
         }

@@ -1,6 +1,6 @@
-use Rattle.std.proofs.Common.{ℕ, List}
+use Rattle.http_request.specs.Hosts.{texts}
 use Rattle.office_running.specs.Runs.{Goes}
 use Rattle.office_running.proofs.event_loop.Running.attend_devices.Given as goal
 
 abbrev pub invariant-loop-place : goal.invariant-loop-place
-invariant-loop-place g l = (names : List (List ℕ)) → Goes names l.now.moment g.B.Books.ledger l.fn.office l.office
+invariant-loop-place g l = Goes (texts l.names) l.now.moment g.B.Books.ledger l.fn.office l.office
