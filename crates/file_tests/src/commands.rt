@@ -3,7 +3,8 @@ use crate::day::{MONTH, REPORTED, book_day};
 use crate::files::Connects;
 use command_io::ExitStatus;
 use energy_report::{EnergyUnit, Period, ReportForm};
-use office_program::NamedFiles;
+use office_events::{Device, Register};
+use office_program::{NamedFiles, Shown};
 use office_store::{OpenFault, SqlBooks};
 use socket_link::FixedClock;
 use std::alloc::{AllocError, Global};
@@ -69,6 +70,10 @@ struct NoFiles;
 impl NamedFiles for NoFiles {
     fn read(&self, _alloc: Global, _name: &[u8]) -> Result<Option<Vec<u8>>, AllocError> {
         Ok(None)
+    }
+
+    fn shown(&self, _device: &Device, _register: &Register) -> Option<Shown> {
+        None
     }
 }
 

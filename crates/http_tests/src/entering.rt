@@ -4,8 +4,9 @@ use command_io::ExitStatus;
 use failing_books::FailingBooks;
 use memory_books::ListBooks;
 use office_books::Books;
+use office_events::{Device, Register};
 use office_program::{
-    CommandEnd, MOST_FILE, NamedFiles, check_books, enter_books, inputs_act_once,
+    CommandEnd, MOST_FILE, NamedFiles, Shown, check_books, enter_books, inputs_act_once,
     requests_are_repeated,
 };
 use socket_link::FixedClock;
@@ -25,6 +26,15 @@ impl NamedFiles for OneFile {
             return Ok(Some(Vec::from_slice(alloc, self.bytes)?));
         }
         Ok(None)
+    }
+
+    // The counter of the register `main` shows 7000 Wh, and no other can be read.
+    fn shown(&self, _device: &Device, register: &Register) -> Option<Shown> {
+        if register.name.as_bytes() == b"main" {
+            Some(Shown { raw: 7000, sf: 0 })
+        } else {
+            None
+        }
     }
 }
 
@@ -212,6 +222,52 @@ fn a_doubt_that_is_not_told_is_a_refusal(rt: HostRuntime) -> Result<(), Fail> {
         };
         assert_eq!(rt; done.end, ExitStatus::Refused);
         assert_eq!(rt; shown.as_slice(), printed, "{failing}");
+    }
+    Ok(())
+}
+
+const READ_SITE: &[u8] =
+    b"1 device inv 1 5 1\n3 register main inv 3 40094 0\n4 register other inv 3 40190 0\n5 install main m1 @read 100000\n";
+
+// Over the same books, one after the other: a meter that is installed at what its counter shows; the same again; an exchange whose last
+// number is doubted, and one that is not; a register that can't be read, one that is none; and a mark where none may be.
+static COUNTERS: [ByHand; 6] = [
+    (READ_SITE, 1000, ExitStatus::Fine, b"ok\nok\nok\nok\n"),
+    (READ_SITE, 1001, ExitStatus::Fine, b"ok\nok\nok\nok\n"),
+    (
+        b"6 exchange main 107002 0 m2 @read 100000\n",
+        4600,
+        ExitStatus::Refused,
+        b"doubted 100002000\n",
+    ),
+    (
+        b"6 exchange main 107001 0 m2 @read 100000 65536\n",
+        4600,
+        ExitStatus::Fine,
+        b"ok\n",
+    ),
+    (
+        b"7 install other m3 @read 100000\n8 install none m3 @read 100000\n",
+        4600,
+        ExitStatus::Refused,
+        b"unread\nunread\n",
+    ),
+    (
+        b"7 install other m3 @read 100000 !\n",
+        4600,
+        ExitStatus::Refused,
+        b"bad line 1\n",
+    ),
+];
+
+#[test]
+fn a_counter_is_read(rt: HostRuntime) -> Result<(), Fail> {
+    let mut books = blank(rt.alloc())?;
+    for (text, moment, end, printed) in &COUNTERS {
+        let (done, shown) = enter(rt.alloc(), books, &LIST, text, *moment);
+        assert_eq!(rt; done.end, *end);
+        assert_eq!(rt; shown.as_slice(), *printed);
+        books = done.books;
     }
     Ok(())
 }

@@ -2,7 +2,8 @@
 use crate::escaped::Escaped;
 use crate::offices::{Files, OWN_HOST, over_office};
 use command_io::{Buffered, read_input};
-use office_program::{MOST_FILE, NamedFiles};
+use office_events::{Device, Register};
+use office_program::{MOST_FILE, NamedFiles, Shown};
 use std::alloc::{AllocError, Global};
 use std::fs::File;
 use std::io::{self, ErrorKind, Read, Write};
@@ -58,6 +59,14 @@ impl NamedFiles for Files<'_> {
                 }
             },
         }
+    }
+
+    // (where a device answers is not told to `enter` yet)
+    fn shown(&self, _device: &Device, register: &Register) -> Option<Shown> {
+        if let Ok(name) = from_utf8(register.name.as_bytes()) {
+            say_unread(self.rt, name, "no address of its device is known here");
+        }
+        None
     }
 }
 
