@@ -205,7 +205,7 @@ const ENTER: CommandText<'static> = CommandText {
         OptionText {
             name: "devices",
             value: Value::Optional("LIST"),
-            help: "Of @read: 1 to 64 of NAME=HOST:PORT, joined by commas",
+            help: "For @read: 1 to 64 of NAME=HOST:PORT, joined by commas",
         },
         OptionText {
             name: "only-read",
