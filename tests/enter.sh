@@ -144,6 +144,64 @@ polled inv 'area holding 40094 3\nset holding 40095 60000\n'
 is 'a reading that is held' "$came" "0 ok;started 1 1 1 0000000000060103$(printf '%04x%04x' 40094 3);poll 1 answered;held m1 60000 cause 6;ok;ok / sunreg: register more: not in the list of inv (needs function 3, 40190 to 40191);sunreg: register more: no meter is open at it: POST /registers/more/install;sunreg: m1: held: $(means held 6)"
 "$program" round --db office.db --device none --port "$port" > out 2> err
 is 'a round that fails says that alone' "$? $(cat out) $(grep -v 'it had no log beside it' err | head -n 1) $(grep -c -v 'it had no log beside it' err)" '3  failed 2'
+
+# Counters that are read when their lines' turn comes.
+# beside BANK LINES: enters lines while the device live is a stand-in that these lines set up
+beside() {
+    port=$((port + 1))
+    printf "$1" | "$program" stand-in --port "$port" --connections 1 > peer 2>&1 &
+    peer=$!
+    for _try in 1 2 3 4 5 6 7 8 9 10; do
+        enter "$2" --devices "other=127.0.0.1:1,live=127.0.0.1:$port"
+        grep -q "isn't answered" err || break
+        sleep 0.3
+    done
+    kill "$peer" 2> /dev/null
+    wait "$peer" 2> /dev/null
+}
+
+# bank LOW [TRICK..]: the stand-in's lines for a counter with these low 16 bits, 45 * 65536 above them, and the scale 0
+bank() {
+    printf 'area holding 40094 3\\nset holding 40094 45\\nset holding 40095 %s\\n' "$1"
+    shift
+    for trick in "$@"; do printf 'trick %s\\n' "$trick"; done
+}
+
+live='30 device live 1 1 1\n31 list live @inv.csv\n32 register live-wh live 3 40094 @40096\n33 install live-wh m5 @read 100000\n'
+untold="doesn't tell this counter: no reply, an exception, or no scale from -3 to 3: sunreg scan tells what it has"
+enter "$live"
+is 'a device of which no place is told' "$came" '1 ok;ok;ok;unread / sunreg: live-wh: where live is was not told: give --devices live=HOST:PORT'
+enter "$live" --devices "live=127.0.0.1:$port"
+is 'a device that is not there' "$came" "1 ok;ok;ok;unread / sunreg: live-wh: port $port of 127.0.0.1 isn't answered: does the device run, and is this its address?"
+enter "$live" --devices 'live=no host:502'
+is 'a host without an address' "$came" '1 ok;ok;ok;unread / sunreg: live-wh: no address is found for no host: is it right, and can names of hosts be looked up here?'
+enter "$live" --devices live
+is 'a place that is none' "${came%% *} $(head -n 1 err | grep -c "'live'")" '2 1'
+beside "$(bank 50880 '1 cut 5')" "$live"
+is 'a connection that is cut' "$came" "1 ok;ok;ok;unread / sunreg: live-wh: port $port of 127.0.0.1 can't be read: the device closed the connection"
+beside "$(bank 50880 '1 garble')" "$live"
+is 'a stream that is garbled' "$came" "1 ok;ok;ok;unread / sunreg: live-wh: port $port of 127.0.0.1 can't be read: the device sent what is no Modbus"
+beside "$(bank 50880 '1 drop' '2 drop')" "$live"
+is 'a device that is silent' "$came" "1 ok;ok;ok;unread / sunreg: live-wh: port $port of 127.0.0.1 $untold"
+enter "$live" -n --devices "live=127.0.0.1:$port"
+is 'looked at, nothing is read' "$came" '0 again;again;again;new / '
+beside "$(bank 50880 '1 drop')" "$live"
+is 'a counter that is read at the second try' "$came" '0 ok;ok;ok;ok / '
+enter "$live"
+is 'what acted before reads nothing' "$came" '0 ok;ok;ok;ok / '
+enter '34 register typed live 3 40094 @40096\n35 install typed m6 2999000 0 100000\n'
+is 'a number that was typed' "$came" '0 ok;ok / '
+sleep 1
+polled live "$(bank 50890)"
+is 'the first reading behind each' "$(grep -E '^(reading|held) ' out | sort | paste -sd ';')" 'held m6 3000010 cause 6;reading m5 3000010 rolls 0 step 10000'
+sleep 1
+beside "$(bank 50900)" '36 exchange live-wh 3000015 0 m7 @read 100000\n37 register far live 3 50000 0\n'
+is 'a meter that is exchanged' "$came" '0 ok;ok / '
+beside "$(bank 50900)" '38 install far m8 @read 100000\n39 device tenth 9 5 1\n'
+is 'a register that the device does not have' "$came" "1 unread;ok / sunreg: far: port $port of 127.0.0.1 $untold"
+sleep 1
+polled live "$(bank 50910)"
+is 'the first reading behind the exchange' "$(grep -E '^reading m7' out)" 'reading m7 3000030 rolls 0 step 10000'
 printf '1 device a 1 5 1\n' | "$program" enter --db none.db --caller desk > out 2> err
 is 'a file that is missing' "$? $(cat out)" '3 '
 head -c 4194305 /dev/zero | "$program" enter --db office.db --caller desk > out 2> err

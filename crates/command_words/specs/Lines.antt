@@ -1,5 +1,5 @@
 -- The command that the words spell.
-use Rattle.std.specs.Prelude.{ℕ, Bool, ◌&&◌, is_some, List, Option, Some, None, codes, map, option_map, if◌then◌else◌}
+use Rattle.std.specs.Prelude.{ℕ, Bool, ◌&&◌, is_some, List, [], Option, Some, None, codes, map, option_map, if◌then◌else◌}
 use Rattle.std.specs.Str.{bytes_eq}
 use Rattle.clap.specs.Words.{Row, Text}
 use Rattle.energy_report.specs.Words.{format_of, period_of, unit_of}
@@ -9,7 +9,7 @@ use Rattle.energy_report.specs.declared.form.Period.{Period}
 use Rattle.command_words.specs.Values.Devices.{Place, devices_in, place_of}
 use Rattle.command_words.specs.Values.Given.{given}
 use Rattle.command_words.specs.ClapTable.Table.{texts}
-use Rattle.command_words.specs.Options.{if_some, is_set, number_at, number_if, number_or, text_at, text_or, texts_at}
+use Rattle.command_words.specs.Options.{if_some, is_set, number_at, number_if, number_or, or_else, text_at, text_or, texts_at}
 use Rattle.command_words.specs.declared.line.CommandLine.{CommandLine}
 use Rattle.command_words.specs.declared.line.CommandLine.TheVariants as line
 use Rattle.command_words.specs.declared.line.FormWords.{FormWords}
@@ -28,7 +28,7 @@ pub data Line : Type 0 where
   Plan : Line
   Chain : Line
   Create : (db zone : Text) → Line
-  Enter : (db caller : Text) (only_read : Bool) → Line
+  Enter : (db caller : Text) (devices : List Place) (only_read : Bool) → Line
   Serve : (db : Text) (port connections : ℕ) (hosts : List Text) → Line
   Round : (db device host : Text) (port : ℕ) → Line
   Report : (db register : Text) (form : Form) → Line
@@ -55,7 +55,8 @@ seen (line.Replay zone) = Replay zone.now
 seen line.Plan = Plan
 seen line.Chain = Chain
 seen (line.Create db zone) = Create db.now zone.now
-seen (line.Enter db caller only_read) = Enter db.now caller.now only_read
+seen (line.Enter db caller devices only_read) =
+    Enter db.now caller.now (map place_of devices.items) only_read
 seen (line.Serve db port connections hosts) =
     Serve db.now port connections (texts hosts.items)
 seen (line.Round db device host port) = Round db.now device.now host.now port
@@ -97,12 +98,6 @@ abbrev pub create_in : List Row → Option Line
 create_in rows =
     given (db_in rows) (λ db.
     given (text_at (codes "zone") rows) (λ zone. Some (Create db zone)))
-
-abbrev pub enter_in : List Row → Option Line
-enter_in rows =
-    given (db_in rows) (λ db.
-    given (text_at (codes "caller") rows) (λ caller.
-    Some (Enter db caller (is_set (codes "only-read") rows))))
 
 abbrev pub serve_in : List Row → Option Line
 serve_in rows =
@@ -157,6 +152,17 @@ stand_in_in rows =
 
 abbrev pub devices_at : List Row → Option (List Place)
 devices_at rows = given (text_at (codes "devices") rows) devices_in
+
+-- none where they aren't given
+abbrev pub devices_if : List Row → Option (List Place)
+devices_if rows = or_else [] devices_in (text_at (codes "devices") rows)
+
+abbrev pub enter_in : List Row → Option Line
+enter_in rows =
+    given (db_in rows) (λ db.
+    given (text_at (codes "caller") rows) (λ caller.
+    given (devices_if rows) (λ devices.
+    Some (Enter db caller devices (is_set (codes "only-read") rows)))))
 
 abbrev pub run_in : List Row → Option Line
 run_in rows =

@@ -20,7 +20,7 @@ commands =
     (required_option (codes "db") ∷ required_option (codes "zone") ∷ [])
     ∷ command_with (codes "enter")
     (required_option (codes "db") ∷ required_option (codes "caller")
-    ∷ lettered_flag letter_n (codes "only-read") ∷ [])
+    ∷ optional_option (codes "devices") ∷ lettered_flag letter_n (codes "only-read") ∷ [])
     ∷ command_with (codes "serve")
     (required_option (codes "db") ∷ required_option (codes "port")
     ∷ required_option (codes "connections") ∷ repeated_option (codes "host-name") ∷ [])

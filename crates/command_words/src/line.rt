@@ -30,11 +30,12 @@ pub enum CommandLine<'a> {
         db: &'a str,
         zone: &'a str,
     },
-    /// The commands in lines of standard input, each under a number of its own by a caller. Where they are only read, nothing
-    /// is asked of the office.
+    /// The commands in lines of standard input, each under a number of its own by a caller, and where the devices are whose
+    /// counters they have read. Where they are only read, nothing is asked of the office, nor of a device.
     Enter {
         db: &'a str,
         caller: &'a str,
+        devices: Vec<Device<'a>>,
         only_read: bool,
     },
     /// HTTP, for a number of connections. It may be asked by the names of this machine alone, and by these.

@@ -2,6 +2,7 @@
 ghost use Rattle.clap.specs.Words.{subcommand_rows_of};
 ghost use Rattle.command_words.specs.Values.Devices.{devices_in, places_of};
 ghost use Rattle.command_words.specs.Lines.{backup_in, command_in, completions_in, create_in, devices_at};
+ghost use Rattle.command_words.specs.Lines.{devices_if};
 ghost use Rattle.command_words.specs.Lines.{enter_in, explain_in, form_in, line_in, report_in, round_in, run_in, scan_in, seen};
 ghost use Rattle.command_words.specs.Lines.{seen_form, serve_in, stand_in_in};
 ghost use Rattle.command_words.specs.Options.{Reads, rows_in};
@@ -24,18 +25,6 @@ fn create_line<'a>(found: &ArgMatches<'a>) -> Result<CommandLine<'a>, ValueFault
     let db = text(found, "db")?;
     let zone = text(found, "zone")?;
     Ok(CommandLine::Create { db, zone })
-}
-
-fn enter_line<'a>(found: &ArgMatches<'a>) -> Result<CommandLine<'a>, ValueFault<'a>>
-    ensures { Reads seen (enter_in (rows_in found.now)) result }
-{
-    let db = text(found, "db")?;
-    let caller = text(found, "caller")?;
-    Ok(CommandLine::Enter {
-        db,
-        caller,
-        only_read: is_set(found, "only-read"),
-    })
 }
 
 fn serve_line<'a>(alloc: Global, found: &ArgMatches<'a>) -> Result<CommandLine<'a>, ValueFault<'a>>
@@ -154,6 +143,30 @@ fn devices<'a>(alloc: Global, found: &ArgMatches<'a>) -> Result<Vec<Device<'a>>,
     listed(alloc, list)
 }
 
+// Those that it names; none where it isn't given.
+fn devices_if<'a>(alloc: Global, found: &ArgMatches<'a>) -> Result<Vec<Device<'a>>, ValueFault<'a>>
+    ensures { Reads (λ devices. places_of devices.items) (devices_if (rows_in found.now)) result }
+{
+    match text_if(found, "devices") {
+        Some(list) => listed(alloc, list),
+        None => Ok(Vec::new(alloc)),
+    }
+}
+
+fn enter_line<'a>(alloc: Global, found: &ArgMatches<'a>) -> Result<CommandLine<'a>, ValueFault<'a>>
+    ensures { Reads seen (enter_in (rows_in found.now)) result }
+{
+    let db = text(found, "db")?;
+    let caller = text(found, "caller")?;
+    let devices = devices_if(alloc, found)?;
+    Ok(CommandLine::Enter {
+        db,
+        caller,
+        devices,
+        only_read: is_set(found, "only-read"),
+    })
+}
+
 fn run_line<'a>(alloc: Global, found: &ArgMatches<'a>) -> Result<CommandLine<'a>, ValueFault<'a>>
     ensures { Reads seen (run_in (rows_in found.now)) result }
 {
@@ -217,7 +230,7 @@ fn command_line<'a>(
         }),
         "run" => run_line(alloc, found),
         "scan" => scan_line(found),
-        "enter" => enter_line(found),
+        "enter" => enter_line(alloc, found),
         "backup" => backup_line(found),
         "explain" => explain_line(found),
         "completions" => completions_line(found),

@@ -203,6 +203,11 @@ const ENTER: CommandText<'static> = CommandText {
         DB,
         CALLER,
         OptionText {
+            name: "devices",
+            value: Value::Optional("LIST"),
+            help: "For @read: 1 to 64 of NAME=HOST:PORT, joined by commas",
+        },
+        OptionText {
             name: "only-read",
             value: Value::Letter('n'),
             help: "Only tells which lines are bad, and which would repeat",

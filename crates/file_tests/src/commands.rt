@@ -3,7 +3,8 @@ use crate::day::{MONTH, REPORTED, book_day};
 use crate::files::Connects;
 use command_io::ExitStatus;
 use energy_report::{EnergyUnit, Period, ReportForm};
-use office_program::NamedFiles;
+use office_events::{Device, Register};
+use office_program::{NamedFiles, Shown};
 use office_store::{OpenFault, SqlBooks};
 use socket_link::FixedClock;
 use std::alloc::{AllocError, Global};
@@ -63,12 +64,16 @@ fn set_version<C: Connects>(connects: &C, path: &str) -> Result<(), Fail> {
     Ok(())
 }
 
-/// A folder without files.
-struct NoFiles;
+/// A folder without files, and counters that show 7000 Wh.
+struct OnlyCounters;
 
-impl NamedFiles for NoFiles {
+impl NamedFiles for OnlyCounters {
     fn read(&self, _alloc: Global, _name: &[u8]) -> Result<Option<Vec<u8>>, AllocError> {
         Ok(None)
+    }
+
+    fn shown(&self, _device: &Device, _register: &Register) -> Option<Shown> {
+        Some(Shown { raw: 7000, sf: 0 })
     }
 }
 
@@ -90,7 +95,7 @@ fn carry_out<C: Connects>(
         rt.alloc(),
         connection,
         task,
-        &NoFiles,
+        &OnlyCounters,
         &mut clock,
         &mut printed,
         &mut said,
@@ -114,12 +119,13 @@ fn report<C: Connects>(
     carry_out(rt, connects, path, Task::Report { register }, moment)
 }
 
-/// A device that is entered.
-const DEVICE: &[u8] = b"1 device inv 1 5 1\n";
+/// A device, a register, and a meter at what it shows.
+const SITE: &[u8] =
+    b"1 device inv 1 5 1\n3 register main inv 3 40094 0\n4 install main m1 @read 100000\n";
 
-/// The line is looked at, or entered.
+/// The lines are looked at, or entered.
 fn entering(looks: bool) -> Task<'static> {
-    let (caller, text) = ("desk", DEVICE);
+    let (caller, text) = ("desk", SITE);
     if looks {
         Task::Check { caller, text }
     } else {
@@ -127,15 +133,15 @@ fn entering(looks: bool) -> Task<'static> {
     }
 }
 
-/// Whether the line is looked at, one time after the other, and what is printed: it acts once, and looking at it says so.
+/// Whether the lines are looked at, one time after the other, and what is printed: they act once, and looking at them says so.
 static ENTERED: [(bool, &[u8]); 4] = [
-    (true, b"new\n"),
-    (false, b"ok\n"),
-    (true, b"again\n"),
-    (false, b"ok\n"),
+    (true, b"new\nnew\nnew\n"),
+    (false, b"ok\nok\nok\n"),
+    (true, b"again\nagain\nagain\n"),
+    (false, b"ok\nok\nok\n"),
 ];
 
-/// Whether a line is entered once.
+/// Whether lines are entered once.
 pub(crate) fn is_entered_once<C: Connects>(
     rt: &HostRuntime,
     connects: &C,

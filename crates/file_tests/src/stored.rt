@@ -18,7 +18,7 @@ fn a_day_is_reported(rt: HostRuntime) -> Result<(), Fail> {
 }
 
 #[test]
-fn a_line_is_entered_once(rt: HostRuntime) -> Result<(), Fail> {
+fn lines_are_entered_once(rt: HostRuntime) -> Result<(), Fail> {
     let path = path(&rt)?;
     assert!(rt; is_entered_once(&rt, &Files { rt: &rt }, &path)?);
     remove(&rt, &path)

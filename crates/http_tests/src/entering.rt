@@ -1,9 +1,12 @@
 //! Inputs that are entered into books in memory, and looked at.
 use crate::office::blank;
 use command_io::ExitStatus;
+use failing_books::FailingBooks;
 use memory_books::ListBooks;
+use office_books::Books;
+use office_events::{Device, Register};
 use office_program::{
-    CommandEnd, MOST_FILE, NamedFiles, check_books, enter_books, inputs_act_once,
+    CommandEnd, MOST_FILE, NamedFiles, Shown, check_books, enter_books, inputs_act_once,
     requests_are_repeated,
 };
 use socket_link::FixedClock;
@@ -24,6 +27,15 @@ impl NamedFiles for OneFile {
         }
         Ok(None)
     }
+
+    // The counter of the register `main` shows 7000 Wh, and no other can be read.
+    fn shown(&self, _device: &Device, register: &Register) -> Option<Shown> {
+        if register.name.as_bytes() == b"main" {
+            Some(Shown { raw: 7000, sf: 0 })
+        } else {
+            None
+        }
+    }
 }
 
 const LIST: OneFile = OneFile {
@@ -37,13 +49,13 @@ const FAULTY: OneFile = OneFile {
 };
 
 /// Enters a text at a moment: how it ends, and what it prints.
-fn enter(
+fn enter<B: Books>(
     alloc: Global,
-    books: ListBooks,
+    books: B,
     files: &OneFile,
     text: &[u8],
     moment: u64,
-) -> (CommandEnd<ListBooks, ExitStatus>, Vec<u8>) {
+) -> (CommandEnd<B, ExitStatus>, Vec<u8>) {
     let moments = [moment];
     let mut clock = FixedClock::new(&moments);
     let mut printed = Vec::new(alloc);
@@ -131,12 +143,145 @@ fn an_input_acts_once(rt: HostRuntime) -> Result<(), Fail> {
     Ok(())
 }
 
-// A site before it is entered and after, with a changed line and a bad one.
-static LOOKS: [(&[u8], &[u8]); 2] = [
+/// A text of entries by hand, its moment, how entering ends, and what it prints.
+type ByHand = (&'static [u8], u64, ExitStatus, &'static [u8]);
+
+// Over the same books, one after the other, of a meter at which at most 100 kW can flow: an entry past that and the last that is
+// not; the same again; one that is meant, again, and without its mark; others that the office refuses; full turns, and an exchange;
+// and marks where none may be.
+static ENTRIES: [ByHand; 9] = [
+    (SITE, 1000, ExitStatus::Fine, b"ok\nok\nok\nok\n"),
+    (
+        b"5 manual main 105002 0\n6 manual main 105001 0\n",
+        4600,
+        ExitStatus::Refused,
+        b"doubted 100002000\nok\n",
+    ),
+    (b"6 manual main 105001 0\n", 4600, ExitStatus::Fine, b"ok\n"),
+    (
+        b"7 reset main 105030 0\n7 reset main 105030 0 !\n7 reset main 105030 0 !\n7 reset main 105030 0\n",
+        4601,
+        ExitStatus::Refused,
+        b"doubted 29000\nok\nok\nrefused 11\n",
+    ),
+    (
+        b"8 manual main 900 0\n8 close none 900 0\n",
+        4601,
+        ExitStatus::Refused,
+        b"refused 6\nrefused 1\n",
+    ),
+    (
+        b"8 manual main 100 1 8000\n8 exchange main 100002 0 m2 0 0 100000\n8 exchange main 100001 0 m2 0 0 100000\n",
+        8201,
+        ExitStatus::Refused,
+        b"doubted 4294967396000\ndoubted 100002000\nok\n",
+    ),
+    (
+        b"9 device other 2 5 1 !\n",
+        8201,
+        ExitStatus::Refused,
+        b"bad line 1\n",
+    ),
+    (
+        b"9 list inv @inv.csv !\n",
+        8201,
+        ExitStatus::Refused,
+        b"bad line 1\n",
+    ),
+    (
+        b"9 close main 900 0!\n",
+        8201,
+        ExitStatus::Refused,
+        b"bad line 1\n",
+    ),
+];
+
+#[test]
+fn an_entry_past_the_ceiling_is_doubted(rt: HostRuntime) -> Result<(), Fail> {
+    let mut books = blank(rt.alloc())?;
+    for (text, moment, end, printed) in &ENTRIES {
+        let (done, shown) = enter(rt.alloc(), books, &LIST, text, *moment);
+        assert_eq!(rt; done.end, *end);
+        assert_eq!(rt; shown.as_slice(), *printed);
+        books = done.books;
+    }
+    Ok(())
+}
+
+// Where a call of the books fails, nothing is known of the line, and it isn't asked.
+#[test]
+fn a_doubt_that_is_not_told_is_a_refusal(rt: HostRuntime) -> Result<(), Fail> {
+    for failing in 1..12 {
+        let (site, _) = enter(rt.alloc(), blank(rt.alloc())?, &LIST, SITE, 1000);
+        let books = FailingBooks::new(site.books, failing);
+        let (done, shown) = enter(rt.alloc(), books, &LIST, b"5 manual main 105002 0\n", 4600);
+        let printed = if done.books.faults() == 0 {
+            b"doubted 100002000\n".as_slice()
+        } else {
+            b"refused 13\n".as_slice()
+        };
+        assert_eq!(rt; done.end, ExitStatus::Refused);
+        assert_eq!(rt; shown.as_slice(), printed, "{failing}");
+    }
+    Ok(())
+}
+
+const READ_SITE: &[u8] =
+    b"1 device inv 1 5 1\n3 register main inv 3 40094 0\n4 register other inv 3 40190 0\n5 install main m1 @read 100000\n";
+
+// Over the same books, one after the other: a meter that is installed at what its counter shows; the same again; an exchange whose last
+// number is doubted, and one that is not; a register that can't be read, one that is none; and a mark where none may be.
+static COUNTERS: [ByHand; 6] = [
+    (READ_SITE, 1000, ExitStatus::Fine, b"ok\nok\nok\nok\n"),
+    (READ_SITE, 1001, ExitStatus::Fine, b"ok\nok\nok\nok\n"),
+    (
+        b"6 exchange main 107002 0 m2 @read 100000\n",
+        4600,
+        ExitStatus::Refused,
+        b"doubted 100002000\n",
+    ),
+    (
+        b"6 exchange main 107001 0 m2 @read 100000 65536\n",
+        4600,
+        ExitStatus::Fine,
+        b"ok\n",
+    ),
+    (
+        b"7 install other m3 @read 100000\n8 install none m3 @read 100000\n",
+        4600,
+        ExitStatus::Refused,
+        b"unread\nunread\n",
+    ),
+    (
+        b"7 install other m3 @read 100000 !\n",
+        4600,
+        ExitStatus::Refused,
+        b"bad line 1\n",
+    ),
+];
+
+#[test]
+fn a_counter_is_read(rt: HostRuntime) -> Result<(), Fail> {
+    let mut books = blank(rt.alloc())?;
+    for (text, moment, end, printed) in &COUNTERS {
+        let (done, shown) = enter(rt.alloc(), books, &LIST, text, *moment);
+        assert_eq!(rt; done.end, *end);
+        assert_eq!(rt; shown.as_slice(), *printed);
+        books = done.books;
+    }
+    Ok(())
+}
+
+// A site before it is entered and after, with a changed line and a bad one; and entries by hand, whether they have a mark or not.
+static LOOKS: [(&[u8], &[u8]); 3] = [
     (SITE, b"again\nagain\nagain\nagain\n"),
     (
         b"1 device inv 2 5 1\n5 tick\n6 device other 2 5 1\n",
         b"refused 11\nbad line 2\nnew\n",
+    ),
+    (
+        b"5 manual main 105002 0\n5 manual main 105002 0 !\n6 void m1 2 !\n",
+        b"new\nnew\nbad line 3\n",
     ),
 ];
 

@@ -1,7 +1,9 @@
 pub mod Kept
 pub mod FileWords
+pub mod ReadWords
 pub mod Entries
 pub mod Doubts
+pub mod Reading
 pub mod Asked
 pub mod Course
 pub mod Entered

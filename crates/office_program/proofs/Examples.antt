@@ -13,7 +13,7 @@ use Rattle.office_events.specs.declared.facts.Fact.TheVariants as fact
 use Rattle.office_events.specs.declared.facts.Opening.{Opening}
 use Rattle.office_events.specs.declared.questions.Installation.{Installation}
 use Rattle.office_program.specs.Entering.Doubts.{doubt_of, doubted_at}
-use Rattle.office_program.specs.Entering.Lines.{is_marked, unmarked}
+use Rattle.office_program.specs.Entering.Marks.{is_marked, unmarked}
 
 abbrev main : List ℕ
 main = codes "main"

@@ -1,6 +1,9 @@
 pub mod FileLines
+pub mod Marks
+pub mod ReadLines
 pub mod Lines
 pub mod Doubts
+pub mod Reading
 pub mod Course
 pub mod Asking
 pub mod Entered

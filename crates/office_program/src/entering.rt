@@ -10,9 +10,11 @@ mod files;
 mod laws;
 mod marks;
 mod progress;
+mod read_line;
+mod reading;
 mod wanted;
 
 pub use checking::check_books;
 pub use entered::enter_books;
-pub use files::{MOST_FILE, NamedFiles};
+pub use files::{MOST_FILE, NamedFiles, Shown};
 pub use laws::{inputs_act_once, requests_are_repeated};

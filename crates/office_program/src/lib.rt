@@ -11,7 +11,7 @@ mod texts;
 
 pub use command_end::CommandEnd;
 pub use entering::{
-    MOST_FILE, NamedFiles, check_books, enter_books, inputs_act_once, requests_are_repeated,
+    MOST_FILE, NamedFiles, Shown, check_books, enter_books, inputs_act_once, requests_are_repeated,
 };
 pub use http_port::{ServeEnd, serve_books};
 pub use port_round::{PATIENCE, PollEnd, poll_books};

@@ -269,17 +269,19 @@ static ALL_DEVICES: [Device<'static>; 2] = [
 ];
 
 #[test]
-fn an_entering_asks_where_no_letter_is_given(rt: HostRuntime) {
+fn an_entering_asks_and_reads_no_counter_where_nothing_more_is_given(rt: HostRuntime) {
     let words = ["enter", "--db", "o.db", "--caller", "site"];
     match command_of(rt.alloc(), &words) {
         Ok(
             CommandLine::Enter {
                 db,
                 caller,
+                devices,
                 only_read,
             },
         ) => {
             assert!(rt; db == "o.db" && caller == "site" && !only_read);
+            assert!(rt; devices.is_empty());
         }
         _ => panic!(rt; "no enter"),
     }
@@ -291,6 +293,26 @@ static ENTER: [&str; 6] = ["enter", "-n", "--caller", "site", "--db", "o.db"];
 fn an_entering_takes_its_letter(rt: HostRuntime) {
     match command_of(rt.alloc(), &ENTER) {
         Ok(CommandLine::Enter { only_read, .. }) => assert!(rt; only_read),
+        _ => panic!(rt; "no enter"),
+    }
+}
+
+static ENTER_READING: [&str; 7] = [
+    "enter",
+    "--devices",
+    "inv=meter.lan:502,b=[::1]:1",
+    "--caller",
+    "site",
+    "--db",
+    "o.db",
+];
+
+#[test]
+fn an_entering_takes_its_devices(rt: HostRuntime) {
+    match command_of(rt.alloc(), &ENTER_READING) {
+        Ok(CommandLine::Enter { devices, .. }) => {
+            assert!(rt; devices.as_slice() == ALL_DEVICES.as_slice());
+        }
         _ => panic!(rt; "no enter"),
     }
 }

@@ -59,7 +59,7 @@ pub(crate) fn carry_out<'a>(rt: &HostRuntime, line: &CommandLine<'a>) -> Ending<
                 names: host_names.as_slice(),
                 connections: *connections,
             };
-            ending_of_done(over_office(rt, &Files { rt }, *db, task), OWN_HOST, *port)
+            ending_of_done(over_office(rt, &Files::of(rt), *db, task), OWN_HOST, *port)
         }
         CommandLine::Round {
             db,
@@ -72,7 +72,7 @@ pub(crate) fn carry_out<'a>(rt: &HostRuntime, line: &CommandLine<'a>) -> Ending<
                 host: *host,
                 port: *port,
             };
-            ending_of_done(over_office(rt, &Files { rt }, *db, task), *host, *port)
+            ending_of_done(over_office(rt, &Files::of(rt), *db, task), *host, *port)
         }
         CommandLine::Report { db, register, form } => report(rt, *db, *register, form),
         CommandLine::Run {
@@ -90,8 +90,9 @@ pub(crate) fn carry_out<'a>(rt: &HostRuntime, line: &CommandLine<'a>) -> Ending<
         CommandLine::Enter {
             db,
             caller,
+            devices,
             only_read,
-        } => enter(rt, *db, *caller, *only_read),
+        } => enter(rt, *db, *caller, devices, *only_read),
         CommandLine::Backup { db, to } => backup(rt, *db, *to),
         CommandLine::Explain { what, number } => explain(rt, *what, *number),
         CommandLine::Completions => completions(rt),

@@ -1,16 +1,19 @@
 //! Entering lines of standard input into an office in a file.
+use crate::counters::shown_at;
 use crate::escaped::Escaped;
 use crate::offices::{Files, OWN_HOST, over_office};
 use command_io::{Buffered, read_input};
-use office_program::{MOST_FILE, NamedFiles};
+use office_events::{Device, Register};
+use office_program::{MOST_FILE, NamedFiles, Shown};
 use std::alloc::{AllocError, Global};
+use std::fmt::Display;
 use std::fs::File;
 use std::io::{self, ErrorKind, Read, Write};
 use std::str::from_utf8;
 use stored_office::{Ending, Failure, Task, ending_of, ending_of_done};
 
-// Says why a file that a line names isn't read.
-fn say_unread(rt: &HostRuntime, name: &str, why: &str) {
+// Says why a file, or the counter of a register, that a line names isn't read.
+fn say_unread<D: Display>(rt: &HostRuntime, name: &str, why: &D) {
     let mut errors = Escaped::new(rt.stderr());
     let _said = write!(errors, "sunreg: {name}: {why}\n");
 }
@@ -35,7 +38,7 @@ fn read_within(rt: &HostRuntime, alloc: Global, name: &str) -> io::Result<Vec<u8
 impl NamedFiles for Files<'_> {
     fn read(&self, alloc: Global, name: &[u8]) -> Result<Option<Vec<u8>>, AllocError> {
         let Ok(name) = from_utf8(name) else {
-            say_unread(self.rt, "a list", "the name of its file is no text");
+            say_unread(self.rt, "a list", &"the name of its file is no text");
             return Ok(None);
         };
         match read_within(self.rt, alloc, name) {
@@ -43,29 +46,42 @@ impl NamedFiles for Files<'_> {
                 if bytes.len() <= MOST_FILE {
                     return Ok(Some(bytes));
                 }
-                say_unread(self.rt, name, "it has more than 65536 bytes");
+                say_unread(self.rt, name, &"it has more than 65536 bytes");
                 Ok(None)
             }
             Err(error) => match error.kind() {
                 ErrorKind::OutOfMemory => Err(AllocError),
                 ErrorKind::NotFound => {
-                    say_unread(self.rt, name, "there is no such file");
+                    say_unread(self.rt, name, &"there is no such file");
                     Ok(None)
                 }
                 _ => {
-                    say_unread(self.rt, name, "it can't be read: look at its rights");
+                    say_unread(self.rt, name, &"it can't be read: look at its rights");
                     Ok(None)
                 }
             },
         }
     }
+
+    fn shown(&self, device: &Device, register: &Register) -> Option<Shown> {
+        match shown_at(self.rt, self.places, device, register) {
+            Ok(shown) => Some(shown),
+            Err(why) => {
+                let name = from_utf8(register.name.as_bytes()).unwrap_or("a register");
+                say_unread(self.rt, name, &why);
+                None
+            }
+        }
+    }
 }
 
-/// Asks an office in a file what the lines of standard input ask under a caller, or only looks at them.
+/// Asks an office in a file what the lines of standard input ask under a caller, or only looks at them. Counters are read of the
+/// devices whose places are told.
 pub(crate) fn enter<'a>(
     rt: &HostRuntime,
     path: &'a str,
     caller: &str,
+    places: &[command_words::Device<'_>],
     only_read: bool,
 ) -> Ending<'a> {
     let mut input = rt.stdin();
@@ -82,7 +98,8 @@ pub(crate) fn enter<'a>(
             } else {
                 Task::Enter { caller, text }
             };
-            ending_of_done(over_office(rt, &Files { rt }, path, task), OWN_HOST, 0)
+            let files = Files { rt, places };
+            ending_of_done(over_office(rt, &files, path, task), OWN_HOST, 0)
         }
     }
 }

@@ -9,6 +9,7 @@ mod backups;
 mod command_output;
 mod commands;
 mod completions;
+mod counters;
 mod entering;
 mod escaped;
 mod explain;

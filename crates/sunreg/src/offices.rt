@@ -7,6 +7,7 @@ use crate::escaped::Escaped;
 use crate::run_words::sites_of;
 use command_words::Device;
 use interval_core::Zone;
+use office_program::NamedFiles;
 use office_running::Settings;
 use office_store::OpenFault;
 use round_advice::say_remarks;
@@ -38,10 +39,18 @@ pub(crate) trait Databases {
     fn open(&self, path: &str) -> Result<Connection<Self::Store>, FileFault>;
 }
 
-/// The files of the system.
+/// The files of the system, and where the devices are of which counters are read.
 #[derive(Clone, Copy)]
 pub(crate) struct Files<'r> {
     pub(crate) rt: &'r HostRuntime,
+    pub(crate) places: &'r [Device<'r>],
+}
+
+impl<'r> Files<'r> {
+    /// The files of the system, where no counter is read.
+    pub(crate) fn of(rt: &'r HostRuntime) -> Files<'r> {
+        Files { rt, places: &[] }
+    }
 }
 
 impl Databases for Files<'_> {
@@ -205,9 +214,9 @@ fn open_in<'a, D: Databases>(
 
 /// Carries a task out over the office in the database at a path, and gives out all that it printed. What the refusals and held readings
 /// of a round mean is said behind it.
-pub(crate) fn over_office<'a, D: Databases>(
+pub(crate) fn over_office<'a, D: Databases + NamedFiles>(
     rt: &HostRuntime,
-    databases: &D,
+    surroundings: &D,
     path: &'a str,
     task: Task<'_>,
 ) -> Result<Done, Failure<'a>>
@@ -216,7 +225,7 @@ pub(crate) fn over_office<'a, D: Databases>(
     let Ok(mut output) = output_of(rt, task) else {
         return Err(Failure::Memory);
     };
-    let connection = open_in(rt, databases, path)?;
+    let connection = open_in(rt, surroundings, path)?;
     let mut clock = SystemClock::new(rt);
     let mut errors = rt.stderr();
     let done = carry_out_stored(
@@ -224,7 +233,7 @@ pub(crate) fn over_office<'a, D: Databases>(
         rt.alloc(),
         connection,
         task,
-        &Files { rt },
+        surroundings,
         &mut clock,
         &mut output,
         &mut errors,
@@ -262,7 +271,7 @@ pub(crate) fn create<'a>(rt: &HostRuntime, path: &'a str, zone: &'a str) -> Endi
     if Zone::read(zone).is_err() {
         return Ending::NoZone(zone);
     }
-    match create_in(rt, &Files { rt }, path, zone) {
+    match create_in(rt, &Files::of(rt), path, zone) {
         Ok(()) => Ending::Fine,
         Err(failure) => Ending::Failed(failure),
     }
@@ -283,6 +292,6 @@ pub(crate) fn run<'a>(
         settings: &*settings,
         sites: sites.as_slice(),
     };
-    let done = over_office(rt, &Files { rt }, path, task);
+    let done = over_office(rt, &Files::of(rt), path, task);
     ending_of_done(done, OWN_HOST, settings.listen.port())
 }

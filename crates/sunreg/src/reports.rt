@@ -34,7 +34,7 @@ fn form_of<'a>(words: &FormWords<'a>) -> Result<ReportForm, Ending<'a>> {
 
 // Carries out the report that a task is.
 fn report_by<'a>(rt: &HostRuntime, path: &'a str, task: Task<'_>) -> Ending<'a> {
-    ending_of_done(over_office(rt, &Files { rt }, path, task), OWN_HOST, 0)
+    ending_of_done(over_office(rt, &Files::of(rt), path, task), OWN_HOST, 0)
 }
 
 /// Prints the energy of a register, by days where no form is asked for.

@@ -34,8 +34,8 @@ pub(crate) fn settings_of<'n>(
     }
 }
 
-// A host, without the brackets round an IPv6 address (RFC 3986, section 3.2.2).
-fn bare_host(host: &str) -> &str {
+/// A host, without the brackets round an IPv6 address (RFC 3986, section 3.2.2).
+pub(crate) fn bare_host(host: &str) -> &str {
     match host.strip_prefix('[') {
         Some(rest) => rest.strip_suffix(']').unwrap_or(host),
         None => host,

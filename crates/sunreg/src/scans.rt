@@ -46,13 +46,17 @@ impl ScanObserver for Terminal<'_> {
     }
 }
 
-// A link to a device whose takes wait so long, by the first of its host's addresses that answers.
-fn connect<'a, R: Net>(net: &R, target: Target<'a>) -> Result<SocketLink<R::Stream>, Failure<'a>> {
-    let Target { host, port, .. } = target;
+/// A link to a device whose takes wait so many seconds, by the first of its host's addresses that answers.
+pub(crate) fn connect<'a, R: Net>(
+    net: &R,
+    host: &'a str,
+    port: u16,
+    seconds: u64,
+) -> Result<SocketLink<R::Stream>, Failure<'a>> {
     let Ok(addresses) = (host, port).to_socket_addrs(net) else {
         return Err(Failure::Host { host });
     };
-    let wait = Duration::from_secs(u64::from(target.timeout));
+    let wait = Duration::from_secs(seconds);
     for address in addresses {
         if let Ok(stream) = TcpStream::connect_timeout(
             net,
@@ -95,7 +99,13 @@ pub(crate) fn scan<'a>(
         None if list => ScanForm::List,
         None => ScanForm::Chain,
     };
-    match connect(rt, target) {
+    let Target {
+        host,
+        port,
+        timeout,
+        ..
+    } = target;
+    match connect(rt, host, port, u64::from(timeout)) {
         Ok(mut socket) => scan_within(rt, target, form, &mut socket),
         Err(failure) => Ending::Failed(failure),
     }

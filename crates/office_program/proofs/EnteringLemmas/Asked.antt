@@ -1,5 +1,5 @@
 -- One line that is asked of an office.
-use Rattle.std.proofs.Common.{◌≡◌, inl, inr, ℕ, ◌||◌, max, Bool, true, List, Option, Some, None, Result, Ok, Err, refl, ap, subst, ◌∙◌}
+use Rattle.std.proofs.Common.{ℤ, pos, sym, ◌≡◌, inl, inr, ℕ, ◌||◌, max, Bool, true, List, Option, Some, None, Result, Ok, Err, refl, ap, subst, ◌∙◌}
 use Rattle.std.specs.Prelude.{IfOk, is_err}
 use Rattle.std.specs.declared.io.Error.{Error}
 use Rattle.command_io.specs.Lines.{Line}
@@ -15,6 +15,7 @@ use Rattle.office_events.specs.declared.answers.Answer.{Answer}
 use Rattle.office_events.specs.declared.events.Asked.{Asked as Request}
 use Rattle.office_events.specs.declared.events.Event.{Event}
 use Rattle.office_events.specs.declared.events.Event.TheVariants as event
+use Rattle.office_events.specs.declared.facts.Fact.{Fact}
 use Rattle.office_events.specs.declared.refusals.Refusal.{Refusal}
 use Rattle.office_rules.specs.History.{History, facts_of}
 use Rattle.office_rules.specs.Notes.{notes_after}
@@ -30,9 +31,13 @@ use Rattle.office_rounds.specs.Rounds.{RoundState}
 use Rattle.office_program.specs.declared.entering.entries.Entry.{Entry}
 use Rattle.office_program.specs.declared.entering.entries.Entry.TheVariants as entry
 use Rattle.office_program.specs.declared.entering.progress.Progress.{Progress}
-use Rattle.office_program.specs.Entering.Asking.{IsAsked, TellsFault, TellsWhyNot, told_text}
-use Rattle.office_program.specs.Entering.Course.{Asked, Came, Doubted, EntersLine, Faulty, IsCameOf, IsUntouched, TakesLine, Undecided, doubted_line, faults_text, progress_after, reply_text}
+use Rattle.office_program.specs.Entering.Asking.{HasAsked, HasCome, IsAsked, TellsFault, TellsWhyNot, told_text}
+use Rattle.office_program.specs.Entering.Course.{Asked, Came, Doubted, EntersLine, Faulty, IsAskedAt, IsCameOf, IsShown, IsUntouched, Undecided, Unread, doubted_line, faults_text, progress_after, reply_text, unread_line}
 use Rattle.office_program.specs.Entering.Doubts.{doubt_in, doubt_of}
+use Rattle.office_program.specs.Entering.ReadLines.{asked_at}
+use Rattle.office_program.specs.Entering.Reading.{AsksShown, IsShownFor}
+use Rattle.office_program.specs.declared.entering.files.Shown.{Shown}
+use Rattle.office_program.specs.declared.entering.read_line.ReadRequest.{ReadRequest}
 use Rattle.office_program.specs.Entering.Lines.{IsEntry, ReadsEntry, Telling}
 
 -- what an office tells is printed as a script prints it
@@ -70,92 +75,161 @@ asked ledger past progress before after had holds office at e reply result text 
       next = next;
     }
 
-abbrev Entered : {B E : Type 0} → (B → Ledger) → Entry → (past : History) → Progress → (begun now : RoundState) → Office B → Result Progress E → Type 0
-Entered {E = E} ledger entry past progress begun now office result =
-    (came : Came) × IsCameOf entry came × TakesLine {E = E} ledger past progress begun now office result came
-
 -- A request was asked that is not doubted.
-pub undoubted : {B : Type 0} (ledger : B → Ledger) (past : History) (progress : Progress) (begun now : RoundState) (office : Office B) (at told : ℕ) (request : Request)
-    (between : Failures) (result : Result Progress Error) → TellsMoment begun.moments now.moments told → at ≡ max progress.latest told
+pub undoubted : {B : Type 0} (ledger : B → Ledger) (past : History) (progress : Progress) (begun now : RoundState) (office : Office B) (at : ℕ) (request : Request)
+    (between : Failures) (result : Result Progress Error) → IsAskedAt progress.latest begun.moments now.moments at
     → doubt_of (facts_of past) at request ≡ None → between ≡ begun.failures
     → IsAsked ledger past at (event.Asked request) progress between now.failures begun.printed now.printed office result
-    → Entered {E = Error} ledger (entry.Ask request) past progress begun now office result
-undoubted ledger past progress begun now office at told request between result tells is none same done =
+    → HasAsked ledger request past progress begun now office result
+undoubted ledger past progress begun now office at request between result timed none same done =
     let o = done.one in
     let here : doubt_in (facts_of past) o.at o.event ≡ None =
     ap (doubt_in (facts_of past) o.at) done.event_is ∙ ap (λ (t : ℕ). doubt_of (facts_of past) t request) done.at_is ∙ none in
-    let P : Failures → Type 0 = λ n. IsAnswer past o.at o.event n now.failures o.result in (
-      Asked o,
-      done.event_is,
-      record {
+    let P : Failures → Type 0 = λ n. IsAnswer past o.at o.event n now.failures o.result in
+    record {
+      came = Asked o;
+      comes = (request, refl, done.event_is);
+      takes = record {
         takes = record {
           stands = done.stands;
           answered = record { undoubted = here; answer = subst P same done.answer };
-          timed = record { told = told; tells = tells; is = done.at_is ∙ is };
+          timed = subst (IsAskedAt progress.latest begun.moments now.moments) (sym done.at_is) timed;
         };
         text = done.text;
         next = done.next;
-      },
-    )
+      };
+    }
 
 -- It was not asked, since it is doubted,
-pub doubted : {B : Type 0} (ledger : B → Ledger) (past : History) (progress : Progress) (begun now : RoundState) (office : Office B) (at told mwh : ℕ) (request : Request)
-    (result : Result Progress Error) → TellsMoment begun.moments now.moments told → at ≡ max progress.latest told → Stands ledger past office
+pub doubted : {B : Type 0} (ledger : B → Ledger) (past : History) (progress : Progress) (begun now : RoundState) (office : Office B) (at mwh : ℕ) (request : Request)
+    (result : Result Progress Error) → IsAskedAt progress.latest begun.moments now.moments at → Stands ledger past office
     → doubt_of (facts_of past) at request ≡ Some mwh → now.failures ≡ begun.failures → TellsWhyNot (doubted_line mwh) at begun.printed now.printed result
-    → Entered {E = Error} ledger (entry.Ask request) past progress begun now office result
-doubted ledger past progress begun now office at told mwh request result tells is stands doubt same why = (
-  Doubted at request mwh,
-  refl,
-  record {
-    takes = record { stands = stands; answered = (doubt, same); timed = record { told = told; tells = tells; is = is } };
+    → HasAsked ledger request past progress begun now office result
+doubted ledger past progress begun now office at mwh request result timed stands doubt same why = record {
+  came = Doubted at request mwh;
+  comes = refl;
+  takes = record {
+    takes = record { stands = stands; answered = (doubt, same); timed = timed };
     text = why.text;
     next = why.next;
-  },
-)
+  };
+}
 
 -- or since the office refused to tell whether it is.
-pub undecided : {B : Type 0} (ledger : B → Ledger) (past : History) (progress : Progress) (begun now : RoundState) (office : Office B) (at told : ℕ) (request : Request)
-    (reason : Refusal) (result : Result Progress Error) → TellsMoment begun.moments now.moments told → at ≡ max progress.latest told → Stands ledger past office
+pub undecided : {B : Type 0} (ledger : B → Ledger) (past : History) (progress : Progress) (begun now : RoundState) (office : Office B) (at : ℕ) (request : Request)
+    (reason : Refusal) (result : Result Progress Error) → IsAskedAt progress.latest begun.moments now.moments at → Stands ledger past office
     → IsOutside ⊥ begun.failures now.failures reason → TellsWhyNot (refused_line reason) at begun.printed now.printed result
-    → Entered {E = Error} ledger (entry.Ask request) past progress begun now office result
-undecided ledger past progress begun now office at told request reason result tells is stands outside why = (
-  Undecided at request reason,
-  refl,
-  record {
-    takes = record { stands = stands; answered = outside; timed = record { told = told; tells = tells; is = is } };
+    → HasAsked ledger request past progress begun now office result
+undecided ledger past progress begun now office at request reason result timed stands outside why = record {
+  came = Undecided at request reason;
+  comes = refl;
+  takes = record {
+    takes = record { stands = stands; answered = outside; timed = timed };
     text = why.text;
     next = why.next;
-  },
-)
+  };
+}
+
+-- ---- What a line comes to
+
+pub asked_come : {B : Type 0} (ledger : B → Ledger) (tells : Telling) (request : Request) (past : History) (progress : Progress) (begun now : RoundState)
+    (office : Office B) (result : Result Progress Error) → HasAsked ledger request past progress begun now office result
+    → HasCome ledger tells (entry.Ask request) past progress begun now office result
+asked_come ledger tells request past progress begun now office result done = record { came = done.came; comes = done.comes; shown = tt; takes = done.takes }
+
+-- of one that has its counter read
+read_comes : (tells : Telling) (facts : List Fact) (read : ReadRequest) (raw : ℕ) (sf : ℤ) (came : Came) → IsCameOf (entry.Ask (asked_at read raw sf)) came
+    → AsksShown tells facts read (asked_at read raw sf) → IsCameOf (entry.Read read) came × IsShown tells facts (entry.Read read) came
+read_comes tells facts read raw sf (Asked one) is shown =
+    let here : one.event ≡ event.Asked (asked_at read raw sf) = is.2 ∙ ap event.Asked is.1 in
+    ((asked_at read raw sf, (raw, sf, refl), here), (asked_at read raw sf, shown, here))
+read_comes tells facts read raw sf (Faulty rows) is shown = absurd is
+read_comes tells facts read raw sf (Doubted at request mwh) is shown =
+    let P : Request → Type 0 = AsksShown tells facts read in
+    ((raw, sf, is), subst P (sym is) shown)
+read_comes tells facts read raw sf (Undecided at request why) is shown = ((raw, sf, is), tt)
+read_comes tells facts read raw sf (Unread at tried) is shown = absurd is
+
+pub read_come : {B : Type 0} (ledger : B → Ledger) (tells : Telling) (read : ReadRequest) (shown : Shown) (request : Request) (past : History) (progress : Progress)
+    (begun now : RoundState) (office : Office B) (result : Result Progress Error) → IsShownFor tells (facts_of past) read (Some shown)
+    → request ≡ asked_at read shown.raw shown.sf → HasAsked ledger request past progress begun now office result
+    → HasCome ledger tells (entry.Read read) past progress begun now office result
+read_come ledger tells read shown request past progress begun now office result is same done =
+    let P : Request → Type 0 = λ r. IsCameOf (entry.Ask r) done.came in
+    let both = read_comes tells (facts_of past) read shown.raw shown.sf done.came (subst P same done.comes) (shown, is, refl) in
+    record { came = done.came; comes = both.0; shown = both.1; takes = done.takes }
+
+-- whose counter can't be read,
+pub unread : {B : Type 0} (ledger : B → Ledger) (tells : Telling) (read : ReadRequest) (past : History) (progress : Progress) (begun now : RoundState) (office : Office B)
+    (at : ℕ) (result : Result Progress Error) → IsAskedAt progress.latest begun.moments now.moments at → Stands ledger past office
+    → IsShownFor tells (facts_of past) read None → now.failures ≡ begun.failures → TellsWhyNot unread_line at begun.printed now.printed result
+    → HasCome ledger tells (entry.Read read) past progress begun now office result
+unread ledger tells read past progress begun now office at result timed stands none same why = record {
+  came = Unread at read;
+  comes = refl;
+  shown = none;
+  takes = record {
+    takes = record { stands = stands; answered = same; timed = timed };
+    text = why.text;
+    next = why.next;
+  };
+}
+
+-- or of which the office refused to tell it.
+pub unknown : {B : Type 0} (ledger : B → Ledger) (tells : Telling) (read : ReadRequest) (past : History) (progress : Progress) (begun now : RoundState) (office : Office B)
+    (at : ℕ) (reason : Refusal) (result : Result Progress Error) → IsAskedAt progress.latest begun.moments now.moments at → Stands ledger past office
+    → IsOutside ⊥ begun.failures now.failures reason → TellsWhyNot (refused_line reason) at begun.printed now.printed result
+    → HasCome ledger tells (entry.Read read) past progress begun now office result
+unknown ledger tells read past progress begun now office at reason result timed stands outside why = record {
+  came = Undecided at (asked_at read 0 (pos 0)) reason;
+  comes = (0, pos 0, refl);
+  shown = tt;
+  takes = record {
+    takes = record { stands = stands; answered = outside; timed = timed };
+    text = why.text;
+    next = why.next;
+  };
+}
 
 -- The faults of a list were told, and nothing was asked.
-pub faulty : {B E : Type 0} (ledger : B → Ledger) (past : History) (progress : Progress) (begun now : RoundState) (office : Office B) (rows told : List FaultyRow)
-    (result : Result Progress E) → Stands ledger past office → now.moments ≡ begun.moments → now.failures ≡ begun.failures → told ≡ rows
+pub faulty : {B : Type 0} (ledger : B → Ledger) (tells : Telling) (past : History) (progress : Progress) (begun now : RoundState) (office : Office B) (rows told : List FaultyRow)
+    (result : Result Progress Error) → Stands ledger past office → now.moments ≡ begun.moments → now.failures ≡ begun.failures → told ≡ rows
     → GotText result (faults_text told) begun.printed now.printed
     → IfOk result (λ next. next ≡ record { latest = progress.latest; refused = true })
-    → TakesLine {E = E} ledger past progress begun now office result (Faulty rows)
-faulty ledger past progress begun now office rows told result stands moments failures same got next =
+    → HasCome ledger tells (entry.Faulty rows) past progress begun now office result
+faulty ledger tells past progress begun now office rows told result stands moments failures same got next =
     let P : List FaultyRow → Type 0 = λ r. GotText result (faults_text r) begun.printed now.printed in
     record {
-      takes = record { stands = stands; answered = failures; timed = moments };
-      text = subst P same got;
-      next = next;
+      came = Faulty rows;
+      comes = refl;
+      shown = tt;
+      takes = record {
+        takes = record { stands = stands; answered = failures; timed = moments };
+        text = subst P same got;
+        next = next;
+      };
     }
 
 -- What a line came to was taken and printed, or a part of that.
 pub line_taken : {B : Type 0} (ledger : B → Ledger) (tells : Telling) (caller : Option (List ℕ)) (line : Line) (past : History) (progress next : Progress)
-    (begun now : RoundState) (old new : Office B) (entry : Entry) → IsEntry tells caller line.text entry
-    → Entered {E = Error} ledger entry past progress begun now new (Ok next)
+    (begun now : RoundState) (old new : Office B) (e : Entry) → IsEntry tells caller line.text e
+    → HasCome ledger tells e past progress begun now new (Ok next)
     → EntersLine ledger tells caller line past progress begun now old new (Ok next)
-line_taken ledger tells caller line past progress next begun now old new entry is done =
-    (done.0, record { entry = entry; is = is; comes = done.1 }, record { takes = done.2.takes; text = done.2.text; next = done.2.next })
+line_taken ledger tells caller line past progress next begun now old new e is done = (
+  done.came,
+  record { entry = e; is = is; comes = done.comes; shown = done.shown },
+  record { takes = done.takes.takes; text = done.takes.text; next = done.takes.next },
+)
 
 pub line_cut : {B : Type 0} (ledger : B → Ledger) (tells : Telling) (caller : Option (List ℕ)) (line : Line) (past : History) (progress : Progress)
-    (begun now : RoundState) (old new : Office B) (entry : Entry) (error : Error) → IsEntry tells caller line.text entry
-    → Entered {E = Error} ledger entry past progress begun now new (Err error)
+    (begun now : RoundState) (old new : Office B) (e : Entry) (error : Error) → IsEntry tells caller line.text e
+    → HasCome ledger tells e past progress begun now new (Err error)
     → EntersLine ledger tells caller line past progress begun now old new (Err Failed)
-line_cut ledger tells caller line past progress begun now old new entry error is done =
-    inl (done.0, record { entry = entry; is = is; comes = done.1 }, record { takes = done.2.takes; text = done.2.text; next = tt })
+line_cut ledger tells caller line past progress begun now old new e error is done = inl (
+  done.came,
+  record { entry = e; is = is; comes = done.comes; shown = done.shown },
+  record { takes = done.takes.takes; text = done.takes.text; next = tt },
+)
 
 -- It is bad, or memory was wanting.
 pub line_faulty : {B : Type 0} (ledger : B → Ledger) (tells : Telling) (caller : Option (List ℕ)) (line : Line) (past : History) (progress : Progress)

@@ -42,7 +42,7 @@ begins ledger tells caller lines rest past first begun progress office stands is
 
 -- one more was taken
 adds : {B : Type 0} (ledger : B → Ledger) (tells : Telling) (caller : Option (List ℕ)) (past : History) (first : ℕ) (begun was now : RoundState)
-    (old new : Office B) (taken : List Taken) (line : Line) (came : Came) → AreTaken ledger tells caller past first begun was old taken → Comes tells caller line.text came
+    (old new : Office B) (taken : List Taken) (line : Line) (came : Came) → AreTaken ledger tells caller past first begun was old taken → Comes tells caller (history_behind past taken) line.text came
     → Takes ledger (history_behind past taken) (progress_of first taken).latest was now new came
     → AreTaken ledger tells caller past first begun now new (record { line = line; came = came } ∷ taken)
 adds ledger tells caller past first begun was now old new taken line came are comes takes = record {

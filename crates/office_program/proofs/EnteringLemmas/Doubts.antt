@@ -21,7 +21,7 @@ use Rattle.office_core.specs.Asking.{IsRowFound}
 use Rattle.office_core.specs.Failing.{IsOutside}
 use Rattle.office_core.specs.declared.office.Office.{Office}
 use Rattle.office_program.specs.Entering.Doubts.{IsDoubtTold, doubt_of, doubted_at, doubted_in, repeat_in}
-use Rattle.office_program.specs.Entering.Lines.{is_marked}
+use Rattle.office_program.specs.Entering.Marks.{is_marked}
 
 -- what one count less is worth
 pub less_one : (up_to raw unit : ℕ) → (up_to - 1) * unit - raw * unit ≡ (up_to - raw - 1) * unit

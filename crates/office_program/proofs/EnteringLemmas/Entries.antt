@@ -18,7 +18,10 @@ use Rattle.office_program.specs.declared.entering.entries.Entry.TheVariants.{Ask
 use Rattle.office_program.specs.declared.entering.wanted.Wanted.{Wanted}
 use Rattle.office_program.specs.declared.entering.wanted.Wanted.TheVariants as wanted
 use Rattle.office_program.specs.Entering.FileLines.{FileLine, IsFileLine, IsNoFileLine}
-use Rattle.office_program.specs.Entering.Lines.{IsWantedEntry, ReadsEntry, ReadsFile, ReadsList, ReadsScript, ReadsWanted, Telling, asked_by, file_request, is_marked, put_by, unmarked, wanted_in}
+use Rattle.office_program.specs.Entering.Marks.{is_marked, unmarked}
+use Rattle.office_program.specs.declared.entering.read_line.ReadLine.{ReadLine}
+use Rattle.office_program.specs.Entering.ReadLines.{IsNoRead, IsRead}
+use Rattle.office_program.specs.Entering.Lines.{IsWantedEntry, ReadsCounter, ReadsEntry, ReadsFile, ReadsList, ReadsScript, ReadsUnnamed, ReadsWanted, Telling, asked_by, file_request, put_by, wanted_in}
 
 -- a command of which the bytes of the line are kept
 pub command_wanted : (caller : Option (List ℕ)) (text kept : List ℕ) (number : ℕ) (c : Command) (want : Wanted) → want ≡ wanted.Command number c → kept ≡ text
@@ -60,7 +63,7 @@ no_script caller text Memory reads = tt
 
 -- a list that a file has
 pub file_reads : (tells : Telling) (caller : Option (List ℕ)) (text bytes : List ℕ) (named : FileLine) (result : Result Entry LineFault)
-    → tells named.name (Some bytes) → ReadsList caller named.number named.device bytes (file_request text bytes) result
+    → tells.files named.name (Some bytes) → ReadsList caller named.number named.device bytes (file_request text bytes) result
     → ReadsFile tells caller text named result
 file_reads tells caller text bytes named (Ok entry) told reads = (bytes, told, reads)
 file_reads tells caller text bytes named (Err Bad) told reads = absurd reads
@@ -75,10 +78,23 @@ named_reads tells caller text named (Err Bad) is reads = inl (named, is, reads)
 named_reads tells caller text named (Err Memory) is reads = tt
 
 pub unnamed_reads : (tells : Telling) (caller : Option (List ℕ)) (text : List ℕ) (result : Result Entry LineFault)
-    → IsNoFileLine (words_of text) → ReadsScript caller text result → ReadsEntry tells caller text result
+    → IsNoFileLine (words_of text) → ReadsUnnamed caller text result → ReadsEntry tells caller text result
 unnamed_reads tells caller text (Ok entry) none reads = inr (none, reads)
-unnamed_reads tells caller text (Err Bad) none reads = inr (none, reads)
+unnamed_reads tells caller text (Err Bad) none reads = inr (none, reads.0, reads.1)
 unnamed_reads tells caller text (Err Memory) none reads = tt
+
+-- one that has its counter read, and one of a script
+pub counter_reads : (caller : Option (List ℕ)) (text : List ℕ) (line : ReadLine) (result : Result Entry LineFault) → IsRead text line
+    → ReadsCounter caller text line result → ReadsUnnamed caller text result
+counter_reads caller text line (Ok entry) is reads = inl (record { line = line; is = is; comes = reads })
+counter_reads caller text line (Err Bad) is reads = absurd reads
+counter_reads caller text line (Err Memory) is reads = tt
+
+pub script_reads_on : (caller : Option (List ℕ)) (text : List ℕ) (result : Result Entry LineFault) → IsNoRead text → ReadsScript caller text result
+    → ReadsUnnamed caller text result
+script_reads_on caller text (Ok entry) none reads = inr (none, reads)
+script_reads_on caller text (Err Bad) none reads = (none, reads)
+script_reads_on caller text (Err Memory) none reads = tt
 
 -- a list that was read, and planned
 pub list_read : (caller : Option (List ℕ)) (number : ℕ) (device : Option (List ℕ)) (text request : List ℕ) (points : List ListedPoint) (planned : Planned)

@@ -1,5 +1,5 @@
 -- An input that is entered again.
-use Rattle.std.proofs.Common.{◌≡◌, ◌⊎◌, inl, inr, ℕ, Bool, true, false, List, [], ◌∷◌, ◌++◌, Option, Some, None, Result, Ok, Err, refl, sym, ap, subst, ◌∙◌, append_assoc}
+use Rattle.std.proofs.Common.{◌≡◌, ℤ, pos, ◌⊎◌, inl, inr, ℕ, Bool, true, false, List, [], ◌∷◌, ◌++◌, Option, Some, None, Result, Ok, Err, refl, sym, ap, subst, ◌∙◌, append_assoc}
 use Rattle.std.specs.Prelude.{IsOk, if◌then◌else◌}
 use Rattle.command_io.specs.Lines.{Line}
 use Rattle.script_lines.specs.LineWords.Words.{words_of}
@@ -16,6 +16,7 @@ use Rattle.office_rules.specs.Facts.{reply_of}
 use Rattle.office_rules.specs.History.{Fed, History, facts_of, kind_of, next_poll, slots_of}
 use Rattle.office_rules.specs.Refusals.{AreAccepted, IsAccepted, answer_of, decision_of, is_start, kept_of, reads_in_all, refusal_of, sent_count, unless_kept, unless_refused, with_answer}
 use Rattle.office_books.specs.Repeats.{as_repeat}
+use Rattle.office_books.specs.declared.books.Repeat.{Repeat}
 use Rattle.office_books.specs.declared.failures.Failures.{Failures}
 use Rattle.office_core.specs.EventRun.{Answered}
 use Rattle.office_core.specs.Failing.{FailsOutside}
@@ -26,13 +27,17 @@ use Rattle.office_program.specs.declared.entering.entries.Entry.TheVariants as e
 use Rattle.office_program.specs.declared.entering.wanted.Wanted.{Wanted}
 use Rattle.office_program.specs.declared.entering.wanted.Wanted.TheVariants as wanted
 use Rattle.office_program.specs.Entering.FileLines.{FileLine}
-use Rattle.office_program.specs.Entering.Lines.{IsEntry, IsFileEntry, IsListEntry, IsScriptEntry, IsWantedEntry, Telling, asked_by, file_request, is_marked, wanted_in}
-use Rattle.office_program.specs.Entering.Course.{AreAnswered, AreComing, Came, Doubted, Faulty, IsCameAnswered, IsCameOf, Taken, Undecided, history_behind, lines_with, with_came}
+use Rattle.office_program.specs.Entering.Marks.{is_marked, unmarked}
+use Rattle.office_program.specs.Entering.Lines.{IsEntry, IsFileEntry, IsListEntry, IsReadEntry, IsScriptEntry, IsWantedEntry, Telling, asked_by, file_request, wanted_in}
+use Rattle.office_program.specs.Entering.ReadLines.{IsNoRead, asked_at, number_of}
+use Rattle.office_program.specs.declared.entering.read_line.ReadRequest.{ReadRequest}
+use Rattle.office_program.specs.Entering.Course.{AreAnswered, AreComing, Came, Doubted, Faulty, IsCameAnswered, IsCameOf, IsShown, Taken, Undecided, Unread, history_behind, lines_with, with_came}
 use Rattle.office_program.specs.Entering.Doubts.{doubt_of, repeat_in}
 use Rattle.office_program.specs.Entering.Course as course
 use Rattle.office_program.specs.Entering.Repeats.{ActsNoMore, AreSteady, HasActed, HasRepeated, HaveActed, InputsActOnce, IsRepeated, IsSameRequest, RequestsAreRepeated}
 use Rattle.office_program.proofs.EnteringLemmas.Doubts.{kept_undoubted}
 use Rattle.office_program.proofs.EnteringLemmas.FileWords.{one_line}
+use Rattle.office_program.proofs.EnteringLemmas.ReadWords.{one_line as one_read}
 use Rattle.office_program.proofs.EnteringLemmas.Kept.{Keeps, accepted_before, answers, keeps_first, keeps_on, kept_again}
 
 -- ---- One request
@@ -52,8 +57,13 @@ requests_are_repeated past more at again_at asked again accepted same =
 
 -- ---- One line comes to one request
 
+-- what is the same of the requests of one that has its counter read
+abbrev asked_like : ReadRequest → Asked
+asked_like read = asked_at read 0 (pos 0)
+
 abbrev SameEntry : Entry → Entry → Type 0
 SameEntry (entry.Ask a) (entry.Ask b) = IsSameRequest a b
+SameEntry (entry.Read a) (entry.Read b) = IsSameRequest (asked_like a) (asked_like b)
 SameEntry (entry.Faulty a) (entry.Faulty b) = Unit {0}
 SameEntry _ _ = ⊥
 
@@ -70,6 +80,9 @@ same_list caller number device text request (entry.Ask a) (entry.Ask b) first se
 same_list caller number device text request (entry.Ask a) (entry.Faulty b) first second = absurd (second.0 first.1.points.faultless)
 same_list caller number device text request (entry.Faulty a) (entry.Ask b) first second = absurd (first.0 second.1.points.faultless)
 same_list caller number device text request (entry.Faulty a) (entry.Faulty b) first second = tt
+same_list caller number device text request (entry.Ask a) (entry.Read b) first second = absurd second
+same_list caller number device text request (entry.Faulty a) (entry.Read b) first second = absurd second
+same_list caller number device text request (entry.Read a) b first second = absurd first
 
 same_command : (a b made : Asked) (x y : Entry) → x ≡ entry.Ask made → y ≡ entry.Ask made → SameEntry x y
 same_command a b made x y first second = rw (first, second) (record { caller = refl; number = refl; request = refl })
@@ -86,6 +99,18 @@ same_script caller text a b first second =
     same_wanted caller text (wanted_in (is_marked text) first.said) a b first.comes
     (subst (λ (s : ScriptLine). IsWantedEntry caller text (wanted_in (is_marked text) s) b) said second.comes)
 
+same_read : (caller : Option (List ℕ)) (text : List ℕ) (a b : Entry) → IsReadEntry caller text a → IsReadEntry caller text b → SameEntry a b
+same_read caller text a b first second =
+    let line : second.line ≡ first.line = one_read (words_of (unmarked text)) second.line first.line second.is.is first.is.is in
+    rw (first.comes, second.comes) (record { caller = refl; number = ap number_of line; request = refl })
+
+same_unnamed : (caller : Option (List ℕ)) (text : List ℕ) (a b : Entry) → IsReadEntry caller text a ⊎ (IsNoRead text × IsScriptEntry caller text a)
+    → IsReadEntry caller text b ⊎ (IsNoRead text × IsScriptEntry caller text b) → SameEntry a b
+same_unnamed caller text a b (inl first) (inl second) = same_read caller text a b first second
+same_unnamed caller text a b (inl first) (inr second) = absurd (second.0 first.line first.is)
+same_unnamed caller text a b (inr first) (inl second) = absurd (first.0 second.line second.is)
+same_unnamed caller text a b (inr first) (inr second) = same_script caller text a b first.1 second.1
+
 some_bytes : (a b : List ℕ) → Some a ≡ Some b → a ≡ b
 some_bytes a b h = cc h
 
@@ -93,7 +118,7 @@ same_file : (tells : Telling) (caller : Option (List ℕ)) (text : List ℕ) (a 
     → SameEntry a b
 same_file tells caller text a b steady first second =
     let line : second.line ≡ first.line = one_line (words_of text) second.line first.line second.is first.is in
-    let P : FileLine → Type 0 = λ l. tells l.name (Some second.bytes) in
+    let P : FileLine → Type 0 = λ l. tells.files l.name (Some second.bytes) in
     let told = subst P line second.told in
     let bytes : second.bytes ≡ first.bytes = some_bytes second.bytes first.bytes (steady first.line.name (Some second.bytes) (Some first.bytes) told first.told) in
     let Q : FileLine → Type 0 = λ l. IsListEntry caller l.number l.device second.bytes (file_request text second.bytes) b in
@@ -105,13 +130,14 @@ same_entry : (tells : Telling) (caller : Option (List ℕ)) (text : List ℕ) (a
 same_entry tells caller text a b steady (inl first) (inl second) = same_file tells caller text a b steady first second
 same_entry tells caller text a b steady (inl first) (inr second) = absurd (second.0 first.line first.is)
 same_entry tells caller text a b steady (inr first) (inl second) = absurd (first.0 second.line second.is)
-same_entry tells caller text a b steady (inr first) (inr second) = same_script caller text a b first.1 second.1
+same_entry tells caller text a b steady (inr first) (inr second) = same_unnamed caller text a b first.1 second.1
 
 -- ---- What was asked is kept
 
 -- the request that a line comes to is kept
 abbrev KeepsEntry : History → Entry → Type 0
 KeepsEntry later (entry.Ask asked) = (kind : CommandKind) × Keeps (facts_of later) asked kind
+KeepsEntry later (entry.Read read) = (kind : CommandKind) × Keeps (facts_of later) (asked_like read) kind
 KeepsEntry later (entry.Faulty rows) = ⊥
 
 -- how a request was answered that was asked before, or accepted
@@ -181,20 +207,6 @@ keeps_asked later more history one asked before after is goes accepted (inl told
     (acted_by history one.at asked one.result (kept_of (facts_of history) (event.Asked asked)) (refusal_of history one.at (event.Asked asked)) (subst Q is told.0) ok)
 keeps_asked later more history one asked before after is goes accepted (inr fails) ok = absurd (not_outside (IsAccepted history one.at one.event) one.result before after ok fails)
 
-keeps_entry : (later more history : History) (e : Entry) (came : Came) (before after : Failures) → IsCameOf e came → later ≡ more ++ with_came history came → AreAccepted later
-    → IsCameAnswered history before after came → HasActed came → KeepsEntry later e × GoesOn later history
-keeps_entry later more history (entry.Ask asked) (course.Asked one) before after is goes accepted answered ok =
-    keeps_asked later more history one asked before after is goes accepted answered.answer ok
-keeps_entry later more history (entry.Ask asked) (Faulty rows) before after is goes accepted answered ok = absurd ok
-keeps_entry later more history (entry.Ask asked) (Doubted at request mwh) before after is goes accepted answered ok = absurd ok
-keeps_entry later more history (entry.Ask asked) (Undecided at request why) before after is goes accepted answered ok = absurd ok
-keeps_entry later more history (entry.Faulty rows) (course.Asked one) before after is goes accepted answered ok = absurd is
-keeps_entry later more history (entry.Faulty rows) (Faulty told) before after is goes accepted answered ok = absurd ok
-keeps_entry later more history (entry.Faulty rows) (Doubted at request mwh) before after is goes accepted answered ok = absurd ok
-keeps_entry later more history (entry.Faulty rows) (Undecided at request why) before after is goes accepted answered ok = absurd ok
-
--- ---- What the same line asks is kept
-
 keeps_same : (facts : List Fact) (asked again : Asked) (kind : CommandKind) → IsSameRequest asked again → Keeps facts asked kind → Keeps facts again kind
 keeps_same facts asked again kind same kept = record {
   caller = kept.caller;
@@ -205,9 +217,37 @@ keeps_same facts asked again kind same kept = record {
   done = kept.done;
 }
 
+-- whatever the counter shows
+like : (read : ReadRequest) (raw : ℕ) (sf : ℤ) → IsSameRequest (asked_at read raw sf) (asked_like read)
+like read raw sf = record { caller = refl; number = refl; request = refl }
+
+unlike : (read : ReadRequest) (raw : ℕ) (sf : ℤ) → IsSameRequest (asked_like read) (asked_at read raw sf)
+unlike read raw sf = record { caller = refl; number = refl; request = refl }
+
+keeps_entry : (later more history : History) (e : Entry) (came : Came) (before after : Failures) → IsCameOf e came → later ≡ more ++ with_came history came → AreAccepted later
+    → IsCameAnswered history before after came → HasActed came → KeepsEntry later e × GoesOn later history
+keeps_entry later more history (entry.Ask asked) (course.Asked one) before after is goes accepted answered ok =
+    keeps_asked later more history one asked before after (is.2 ∙ ap event.Asked is.1) goes accepted answered.answer ok
+keeps_entry later more history (entry.Read read) (course.Asked one) before after is goes accepted answered ok =
+    let asked = asked_at read is.1.0 is.1.1 in
+    let done = keeps_asked later more history one asked before after (is.2 ∙ ap event.Asked is.1.2) goes accepted answered.answer ok in
+    ((done.0.0, keeps_same (facts_of later) asked (asked_like read) done.0.0 (like read is.1.0 is.1.1) done.0.1), done.1)
+keeps_entry later more history (entry.Faulty rows) (course.Asked one) before after is goes accepted answered ok = absurd is.1
+keeps_entry later more history e (Faulty rows) before after is goes accepted answered ok = absurd ok
+keeps_entry later more history e (Doubted at request mwh) before after is goes accepted answered ok = absurd ok
+keeps_entry later more history e (Undecided at request why) before after is goes accepted answered ok = absurd ok
+keeps_entry later more history e (Unread at read) before after is goes accepted answered ok = absurd ok
+
+-- ---- What the same line asks is kept
+
 repeats_by : (later : History) (a b : Entry) → SameEntry a b → KeepsEntry later a → KeepsEntry later b
 repeats_by later (entry.Ask x) (entry.Ask y) same kept = (kept.0, keeps_same (facts_of later) x y kept.0 same kept.1)
 repeats_by later (entry.Ask x) (entry.Faulty rows) same kept = absurd same
+repeats_by later (entry.Ask x) (entry.Read y) same kept = absurd same
+repeats_by later (entry.Read x) (entry.Read y) same kept =
+    (kept.0, keeps_same (facts_of later) (asked_like x) (asked_like y) kept.0 same kept.1)
+repeats_by later (entry.Read x) (entry.Faulty rows) same kept = absurd same
+repeats_by later (entry.Read x) (entry.Ask y) same kept = absurd same
 repeats_by later (entry.Faulty rows) b same kept = absurd kept
 
 abbrev LineKept : Telling → (caller : Option (List ℕ)) → History → Line → Type 0
@@ -235,7 +275,7 @@ each_out P [] rest all = (tt, all)
 each_out P (two ∷ earlier) rest all = let more = each_out P earlier (two.line ∷ rest) all in ((more.1.0, more.0), more.1.1)
 
 each_kept : (tells : Telling) (caller : Option (List ℕ)) (taken : List Taken) (past later more : History) (before after : Failures) → AreSteady tells
-    → later ≡ more ++ history_behind past taken → AreAccepted later → AreComing tells caller taken → AreAnswered past before after taken → HaveActed taken
+    → later ≡ more ++ history_behind past taken → AreAccepted later → AreComing tells caller past taken → AreAnswered past before after taken → HaveActed taken
     → EachTaken (LineKept tells caller later) taken
 each_kept tells caller [] past later more before after steady goes accepted are answered acted = tt
 each_kept tells caller (one ∷ earlier) past later more before after steady goes accepted are answered acted =
@@ -287,23 +327,44 @@ not_doubted facts at asked request kind mwh is keeps doubt =
     let none : (let o : Option ℕ = None in o) ≡ Some mwh = sym (kept_undoubted facts at asked repeat kept) ∙ sym (ap (doubt_of facts at) is) ∙ doubt in
     cc none
 
-stays_one : (later : History) (e : Entry) (came : Came) (before after : Failures) → IsCameOf e came → KeepsEntry later e → IsCameAnswered later before after came
-    → (with_came later came ≡ later) × HasRepeated came
-stays_one later (entry.Ask asked) (course.Asked one) before after is kept answered = stays_asked later one asked kept.0 before after is kept.1 answered.answer
-stays_one later (entry.Ask asked) (Faulty rows) before after is kept answered = absurd is
-stays_one later (entry.Ask asked) (Doubted at request mwh) before after is kept answered =
+kept_repeat : (facts : List Fact) (asked : Asked) (kind : CommandKind) → Keeps facts asked kind → (repeat : Repeat) × (repeat_in facts asked ≡ Some repeat)
+kept_repeat facts asked kind keeps = (as_repeat asked.request keeps.reply, rw (keeps.named, keeps.found) refl)
+
+stays_one : (tells : Telling) (later : History) (e : Entry) (came : Came) (before after : Failures) → IsCameOf e came → IsShown tells (facts_of later) e came
+    → KeepsEntry later e → IsCameAnswered later before after came → (with_came later came ≡ later) × HasRepeated came
+stays_one tells later (entry.Ask asked) (course.Asked one) before after is shown kept answered =
+    stays_asked later one asked kept.0 before after (is.2 ∙ ap event.Asked is.1) kept.1 answered.answer
+stays_one tells later (entry.Ask asked) (Faulty rows) before after is shown kept answered = absurd is
+stays_one tells later (entry.Ask asked) (Doubted at request mwh) before after is shown kept answered =
     absurd (not_doubted (facts_of later) at asked request kept.0 mwh is kept.1 answered.0)
-stays_one later (entry.Ask asked) (Undecided at request why) before after is kept answered = (refl, (before, after, answered))
-stays_one later (entry.Faulty rows) came before after is kept answered = absurd kept
+stays_one tells later (entry.Ask asked) (Undecided at request why) before after is shown kept answered = (refl, (before, after, answered))
+stays_one tells later (entry.Ask asked) (Unread at read) before after is shown kept answered = absurd is
+stays_one tells later (entry.Read read) (course.Asked one) before after is shown kept answered =
+    let asked = asked_at read is.1.0 is.1.1 in
+    stays_asked later one asked kept.0 before after (is.2 ∙ ap event.Asked is.1.2)
+    (keeps_same (facts_of later) (asked_like read) asked kept.0 (unlike read is.1.0 is.1.1) kept.1) answered.answer
+stays_one tells later (entry.Read read) (Faulty rows) before after is shown kept answered = absurd is
+stays_one tells later (entry.Read read) (Doubted at request mwh) before after is shown kept answered =
+    let asked = asked_at read is.0 is.1 in
+    absurd (not_doubted (facts_of later) at asked request kept.0 mwh is.2
+    (keeps_same (facts_of later) (asked_like read) asked kept.0 (unlike read is.0 is.1) kept.1) answered.0)
+stays_one tells later (entry.Read read) (Undecided at request why) before after is shown kept answered = (refl, (before, after, answered))
+stays_one tells later (entry.Read read) (Unread at tried) before after is shown kept answered =
+    let repeat = kept_repeat (facts_of later) (asked_like read) kept.0 kept.1 in
+    let never : (let o : Option Repeat = None in o) ≡ Some repeat.0 = sym shown.0 ∙ repeat.1 in
+    absurd (cc never)
+stays_one tells later (entry.Faulty rows) came before after is shown kept answered = absurd kept
 
 stays : (tells : Telling) (caller : Option (List ℕ)) (later : History) (again : List Taken) (before after : Failures) → EachTaken (LineKept tells caller later) again
-    → AreComing tells caller again → AreAnswered later before after again → ActsNoMore later again
+    → AreComing tells caller later again → AreAnswered later before after again → ActsNoMore later again
 stays tells caller later [] before after kept are answered = record { same = refl; repeated = tt }
 stays tells caller later (two ∷ earlier) before after kept are answered =
     let rest = stays tells caller later earlier before answered.0 kept.1 are.1 answered.1 in
     let P : History → Type 0 = λ h. IsCameAnswered h answered.0 after two.came in
     let comes = are.0 in
-    let here = stays_one later comes.entry two.came answered.0 after comes.comes (kept.0 comes.entry comes.is) (subst P rest.same answered.2) in
+    let Q : History → Type 0 = λ h. IsShown tells (facts_of h) comes.entry two.came in
+    let here = stays_one tells later comes.entry two.came answered.0 after comes.comes (subst Q rest.same comes.shown) (kept.0 comes.entry comes.is)
+    (subst P rest.same answered.2) in
     record { same = ap (λ (h : History). with_came h two.came) rest.same ∙ here.0; repeated = (here.1, rest.repeated) }
 
 pub inputs_act_once : (tells : Telling) → AreSteady tells → InputsActOnce tells

@@ -12,9 +12,10 @@ use Rattle.script_lines.specs.declared.line_fault.LineFault.{LineFault}
 use Rattle.script_lines.specs.declared.line_fault.LineFault.TheVariants.{Bad, Memory}
 use Rattle.script_text.specs.AnswerText.{accepted_text, bad_line, refused_line}
 use Rattle.office_events.specs.declared.answers.Answer.{Answer}
+use Rattle.office_events.specs.declared.events.Asked.{Asked as Request}
 use Rattle.office_events.specs.declared.events.Event.{Event}
 use Rattle.office_events.specs.declared.refusals.Refusal.{Refusal}
-use Rattle.office_rules.specs.History.{History}
+use Rattle.office_rules.specs.History.{History, facts_of}
 use Rattle.office_rules.specs.Refusals.{with_answer}
 use Rattle.office_books.specs.Ledgers.{Ledger}
 use Rattle.office_books.specs.declared.books.Books as stores
@@ -24,9 +25,11 @@ use Rattle.office_core.specs.Standing.{After, Stands, notes_in, outgoing_in}
 use Rattle.office_core.specs.Taking.{IsAnswer, failures_of}
 use Rattle.office_core.specs.declared.office.Office.{Office}
 use Rattle.office_rounds.specs.Between.{desk_of}
+use Rattle.office_rounds.specs.Rounds.{RoundState, round_state}
 use Rattle.office_program.specs.declared.entering.entries.Entry.{Entry}
+use Rattle.office_program.specs.declared.entering.entries.Entry.TheVariants as entry
 use Rattle.office_program.specs.declared.entering.progress.Progress.{Progress}
-use Rattle.office_program.specs.Entering.Course.{Asked, Came, EntersLine, IsCameOf, TakesLine, progress_after, reply_text}
+use Rattle.office_program.specs.Entering.Course.{Asked, Came, EntersLine, IsAskedAt, IsCameOf, IsShown, TakesLine, progress_after, reply_text}
 use Rattle.office_program.specs.Entering.Lines.{Telling}
 
 -- the text of an office's reply to the event that it was just fed
@@ -65,13 +68,47 @@ pub record TellsWhyNot (line : List ℕ) (at : ℕ) (had holds : Option (List �
   pub text : GotText result line had holds
   pub next : IfOk result (λ next. next ≡ record { latest = at; refused = true })
 
+-- What a line comes to was asked or was not, and printed, or a part of that where the writing failed.
+pub record HasCome {B : Type 0} (ledger : B → Ledger) (tells : Telling) (entry : Entry)
+    (past : History) (progress : Progress) (begun now : RoundState) (office : Office B)
+    (result : Result Progress Error) : Type 0 where
+  pub came : Came
+  pub comes : IsCameOf entry came
+  pub shown : IsShown tells (facts_of past) entry came
+  pub takes : TakesLine {E = Error} ledger past progress begun now office result came
+
+-- So it is at a moment that follows, whatever a clock told.
+abbrev pub EntersAt : {B W : Type 0} → stores.Ghosts B → writers.Ghosts W → Telling → Entry
+    → Progress → (at : ℕ) → (old new : Office B) → (had holds : W) → Result Progress Error → Type 0
+EntersAt b w tells entry progress at old new had holds result = (moments later : Option (List ℕ))
+    → IsAskedAt progress.latest moments later at → After b.ledger old new (λ past.
+    HasCome b.ledger tells entry past progress
+    (round_state (w.contents had) moments (failures_of b.ledger old))
+    (round_state (w.contents holds) later (failures_of b.ledger new)) new result)
+
+-- A request is asked, or it is told why not.
+pub record HasAsked {B : Type 0} (ledger : B → Ledger) (request : Request) (past : History)
+    (progress : Progress) (begun now : RoundState) (office : Office B)
+    (result : Result Progress Error) : Type 0 where
+  pub came : Came
+  pub comes : IsCameOf (entry.Ask request) came
+  pub takes : TakesLine {E = Error} ledger past progress begun now office result came
+
+abbrev pub AsksTimed : {B W : Type 0} → stores.Ghosts B → writers.Ghosts W → Request → Progress
+    → (at : ℕ) → (old new : Office B) → (had holds : W) → Result Progress Error → Type 0
+AsksTimed b w request progress at old new had holds result = (moments later : Option (List ℕ))
+    → IsAskedAt progress.latest moments later at → After b.ledger old new (λ past.
+    HasAsked b.ledger request past progress
+    (round_state (w.contents had) moments (failures_of b.ledger old))
+    (round_state (w.contents holds) later (failures_of b.ledger new)) new result)
+
 module _ {B C W : Type 0} (b : stores.Ghosts B) (c : clocks.Ghosts C) (w : writers.Ghosts W) where
-  -- what a line came to is asked, or its faults are told
-  abbrev pub EntersEntry : Entry → Progress → (old new : Office B) → (before after : C)
+  -- what a line came to is asked, or why it isn't is told
+  abbrev pub EntersEntry : Telling → Entry → Progress → (old new : Office B) → (before after : C)
       → (had holds : W) → Result Progress Error → Type 0
-  EntersEntry entry progress old new before after had holds result = After b.ledger old new
-      (λ past. (came : Came) × IsCameOf entry came × TakesLine {E = Error} b.ledger past progress
-      (desk_of b c w old before had) (desk_of b c w new after holds) new result came)
+  EntersEntry tells entry progress old new before after had holds result = After b.ledger old new
+      (λ past. HasCome b.ledger tells entry past progress
+      (desk_of b c w old before had) (desk_of b c w new after holds) new result)
 
   -- a line is taken, or it is bad
   abbrev pub EntersNext : Telling → (caller : Option (List ℕ)) → Line → Progress

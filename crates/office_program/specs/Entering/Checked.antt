@@ -23,9 +23,10 @@ use Rattle.office_program.specs.declared.entering.checking.Known.{Known}
 use Rattle.office_program.specs.declared.entering.checking.Known.TheVariants as known
 use Rattle.office_program.specs.declared.entering.checking.Look.{Look}
 use Rattle.office_program.specs.declared.entering.checking.Look.TheVariants as look
+use Rattle.office_program.specs.declared.entering.entries.Entry.{Entry}
 use Rattle.office_program.specs.declared.entering.entries.Entry.TheVariants as entry
 use Rattle.office_program.specs.Entering.Course as course
-use Rattle.office_program.specs.Entering.Lines.{IsBad, IsEntry, Telling}
+use Rattle.office_program.specs.Entering.Lines.{IsBad, IsEntry, MayAsk, Telling}
 
 -- ---- What books know of a request
 
@@ -62,7 +63,8 @@ KnowsRequest old new asked what =
 abbrev pub IsLook : Telling → (caller : Option (List ℕ)) → (text : List ℕ) → List Fact → Look
     → Type 0
 IsLook tells caller text facts (look.Known what) =
-    (asked : Asked) × IsEntry tells caller text (entry.Ask asked) × IsKnown facts asked what
+    (e : Entry) × IsEntry tells caller text e
+    × (asked : Asked) × MayAsk e asked × IsKnown facts asked what
 IsLook tells caller text facts (look.Faulty rows) = IsEntry tells caller text (entry.Faulty rows)
 IsLook tells caller text facts look.Bad = IsBad tells text
 

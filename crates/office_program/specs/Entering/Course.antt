@@ -15,6 +15,7 @@ use Rattle.office_events.specs.declared.answers.Answer.{Answer}
 use Rattle.office_events.specs.declared.events.Asked.{Asked as Request}
 use Rattle.office_events.specs.declared.events.Event.{Event}
 use Rattle.office_events.specs.declared.events.Event.TheVariants as event
+use Rattle.office_events.specs.declared.facts.Fact.{Fact}
 use Rattle.office_events.specs.declared.refusals.Refusal.{Refusal}
 use Rattle.office_events.specs.declared.refusals.Refusal.TheVariants.{Limit}
 use Rattle.office_rules.specs.History.{History, facts_of}
@@ -31,31 +32,47 @@ use Rattle.office_rounds.specs.Rounds.{RoundState}
 use Rattle.office_program.specs.declared.entering.entries.Entry.{Entry}
 use Rattle.office_program.specs.declared.entering.entries.Entry.TheVariants as entry
 use Rattle.office_program.specs.declared.entering.progress.Progress.{Progress}
+use Rattle.office_program.specs.declared.entering.read_line.ReadRequest.{ReadRequest}
 use Rattle.office_program.specs.Entering.Doubts.{doubt_in, doubt_of}
-use Rattle.office_program.specs.Entering.Lines.{IsBad, IsEntry, Telling}
+use Rattle.office_program.specs.Entering.Lines.{IsBad, IsEntry, MayAsk, Telling}
+use Rattle.office_program.specs.Entering.Reading.{AsksShown, IsShownFor}
 
 -- ---- One line
 
 -- What a line that isn't bad came to: it was asked, and answered; or it was not asked. Then its point list has faulty rows; its
--- entry by hand is doubted, which would book so many mWh; or the office refused to tell whether it is.
+-- entry by hand is doubted, which would book so many mWh; the office refused to tell whether it is, or which counter is to be
+-- read; or that can't be read.
 pub data Came : Type 0 where
   Asked : Answered → Came
   Faulty : List FaultyRow → Came
   Doubted : (at : ℕ) → Request → (mwh : ℕ) → Came
   Undecided : (at : ℕ) → Request → Refusal → Came
+  Unread : (at : ℕ) → ReadRequest → Came
 
 abbrev pub IsCameOf : Entry → Came → Type 0
-IsCameOf (entry.Ask asked) (Asked one) = one.event ≡ event.Asked asked
-IsCameOf (entry.Ask asked) (Doubted at request mwh) = request ≡ asked
-IsCameOf (entry.Ask asked) (Undecided at request why) = request ≡ asked
+IsCameOf e (Asked one) =
+    (request : Request) × MayAsk e request × (one.event ≡ event.Asked request)
+IsCameOf e (Doubted at request mwh) = MayAsk e request
+IsCameOf e (Undecided at request why) = MayAsk e request
 IsCameOf (entry.Faulty rows) (Faulty told) = told ≡ rows
+IsCameOf (entry.Read read) (Unread at tried) = tried ≡ read
 IsCameOf _ _ = ⊥
 
-pub record Comes (tells : Telling) (caller : Option (List ℕ)) (text : List ℕ) (came : Came) : Type 0
-  where
-    pub entry : Entry
-    pub is : IsEntry tells caller text entry
-    pub comes : IsCameOf entry came
+-- What is installed is what the counter shows, by the register and the device of these facts.
+abbrev pub IsShown : Telling → List Fact → Entry → Came → Type 0
+IsShown tells facts (entry.Read read) (Asked one) =
+    (request : Request) × AsksShown tells facts read request × (one.event ≡ event.Asked request)
+IsShown tells facts (entry.Read read) (Doubted at request mwh) =
+    AsksShown tells facts read request
+IsShown tells facts (entry.Read read) (Unread at tried) = IsShownFor tells facts read None
+IsShown tells facts _ _ = Unit {0}
+
+pub record Comes (tells : Telling) (caller : Option (List ℕ)) (past : History) (text : List ℕ)
+    (came : Came) : Type 0 where
+  pub entry : Entry
+  pub is : IsEntry tells caller text entry
+  pub comes : IsCameOf entry came
+  pub shown : IsShown tells (facts_of past) entry came
 
 -- what the office has accepted after it
 abbrev pub with_came : History → Came → History
@@ -76,6 +93,7 @@ IsCameAnswered past before after (Faulty rows) = after ≡ before
 IsCameAnswered past before after (Doubted at request mwh) =
     (doubt_of (facts_of past) at request ≡ Some mwh) × (after ≡ before)
 IsCameAnswered past before after (Undecided at request why) = IsOutside ⊥ before after why
+IsCameAnswered past before after (Unread at read) = after ≡ before
 
 -- What a script prints of the answer: an accepted event's notes and `ok`, or the number of the refusal; a line for each faulty
 -- row, and that the list is refused; and the energy that is doubted.
@@ -90,11 +108,15 @@ faults_text rows = flat_map fault_line rows ++ refused_line Limit
 abbrev pub doubted_line : (mwh : ℕ) → List ℕ
 doubted_line mwh = codes "doubted " ++ decimal mwh ++ codes "\n"
 
+abbrev pub unread_line : List ℕ
+unread_line = codes "unread\n"
+
 abbrev pub came_text : History → Came → List ℕ
 came_text past (Asked one) = reply_text past one.at one.event one.result
 came_text past (Faulty rows) = faults_text rows
 came_text past (Doubted at request mwh) = doubted_line mwh
 came_text past (Undecided at request why) = refused_line why
+came_text past (Unread at read) = unread_line
 
 -- It is asked, or would be, at the moment that the clock tells, or at that of the line before where that is later.
 pub record IsAskedAt (latest : ℕ) (begun now : Option (List ℕ)) (at : ℕ) : Type 0 where
@@ -107,6 +129,7 @@ IsTimed latest begun now (Asked one) = IsAskedAt latest begun now one.at
 IsTimed latest begun now (Faulty rows) = now ≡ begun
 IsTimed latest begun now (Doubted at request mwh) = IsAskedAt latest begun now at
 IsTimed latest begun now (Undecided at request why) = IsAskedAt latest begun now at
+IsTimed latest begun now (Unread at read) = IsAskedAt latest begun now at
 
 -- the latest moment, and whether a line was refused or not asked, after one more
 abbrev pub progress_after : Progress → Came → Progress
@@ -115,6 +138,7 @@ progress_after progress (Asked one) =
 progress_after progress (Faulty rows) = record { latest = progress.latest; refused = true }
 progress_after progress (Doubted at request mwh) = record { latest = at; refused = true }
 progress_after progress (Undecided at request why) = record { latest = at; refused = true }
+progress_after progress (Unread at read) = record { latest = at; refused = true }
 
 -- The office stands after it, and it was answered at its moment.
 pub record Takes {B : Type 0} (ledger : B → Ledger) (past : History) (latest : ℕ)
@@ -143,14 +167,14 @@ abbrev pub EntersLine : {B : Type 0} → (B → Ledger) → Telling → (caller 
     → (past : History) → Progress → (begun now : RoundState) → (old new : Office B)
     → Result Progress ExitStatus → Type 0
 EntersLine ledger tells caller line past progress begun now old new (Ok next) =
-    (came : Came) × Comes tells caller line.text came
+    (came : Came) × Comes tells caller past line.text came
     × TakesLine {E = ExitStatus} ledger past progress begun now new (Ok next) came
 EntersLine ledger tells caller line past progress begun now old new (Err Fine) = ⊥
 EntersLine ledger tells caller line past progress begun now old new (Err Refused) =
     IsUntouched begun now old new × IsBad tells line.text
     × Appends begun.printed now.printed (bad_line line.number)
 EntersLine ledger tells caller line past progress begun now old new (Err Failed) =
-    ((came : Came) × Comes tells caller line.text came
+    ((came : Came) × Comes tells caller past line.text came
     × TakesLine {E = ExitStatus} ledger past progress begun now new (Err Failed) came)
     ⊎ (IsUntouched begun now old new × IsBad tells line.text
     × GotPart (bad_line line.number) begun.printed now.printed)
@@ -173,10 +197,11 @@ abbrev pub history_behind : History → List Taken → History
 history_behind past [] = past
 history_behind past (one ∷ earlier) = with_came (history_behind past earlier) one.came
 
-abbrev pub AreComing : Telling → (caller : Option (List ℕ)) → List Taken → Type 0
-AreComing tells caller [] = Unit {0}
-AreComing tells caller (one ∷ earlier) =
-    Comes tells caller one.line.text one.came × AreComing tells caller earlier
+abbrev pub AreComing : Telling → (caller : Option (List ℕ)) → History → List Taken → Type 0
+AreComing tells caller past [] = Unit {0}
+AreComing tells caller past (one ∷ earlier) =
+    Comes tells caller (history_behind past earlier) one.line.text one.came
+    × AreComing tells caller past earlier
 
 abbrev pub AreAnswered : History → (before after : Failures) → List Taken → Type 0
 AreAnswered past before after [] = after ≡ before
@@ -206,6 +231,6 @@ pub record AreTaken {B : Type 0} (ledger : B → Ledger) (tells : Telling)
     (caller : Option (List ℕ)) (past : History) (first : ℕ) (begun now : RoundState)
     (office : Office B) (taken : List Taken) : Type 0 where
   pub stands : Stands ledger (history_behind past taken) office
-  pub each : AreComing tells caller taken
+  pub each : AreComing tells caller past taken
   pub answered : AreAnswered past begun.failures now.failures taken
   pub timed : AreTimed first begun.moments now.moments taken

@@ -23,7 +23,7 @@ use Rattle.office_core.specs.Failing.{FailsOutside}
 use Rattle.office_core.specs.Standing.{After, Stands}
 use Rattle.office_core.specs.Taking.{failures_of}
 use Rattle.office_core.specs.declared.office.Office.{Office}
-use Rattle.office_program.specs.Entering.Lines.{is_marked}
+use Rattle.office_program.specs.Entering.Marks.{is_marked}
 
 -- ---- An entry at a meter that stands so. By its moment the counter would have come `up_to` there, had it neither turned over nor
 -- been set.

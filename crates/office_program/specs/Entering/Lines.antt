@@ -1,7 +1,6 @@
 -- What a line of an input asks of an office: it is a line of a script whose first word is the request's number, and which may
 -- have a mark behind it; or it names the file of a point list.
-use Rattle.std.specs.Prelude.{◌≡◌, ◌≢◌, ◌⊎◌, ℕ, ◌-◌, nat_eq, Bool, true, false, List, [], ◌∷◌, ◌++◌, length, take, codes, Option, Some, None, Result, Ok, Err, if◌then◌else◌}
-use Rattle.std.specs.List.{ends_with}
+use Rattle.std.specs.Prelude.{◌≡◌, ◌≢◌, ◌⊎◌, ℕ, ℤ, Bool, true, false, List, [], ◌∷◌, ◌++◌, Option, Some, None, Result, Ok, Err, if◌then◌else◌}
 use Rattle.point_list.specs.Lists.{SpellsList, list_faults, rows_read}
 use Rattle.read_plan.specs.PlannedLists.{IsPlanned, Planned}
 use Rattle.office_events.specs.declared.commands.Command.{Command}
@@ -9,6 +8,8 @@ use Rattle.office_events.specs.declared.commands.Command.TheVariants as command
 use Rattle.office_events.specs.declared.events.Asked.{Asked}
 use Rattle.office_events.specs.declared.events.Event.{Event}
 use Rattle.office_events.specs.declared.events.Event.TheVariants as event
+use Rattle.office_events.specs.declared.facts.Device.{Device}
+use Rattle.office_events.specs.declared.facts.Register.{Register}
 use Rattle.script_lines.specs.Forms.{IsLine}
 use Rattle.script_lines.specs.LineWords.Words.{words_of}
 use Rattle.script_lines.specs.Seen.{IsOnly}
@@ -20,22 +21,23 @@ use Rattle.script_lines.specs.declared.script.ScriptLine.TheVariants as line
 use Rattle.office_program.specs.declared.entering.wanted.Wanted.{Wanted}
 use Rattle.office_program.specs.declared.entering.wanted.Wanted.TheVariants as wanted
 use Rattle.office_program.specs.declared.entering.entries.Entry.{Entry}
-use Rattle.office_program.specs.declared.entering.entries.Entry.TheVariants.{Ask, Faulty}
+use Rattle.office_program.specs.declared.entering.entries.Entry.TheVariants.{Ask, Faulty, Read}
+use Rattle.office_program.specs.declared.entering.files.NamedFiles as surroundings
+use Rattle.office_program.specs.declared.entering.files.Shown.{Shown}
+use Rattle.office_program.specs.declared.entering.read_line.ReadLine.{ReadLine}
+use Rattle.office_program.specs.declared.entering.read_line.ReadRequest.{ReadRequest}
 use Rattle.office_program.specs.Entering.FileLines.{FileLine, IsFileLine, IsNoFileLine}
+use Rattle.office_program.specs.Entering.Marks.{is_marked, unmarked}
+use Rattle.office_program.specs.Entering.ReadLines.{IsNoRead, IsRead, asked_at}
 
--- What reading a file by its name may tell: its bytes, or that there is no such file.
-abbrev pub Telling : Type 1
-Telling = List ℕ → Option (List ℕ) → Type 0
+-- What may be told of a file by its name: its bytes, or that there is no such file; and of the counter of a register that is read
+-- at its device: what it shows, or that it can't be read.
+pub record Telling : Type 1 where
+  pub files : List ℕ → Option (List ℕ) → Type 0
+  pub counters : Device → Register → Option Shown → Type 0
 
--- ---- The mark of a line
-
--- A line may end with a mark, ` !`: the entry by hand that it asks is meant as it stands, whatever energy it books.
-abbrev pub is_marked : (text : List ℕ) → Bool
-is_marked text = ends_with nat_eq text (codes " !")
-
--- what a line says before its mark, where it has one
-abbrev pub unmarked : (text : List ℕ) → List ℕ
-unmarked text = if is_marked text then take (length text - 2) text else text
+abbrev pub telling_of : {F : Type 0} → surroundings.Ghosts F → F → Telling
+telling_of f files = record { files = f.tells files; counters = f.shows files }
 
 -- ---- A line of a script
 
@@ -100,6 +102,7 @@ IsListEntry caller number device text request (Ask asked) =
     × (asked ≡ asked_by caller number request (put_by device list))
 IsListEntry caller number device text request (Faulty rows) =
     (list_faults (rows_read text) ≢ []) × (rows ≡ list_faults (rows_read text))
+IsListEntry caller number device text request (Read read) = ⊥
 
 -- Of a script's line the bytes of the line are kept, with its mark,
 abbrev pub IsWantedEntry : (caller : Option (List ℕ)) → (text : List ℕ) → Wanted → Entry → Type 0
@@ -123,26 +126,40 @@ pub record IsFileEntry (tells : Telling) (caller : Option (List ℕ)) (text : Li
   pub line : FileLine
   pub is : IsFileLine (words_of text) line
   pub bytes : List ℕ
-  pub told : tells line.name (Some bytes)
+  pub told : tells.files line.name (Some bytes)
   pub comes : IsListEntry caller line.number line.device bytes (file_request text bytes) entry
+
+-- Of one that has its counter read the bytes of the line are kept, whatever the counter shows.
+pub record IsReadEntry (caller : Option (List ℕ)) (text : List ℕ) (entry : Entry) : Type 0 where
+  pub line : ReadLine
+  pub is : IsRead text line
+  pub comes : entry ≡ Read (record { caller = caller; request = text; line = line })
 
 -- What a line comes to, before an office is asked.
 abbrev pub IsEntry : Telling → (caller : Option (List ℕ)) → (text : List ℕ) → Entry → Type 0
 IsEntry tells caller text entry =
     IsFileEntry tells caller text entry
-    ⊎ (IsNoFileLine (words_of text) × IsScriptEntry caller text entry)
+    ⊎ (IsNoFileLine (words_of text)
+    × (IsReadEntry caller text entry ⊎ (IsNoRead text × IsScriptEntry caller text entry)))
+
+-- The requests that it may ask: of one that has its counter read, one for whatever the counter shows.
+abbrev pub MayAsk : Entry → Asked → Type 0
+MayAsk (Ask asked) request = request ≡ asked
+MayAsk (Read read) request = (raw : ℕ) × (sf : ℤ) × (request ≡ asked_at read raw sf)
+MayAsk (Faulty rows) request = ⊥
 
 -- A bad line names a file that isn't there; or it names none, and is no line of a script that asks something.
 abbrev pub LacksFile : Telling → (text : List ℕ) → Type 0
 LacksFile tells text =
-    (named : FileLine) × IsFileLine (words_of text) named × tells named.name None
+    (named : FileLine) × IsFileLine (words_of text) named × tells.files named.name None
 
 abbrev pub IsNoRequest : (text : List ℕ) → Type 0
 IsNoRequest text = (said : ScriptLine) → IsLine (words_of (unmarked text)) said
     → wanted_in (is_marked text) said ≡ wanted.Nothing
 
 abbrev pub IsBad : Telling → (text : List ℕ) → Type 0
-IsBad tells text = LacksFile tells text ⊎ (IsNoFileLine (words_of text) × IsNoRequest text)
+IsBad tells text =
+    LacksFile tells text ⊎ (IsNoFileLine (words_of text) × IsNoRead text × IsNoRequest text)
 
 -- ---- What reading one answers. Want of memory says nothing of it.
 
@@ -165,12 +182,26 @@ ReadsScript caller text (Ok entry) = IsScriptEntry caller text entry
 ReadsScript caller text (Err Bad) = IsNoRequest text
 ReadsScript caller text (Err Memory) = Unit {0}
 
+abbrev pub ReadsCounter : (caller : Option (List ℕ)) → (text : List ℕ) → ReadLine
+    → Result Entry LineFault → Type 0
+ReadsCounter caller text line (Ok entry) =
+    entry ≡ Read (record { caller = caller; request = text; line = line })
+ReadsCounter caller text line (Err Bad) = ⊥
+ReadsCounter caller text line (Err Memory) = Unit {0}
+
+abbrev pub ReadsUnnamed : (caller : Option (List ℕ)) → (text : List ℕ) → Result Entry LineFault
+    → Type 0
+ReadsUnnamed caller text (Ok entry) =
+    IsReadEntry caller text entry ⊎ (IsNoRead text × IsScriptEntry caller text entry)
+ReadsUnnamed caller text (Err Bad) = IsNoRead text × IsNoRequest text
+ReadsUnnamed caller text (Err Memory) = Unit {0}
+
 abbrev pub ReadsFile : Telling → (caller : Option (List ℕ)) → (text : List ℕ) → FileLine
     → Result Entry LineFault → Type 0
 ReadsFile tells caller text named (Ok entry) =
-    (bytes : List ℕ) × tells named.name (Some bytes)
+    (bytes : List ℕ) × tells.files named.name (Some bytes)
     × IsListEntry caller named.number named.device bytes (file_request text bytes) entry
-ReadsFile tells caller text named (Err Bad) = tells named.name None
+ReadsFile tells caller text named (Err Bad) = tells.files named.name None
 ReadsFile tells caller text named (Err Memory) = Unit {0}
 
 abbrev pub ReadsEntry : Telling → (caller : Option (List ℕ)) → (text : List ℕ)

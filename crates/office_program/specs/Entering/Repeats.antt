@@ -32,7 +32,7 @@ RequestsAreRepeated = (past more : History) (at then : ℕ) (asked again : Asked
 -- What files tell is the same each time.
 abbrev pub AreSteady : Telling → Type 0
 AreSteady tells =
-    (name : List ℕ) (a b : Option (List ℕ)) → tells name a → tells name b → a ≡ b
+    (name : List ℕ) (a b : Option (List ℕ)) → tells.files name a → tells.files name b → a ≡ b
 
 -- Each line acted, or had acted before.
 abbrev pub HasActed : Came → Type 0
@@ -64,7 +64,7 @@ HaveRepeated (one ∷ earlier) = HasRepeated one.came × HaveRepeated earlier
 pub record HasEntered (tells : Telling) (caller : Option (List ℕ)) (lines : List Line)
     (past : History) (taken : List Taken) : Type 0 where
   pub whole : lines ≡ lines_with taken []
-  pub are : AreComing tells caller taken
+  pub are : AreComing tells caller past taken
   pub before : Failures
   pub after : Failures
   pub answered : AreAnswered past before after taken
@@ -78,7 +78,7 @@ pub record EntersAgain (tells : Telling) (caller : Option (List ℕ)) (lines : L
   pub accepted : AreAccepted later
   pub rest : List Line
   pub part : lines ≡ lines_with again rest
-  pub are : AreComing tells caller again
+  pub are : AreComing tells caller later again
   pub before : Failures
   pub after : Failures
   pub answered : AreAnswered later before after again

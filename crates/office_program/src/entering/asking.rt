@@ -3,15 +3,18 @@ ghost use Rattle.std.specs.Prelude.{◌≡◌, IfOk, true};
 ghost use Rattle.office_rounds.specs.Passing.{Lasts};
 ghost use Rattle.sun_points.specs.Writing.{GotText};
 ghost use Rattle.script_text.specs.AnswerText.{refused_line};
-ghost use Rattle.office_program.specs.Entering.Asking.{AsksAt, EntersEntry, EntersNext, TellsFault, TellsWhyNot, told_text};
+ghost use Rattle.office_program.specs.Entering.Asking.{AsksAt, AsksTimed, EntersAt, EntersEntry, EntersNext, TellsFault, TellsWhyNot, told_text};
 ghost use Rattle.command_io.specs.Lines.{seen_line};
 ghost use Rattle.office_program.specs.Entering.Course as course;
-ghost use Rattle.office_program.specs.Entering.Course.{faults_text};
+ghost use Rattle.office_program.specs.Entering.Course.{IsAskedAt, faults_text};
+ghost use Rattle.office_program.specs.Entering.Lines.{telling_of};
 
 use crate::entering::doubts::doubt_of;
 use crate::entering::entries::{Entry, entry_in};
 use crate::entering::files::NamedFiles;
 use crate::entering::progress::Progress;
+use crate::entering::read_line::ReadRequest;
+use crate::entering::reading::shown_for;
 use command_io::{ExitStatus, InputLine};
 use office_books::Books;
 use office_core::Office;
@@ -96,25 +99,63 @@ fn tell_undecided<W: Write>(why: Refusal, at: u64, output: &mut W) -> io::Result
     }
 }
 
-// Asks a request at the moment that the clock tells, or at that of the line before where that is later, and prints the reply; or
-// prints what is doubted of it.
-fn ask<B: Books, C: Clock, W: Write>(
-    office: &mut Office<B>,
-    progress: Progress,
-    asked: Asked,
-    clock: &mut C,
-    output: &mut W,
-) -> io::Result<Progress>
-    ensures enters { EntersEntry B.Books C.Clock W.Write (Entry.Ask asked) progress
-        office.old office.new clock.old clock.new output.old output.new result }
-    ensures lasts { Lasts B.ledger office.old office.new }
+// Prints that a counter could not be read.
+fn tell_unread<W: Write>(at: u64, output: &mut W) -> io::Result<Progress>
+    ensures { TellsWhyNot course.unread_line at
+        (W.contents output.old) (W.contents output.new) result }
+{
+    match output.take_text(b"unread\n") {
+        Ok(()) => Ok(Progress::unasked(at)),
+        Err(error) => Err(error),
+    }
+}
+
+// The moment that the clock tells, or that of the line before where that is later.
+fn moment<C: Clock>(progress: Progress, clock: &mut C) -> u64
+    ensures { IsAskedAt progress.latest (C.moments clock.old) (C.moments clock.new) result }
 {
     let told = clock.now();
-    let at = progress.latest.max(told);
+    progress.latest.max(told)
+}
+
+// Asks a request at a moment, and prints the reply; or prints what is doubted of it.
+fn ask<B: Books, W: Write>(
+    office: &mut Office<B>,
+    progress: Progress,
+    at: u64,
+    asked: Asked,
+    output: &mut W,
+) -> io::Result<Progress>
+    ensures enters { AsksTimed B.Books W.Write asked progress at
+        office.old office.new output.old output.new result }
+    ensures lasts { Lasts B.ledger office.old office.new }
+{
     match doubt_of(office, at, &asked) {
         Ok(doubt) => match doubt {
             Some(mwh) => tell_doubt(mwh, at, output),
             None => ask_at(office, progress, at, &Event::Asked(asked), output),
+        },
+        Err(why) => tell_undecided(why, at, output),
+    }
+}
+
+// The same of a request whose meter is installed at what its counter shows.
+fn read_and_ask<B: Books, F: NamedFiles, W: Write>(
+    office: &mut Office<B>,
+    progress: Progress,
+    at: u64,
+    read: ReadRequest,
+    files: &F,
+    output: &mut W,
+) -> io::Result<Progress>
+    ensures enters { EntersAt B.Books W.Write (telling_of F.NamedFiles files.now) (Entry.Read read)
+        progress at office.old office.new output.old output.new result }
+    ensures lasts { Lasts B.ledger office.old office.new }
+{
+    match shown_for(office, &read, files) {
+        Ok(found) => match found {
+            Some(shown) => ask(office, progress, at, read.asked(shown), output),
+            None => tell_unread(at, output),
         },
         Err(why) => tell_undecided(why, at, output),
     }
@@ -147,19 +188,27 @@ fn tell_faults<W: Write>(
 }
 
 // Asks what a line comes to, or tells the faults of its list, or what is doubted.
-fn enter_entry<B: Books, C: Clock, W: Write>(
+fn enter_entry<B: Books, C: Clock, F: NamedFiles, W: Write>(
     office: &mut Office<B>,
     progress: Progress,
     entry: Entry,
+    files: &F,
     clock: &mut C,
     output: &mut W,
 ) -> io::Result<Progress>
-    ensures enters { EntersEntry B.Books C.Clock W.Write entry progress office.old office.new
-        clock.old clock.new output.old output.new result }
+    ensures enters { EntersEntry B.Books C.Clock W.Write (telling_of F.NamedFiles files.now) entry
+        progress office.old office.new clock.old clock.new output.old output.new result }
     ensures lasts { Lasts B.ledger office.old office.new }
 {
     match entry {
-        Entry::Ask(asked) => ask(office, progress, asked, clock, output),
+        Entry::Ask(asked) => {
+            let at = moment(progress, clock);
+            ask(office, progress, at, asked, output)
+        }
+        Entry::Read(read) => {
+            let at = moment(progress, clock);
+            read_and_ask(office, progress, at, read, files, output)
+        }
         Entry::Faulty(faults) => tell_faults(faults.rows(), progress, output),
     }
 }
@@ -188,12 +237,12 @@ pub(crate) fn enter_line<B: Books, C: Clock, F: NamedFiles, W: Write>(
     clock: &mut C,
     output: &mut W,
 ) -> Result<Progress, ExitStatus>
-    ensures enters { EntersNext B.Books C.Clock W.Write (F.tells files.now) caller.now (seen_line line.entry)
+    ensures enters { EntersNext B.Books C.Clock W.Write (telling_of F.NamedFiles files.now) caller.now (seen_line line.entry)
         progress office.old office.new clock.old clock.new output.old output.new result }
     ensures lasts { Lasts B.ledger office.old office.new }
 {
     match entry_in(alloc, *caller, line.text, files) {
-        Ok(entry) => match enter_entry(office, progress, entry, clock, output) {
+        Ok(entry) => match enter_entry(office, progress, entry, files, clock, output) {
             Ok(next) => Ok(next),
             Err(_) => Err(ExitStatus::Failed),
         },

@@ -5,11 +5,13 @@ ghost use Rattle.sun_points.specs.Writing.{GotText};
 ghost use Rattle.office_program.specs.Texts.Passing.{Lasts};
 ghost use Rattle.office_program.specs.Entering.Checked as spec;
 ghost use Rattle.office_program.specs.Entering.Checked.{ChecksLine, ChecksOver, ChecksText, IsShown, KnowsRequest, LooksAt, OnlyLooks};
+ghost use Rattle.office_program.specs.Entering.Lines.{telling_of};
 
 use crate::command_end::CommandEnd;
 use crate::entering::asking::print_faults;
 use crate::entering::entries::{Entry, entry_in};
 use crate::entering::files::NamedFiles;
+use crate::entering::reading::NOT_READ;
 use command_io::{ExitStatus, InputLine, InputLines};
 use office_books::{Books, Repeat};
 use office_events::{Asked, Name, Refusal};
@@ -80,13 +82,14 @@ fn look_at<B: Books, F: NamedFiles>(
     line: &[u8],
     files: &F,
 ) -> Result<Look, AllocError>
-    ensures finds { LooksAt (F.tells files.now) caller line.now
+    ensures finds { LooksAt (telling_of F.NamedFiles files.now) caller line.now
         (B.ledger books.old) (B.ledger books.new) result }
     ensures looks { OnlyLooks (B.ledger books.old) (B.ledger books.new) }
 {
     match entry_in(alloc, caller, line, files) {
         Ok(entry) => match entry {
             Entry::Ask(asked) => Ok(Look::Known(look_up(books, &asked))),
+            Entry::Read(read) => Ok(Look::Known(look_up(books, &read.asked(NOT_READ)))),
             Entry::Faulty(faults) => Ok(Look::Faulty(faults)),
         },
         Err(fault) => match fault {
@@ -159,7 +162,7 @@ fn check_line<B: Books, F: NamedFiles, W: Write>(
     files: &F,
     output: &mut W,
 ) -> Result<bool, ExitStatus>
-    ensures checks { ChecksLine (F.tells files.now) caller.now (seen_line line.entry) (B.ledger books.old)
+    ensures checks { ChecksLine (telling_of F.NamedFiles files.now) caller.now (seen_line line.entry) (B.ledger books.old)
         (B.ledger books.new) (W.contents output.old) (W.contents output.new) result }
     ensures looks { OnlyLooks (B.ledger books.old) (B.ledger books.new) }
     ensures fails { IfErr result (λ status. status ≡ ExitStatus.Failed) }
@@ -185,7 +188,7 @@ fn check_text<B: Books, F: NamedFiles, W: Write>(
     files: &F,
     output: &mut W,
 ) -> ExitStatus
-    ensures checks { ChecksText (F.tells files.now) caller.now text.now (B.ledger books.old)
+    ensures checks { ChecksText (telling_of F.NamedFiles files.now) caller.now text.now (B.ledger books.old)
         (B.ledger books.new) (W.contents output.old) (W.contents output.new) result }
     ensures looks { OnlyLooks (B.ledger books.old) (B.ledger books.new) }
 {
@@ -216,7 +219,7 @@ pub fn check_books<B: Books, F: NamedFiles, W: Write>(
     files: &F,
     output: &mut W,
 ) -> CommandEnd<B, ExitStatus>
-    ensures checks { ChecksOver B.ledger (F.tells files.now) caller.now text.now books result.books
+    ensures checks { ChecksOver B.ledger (telling_of F.NamedFiles files.now) caller.now text.now books result.books
         (W.contents output.old) (W.contents output.new) result.end }
     ensures lasts { Lasts (B.ledger books) (B.ledger result.books) }
 {

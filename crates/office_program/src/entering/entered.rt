@@ -2,6 +2,7 @@
 ghost use Rattle.office_rounds.specs.Passing as rounds;
 ghost use Rattle.office_program.specs.Texts.Passing.{Lasts};
 ghost use Rattle.office_program.specs.Entering.Entered.{EntersOver, EntersTextOf};
+ghost use Rattle.office_program.specs.Entering.Lines.{telling_of};
 
 use crate::command_end::CommandEnd;
 use crate::entering::asking::enter_line;
@@ -27,7 +28,7 @@ fn enter_text<B: Books, C: Clock, F: NamedFiles, W: Write>(
     clock: &mut C,
     output: &mut W,
 ) -> ExitStatus
-    ensures enters { EntersTextOf B.Books C.Clock W.Write (F.tells files.now) caller.now text.now first
+    ensures enters { EntersTextOf B.Books C.Clock W.Write (telling_of F.NamedFiles files.now) caller.now text.now first
         office.old office.new clock.old clock.new output.old output.new result }
     ensures lasts { rounds.Lasts B.ledger office.old office.new }
 {
@@ -59,7 +60,7 @@ pub fn enter_books<B: Books, C: Clock, F: NamedFiles, W: Write>(
     clock: &mut C,
     output: &mut W,
 ) -> CommandEnd<B, ExitStatus>
-    ensures tells { EntersOver B.Books C.Clock W.Write (F.tells files.now) caller.now text.now
+    ensures tells { EntersOver B.Books C.Clock W.Write (telling_of F.NamedFiles files.now) caller.now text.now
         books result.books clock.old clock.new output.old output.new result.end }
     ensures lasts { Lasts (B.ledger books) (B.ledger result.books) }
 {

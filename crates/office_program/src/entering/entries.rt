@@ -3,11 +3,12 @@ ghost use Rattle.std.specs.Prelude.{◌≡◌, Some, IfOk};
 ghost use Rattle.script_lines.specs.LineWords.Words.{words_of};
 ghost use Rattle.office_program.specs.Entering.FileLines.{seen_line};
 ghost use Rattle.office_program.specs.Entering.Lines as lines;
-ghost use Rattle.office_program.specs.Entering.Lines.{ReadsEntry, ReadsFile, ReadsList, ReadsScript, ReadsWanted};
+ghost use Rattle.office_program.specs.Entering.Lines.{ReadsCounter, ReadsEntry, ReadsFile, ReadsList, ReadsScript, ReadsUnnamed, ReadsWanted, telling_of};
 
 use crate::entering::file_line::{FileLine, file_line};
 use crate::entering::files::NamedFiles;
 use crate::entering::marks::{is_marked, unmarked};
+use crate::entering::read_line::{ReadLine, ReadRequest, read_in};
 use crate::entering::wanted::{Wanted, wanted_in};
 use office_events::{Asked, Command, Name, Piece, PlannedList, PutList};
 use point_list::{FaultyRows, ListFault, read_list};
@@ -19,6 +20,8 @@ use std::alloc::{AllocError, Global};
 pub(crate) enum Entry {
     /// This is asked.
     Ask(Asked),
+    /// This is asked once its counter was read.
+    Read(ReadRequest),
     /// Its point list has these faulty rows.
     Faulty(FaultyRows),
 }
@@ -134,7 +137,7 @@ fn file_entry<F: NamedFiles>(
     named: &FileLine<'_>,
     files: &F,
 ) -> Result<Entry, LineFault>
-    ensures { ReadsFile (F.tells files.now) caller line.now (seen_line named.now) result }
+    ensures { ReadsFile (telling_of F.NamedFiles files.now) caller line.now (seen_line named.now) result }
 {
     match files.read(alloc, named.name) {
         Ok(found) => match found {
@@ -145,6 +148,35 @@ fn file_entry<F: NamedFiles>(
     }
 }
 
+// The entry of a line that has its counter read.
+fn read_entry(
+    alloc: Global,
+    caller: Option<Name>,
+    line: &[u8],
+    read: ReadLine,
+) -> Result<Entry, LineFault>
+    ensures { ReadsCounter caller line.now read result }
+{
+    match kept_line(alloc, line) {
+        Ok(request) => Ok(Entry::Read(ReadRequest {
+            caller,
+            request,
+            line: read,
+        })),
+        Err(_) => Err(LineFault::Memory),
+    }
+}
+
+// The entry of a line that names no file.
+fn unnamed_entry(alloc: Global, caller: Option<Name>, line: &[u8]) -> Result<Entry, LineFault>
+    ensures { ReadsUnnamed caller line.now result }
+{
+    match read_in(line) {
+        Some(read) => read_entry(alloc, caller, line, read),
+        None => script_entry(alloc, caller, line),
+    }
+}
+
 /// The entry of a line, by what the file says that it may name.
 pub(crate) fn entry_in<F: NamedFiles>(
     alloc: Global,
@@ -152,10 +184,10 @@ pub(crate) fn entry_in<F: NamedFiles>(
     line: &[u8],
     files: &F,
 ) -> Result<Entry, LineFault>
-    ensures { ReadsEntry (F.tells files.now) caller line.now result }
+    ensures { ReadsEntry (telling_of F.NamedFiles files.now) caller line.now result }
 {
     match file_line(line) {
         Some(named) => file_entry(alloc, caller, line, &named, files),
-        None => script_entry(alloc, caller, line),
+        None => unnamed_entry(alloc, caller, line),
     }
 }

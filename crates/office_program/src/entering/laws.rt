@@ -1,5 +1,6 @@
 //! Laws of what is asked again.
 ghost use Rattle.office_program.specs.Entering.Repeats.{AreSteady, InputsActOnce, RequestsAreRepeated};
+ghost use Rattle.office_program.specs.Entering.Lines.{telling_of};
 
 use crate::entering::files::NamedFiles;
 
@@ -11,5 +12,5 @@ pub fn requests_are_repeated()
 /// An input of whose lines each acted acts once, where its files tell the same each time: entered again, it leaves the facts as
 /// they were.
 pub fn inputs_act_once<F: NamedFiles>(files: &F)
-    ensures { AreSteady (F.tells files.now) → InputsActOnce (F.tells files.now) }
+    ensures { AreSteady (telling_of F.NamedFiles files.now) → InputsActOnce (telling_of F.NamedFiles files.now) }
 {}

@@ -1,12 +1,13 @@
 //! The mark of a line, ` !`: the entry by hand that it asks is meant as it stands.
 ghost use Rattle.std.specs.Prelude.{◌≡◌, ◌≤◌, IsTrue, length};
 ghost use Rattle.office_program.specs.Entering.Lines as lines;
+ghost use Rattle.office_program.specs.Entering.Marks as spec;
 
 use office_events::Command;
 
 /// Whether a line ends with a mark.
 pub(crate) fn is_marked(line: &[u8]) -> bool
-    ensures marked { result ≡ lines.is_marked line.now }
+    ensures marked { result ≡ spec.is_marked line.now }
     ensures long { IsTrue result → 2 ≤ length line.now }
 {
     line.ends_with(b" !")
@@ -14,7 +15,7 @@ pub(crate) fn is_marked(line: &[u8]) -> bool
 
 /// What a line says before its mark, where it has one.
 pub(crate) fn unmarked(line: &[u8]) -> &[u8]
-    ensures { result.now ≡ lines.unmarked line.now }
+    ensures { result.now ≡ spec.unmarked line.now }
 {
     if is_marked(line) {
         &line[..line.len() - 2]

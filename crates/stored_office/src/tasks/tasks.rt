@@ -3,6 +3,7 @@ ghost use Rattle.std.specs.Prelude.{◌≡◌, Err, IfOk, IfErr};
 ghost use Rattle.office_rules.specs.History.{History};
 ghost use Rattle.store_files.specs.declared.layouts.Layout.{Layout as TheLayout};
 ghost use Rattle.store_files.specs.Layouts.{IsNamedAs};
+ghost use Rattle.office_program.specs.Entering.Lines.{telling_of};
 ghost use Rattle.stored_office.specs.BooksFound.{HasPast};
 ghost use Rattle.stored_office.specs.Tasks.Tasks.{IsOf, Does};
 
@@ -99,7 +100,7 @@ pub fn carry_out_stored<
     ensures silent { IfErr result (λ fault. output.new ≡ output.old) }
     ensures same { IfOk result (IsOf task.entry) }
     ensures does { (past : History) → HasPast S.Store connection past
-        → IfOk result (Does S.Store (F.tells files.now) past (C.moments clock.old) (C.moments clock.new)
+        → IfOk result (Does S.Store (telling_of F.NamedFiles files.now) past (C.moments clock.old) (C.moments clock.new)
         (W.contents output.old) (W.contents output.new) task.entry) }
 {
     match SqlBooks::open(alloc, connection) {

@@ -1,25 +1,26 @@
 use Rattle.std.proofs.Common.{sym, ◌∙◌}
-use Rattle.office_rounds.specs.Between.{desk_of}
+use Rattle.office_core.specs.Taking.{failures_of}
+use Rattle.office_rounds.specs.Rounds.{round_state}
 use Rattle.office_program.proofs.EnteringLemmas.Asked.{doubted, undecided, undoubted}
 use Rattle.office_program.proofs.EnteringLemmas.Doubts.{told_so, told_why}
 use Rattle.office_program.proofs.entering.asking.ask.Goals as goal
 
 pub returns-in-Some-clause-enters : goal.returns-in-Some-clause-enters
-returns-in-Some-clause-enters g c = λ past stands clean.
+returns-in-Some-clause-enters g c = λ moments later timed past stands clean.
     let is = c.in-Ok.ensures.tells past stands clean in
     let told = told_so g.B.Books.ledger past _ _ c.doubt_of.new.office _ c.in-Ok.doubt is in
-    doubted g.B.Books.ledger past c.args.progress (desk_of g.B.Books g.C.Clock g.W.Write c.args.office.now c.args.clock.now c.args.output.now)
-    (desk_of g.B.Books g.C.Clock g.W.Write c.doubt_of.new.office c.now-told.new.self c.tell_doubt.new.output) c.doubt_of.new.office c.max-at.result c.now-told.result
-    c.in-Some.mwh c.args.asked c.tell_doubt.result c.now-told.ensures c.max-at.ensures is.stands (sym told.0 ∙ c.in-Some.is) told.1 c.tell_doubt.ensures
+    doubted g.B.Books.ledger past c.args.progress (round_state (g.W.Write.contents c.args.output.now) moments (failures_of g.B.Books.ledger c.args.office.now))
+    (round_state (g.W.Write.contents c.tell_doubt.new.output) later (failures_of g.B.Books.ledger c.doubt_of.new.office)) c.doubt_of.new.office c.args.at
+    c.in-Some.mwh c.args.asked c.tell_doubt.result timed is.stands (sym told.0 ∙ c.in-Some.is) told.1 c.tell_doubt.ensures
 
 pub returns-in-None-clause-enters : goal.returns-in-None-clause-enters
-returns-in-None-clause-enters g c = λ past stands clean.
+returns-in-None-clause-enters g c = λ moments later timed past stands clean.
     let was = c.ask_at.ensures.lasts.clean clean in
     let is = c.in-Ok.ensures.tells past stands was in
     let told = told_so g.B.Books.ledger past _ _ c.doubt_of.new.office _ c.in-Ok.doubt is in
-    undoubted g.B.Books.ledger past c.args.progress (desk_of g.B.Books g.C.Clock g.W.Write c.args.office.now c.args.clock.now c.args.output.now)
-    (desk_of g.B.Books g.C.Clock g.W.Write c.ask_at.new.office c.now-told.new.self c.ask_at.new.output) c.ask_at.new.office c.max-at.result c.now-told.result
-    c.args.asked _ c.ask_at.result c.now-told.ensures c.max-at.ensures (sym told.0 ∙ c.in-None.is) told.1 (c.ask_at.ensures.asks past is.stands clean)
+    undoubted g.B.Books.ledger past c.args.progress (round_state (g.W.Write.contents c.args.output.now) moments (failures_of g.B.Books.ledger c.args.office.now))
+    (round_state (g.W.Write.contents c.ask_at.new.output) later (failures_of g.B.Books.ledger c.ask_at.new.office)) c.ask_at.new.office c.args.at
+    c.args.asked _ c.ask_at.result timed (sym told.0 ∙ c.in-None.is) told.1 (c.ask_at.ensures.asks past is.stands clean)
 
 pub returns-in-None-clause-lasts : goal.returns-in-None-clause-lasts
 returns-in-None-clause-lasts g c =
@@ -28,9 +29,9 @@ returns-in-None-clause-lasts g c =
     record { clean = λ clean. first.clean (second.clean clean); zone = second.zone ∙ first.zone }
 
 pub returns-in-Err-clause-enters : goal.returns-in-Err-clause-enters
-returns-in-Err-clause-enters g c = λ past stands clean.
+returns-in-Err-clause-enters g c = λ moments later timed past stands clean.
     let is = c.in-Err.ensures.tells past stands clean in
-    undecided g.B.Books.ledger past c.args.progress (desk_of g.B.Books g.C.Clock g.W.Write c.args.office.now c.args.clock.now c.args.output.now)
-    (desk_of g.B.Books g.C.Clock g.W.Write c.doubt_of.new.office c.now-told.new.self c.tell_undecided.new.output) c.doubt_of.new.office c.max-at.result c.now-told.result
-    c.args.asked c.in-Err.why c.tell_undecided.result c.now-told.ensures c.max-at.ensures is.stands
-    (told_why g.B.Books.ledger past _ _ c.doubt_of.new.office _ c.in-Err.why is) c.tell_undecided.ensures
+    undecided g.B.Books.ledger past c.args.progress (round_state (g.W.Write.contents c.args.output.now) moments (failures_of g.B.Books.ledger c.args.office.now))
+    (round_state (g.W.Write.contents c.tell_undecided.new.output) later (failures_of g.B.Books.ledger c.doubt_of.new.office)) c.doubt_of.new.office c.args.at
+    c.args.asked c.in-Err.why c.tell_undecided.result timed is.stands (told_why g.B.Books.ledger past _ _ c.doubt_of.new.office _ c.in-Err.why is)
+    c.tell_undecided.ensures

@@ -4,7 +4,7 @@ use Rattle.std.specs.Option.{option_and_then}
 use Rattle.office_rules.specs.History.{corrected_at, facts_of}
 use Rattle.office_books.specs.Repeats.{repeat_of}
 use Rattle.office_program.specs.Entering.Doubts.{doubted_in}
-use Rattle.office_program.specs.Entering.Lines.{is_marked}
+use Rattle.office_program.specs.Entering.Marks.{is_marked}
 use Rattle.office_program.proofs.EnteringLemmas.Doubts.{doubt_is, entryless_undoubted, kept_undoubted, marked_undoubted, row_failed, row_found, row_missing, told_on}
 use Rattle.office_program.proofs.entering.doubts.doubt_of.Goals as goal
 

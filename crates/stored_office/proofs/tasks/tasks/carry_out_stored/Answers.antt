@@ -1,5 +1,6 @@
 use Rattle.std.proofs.Common.{sym, subst}
 use Rattle.office_rules.specs.History.{facts_of}
+use Rattle.office_program.specs.Entering.Lines.{telling_of}
 use Rattle.stored_office.specs.Tasks.Tasks.{Does}
 use Rattle.stored_office.specs.declared.tasks.tasks.Task.{Task}
 use Rattle.stored_office.specs.declared.tasks.tasks.Done.TheVariants.{Reported, Served, Entered, Checked, Polled, Ran}
@@ -9,7 +10,7 @@ use Rattle.stored_office.proofs.tasks.tasks.carry_out_stored.Goals as goal
 pub returns-in-Report-clause-does : goal.returns-in-Report-clause-does
 unfolding Does
 returns-in-Report-clause-does g c = λ past has.
-    let P : Task → Type 0 = λ t. Does g.S.Store (g.F.NamedFiles.tells c.args.files.now) past (g.C.Clock.moments c.args.clock.now) (g.C.Clock.moments c.report_books-done.new.clock)
+    let P : Task → Type 0 = λ t. Does g.S.Store (telling_of g.F.NamedFiles c.args.files.now) past (g.C.Clock.moments c.args.clock.now) (g.C.Clock.moments c.report_books-done.new.clock)
     (g.W.Write.contents c.args.output.now) (g.W.Write.contents c.report_books-done.new.output) t (Reported c.report_books-done.result.end) in
     subst P (sym c.in-Report.is) (over g.S.Store past c.in-Ok.opened c.new-books.result c.report_books-done.result.books _ has.zone has.is_past
     (c.in-Ok.ensures.again has.zone (facts_of past) has.has) c.new-books.ensures.books c.new-books.ensures.stands
@@ -18,7 +19,7 @@ returns-in-Report-clause-does g c = λ past has.
 pub returns-in-ReportRange-clause-does : goal.returns-in-ReportRange-clause-does
 unfolding Does
 returns-in-ReportRange-clause-does g c = λ past has.
-    let P : Task → Type 0 = λ t. Does g.S.Store (g.F.NamedFiles.tells c.args.files.now) past (g.C.Clock.moments c.args.clock.now) (g.C.Clock.moments c.report_range_books-done.new.clock)
+    let P : Task → Type 0 = λ t. Does g.S.Store (telling_of g.F.NamedFiles c.args.files.now) past (g.C.Clock.moments c.args.clock.now) (g.C.Clock.moments c.report_range_books-done.new.clock)
     (g.W.Write.contents c.args.output.now) (g.W.Write.contents c.report_range_books-done.new.output) t (Reported c.report_range_books-done.result.end) in
     subst P (sym c.in-ReportRange.is) (over g.S.Store past c.in-Ok.opened c.new-books.result c.report_range_books-done.result.books _ has.zone has.is_past
     (c.in-Ok.ensures.again has.zone (facts_of past) has.has) c.new-books.ensures.books c.new-books.ensures.stands
@@ -27,7 +28,7 @@ returns-in-ReportRange-clause-does g c = λ past has.
 pub returns-in-Serve-clause-does : goal.returns-in-Serve-clause-does
 unfolding Does
 returns-in-Serve-clause-does g c = λ past has.
-    let P : Task → Type 0 = λ t. Does g.S.Store (g.F.NamedFiles.tells c.args.files.now) past (g.C.Clock.moments c.args.clock.now) (g.C.Clock.moments c.serve_books-done.new.clock)
+    let P : Task → Type 0 = λ t. Does g.S.Store (telling_of g.F.NamedFiles c.args.files.now) past (g.C.Clock.moments c.args.clock.now) (g.C.Clock.moments c.serve_books-done.new.clock)
     (g.W.Write.contents c.args.output.now) (g.W.Write.contents c.serve_books-done.new.output) t (Served c.serve_books-done.result.end) in
     subst P (sym c.in-Serve.is) (over g.S.Store past c.in-Ok.opened c.new-books.result c.serve_books-done.result.books _ has.zone has.is_past
     (c.in-Ok.ensures.again has.zone (facts_of past) has.has) c.new-books.ensures.books c.new-books.ensures.stands
@@ -36,7 +37,7 @@ returns-in-Serve-clause-does g c = λ past has.
 pub returns-in-Enter-clause-does : goal.returns-in-Enter-clause-does
 unfolding Does
 returns-in-Enter-clause-does g c = λ past has.
-    let P : Task → Type 0 = λ t. Does g.S.Store (g.F.NamedFiles.tells c.args.files.now) past (g.C.Clock.moments c.args.clock.now) (g.C.Clock.moments c.enter_books-done.new.clock)
+    let P : Task → Type 0 = λ t. Does g.S.Store (telling_of g.F.NamedFiles c.args.files.now) past (g.C.Clock.moments c.args.clock.now) (g.C.Clock.moments c.enter_books-done.new.clock)
     (g.W.Write.contents c.args.output.now) (g.W.Write.contents c.enter_books-done.new.output) t (Entered c.enter_books-done.result.end) in
     subst P (sym c.in-Enter.is) (over g.S.Store past c.in-Ok.opened c.new-books.result c.enter_books-done.result.books _ has.zone has.is_past
     (c.in-Ok.ensures.again has.zone (facts_of past) has.has) c.new-books.ensures.books c.new-books.ensures.stands
@@ -45,7 +46,7 @@ returns-in-Enter-clause-does g c = λ past has.
 pub returns-in-Check-clause-does : goal.returns-in-Check-clause-does
 unfolding Does
 returns-in-Check-clause-does g c = λ past has.
-    let P : Task → Type 0 = λ t. Does g.S.Store (g.F.NamedFiles.tells c.args.files.now) past (g.C.Clock.moments c.args.clock.now) (g.C.Clock.moments c.args.clock.now)
+    let P : Task → Type 0 = λ t. Does g.S.Store (telling_of g.F.NamedFiles c.args.files.now) past (g.C.Clock.moments c.args.clock.now) (g.C.Clock.moments c.args.clock.now)
     (g.W.Write.contents c.args.output.now) (g.W.Write.contents c.check_books-done.new.output) t (Checked c.check_books-done.result.end) in
     subst P (sym c.in-Check.is) (over g.S.Store past c.in-Ok.opened c.new-books.result c.check_books-done.result.books _ has.zone has.is_past
     (c.in-Ok.ensures.again has.zone (facts_of past) has.has) c.new-books.ensures.books c.new-books.ensures.stands
@@ -54,7 +55,7 @@ returns-in-Check-clause-does g c = λ past has.
 pub returns-in-Round-clause-does : goal.returns-in-Round-clause-does
 unfolding Does
 returns-in-Round-clause-does g c = λ past has.
-    let P : Task → Type 0 = λ t. Does g.S.Store (g.F.NamedFiles.tells c.args.files.now) past (g.C.Clock.moments c.args.clock.now) (g.C.Clock.moments c.poll_books-done.new.clock)
+    let P : Task → Type 0 = λ t. Does g.S.Store (telling_of g.F.NamedFiles c.args.files.now) past (g.C.Clock.moments c.args.clock.now) (g.C.Clock.moments c.poll_books-done.new.clock)
     (g.W.Write.contents c.args.output.now) (g.W.Write.contents c.poll_books-done.new.output) t (Polled c.poll_books-done.result.end) in
     subst P (sym c.in-Round.is) (over g.S.Store past c.in-Ok.opened c.new-books.result c.say_lacks.new.books _ has.zone has.is_past
     (c.in-Ok.ensures.again has.zone (facts_of past) has.has) c.new-books.ensures.books c.new-books.ensures.stands
@@ -67,7 +68,7 @@ returns-in-Round-clause-does g c = λ past has.
 pub returns-in-Run-clause-does : goal.returns-in-Run-clause-does
 unfolding Does
 returns-in-Run-clause-does g c = λ past has.
-    let P : Task → Type 0 = λ t. Does g.S.Store (g.F.NamedFiles.tells c.args.files.now) past (g.C.Clock.moments c.args.clock.now) (g.C.Clock.moments c.run_office-done.new.clock)
+    let P : Task → Type 0 = λ t. Does g.S.Store (telling_of g.F.NamedFiles c.args.files.now) past (g.C.Clock.moments c.args.clock.now) (g.C.Clock.moments c.run_office-done.new.clock)
     (g.W.Write.contents c.args.output.now) (g.W.Write.contents c.run_office-done.new.output) t (Ran c.run_office-done.result.end) in
     subst P (sym c.in-Run.is) (over g.S.Store past c.in-Ok.opened c.new-books.result c.run_office-done.result.books _ has.zone has.is_past
     (c.in-Ok.ensures.again has.zone (facts_of past) has.has) c.new-books.ensures.books c.new-books.ensures.stands

@@ -1,0 +1,73 @@
+-- What was read of a counter.
+use Rattle.std.proofs.Common.{◌≡◌, inl, inr, ℕ, pos, List, Option, Some, None, Result, Ok, Err, refl, sym, ap, subst, ◌∙◌}
+use Rattle.std.specs.Prelude.{is_some}
+use Rattle.std.specs.Option.{option_and_then}
+use Rattle.std.specs.declared.io.Error.{Error}
+use Rattle.office_events.specs.declared.events.Asked.{Asked as Request}
+use Rattle.office_events.specs.declared.facts.Device.{Device}
+use Rattle.office_events.specs.declared.facts.Fact.{Fact}
+use Rattle.office_events.specs.declared.facts.Register.{Register}
+use Rattle.office_events.specs.declared.refusals.Refusal.{Refusal}
+use Rattle.office_rules.specs.Facts.{device_of, register_of}
+use Rattle.office_rules.specs.History.{History, facts_of}
+use Rattle.office_books.specs.Ledgers.{Ledger}
+use Rattle.office_books.specs.declared.books.Repeat.{Repeat}
+use Rattle.office_books.specs.declared.failures.Failures.{Failures}
+use Rattle.office_core.specs.declared.office.Office.{Office}
+use Rattle.office_rounds.specs.Rounds.{RoundState, round_state}
+use Rattle.office_program.specs.declared.entering.files.Shown.{Shown}
+use Rattle.office_program.specs.declared.entering.progress.Progress.{Progress}
+use Rattle.office_program.specs.declared.entering.read_line.ReadRequest.{ReadRequest}
+use Rattle.office_program.specs.Entering.Asking.{HasAsked}
+use Rattle.office_program.specs.Entering.Lines.{Telling}
+use Rattle.office_program.specs.Entering.ReadLines as line
+use Rattle.office_program.specs.Entering.Reading.{HasShown, IsCounterFor, IsFilled, IsReadThere, IsShownFor, repeat_of_read}
+
+pub counter_told : (tells : Telling) (facts : List Fact) (register : Option (List ℕ)) (counter : Register) (device : Device) (shown : Option Shown)
+    → option_and_then (register_of facts) register ≡ Some counter → device_of facts counter.device ≡ Some device → tells.counters device counter shown
+    → IsCounterFor tells facts register shown
+counter_told tells facts register counter device None found there told =
+    inr (inr (record { counter = counter; device = device; register_is = found; device_is = there; told = told }))
+counter_told tells facts register counter device (Some shown) found there told =
+    record { counter = counter; device = device; register_is = found; device_is = there; told = told }
+
+-- read behind a question at which no books failed
+pub read_on : {B : Type 0} (ledger : B → Ledger) (tells : Telling) (register : Option (List ℕ)) (past : History) (before between after : Failures) (office : Office B)
+    (result : Result (Option Shown) Refusal) → between ≡ before → IsReadThere ledger tells register past between after office result
+    → IsReadThere ledger tells register past before after office result
+read_on ledger tells register past before between after office result same done =
+    let P : Failures → Type 0 = λ n. IsReadThere ledger tells register past n after office result in
+    subst P same done
+
+-- what was read for a request that isn't kept
+pub filled : {B : Type 0} (ledger : B → Ledger) (tells : Telling) (read : ReadRequest) (register : Option (List ℕ)) (past : History) (before between after : Failures)
+    (office : Office B) (result : Result (Option Shown) Refusal) → repeat_of_read (facts_of past) read ≡ None → register ≡ line.register_of read.line
+    → between ≡ before → IsReadThere ledger tells register past between after office result → IsFilled ledger tells read past before after office result
+filled ledger tells read register past before between after office (Ok (Some shown)) new same none done =
+    let P : Option (List ℕ) → Type 0 = λ r. IsCounterFor tells (facts_of past) r (Some shown) in
+    record { stands = done.stands; told = (inr (subst P same done.told.0), done.told.1 ∙ none) }
+filled ledger tells read register past before between after office (Ok None) new same none done =
+    let P : Option (List ℕ) → Type 0 = λ r. IsCounterFor tells (facts_of past) r None in
+    record { stands = done.stands; told = ((new, subst P same done.told.0), done.told.1 ∙ none) }
+filled ledger tells read register past before between after office (Err why) new same none done =
+    let on = read_on ledger tells register past before between after office (Err why) none done in
+    record { stands = on.stands; told = on.told }
+
+-- one that is kept
+pub kept_read : (facts : List Fact) (read : ReadRequest) (repeat : Repeat) → repeat_of_read facts read ≡ Some repeat → is_some (repeat_of_read facts read) ≡ is_some (Some repeat)
+kept_read facts read repeat kept = ap is_some kept
+
+pub found_as : (tells : Telling) (past : History) (read : ReadRequest) (found shown : Option Shown) (before after : Failures) → found ≡ shown
+    → HasShown tells (facts_of past) read before after (Ok found) → IsShownFor tells (facts_of past) read shown × (after ≡ before)
+found_as tells past read found shown before after same told =
+    let P : Option Shown → Type 0 = λ s. IsShownFor tells (facts_of past) read s in
+    (subst P same told.0, told.1)
+
+-- asked behind a question at which no books failed
+pub asked_on : {B : Type 0} (ledger : B → Ledger) (request : Request) (past : History) (progress : Progress) (printed moments : Option (List ℕ)) (before between : Failures)
+    (now : RoundState) (office : Office B) (result : Result Progress Error) → between ≡ before
+    → HasAsked ledger request past progress (round_state printed moments between) now office result
+    → HasAsked ledger request past progress (round_state printed moments before) now office result
+asked_on ledger request past progress printed moments before between now office result same done =
+    let P : Failures → Type 0 = λ n. HasAsked ledger request past progress (round_state printed moments n) now office result in
+    subst P same done

@@ -1,0 +1,125 @@
+-- A line that installs a meter at what its counter shows when it is entered: `@read` stands in it in the place of RAW and SF.
+use Rattle.std.specs.Prelude.{◌≡◌, ℕ, ℤ, Bool, true, not, List, [], ◌∷◌, Option, Some, None, codes, if◌then◌else◌}
+use Rattle.std.specs.Str.{bytes_eq}
+use Rattle.office_events.specs.declared.commands.Command.{Command}
+use Rattle.office_events.specs.declared.commands.Command.TheVariants as command
+use Rattle.office_events.specs.declared.events.Asked.{Asked}
+use Rattle.script_lines.specs.LineWords.Words.{words_of}
+use Rattle.script_lines.specs.LineWords.Fields.{AnyName, Field, Number, Of, Range, Spell, Word, first_value, nothing_more, ◌>>=◌}
+use Rattle.office_program.specs.declared.entering.read_line.ReadLine.{ReadLine}
+use Rattle.office_program.specs.declared.entering.read_line.ReadLine.TheVariants as read
+use Rattle.office_program.specs.declared.entering.read_line.ReadRequest.{ReadRequest}
+use Rattle.office_program.specs.Entering.Marks.{is_marked, unmarked}
+
+abbrev pub read_form : ReadLine → List Field
+read_form (read.Install number register meter ceiling range) =
+    Of Number number ∷ Word (codes "install") ∷ Of AnyName register ∷ Of AnyName meter
+    ∷ Word (codes "@read") ∷ Of Number ceiling ∷ Of Range range ∷ []
+read_form (read.Exchange number register last rolls meter ceiling range) =
+    Of Number number ∷ Word (codes "exchange") ∷ Of AnyName register ∷ Of Number last
+    ∷ Of Number rolls ∷ Of AnyName meter ∷ Word (codes "@read") ∷ Of Number ceiling
+    ∷ Of Range range ∷ []
+
+abbrev pub IsReadLine : (words : List (List ℕ)) → ReadLine → Type 0
+IsReadLine words line = Spell words (read_form line)
+
+-- the words are none
+abbrev pub IsNoReadLine : (words : List (List ℕ)) → Type 0
+IsNoReadLine words = (line : ReadLine) → IsReadLine words line → ⊥
+
+-- ---- What it says
+
+abbrev pub number_of : ReadLine → ℕ
+number_of (read.Install number register meter ceiling range) = number
+number_of (read.Exchange number register last rolls meter ceiling range) = number
+
+-- the register whose counter is to be read
+abbrev pub register_of : ReadLine → Option (List ℕ)
+register_of (read.Install number register meter ceiling range) = register
+register_of (read.Exchange number register last rolls meter ceiling range) = register
+
+-- what it asks where the counter shows this
+abbrev pub command_at : ReadLine → (raw : ℕ) → (sf : ℤ) → Command
+command_at (read.Install number register meter ceiling range) raw sf =
+    command.Install (record {
+      register = register;
+      meter = meter;
+      raw = raw;
+      sf = sf;
+      ceiling = ceiling;
+      range = range;
+    })
+command_at (read.Exchange number register last rolls meter ceiling range) raw sf =
+    command.Exchange (record {
+      register = register;
+      last = last;
+      rolls = rolls;
+      meter = meter;
+      raw = raw;
+      sf = sf;
+      ceiling = ceiling;
+      range = range;
+    })
+
+-- what a request asks where its counter shows this
+abbrev pub asked_at : ReadRequest → (raw : ℕ) → (sf : ℤ) → Asked
+asked_at read raw sf = record {
+  caller = read.caller;
+  number = number_of read.line;
+  request = read.request;
+  command = command_at read.line raw sf;
+}
+
+-- ---- A text that is such a line, which may have a mark where it asks an entry by hand
+
+abbrev pub may_end : (marked : Bool) → ReadLine → Bool
+may_end marked (read.Install number register meter ceiling range) = not marked
+may_end marked (read.Exchange number register last rolls meter ceiling range) = true
+
+pub record IsRead (text : List ℕ) (line : ReadLine) : Type 0 where
+  pub is : IsReadLine (words_of (unmarked text)) line
+  pub may : may_end (is_marked text) line ≡ true
+
+abbrev pub IsNoRead : (text : List ℕ) → Type 0
+IsNoRead text = (line : ReadLine) → IsRead text line → ⊥
+
+-- ---- The same, word by word, as the words are taken
+
+abbrev pub read_word : List (List ℕ) → Option (List (List ℕ))
+read_word [] = None
+read_word (word ∷ words) = if bytes_eq word (codes "@read") then Some words else None
+
+abbrev pub install_said : (number : ℕ) → List (List ℕ) → Option ReadLine
+install_said number words =
+    first_value AnyName words >>= λ register.
+    first_value AnyName register.1 >>= λ meter.
+    read_word meter.1 >>= λ rest.
+    first_value Number rest >>= λ ceiling.
+    first_value Range ceiling.1 >>= λ range.
+    nothing_more range.1 >>= λ none.
+    Some (read.Install number register.0 meter.0 ceiling.0 range.0)
+
+abbrev pub exchange_said : (number : ℕ) → List (List ℕ) → Option ReadLine
+exchange_said number words =
+    first_value AnyName words >>= λ register.
+    first_value Number register.1 >>= λ last.
+    first_value Number last.1 >>= λ rolls.
+    first_value AnyName rolls.1 >>= λ meter.
+    read_word meter.1 >>= λ rest.
+    first_value Number rest >>= λ ceiling.
+    first_value Range ceiling.1 >>= λ range.
+    nothing_more range.1 >>= λ none.
+    Some (read.Exchange number register.0 last.0 rolls.0 meter.0 ceiling.0 range.0)
+
+abbrev pub line_said : (number : ℕ) → (verb : List ℕ) → List (List ℕ) → Option ReadLine
+line_said number verb words =
+    if bytes_eq verb (codes "install") then install_said number words
+    else if bytes_eq verb (codes "exchange") then exchange_said number words
+    else None
+
+abbrev pub verb_said : (number : ℕ) → List (List ℕ) → Option ReadLine
+verb_said number [] = None
+verb_said number (verb ∷ words) = line_said number verb words
+
+abbrev pub read_said : List (List ℕ) → Option ReadLine
+read_said words = first_value Number words >>= λ number. verb_said number.0 number.1

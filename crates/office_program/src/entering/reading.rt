@@ -1,0 +1,71 @@
+//! What is read of a counter before a meter is installed at what it shows.
+ghost use Rattle.office_rounds.specs.Passing.{Lasts};
+ghost use Rattle.office_program.specs.Entering.Lines.{telling_of};
+ghost use Rattle.office_program.specs.Entering.Reading.{Fills, ReadsAt, ReadsThere};
+
+use crate::entering::files::{NamedFiles, Shown};
+use crate::entering::read_line::ReadRequest;
+use office_books::Books;
+use office_core::Office;
+use office_events::{Name, Refusal, Register};
+
+/// In the place of what a counter shows that is not read.
+pub(crate) const NOT_READ: Shown = Shown { raw: 0, sf: 0 };
+
+// What the counter of a register shows, which is read at its device.
+fn shown_at<B: Books, F: NamedFiles>(
+    office: &mut Office<B>,
+    register: Register,
+    files: &F,
+) -> Result<Option<Shown>, Refusal>
+    ensures reads { ReadsAt B.ledger (telling_of F.NamedFiles files.now) register
+        office.old office.new result }
+    ensures lasts { Lasts B.ledger office.old office.new }
+{
+    match office.device(&Some(register.device)) {
+        Ok(device) => Ok(files.shown(&device, &register)),
+        Err(why) => match why {
+            Refusal::NotFound => Ok(None),
+            _ => Err(why),
+        },
+    }
+}
+
+// The same of a register by its name.
+fn shown_there<B: Books, F: NamedFiles>(
+    office: &mut Office<B>,
+    name: &Option<Name>,
+    files: &F,
+) -> Result<Option<Shown>, Refusal>
+    ensures reads { ReadsThere B.ledger (telling_of F.NamedFiles files.now) name.now
+        office.old office.new result }
+    ensures lasts { Lasts B.ledger office.old office.new }
+{
+    match office.register(name) {
+        Ok(register) => shown_at(office, register, files),
+        Err(why) => match why {
+            Refusal::NotFound => Ok(None),
+            _ => Err(why),
+        },
+    }
+}
+
+/// What the counter shows for a request; of one that is kept none is read. `None` where it can't be read.
+pub(crate) fn shown_for<B: Books, F: NamedFiles>(
+    office: &mut Office<B>,
+    read: &ReadRequest,
+    files: &F,
+) -> Result<Option<Shown>, Refusal>
+    ensures fills { Fills B.ledger (telling_of F.NamedFiles files.now) read.now
+        office.old office.new result }
+    ensures lasts { Lasts B.ledger office.old office.new }
+{
+    let number = read.line.number();
+    match office.repeat(&read.caller, number, read.request.as_slice()) {
+        Ok(_) => Ok(Some(NOT_READ)),
+        Err(why) => match why {
+            Refusal::NotFound => shown_there(office, &read.line.register(), files),
+            _ => Err(why),
+        },
+    }
+}

@@ -1,0 +1,128 @@
+//! Counters of devices, each read once over a socket.
+use crate::run_words::bare_host;
+use crate::scans::connect;
+use command_words::Device;
+use device_scan::{CounterScale, ScanFault, read_counter};
+use mb_wire::Link;
+use office_events::{Name, Register, ScaleSource};
+use office_program::Shown;
+use socket_link::{Clock, DeadlineLink, SystemClock};
+use std::fmt;
+use std::fmt::{Display, Formatter};
+use std::str::from_utf8;
+use stored_office::Failure;
+
+/// Why it isn't known what a counter shows.
+#[derive(Clone, Copy, Debug, Drop)]
+pub(crate) enum Unread<'a> {
+    /// It isn't told where its device is.
+    Nowhere {
+        device: Name,
+    },
+    /// Its device was not connected.
+    Unconnected(Failure<'a>),
+    /// The read was broken off.
+    Broken {
+        host: &'a str,
+        port: u16,
+        fault: ScanFault,
+    },
+    /// Its device doesn't tell it.
+    Untold {
+        host: &'a str,
+        port: u16,
+    },
+}
+
+impl<'a> Display for Unread<'a> {
+    fn fmt<W: fmt::Write>(&self, f: &mut Formatter<W>) -> fmt::Result {
+        match self {
+            Unread::Nowhere { device } => {
+                let name = from_utf8(device.as_bytes()).unwrap_or("NAME");
+                write!(
+                    f,
+                    "where {name} is was not told: give --devices {name}=HOST:PORT"
+                )
+            }
+            Unread::Unconnected(failure) => write!(f, "{failure}"),
+            Unread::Broken { host, port, fault } => write!(
+                f,
+                "port {port} of {host} can't be read: {fault}"
+            ),
+            Unread::Untold { host, port } => write!(
+                f,
+                "port {port} of {host} doesn't tell this counter: no reply, an exception, or no scale from -3 to 3: sunreg scan tells what it has"
+            ),
+        }
+    }
+}
+
+// Where a device is, by what was told of it.
+fn place_of<'a>(places: &[Device<'a>], name: &Name) -> Option<Device<'a>> {
+    for place in places {
+        if place.name.as_bytes() == name.as_bytes() {
+            return Some(*place);
+        }
+    }
+    None
+}
+
+fn scale_of(source: ScaleSource) -> CounterScale {
+    match source {
+        ScaleSource::Fixed(sf) => CounterScale::Fixed(sf),
+        ScaleSource::Register(address) => CounterScale::Register(address),
+    }
+}
+
+// Reads a counter over a link that was just made. A read that is tried twice has the time of two replies.
+fn shown_within<'a, L: Link>(
+    rt: &HostRuntime,
+    place: Device<'a>,
+    device: &office_events::Device,
+    register: &Register,
+    socket: &mut L,
+) -> Result<Shown, Unread<'a>> {
+    let mut clock = SystemClock::new(rt);
+    let patience = device.timeout.seconds();
+    let until = clock
+        .now()
+        .saturating_add(patience)
+        .saturating_add(patience);
+    let mut link = DeadlineLink::new(socket, &mut clock, until);
+    let shown = read_counter(
+        rt.alloc(),
+        &mut link,
+        device.unit,
+        register.function,
+        register.address,
+        scale_of(register.scale),
+    );
+    let Device { host, port, .. } = place;
+    match shown {
+        Ok(Some(shown)) => Ok(Shown {
+            raw: shown.raw,
+            sf: shown.sf,
+        }),
+        Ok(None) => Err(Unread::Untold { host, port }),
+        Err(fault) => Err(Unread::Broken { host, port, fault }),
+    }
+}
+
+/// What the counter of a register shows now, read at the first address of its device's host that answers.
+pub(crate) fn shown_at<'a>(
+    rt: &HostRuntime,
+    places: &[Device<'a>],
+    device: &office_events::Device,
+    register: &Register,
+) -> Result<Shown, Unread<'a>> {
+    let Some(place) = place_of(places, &device.name) else {
+        return Err(Unread::Nowhere {
+            device: device.name,
+        });
+    };
+    let Device { host, port, .. } = place;
+    match connect(rt, bare_host(host), port, device.timeout.seconds()) {
+        Ok(mut socket) => shown_within(rt, place, device, register, &mut socket),
+        Err(failure) => Err(Unread::Unconnected(failure)),
+    }
+}
