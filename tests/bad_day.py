@@ -495,10 +495,43 @@ def held_once():
     run.end()
 
 
+def kept_requests():
+    """Past --most-kept commands are answered 503, which people are told once; questions are answered, and what is kept is counted at a start."""
+    db, port = office("kept"), free_port()
+    words = ["run", "--db", db, "--listen", str(port), "--every", "60", "--devices", "inv=127.0.0.1:1"]
+
+    def device(number):
+        """The status of a command whose body has 60,000 bytes."""
+        return post(port, number, "/devices", json.dumps({"name": f"d{number}", "unit": 1, "timeout": 1, "window": 1}).ljust(60_000))
+
+    def begin(megabytes):
+        run = Process(*words, "--most-kept", megabytes)
+        holds(f"run keeps {megabytes} MB", run.wait_for(f"listening {port}"), run.said)
+        return run
+
+    run = begin("1")
+    # (16 of them and what the office was set up by are less than a megabyte with their heads, and 17 are more)
+    same("commands for which there is no room", [device(number) for number in range(20, 40)], ["200"] * 16 + ["503"] * 4)
+    same("one for which there is", post(port, 40, "/devices", {"name": "small", "unit": 1, "timeout": 1, "window": 1}), "200")
+    reply = exchange(port, head("POST", "/devices", ["localhost"], " " * 60_000, 41))
+    same("its reply", reply.split("\r\n\r\n")[-1], '{"fault":503}')
+    same("who may not ask is told so first", status_of(exchange(port, head("POST", "/devices", ["evil.example"], " " * 60_000, 42))), "421")
+    same("a question", status_of(exchange(port, head("GET", "/registers/main/days", []))), "200")
+    same("it is said once", len([line for line in run.said if "--most-kept" in line]), 1)
+    run.end()
+    run = begin("1")
+    same("what is kept is counted at a start", device(43), "503")
+    run.end()
+    run = begin("2")
+    same("there is room again", device(44), "200")
+    run.end()
+
+
 try:
     said_safely()
     what_is_lacking()
     held_once()
+    kept_requests()
     foreign_pages()
     db = office("day")
     methods(db)

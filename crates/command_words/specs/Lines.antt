@@ -37,7 +37,7 @@ pub data Line : Type 0 where
   StandIn : (host : Text) (port connections : ℕ) → Line
   Loop : (zone : Text) → Line
   Run : (db : Text) (listen every : ℕ) (devices : List Place) (lasts : Option ℕ)
-      (hosts : List Text) (verbose : Bool) → Line
+      (hosts : List Text) (most_kept : Option ℕ) (verbose : Bool) → Line
   Explain : (what number : Text) → Line
   Completions : Line
 
@@ -66,8 +66,9 @@ seen (line.Scan host port unit timeout list setup) =
     Scan host.now port unit timeout list (option_map (λ text. text.now) setup)
 seen (line.StandIn host port connections) = StandIn host.now port connections
 seen (line.Loop zone) = Loop zone.now
-seen (line.Run db listen every devices lasts hosts verbose) =
-    Run db.now listen every (map place_of devices.items) lasts (texts hosts.items) verbose
+seen (line.Run db listen every devices lasts hosts most_kept verbose) =
+    Run db.now listen every (map place_of devices.items) lasts (texts hosts.items) most_kept
+    verbose
 seen (line.Explain what number) = Explain what.now number.now
 seen line.Completions = Completions
 
@@ -171,7 +172,9 @@ run_in rows =
     given (number_at 86400 (codes "every") rows) (λ every.
     given (number_if 4000000000 (codes "for") rows) (λ lasts.
     given (devices_at rows) (λ devices.
-    Some (Run db listen every devices lasts (hosts_in rows) (is_set (codes "verbose") rows)))))))
+    given (number_if 1000000 (codes "most-kept") rows) (λ most_kept.
+    Some (Run db listen every devices lasts (hosts_in rows) most_kept
+    (is_set (codes "verbose") rows))))))))
 
 abbrev pub explain_in : List Row → Option Line
 explain_in rows =

@@ -90,6 +90,8 @@ pub enum CommandLine<'a> {
         devices: Vec<Device<'a>>,
         lasts: Option<u32>,
         host_names: Vec<&'a str>,
+        /// How many megabytes of requests may be kept.
+        most_kept: Option<u32>,
         verbose: bool,
     },
     /// What a number means that stands behind a word.

@@ -12,8 +12,8 @@ use crate::faults::ValueFault;
 use crate::line::{CommandLine, FormWords};
 use crate::options::{is_set, number, number_if, number_or, text, text_if, text_or, texts};
 use crate::table::{
-    CONNECTIONS, EVERY, FIRST_UNIT, HOST, HOST_NAME, LASTS, LISTEN, PATIENCE, PORT, TIMEOUT, UNIT,
-    ZONE,
+    CONNECTIONS, EVERY, FIRST_UNIT, HOST, HOST_NAME, LASTS, LISTEN, MOST_KEPT, PATIENCE, PORT,
+    TIMEOUT, UNIT, ZONE,
 };
 use crate::values::{Device, ListFault, devices_in};
 use clap::ArgMatches;
@@ -176,6 +176,7 @@ fn run_line<'a>(alloc: Global, found: &ArgMatches<'a>) -> Result<CommandLine<'a>
     let lasts = number_if(found, LASTS)?;
     let devices = devices(alloc, found)?;
     let host_names = texts(alloc, found, HOST_NAME)?;
+    let most_kept = number_if(found, MOST_KEPT)?;
     Ok(CommandLine::Run {
         db,
         listen: listen as u16,
@@ -183,6 +184,7 @@ fn run_line<'a>(alloc: Global, found: &ArgMatches<'a>) -> Result<CommandLine<'a>
         devices,
         lasts,
         host_names,
+        most_kept,
         verbose: is_set(found, "verbose"),
     })
 }

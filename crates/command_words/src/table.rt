@@ -52,6 +52,12 @@ pub const LASTS: NumberOption<'static> = NumberOption {
     most: 4_000_000_000,
 };
 
+pub const MOST_KEPT: NumberOption<'static> = NumberOption {
+    name: "most-kept",
+    value: "MB",
+    most: 1_000_000,
+};
+
 pub const UNIT: NumberOption<'static> = NumberOption {
     name: "unit",
     value: "U",
@@ -351,6 +357,11 @@ const RUN: CommandText<'static> = CommandText {
             help: "Ends after this long, 1 to 4000000000",
         },
         ASKED_NAME,
+        OptionText {
+            name: "most-kept",
+            value: Value::Optional("MB"),
+            help: "Answers commands 503 past so many megabytes of kept ones, 1 to 1000000",
+        },
         OptionText {
             name: "verbose",
             value: Value::Absent,

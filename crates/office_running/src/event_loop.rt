@@ -87,7 +87,7 @@ impl Running {
         let polling = Polling::new(alloc, sites, settings.every, time)?;
         let voice = voice_of(alloc, sites, lacks, settings.verbose)?;
         let (output, errors) = descriptors_of(settings);
-        let serving = Serving::open(rt, alloc, poll.registry(), settings.listen)?;
+        let serving = Serving::open(rt, alloc, poll.registry(), settings)?;
         Ok(Running {
             poll,
             polling,
@@ -107,6 +107,9 @@ impl Running {
         output: &mut W,
         errors: &mut E,
     ) -> Result<(), RunFault> {
+        if self.serving.take_full() {
+            self.voice.say_full();
+        }
         self.sayings.put(now.moment, &self.voice.take_said());
         let _said = self.sayings.write(errors);
         self.lines.put(now.moment, &self.voice.take_lines());

@@ -5,9 +5,11 @@ ghost use Rattle.office_running.specs.Runs.{Goes};
 
 use crate::clocks::Now;
 use crate::fault::RunFault;
+use crate::kept_room::KeptRoom;
 use crate::peers::Peer;
+use crate::settings::Settings;
 use crate::voice::Voice;
-use http_request::{Route, router};
+use http_request::{Route, Status, router};
 use matchit::Router;
 use mio::net::{TcpListener, TcpStream};
 use mio::{Interest, Registry, Token};
@@ -17,7 +19,8 @@ use run_schedule::{MOST_PEERS, PEER_SECONDS, Peers, place_for};
 use run_status::{PeerReply, RunRoute, StatusRoute, ask, reply_site, reply_status, run_route};
 use std::alloc::{AllocError, Global};
 use std::io::ErrorKind;
-use std::net::{Net, SocketAddr};
+use std::mem;
+use std::net::Net;
 
 /// The port and its connections. The token of a connection is its place, and that of the port is the number of places.
 #[derive(Drop)]
@@ -30,6 +33,9 @@ pub(crate) struct Serving {
     connections: Vec<Option<Peer>>,
     /// How many requests may still be replied to in this turn.
     left: usize,
+    room: KeptRoom,
+    /// Whether a command was refused since there is no room to keep it, which was not said yet.
+    is_full: bool,
 }
 
 // Whether the connection of a place has something that was not looked at.
@@ -63,9 +69,9 @@ impl Serving {
         rt: &R,
         alloc: Global,
         registry: &Registry,
-        listen: SocketAddr,
+        settings: &Settings<'_>,
     ) -> Result<Serving, RunFault> {
-        let Ok(mut listener) = TcpListener::bind(rt, listen) else {
+        let Ok(mut listener) = TcpListener::bind(rt, settings.listen) else {
             return Err(RunFault::Port);
         };
         if registry
@@ -84,12 +90,19 @@ impl Serving {
             peers: Peers::new(),
             connections,
             left: MOST_PEERS,
+            room: KeptRoom::of(settings),
+            is_full: false,
         })
     }
 
     /// A turn begins, in which so many requests are replied to as there are places: devices wait for no more.
     pub(crate) fn begin_turn(&mut self) {
         self.left = MOST_PEERS;
+    }
+
+    /// Takes whether a command was refused since there is no room to keep it.
+    pub(crate) fn take_full(&mut self) -> bool {
+        mem::replace(&mut self.is_full, false)
     }
 
     /// Something may have come for a token.
@@ -214,7 +227,7 @@ impl Serving {
         }
     }
 
-    // What comes of what a peer has asked. Who asks is tested before all else.
+    // What comes of what a peer has asked. Who asks is tested before all else, and then whether what is kept has room.
     #[tactic(auto, using(crate::proofs::Going::goes_none, crate::proofs::Going::goes_both))]
     fn reply<B: Books>(
         &self,
@@ -229,7 +242,12 @@ impl Serving {
         match run_route(names, request) {
             Some(RunRoute::Own(route)) => self.reply_status(route, voice),
             Some(RunRoute::Site) => self.reply_site(office, now.moment),
-            None => ask(self.alloc, request, office, now.moment),
+            None => {
+                if self.room.lacks(request) {
+                    return self.reply_status(StatusRoute::Rejected(Status::Unavailable), voice);
+                }
+                ask(self.alloc, request, office, now.moment)
+            }
         }
     }
 
@@ -272,6 +290,8 @@ impl Serving {
         if peer.hear(&self.router) {
             self.left = self.left.saturating_sub(1);
             let asked = self.reply(names, &peer.asked, office, voice, now);
+            self.is_full = self.is_full || self.room.lacks(&peer.asked);
+            self.room.count(&peer.asked, &asked);
             peer.take(asked);
         }
         self.put_back(place, peer, now.time);

@@ -7,6 +7,7 @@ mod devices;
 mod event_loop;
 mod fault;
 mod http_port;
+mod kept_room;
 mod lacking;
 mod leftovers;
 mod office;

@@ -28,6 +28,10 @@ pub struct Settings<'n> {
     pub lasts: Option<u64>,
     /// By which names HTTP may be asked, besides those of this machine alone.
     pub host_names: &'n [&'n str],
+    /// How many bytes of requests were kept in the books when they were opened, and how many may be at most: a command for which
+    /// no room is left is answered 503. Without a limit where that is `None`.
+    pub kept: u64,
+    pub most_kept: Option<u64>,
     /// Whether each poll has a line.
     pub verbose: bool,
     /// The descriptors behind output and errors, so that neither is waited for; `None` where they never make a write wait.

@@ -38,6 +38,8 @@ pub(crate) struct Voice {
     lines: Vec<u8>,
     said: Vec<u8>,
     told: Told,
+    /// Whether it was said that no more commands are taken.
+    is_full: bool,
 }
 
 // How a device stands after a round whose polls ended so.
@@ -98,6 +100,7 @@ impl Voice {
             lines: Vec::new(alloc),
             said: Vec::new(alloc),
             told: Told::new(alloc),
+            is_full: false,
         })
     }
 
@@ -179,6 +182,17 @@ impl Voice {
             &mut self.said,
             b" at once; if that is not the time, set the clock right and start again: what is booked now stays at that moment\n",
         );
+    }
+
+    /// Says once that a command was refused since what is kept has no room for it.
+    pub(crate) fn say_full(&mut self) {
+        if !self.is_full {
+            self.is_full = true;
+            let _done = put(
+                &mut self.said,
+                b"sunreg: commands over HTTP are answered 503: no room is left to keep them; start again with a larger --most-kept, or with a new file\n",
+            );
+        }
     }
 
     /// Tells how a device stands, where that was otherwise before.

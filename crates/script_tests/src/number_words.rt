@@ -49,6 +49,27 @@ fn seconds(alloc: Global, every: &str, lasts: &str) -> Option<(u32, Option<u32>)
     }
 }
 
+// How many megabytes of requests `run` keeps.
+fn most_kept(alloc: Global, most_kept: &str) -> Option<Option<u32>> {
+    let words = [
+        "run",
+        "--db",
+        "x",
+        "--listen",
+        "1",
+        "--devices",
+        "a=h:1",
+        "--every",
+        "1",
+        "--most-kept",
+        most_kept,
+    ];
+    match command_of(alloc, &words) {
+        Ok(CommandLine::Run { most_kept, .. }) => Some(most_kept),
+        _ => None,
+    }
+}
+
 // The port that `run` listens on.
 fn listen(alloc: Global, listen: &str) -> Option<u16> {
     let words = [
@@ -111,6 +132,14 @@ fn seconds_are_in_their_ranges(rt: HostRuntime) {
     assert!(rt; seconds(rt.alloc(), "86401", "1") == None);
     assert!(rt; seconds(rt.alloc(), "1", "0") == None);
     assert!(rt; seconds(rt.alloc(), "1", "4000000001") == None);
+}
+
+#[test]
+fn kept_megabytes_are_1_to_1000000(rt: HostRuntime) {
+    assert!(rt; most_kept(rt.alloc(), "1") == Some(Some(1)));
+    assert!(rt; most_kept(rt.alloc(), "1000000") == Some(Some(1_000_000)));
+    assert!(rt; most_kept(rt.alloc(), "0") == None);
+    assert!(rt; most_kept(rt.alloc(), "1000001") == None);
 }
 
 static PAST: [&str; 7] = [

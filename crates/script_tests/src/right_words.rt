@@ -235,7 +235,7 @@ static RUN: [&str; 9] = [
     "inv=192.0.2.7:502",
 ];
 
-static RUN_ALL: [&str; 11] = [
+static RUN_ALL: [&str; 13] = [
     "run",
     "--verbose",
     "--db=o.db",
@@ -246,6 +246,8 @@ static RUN_ALL: [&str; 11] = [
     "--for",
     "3600",
     "--host-name=a.example",
+    "--most-kept",
+    "100",
     "--",
 ];
 
@@ -378,10 +380,11 @@ fn run_goes_on_where_no_end_is_given(rt: HostRuntime) {
                 devices,
                 lasts,
                 host_names,
+                most_kept,
                 verbose,
             },
         ) => {
-            assert!(rt; host_names.is_empty());
+            assert!(rt; host_names.is_empty() && most_kept == None);
             assert!(rt; db == "o.db" && listen == 8080 && every == 60);
             assert!(rt; lasts == None && !verbose);
             assert!(rt; devices.as_slice() == DEVICES.as_slice());
@@ -398,10 +401,12 @@ fn run_takes_an_end_and_verbose(rt: HostRuntime) {
                 devices,
                 lasts,
                 host_names,
+                most_kept,
                 verbose,
                 ..
             },
         ) => {
+            assert!(rt; most_kept == Some(100));
             assert!(rt; host_names.as_slice() == ["a.example"].as_slice());
             assert!(rt; lasts == Some(3600) && verbose);
             assert!(rt; devices.as_slice() == ALL_DEVICES.as_slice());

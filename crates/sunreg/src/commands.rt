@@ -82,9 +82,17 @@ pub(crate) fn carry_out<'a>(rt: &HostRuntime, line: &CommandLine<'a>) -> Ending<
             devices,
             lasts,
             host_names,
+            most_kept,
             verbose,
         } => {
-            let settings = settings_of(*listen, *every, *lasts, host_names.as_slice(), *verbose);
+            let settings = settings_of(
+                *listen,
+                *every,
+                *lasts,
+                host_names.as_slice(),
+                *most_kept,
+                *verbose,
+            );
             run(rt, *db, devices, &settings)
         }
         CommandLine::Enter {

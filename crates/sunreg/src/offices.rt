@@ -8,10 +8,11 @@ use crate::run_words::sites_of;
 use command_words::Device;
 use interval_core::Zone;
 use office_program::NamedFiles;
-use office_running::Settings;
+use office_running::{Settings, Site};
 use office_store::OpenFault;
 use round_advice::say_remarks;
 use socket_link::SystemClock;
+use sqlite::types::ValueRef;
 use sqlite::{Alter, Connection, FileFrom, FileStore, Unknown};
 use std::fs::{self, Permissions};
 use std::io::{self, ErrorKind, IsTerminal, Printer, Write};
@@ -222,10 +223,23 @@ pub(crate) fn over_office<'a, D: Databases + NamedFiles>(
 ) -> Result<Done, Failure<'a>>
     ensures same { IfOk result (IsOf task.entry) }
 {
+    let connection = open_in(rt, surroundings, path)?;
+    over_connection(rt, surroundings, path, connection, task)
+}
+
+// The same over a connection to it.
+fn over_connection<'a, D: Databases + NamedFiles>(
+    rt: &HostRuntime,
+    surroundings: &D,
+    path: &'a str,
+    connection: Connection<D::Store>,
+    task: Task<'_>,
+) -> Result<Done, Failure<'a>>
+    ensures same { IfOk result (IsOf task.entry) }
+{
     let Ok(mut output) = output_of(rt, task) else {
         return Err(Failure::Memory);
     };
-    let connection = open_in(rt, surroundings, path)?;
     let mut clock = SystemClock::new(rt);
     let mut errors = rt.stderr();
     let done = carry_out_stored(
@@ -277,6 +291,35 @@ pub(crate) fn create<'a>(rt: &HostRuntime, path: &'a str, zone: &'a str) -> Endi
     }
 }
 
+// How many bytes of requests the books in a database keep; none where they can't be asked, which their opening then tells.
+fn kept_in<S: Alter + Drop>(connection: &mut Connection<S>) -> u64 {
+    let Ok(row) = connection.query_row("SELECT sum(length(request)) FROM replies", &[]) else {
+        return 0;
+    };
+    match row.get_ref(0) {
+        Ok(ValueRef::Int(bytes)) => u64::try_from(bytes).unwrap_or(0),
+        _ => 0,
+    }
+}
+
+// Runs over the database at a path. What it keeps of requests is counted once, before its books are opened.
+fn run_over<'a, D: Databases + NamedFiles>(
+    rt: &HostRuntime,
+    surroundings: &D,
+    path: &'a str,
+    sites: &[Site],
+    settings: &Settings<'_>,
+) -> Result<Done, Failure<'a>> {
+    let mut connection = open_in(rt, surroundings, path)?;
+    let mut settings = *settings;
+    settings.kept = kept_in(&mut connection);
+    let task = Task::Run {
+        settings: &settings,
+        sites,
+    };
+    over_connection(rt, surroundings, path, connection, task)
+}
+
 /// Polls devices on a schedule and answers HTTP, as the settings say.
 pub(crate) fn run<'a>(
     rt: &HostRuntime,
@@ -288,10 +331,6 @@ pub(crate) fn run<'a>(
         Ok(sites) => sites,
         Err(failure) => return Ending::Failed(failure),
     };
-    let task = Task::Run {
-        settings: &*settings,
-        sites: sites.as_slice(),
-    };
-    let done = over_office(rt, &Files::of(rt), path, task);
+    let done = run_over(rt, &Files::of(rt), path, sites.as_slice(), settings);
     ending_of_done(done, OWN_HOST, settings.listen.port())
 }

@@ -10,12 +10,16 @@ const STANDARD_OUTPUT: i32 = 1;
 
 const STANDARD_ERROR: i32 = 2;
 
+/// The bytes of a megabyte.
+const MEGABYTE: u64 = 1_000_000;
+
 /// The settings of a run that answers on a port of this machine alone.
 pub(crate) fn settings_of<'n>(
     listen: u16,
     every: u32,
     lasts: Option<u32>,
     host_names: &'n [&'n str],
+    most_kept: Option<u32>,
     verbose: bool,
 ) -> Settings<'n> {
     Settings {
@@ -26,6 +30,11 @@ pub(crate) fn settings_of<'n>(
             None => None,
         },
         host_names,
+        kept: 0,
+        most_kept: match most_kept {
+            Some(megabytes) => Some(u64::from(megabytes).saturating_mul(MEGABYTE)),
+            None => None,
+        },
         verbose,
         descriptors: Some(Descriptors {
             output: STANDARD_OUTPUT,
