@@ -162,8 +162,9 @@ fn check_line<B: Books, F: NamedFiles, W: Write>(
     files: &F,
     output: &mut W,
 ) -> Result<bool, ExitStatus>
-    ensures checks { ChecksLine (telling_of F.NamedFiles files.now) caller.now (seen_line line.entry)
-        (B.ledger books.old) (B.ledger books.new) (W.contents output.old) (W.contents output.new) result }
+    ensures checks { ChecksLine (telling_of F.NamedFiles files.now)
+        caller.now (seen_line line.entry) (B.ledger books.old) (B.ledger books.new)
+        (W.contents output.old) (W.contents output.new) result }
     ensures looks { OnlyLooks (B.ledger books.old) (B.ledger books.new) }
     ensures fails { IfErr result (λ status. status ≡ ExitStatus.Failed) }
 {
