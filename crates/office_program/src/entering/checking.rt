@@ -190,7 +190,8 @@ fn check_text<B: Books, F: NamedFiles, W: Write>(
     output: &mut W,
 ) -> ExitStatus
     ensures checks { ChecksText (telling_of F.NamedFiles files.now) caller.now text.now
-        (B.ledger books.old) (B.ledger books.new) (W.contents output.old) (W.contents output.new) result }
+        (B.ledger books.old) (B.ledger books.new)
+        (W.contents output.old) (W.contents output.new) result }
     ensures looks { OnlyLooks (B.ledger books.old) (B.ledger books.new) }
 {
     let mut refused = false;
