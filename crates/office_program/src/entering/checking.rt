@@ -162,8 +162,9 @@ fn check_line<B: Books, F: NamedFiles, W: Write>(
     files: &F,
     output: &mut W,
 ) -> Result<bool, ExitStatus>
-    ensures checks { ChecksLine (telling_of F.NamedFiles files.now) caller.now (seen_line line.entry) (B.ledger books.old)
-        (B.ledger books.new) (W.contents output.old) (W.contents output.new) result }
+    ensures checks { ChecksLine (telling_of F.NamedFiles files.now)
+        caller.now (seen_line line.entry) (B.ledger books.old) (B.ledger books.new)
+        (W.contents output.old) (W.contents output.new) result }
     ensures looks { OnlyLooks (B.ledger books.old) (B.ledger books.new) }
     ensures fails { IfErr result (λ status. status ≡ ExitStatus.Failed) }
 {
@@ -188,8 +189,9 @@ fn check_text<B: Books, F: NamedFiles, W: Write>(
     files: &F,
     output: &mut W,
 ) -> ExitStatus
-    ensures checks { ChecksText (telling_of F.NamedFiles files.now) caller.now text.now (B.ledger books.old)
-        (B.ledger books.new) (W.contents output.old) (W.contents output.new) result }
+    ensures checks { ChecksText (telling_of F.NamedFiles files.now) caller.now text.now
+        (B.ledger books.old) (B.ledger books.new)
+        (W.contents output.old) (W.contents output.new) result }
     ensures looks { OnlyLooks (B.ledger books.old) (B.ledger books.new) }
 {
     let mut refused = false;
@@ -219,8 +221,8 @@ pub fn check_books<B: Books, F: NamedFiles, W: Write>(
     files: &F,
     output: &mut W,
 ) -> CommandEnd<B, ExitStatus>
-    ensures checks { ChecksOver B.ledger (telling_of F.NamedFiles files.now) caller.now text.now books result.books
-        (W.contents output.old) (W.contents output.new) result.end }
+    ensures checks { ChecksOver B.ledger (telling_of F.NamedFiles files.now) caller.now text.now
+        books result.books (W.contents output.old) (W.contents output.new) result.end }
     ensures lasts { Lasts (B.ledger books) (B.ledger result.books) }
 {
     let caller = Name::new(caller.as_bytes());

@@ -28,8 +28,8 @@ fn enter_text<B: Books, C: Clock, F: NamedFiles, W: Write>(
     clock: &mut C,
     output: &mut W,
 ) -> ExitStatus
-    ensures enters { EntersTextOf B.Books C.Clock W.Write (telling_of F.NamedFiles files.now) caller.now text.now first
-        office.old office.new clock.old clock.new output.old output.new result }
+    ensures enters { EntersTextOf B.Books C.Clock W.Write (telling_of F.NamedFiles files.now)
+        caller.now text.now first office.old office.new clock.old clock.new output.old output.new result }
     ensures lasts { rounds.Lasts B.ledger office.old office.new }
 {
     let mut progress = Progress::from(first);
@@ -60,8 +60,8 @@ pub fn enter_books<B: Books, C: Clock, F: NamedFiles, W: Write>(
     clock: &mut C,
     output: &mut W,
 ) -> CommandEnd<B, ExitStatus>
-    ensures tells { EntersOver B.Books C.Clock W.Write (telling_of F.NamedFiles files.now) caller.now text.now
-        books result.books clock.old clock.new output.old output.new result.end }
+    ensures tells { EntersOver B.Books C.Clock W.Write (telling_of F.NamedFiles files.now)
+        caller.now text.now books result.books clock.old clock.new output.old output.new result.end }
     ensures lasts { Lasts (B.ledger books) (B.ledger result.books) }
 {
     let first = clock.now();

@@ -137,7 +137,8 @@ fn file_entry<F: NamedFiles>(
     named: &FileLine<'_>,
     files: &F,
 ) -> Result<Entry, LineFault>
-    ensures { ReadsFile (telling_of F.NamedFiles files.now) caller line.now (seen_line named.now) result }
+    ensures { ReadsFile (telling_of F.NamedFiles files.now)
+        caller line.now (seen_line named.now) result }
 {
     match files.read(alloc, named.name) {
         Ok(found) => match found {

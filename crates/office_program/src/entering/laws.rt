@@ -12,5 +12,6 @@ pub fn requests_are_repeated()
 /// An input of whose lines each acted acts once, where its files tell the same each time: entered again, it leaves the facts as
 /// they were.
 pub fn inputs_act_once<F: NamedFiles>(files: &F)
-    ensures { AreSteady (telling_of F.NamedFiles files.now) → InputsActOnce (telling_of F.NamedFiles files.now) }
+    ensures { AreSteady (telling_of F.NamedFiles files.now)
+        → InputsActOnce (telling_of F.NamedFiles files.now) }
 {}

@@ -30,7 +30,7 @@ module _ {S : Type 0} (g : Ghosts S) where
   Runs names moments later past =
       OverBooks g past (λ found left. BooksRun names moments later (ledger_in g left) past)
 
-  -- The task that was asked for was done, and so it ended; files that a text names tell this.
+  -- The task that was asked for was done, and so it ended; files and counters that a text names tell this.
   unfoldable pub Does : Telling → (past : History) → (moments later had holds : Option (List ℕ))
       → Task → Done → Type 0
   Does tells past moments later had holds (task.Report register) (Reported end) =

@@ -77,7 +77,7 @@ pub enum Done {
 }
 
 /// Finds the books of a database, and carries a task out over them. Where there are no books, nothing is printed. Files that
-/// a text names are read by `files`.
+/// a text names are read by `files`, and so are counters.
 pub fn carry_out_stored<
     R: Net + std::rt::Clock,
     S: Alter + Drop,
@@ -100,7 +100,8 @@ pub fn carry_out_stored<
     ensures silent { IfErr result (λ fault. output.new ≡ output.old) }
     ensures same { IfOk result (IsOf task.entry) }
     ensures does { (past : History) → HasPast S.Store connection past
-        → IfOk result (Does S.Store (telling_of F.NamedFiles files.now) past (C.moments clock.old) (C.moments clock.new)
+        → IfOk result (Does S.Store (telling_of F.NamedFiles files.now) past
+        (C.moments clock.old) (C.moments clock.new)
         (W.contents output.old) (W.contents output.new) task.entry) }
 {
     match SqlBooks::open(alloc, connection) {
