@@ -238,7 +238,8 @@ pub(crate) fn enter_line<B: Books, C: Clock, F: NamedFiles, W: Write>(
     output: &mut W,
 ) -> Result<Progress, ExitStatus>
     ensures enters { EntersNext B.Books C.Clock W.Write (telling_of F.NamedFiles files.now)
-        caller.now (seen_line line.entry) progress office.old office.new clock.old clock.new output.old output.new result }
+        caller.now (seen_line line.entry) progress office.old office.new clock.old clock.new
+        output.old output.new result }
     ensures lasts { Lasts B.ledger office.old office.new }
 {
     match entry_in(alloc, *caller, line.text, files) {

@@ -29,7 +29,8 @@ fn enter_text<B: Books, C: Clock, F: NamedFiles, W: Write>(
     output: &mut W,
 ) -> ExitStatus
     ensures enters { EntersTextOf B.Books C.Clock W.Write (telling_of F.NamedFiles files.now)
-        caller.now text.now first office.old office.new clock.old clock.new output.old output.new result }
+        caller.now text.now first office.old office.new clock.old clock.new
+        output.old output.new result }
     ensures lasts { rounds.Lasts B.ledger office.old office.new }
 {
     let mut progress = Progress::from(first);
@@ -61,7 +62,8 @@ pub fn enter_books<B: Books, C: Clock, F: NamedFiles, W: Write>(
     output: &mut W,
 ) -> CommandEnd<B, ExitStatus>
     ensures tells { EntersOver B.Books C.Clock W.Write (telling_of F.NamedFiles files.now)
-        caller.now text.now books result.books clock.old clock.new output.old output.new result.end }
+        caller.now text.now books result.books clock.old clock.new
+        output.old output.new result.end }
     ensures lasts { Lasts (B.ledger books) (B.ledger result.books) }
 {
     let first = clock.now();
