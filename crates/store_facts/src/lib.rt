@@ -10,6 +10,6 @@ pub use intervals::{book_step, meter_intervals, register_intervals, replace_shar
 pub use names::{name, text};
 pub use points::points_at;
 pub use rows::{
-    begun_row, device_row, entry_row, hold_row, is_sound_opening, last_row, opening_row,
+    begun_row, device_row, entry_row, hold_row, is_scale, is_sound_opening, last_row, opening_row,
     outcome_row, poll_row, register_row,
 };

@@ -1,6 +1,6 @@
 //! The rows of facts.
 ghost use Rattle.std.specs.Prelude.{◌≡◌, ◌≤◌, true, IsTrue};
-ghost use Rattle.energy_core.specs.Account.{moment_of};
+ghost use Rattle.energy_core.specs.Account.{IsScale, moment_of};
 ghost use Rattle.store_tables.specs.Columns.{is_within};
 ghost use Rattle.store_tables.specs.Limits.{IsPlace, latest_moment};
 ghost use Rattle.store_devices.specs.Devices.Rows.{IsSoundDevice};
@@ -10,7 +10,7 @@ ghost use Rattle.store_devices.specs.Polls.Rows.{IsSoundPoll};
 ghost use Rattle.store_facts.specs.Rows.{IsSoundOpening};
 ghost use Rattle.store_facts.specs.Rows as rows;
 
-use energy_core::{Entry, Last, MAX_CEILING, MAX_RANGE, MIN_RANGE};
+use energy_core::{Entry, Last, MAX_CEILING, MAX_RANGE, MAX_SCALE, MIN_RANGE, MIN_SCALE};
 use meter_journal::EntryKind;
 use office_events::{Device, EndedPoll, HeldReading, Opening, Poll, Register, ScaleSource};
 use store_devices::{DeviceRow, HoldRow, OutcomeRow, PollRow, RegisterRow, RegisterScale};
@@ -109,6 +109,14 @@ pub fn entry_row(of: EntryKind, entry: Entry, place: u64, sf: &i16) -> EntryRow
     }
 }
 
+/// Whether a scale factor is one that counters and the tables can have.
+pub fn is_scale(sf: i16) -> bool
+    ensures within { result ≡ is_within 3 sf }
+    ensures lawful { IsTrue result → IsScale sf }
+{
+    MIN_SCALE <= sf && sf <= MAX_SCALE
+}
+
 /// Whether the tables can have the numbers of an opening.
 pub fn is_sound_opening(opening: &Opening) -> bool
     ensures { result ≡ true → IsSoundOpening opening.now }
@@ -118,8 +126,7 @@ pub fn is_sound_opening(opening: &Opening) -> bool
         && MIN_RANGE <= opening.range
         && opening.range <= MAX_RANGE
         && opening.at <= LATEST_MOMENT
-        && -3 <= opening.sf
-        && opening.sf <= 3
+        && is_scale(opening.sf)
 }
 
 /// An installation at a place, where it was opened.

@@ -7,8 +7,7 @@ use Rattle.sqlite.specs.State.{State, HasCleanDisk, KeepsCommit, Survives}
 use Rattle.store_tables.specs.Schema.{books_schema}
 use Rattle.store_tables.specs.Content.{Content, AreTablesIn}
 
--- the same borrow, by the name under which proofs know it: what is written through the one is what is
--- found through the other
+-- the same borrow, known by its name: so whoever lent the connection finds in it what the call left
 abbrev pub IsSameBorrow : {X : Type 0} → MutBor X → MutBor X → Type 0
 IsSameBorrow old new = new.ghost_name ≡ old.ghost_name
 

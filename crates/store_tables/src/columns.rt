@@ -6,6 +6,7 @@ ghost use Rattle.store_tables.specs.Failing.{IsRowFault};
 ghost use Rattle.store_tables.specs.Columns.{whole_in, first_in, within, function_in, or_damaged};
 
 use crate::faults::RowFault;
+use energy_core::{MAX_SCALE, MIN_SCALE};
 use mb_wire::ReadFunction;
 use sqlite::types::ValueRef;
 use sqlite::{Error, ErrorCode, Row};
@@ -48,7 +49,7 @@ pub fn scale(row: &Row, at: usize) -> Result<i16, RowFault>
 {
     match row.get_ref(at) {
         Ok(ValueRef::Int(n)) => {
-            if -3 <= n && n <= 3 {
+            if i64::from(MIN_SCALE) <= n && n <= i64::from(MAX_SCALE) {
                 Ok(n as i16)
             } else {
                 Err(RowFault::Damaged)

@@ -19,7 +19,7 @@ use meter_journal::{
 };
 use sqlite::Error;
 use std::alloc::Global;
-use store_facts::last_row;
+use store_facts::{is_scale, last_row};
 use store_queries::tally;
 use store_tables::{GREATEST_PLACE, LATEST_MOMENT, LastRow, RowFault};
 
@@ -85,7 +85,7 @@ fn is_well_installed(meter: &Installed) -> bool
 {
     let opening = meter.opening;
     let ranged = MIN_RANGE <= meter.range && meter.range <= MAX_RANGE;
-    ranged && u64::from(opening.raw) < meter.range && -3 <= opening.sf && opening.sf <= 3
+    ranged && u64::from(opening.raw) < meter.range && is_scale(opening.sf)
 }
 
 /// Whether the tables can have each of these rows.

@@ -13,7 +13,6 @@ ghost use Rattle.store_facts.specs.Recording.{Records};
 ghost use Rattle.office_store.specs.Bookings.MeterState.{Advances, EntersEntry, Settles};
 
 use crate::bookings::meter_state::{Standing, standing_of};
-use crate::bookings::registers::is_scale;
 use energy_core::{Entry, Last, MAX_INTERVALS, Ranged, Step, Terms};
 use office_events::BookedEntry;
 use office_rules::{
@@ -21,7 +20,7 @@ use office_rules::{
     voids_leave_no_trace,
 };
 use sqlite::{Alter, Transaction};
-use store_facts::{book_step, entry_row, last_row, text};
+use store_facts::{book_step, entry_row, is_scale, last_row, text};
 use store_tables::{
     EntryRow, LATEST_MOMENT, LastRow, RowFault, end_installation, insert_entry, update_last,
 };
@@ -67,7 +66,7 @@ fn go_on(standing: &Standing, entry: &Entry) -> Result<Advance, RowFault>
     let Some(counter) = Ranged::new(range) else {
         return Err(RowFault::Damaged);
     };
-    if range <= u64::from(last.raw) || last.sf < -3 || 3 < last.sf {
+    if range <= u64::from(last.raw) || !is_scale(last.sf) {
         return Err(RowFault::Damaged);
     }
     let terms = Terms {

@@ -2,7 +2,6 @@
 ghost use Rattle.std.specs.Prelude.{◌≡◌, true};
 ghost use Rattle.sqlite.specs.Held.{state};
 ghost use Rattle.office_events.specs.declared.facts.Fact.TheVariants as fact;
-ghost use Rattle.store_tables.specs.Columns.{is_within};
 ghost use Rattle.store_tables.specs.Steps.{IsSameBorrow};
 ghost use Rattle.store_devices.specs.Devices.Rows.{IsSoundScale, fits_a_read};
 ghost use Rattle.store_facts.specs.Going.{Goes};
@@ -13,15 +12,8 @@ use crate::bookings::places::next_register;
 use office_events::{LAST_COUNTER, Register, ScaleSource};
 use sqlite::{Alter, Transaction};
 use store_devices::insert_register;
-use store_facts::{register_row, text};
+use store_facts::{is_scale, register_row, text};
 use store_tables::RowFault;
-
-/// Whether a scale factor is one that a register may have.
-pub fn is_scale(sf: i16) -> bool
-    ensures { result ≡ is_within 3 sf }
-{
-    -3 <= sf && sf <= 3
-}
 
 /// Whether the table can have a register's scale.
 fn is_sound_scale(source: ScaleSource) -> bool
