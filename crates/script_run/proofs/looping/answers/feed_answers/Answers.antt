@@ -1,5 +1,6 @@
 use Rattle.std.proofs.Common.{◌+◌, arith}
-use Rattle.script_run.proofs.LoopingLemmas.Breaking.{none_yet}
+use Rattle.script_run.specs.Looping.Answers.{AnswersPrint}
+use Rattle.script_run.proofs.LoopingLemmas.Breaking.{breaks, none_yet}
 use Rattle.script_run.proofs.LoopingLemmas.Feeding.{fed_broken, fed_end, fed_more, fed_part, fed_refused, none_fed}
 use Rattle.script_run.proofs.looping.answers.feed_answers.Goals as goal
 
@@ -32,12 +33,18 @@ returns g c =
     fed_end c.end_well-3.result c.loop-take._take c.args.device.now c.args.at c.args.office.now c.loop-take.office _ _ _ (omega arith) c.loop-take.invariant c.end_well-3.ensures
 
 pub returns-in_err-next_came : goal.returns-in_err-next_came
-returns-in_err-next_came g c = λ past stands.
+returns-in_err-next_came g c =
+    breaks c.from_residual.result (λ stays now printed next. AnswersPrint c.args.device.now c.args.at now printed next) c.args.office.now c.loop-take.office
+    _ _ c.from_residual.ensures.0
+    (λ past stands.
     fed_part c.loop-take._take c.args.device.now c.args.at past c.args.office.now c.loop-take.office _ _ _ (omega arith) (c.loop-take.invariant past stands)
-    (none_yet _ _)
+    (none_yet _ _))
 
 pub returns-in_err-accepted : goal.returns-in_err-accepted
-returns-in_err-accepted g c = λ past stands.
+returns-in_err-accepted g c =
+    breaks c.from_residual-in_err-accepted.result (λ stays now printed next. AnswersPrint c.args.device.now c.args.at now printed next) c.args.office.now
+    c.feed.new.office _ _ c.from_residual-in_err-accepted.ensures.0
+    (λ past stands.
     let so = c.loop-take.invariant past stands in
     fed_broken c.loop-take._take c.args.device.now c.args.at past c.in-Some.came c.into_event.result c.args.office.now c.loop-take.office _ _ _ (omega arith) so
-    c.into_event.ensures (c.in_err-accepted.ensures so.after so.stands)
+    c.into_event.ensures (c.in_err-accepted.ensures so.after so.stands))

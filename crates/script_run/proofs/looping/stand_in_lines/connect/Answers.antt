@@ -1,9 +1,11 @@
-use Rattle.std.proofs.Common.{◌∙◌, ap, refl}
+use Rattle.std.proofs.Common.{inl, ◌∙◌, ap, refl}
+use Rattle.std.proofs.KnownBytes.{Appends-nil}
 use Rattle.std.specs.Prelude.{Ok, Err}
 use Rattle.office_events.specs.declared.events.Event.TheVariants as event
 use Rattle.office_rules.specs.Notes.{notes_after}
 use Rattle.script_run.specs.Replaying.Events.{EventPrints}
 use Rattle.script_text.specs.AnswerText.{accepted_text, refused_line}
+use Rattle.script_run.proofs.LoopingLemmas.Breaking.{breaks}
 use Rattle.script_run.proofs.LoopingLemmas.Carrying.{writing}
 use Rattle.script_run.proofs.LoopingLemmas.Feeding.{was_printed, was_replied}
 use Rattle.script_run.proofs.looping.stand_in_lines.connect.Goals as goal
@@ -35,3 +37,13 @@ returns g c =
     (was_replied past c.args.at e (Err why) c.args.office.now c.feed.new.self (c.in-Err.ensures.answers past stands tt) c.in-Err.ensures.ends
     (c.in-Err.ensures.quiet past stands) (c.in-Err.ensures.stands past stands tt))
     refl)
+
+pub returns-in_err-connect-in-Ok : goal.returns-in_err-connect-in-Ok
+returns-in_err-connect-in-Ok g c =
+    breaks c.from_residual.result (λ done now printed next. EventPrints now c.args.at (event.Connected c.args.device.now) printed next) c.args.office.now _ _ _
+    c.from_residual.ensures.0 (λ past stands. inl (Appends-nil _))
+
+pub returns-in_err-connect-2-in-Ok : goal.returns-in_err-connect-2-in-Ok
+returns-in_err-connect-2-in-Ok g c =
+    breaks c.from_residual-in_err-connect-2-in-Ok.result (λ done now printed next. EventPrints now c.args.at (event.Connected c.args.device.now) printed next)
+    c.args.office.now _ _ _ c.from_residual-in_err-connect-2-in-Ok.ensures.0 (λ past stands. inl (Appends-nil _))

@@ -6,6 +6,7 @@ use Rattle.office_rules.specs.Notes.{notes_after}
 use Rattle.script_text.specs.AnswerText.{accepted_text, refused_line}
 use Rattle.script_run.specs.Looping.Lines.{StartsPrint}
 use Rattle.script_run.specs.Looping.Standings.{loop_state}
+use Rattle.script_run.proofs.LoopingLemmas.Breaking.{breaks_out}
 use Rattle.script_run.proofs.LoopingLemmas.Carrying.{writing_out}
 use Rattle.script_run.proofs.LoopingLemmas.Feeding.{not_started, start_begun, started, was_replied}
 use Rattle.script_run.proofs.looping.stand_in_lines.start.Goals as goal
@@ -43,12 +44,15 @@ returns-in-Err g c = λ connected.
     (was_replied past c.args.at e (Err why) c.args.office.now c.feed.new.self (c.in-Err.ensures.answers past stands tt) c.in-Err.ensures.ends
     (c.in-Err.ensures.quiet past stands) (c.in-Err.ensures.stands past stands tt)))
 
-pub returns-in_err-write_accepted : goal.returns-in_err-write_accepted
-returns-in_err-write_accepted g c = λ connected past stands.
+pub returns-in_err-write_accepted-in-Ok : goal.returns-in_err-write_accepted-in-Ok
+returns-in_err-write_accepted-in-Ok g c = λ connected.
     let e = c.args.event.now in
     let answer = c.in-Ok.answer in
     let old = g.W.Write.contents c.args.output.now in
     let mid = g.W.Write.contents c.write_accepted.new.output in
+    breaks_out c.from_residual.result (λ done now printed next. StartsPrint c.args.at c.args.device.now e now printed next)
+    (loop_state c.args.office.now c.args.bank.now connected old) (loop_state c.feed.new.self c.args.bank.now connected mid) c.from_residual.ensures.0
+    (λ past stands.
     let told = c.in-Ok.ensures.told past stands tt in
     start_begun c.args.at c.args.device.now e answer past c.args.office.now c.feed.new.self c.args.bank.now connected old mid
     (was_replied past c.args.at e (Ok answer) c.args.office.now c.feed.new.self (c.in-Ok.ensures.answers past stands tt) c.in-Ok.ensures.ends
@@ -56,4 +60,4 @@ returns-in_err-write_accepted g c = λ connected past stands.
     (subst (λ (text : List ℕ). GotPart text old mid)
     (ap (λ notes. accepted_text answer notes c.outgoing.result.now) (c.notes.ensures ∙ told.notes)
     ∙ ap (λ frames. accepted_text answer (notes_after past c.args.at e (Ok answer)) frames) (c.outgoing.ensures ∙ told.outgoing))
-    c.in_err-write_accepted.ensures)
+    c.in_err-write_accepted-in-Ok.ensures))
