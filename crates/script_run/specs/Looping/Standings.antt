@@ -49,7 +49,7 @@ Begins Prints output output' =
     ⊎ ((printed : List ℕ) × Prints printed × GotPart printed output output')
 
 -- Whoever asks carries it out, after every past after which the office stood; or the writer, memory or a connection failed,
--- and it was broken off.
+-- and it was broken off. Where the office stands then is not said.
 abbrev pub CarriesOut : {X E : Type 0} → Result X E → (X → LoopStage → List ℕ → LoopStage → Type 0)
     → (from to : LoopState) → Type 0
 CarriesOut (Ok x) Prints from to =
