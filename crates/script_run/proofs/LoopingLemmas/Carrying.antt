@@ -128,15 +128,29 @@ plain (Ok done) at e office office' maps connected o o' feeds = λ past stands.
     (as_script (λ now printed next. EventPrints now at e printed next) past office office' done o o' (feeds past stands))
 plain (Err error) at e office office' maps connected o o' feeds = λ past stands.
     let done = feeds past stands in
-    inr (done.printed, (tt, stage_on done.after (loop_state office' maps connected o'),
-    record { prints = done.prints; by = record { maps = refl; connected = refl } }), done.got)
+    inr (
+      done.printed,
+      (
+        tt,
+        stage_on done.after (loop_state office' maps connected o'),
+        record { prints = done.prints; by = record { maps = refl; connected = refl } },
+      ),
+      done.got,
+    )
 
 broken_alike : (said : ScriptLine) (past : History) (office office' : Office ListBooks) (maps : Maps) (connected : Bool) (error : Error)
     (o o' : Option (List ℕ)) → MayCarryOut (λ now printed next. LinePrints now said printed next) past office office' (Err error) o o'
     → Begins (λ printed. (done : Unit {0}) × (next : LoopStage) × AlikePrints said (stage_on past (loop_state office maps connected o)) printed next) o o'
 broken_alike said past office office' maps connected error o o' (inl done) =
-    inr (done.printed, (tt, stage_on done.after (loop_state office' maps connected o'),
-    record { prints = done.prints; by = record { maps = refl; connected = refl } }), done.got)
+    inr (
+      done.printed,
+      (
+        tt,
+        stage_on done.after (loop_state office' maps connected o'),
+        record { prints = done.prints; by = record { maps = refl; connected = refl } },
+      ),
+      done.got,
+    )
 broken_alike said past office office' maps connected error o o' (inr none) = inl none.1
 
 -- a line that a loop carries out as a script does
@@ -190,8 +204,10 @@ pub plain_begun : (at : ℕ) (e : Event) (past : History) (office : Office ListB
     → Begins (λ printed. (done : Unit {0}) × (next : Stage) × EventPrints (stage_of past office) at e printed next) o o'
     → Begins (λ printed. (next : LoopStage) × PlainPrints at e (stage_on past (loop_state office maps connected o)) printed next) o o'
 plain_begun at e past office maps connected o o' begun =
-    begins_as _ _ o o' (λ printed broken. (record { script = broken.1; maps = maps; connected = connected },
-    record { prints = broken.2; by = record { maps = refl; connected = refl } })) begun
+    begins_as _ _ o o' (λ printed broken. (
+      record { script = broken.1; maps = maps; connected = connected },
+      record { prints = broken.2; by = record { maps = refl; connected = refl } },
+    )) begun
 
 pub happens_begun : (at : ℕ) (e : Event) (device : Option (List ℕ)) (past : History) (office : Office ListBooks) (maps : Maps)
     (connected : Bool) (o o' : Option (List ℕ)) → e ≡ event.Connected device
@@ -201,8 +217,10 @@ happens_begun at e device past office maps connected o o' is begun =
     let P : Event → Type 0 = λ s.
     Begins (λ printed. (next : LoopStage) × HappensPrints at s (stage_on past (loop_state office maps connected o)) printed next) o o' in
     subst P (sym is)
-    (begins_as _ _ o o' (λ printed broken. (record { script = broken.1; maps = maps; connected = true },
-    record { prints = broken.2; maps = refl; connected = refl })) begun)
+    (begins_as _ _ o o' (λ printed broken. (
+      record { script = broken.1; maps = maps; connected = true },
+      record { prints = broken.2; maps = refl; connected = refl },
+    )) begun)
 
 -- a line that was carried out, or is wrong
 pub line_done : (fine : Bool) (P : LoopStage → List ℕ → LoopStage → Type 0) (Wrong : Type 0) (from to : LoopState) → fine ≡ true

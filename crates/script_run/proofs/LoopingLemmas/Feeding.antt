@@ -70,8 +70,15 @@ pub was_begun : (past : History) (at : ℕ) (e : Event) (reply : Result Answer R
     → text ≡ fed_text past at e reply → GotPart text o o'
     → Begins (λ printed. (ok : Bool) × (next : Stage) × FedPrints (stage_of past office) at e ok printed next) o o'
 was_begun past at e reply office office' accepted text o o' replied accepts same got =
-    inr (text, (accepted, stage_of (with_answer past at e reply) office',
-    record { reply = reply; is = replied.is; accepts = accepts; text = same; after = replied.after }), got)
+    inr (
+      text,
+      (
+        accepted,
+        stage_of (with_answer past at e reply) office',
+        record { reply = reply; is = replied.is; accepts = accepts; text = same; after = replied.after },
+      ),
+      got,
+    )
 
 pub was_printed : (past : History) (at : ℕ) (e : Event) (reply : Result Answer Refusal) (office office' : Office ListBooks)
     (text : List ℕ) → Replied past at e reply office office' → text ≡ reply_text past at e reply
@@ -184,8 +191,11 @@ fed_broken takes device at past came e office mid o m o' most so is (inr (printe
       ends = inl (refl, refl);
       text = refl;
     } in
-    inr (text, (true, next, all),
-    part_of_longer o o' (so.printed ++ printed) (codes "ok\n") (part_after o m o' so.printed printed so.appended got))
+    inr (
+      text,
+      (true, next, all),
+      part_of_longer o o' (so.printed ++ printed) (codes "ok\n") (part_after o m o' so.printed printed so.appended got),
+    )
 fed_broken takes device at past came e office mid o m o' most so is (inr (printed, (false, next, fed_prints), got)) =
     let prints : FedPrints (stage_of so.after mid) at (fed device came) false printed next = rw (sym is) fed_prints in
     let all : AnswersPrint device at (stage_of past office) (so.printed ++ printed) next = record {

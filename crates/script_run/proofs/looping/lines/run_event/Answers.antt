@@ -49,8 +49,10 @@ pub returns-in_err-run_command-in-Command : goal.returns-in_err-run_command-in-C
 returns-in_err-run_command-in-Command g c =
     breaks_line c.from_residual-in_err-run_command-in-Command.result (HappensPrints c.args.at c.args.event.now) (IsBytes c.args.event.now) _ _ c.from_residual-in_err-run_command-in-Command.ensures.0
     (λ past stands.
-    begins_as _ _ _ _ (λ printed broken. (broken.1,
-    as_command c.args.at c.args.event.now _ c.round_of.result c.in-Command.is c.round_of.ensures _ printed broken.1 broken.2))
+    begins_as _ _ _ _ (λ printed broken. (
+      broken.1,
+      as_command c.args.at c.args.event.now _ c.round_of.result c.in-Command.is c.round_of.ensures _ printed broken.1 broken.2,
+    ))
     (c.in_err-run_command-in-Command.ensures past stands))
 
 pub returns-in_err-leave-in-Gone : goal.returns-in_err-leave-in-Gone

@@ -37,5 +37,5 @@ returns-in_err-write_refusal-in-None g c =
     (λ past stands.
     let now = stage_on past (loop_state run.office run.bank run.connected (g.W.Write.contents c.args.output.now)) in
     let prints : ReadPrints c.args.at given now (refused_line Limit) now =
-        inr (none, record { text = refl; same = refl }, record { maps = refl; connected = refl }) in
+    inr (none, record { text = refl; same = refl }, record { maps = refl; connected = refl }) in
     inr (refused_line Limit, (now, prints), c.in_err-write_refusal-in-None.ensures))
