@@ -1,3 +1,4 @@
+pub mod Breaking
 pub mod Feeding
 pub mod Carrying
 pub mod Loops

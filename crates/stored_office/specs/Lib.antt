@@ -1,4 +1,5 @@
 pub mod BooksFound
+pub mod NewOffice
 pub mod Tasks
 pub mod Ends
 pub mod Files

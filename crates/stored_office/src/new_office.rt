@@ -1,7 +1,8 @@
 //! The making of an office in a database.
-ghost use Rattle.std.specs.Prelude.{◌≡◌, ◌≢◌, ◌⊎◌, false, Err, IfErr};
+ghost use Rattle.std.specs.Prelude.{◌≡◌, ◌≢◌, ◌⊎◌, false, Err, IfErr, OnOk};
 ghost use Rattle.store_files.specs.Layouts.{no_schema};
 ghost use Rattle.store_files.specs.Zones.{IsZone};
+ghost use Rattle.stored_office.specs.NewOffice.{IsMade};
 
 use office_store::{OpenFault, SqlBooks};
 use sqlite::{Alter, Connection};
@@ -19,6 +20,7 @@ pub fn create_stored<S: Alter + Drop>(
     ensures ours { connection.in_transaction ≡ false → connection.schema ≡ no_schema
         → IsZone zone.now
         → IfErr result (λ fault. (fault ≡ OpenFault.Store) ⊎ (fault ≡ OpenFault.Memory)) }
+    ensures made { OnOk result (IsMade S.Store zone.now connection) }
 {
     match SqlBooks::create(alloc, connection, zone) {
         Ok(_) => Ok(()),

@@ -23,22 +23,42 @@ use Rattle.script_run.specs.Replaying.TextRun.{IsCarriedOut, MayCarryOut, stage_
 use Rattle.script_run.specs.Replaying.Stages.{Stage}
 use Rattle.sun_points.specs.Writing.{GotText}
 use Rattle.script_run.specs.Looping.TextRun.{LineRuns}
-use Rattle.script_run.specs.Looping.Standings.{Carried, CarriedOut, Carries, CarriesOut, LoopState, LoopStage, loop_state, stage_on}
+use Rattle.script_run.specs.Looping.Standings.{Begins, Carried, CarriedOut, Carries, CarriesOut, LoopState, LoopStage, loop_state, stage_on}
+use Rattle.script_run.proofs.LoopingLemmas.Breaking.{begins_as}
 
--- a text that was written whole
+-- This text is what is printed, and the office stands after it.
+pub record Told (P : Stage → List ℕ → Stage → Type 0) (past : History) (office office' : Office ListBooks) (text : List ℕ) : Type 0 where
+  pub after : History
+  pub prints : P (stage_of past office) text (stage_of after office')
+  pub stands : Stands ledger_of after office'
+
+pub record ToldOut (P : LoopStage → List ℕ → LoopStage → Type 0) (past : History) (from to : LoopState) (text : List ℕ) : Type 0 where
+  pub after : History
+  pub prints : P (stage_on past from) text (stage_on after to)
+  pub stands : Stands ledger_of after to.office
+
+-- it was written, or a part of it
 pub writing : (r : Result (Unit {0}) Error) (text : List ℕ) (office office' : Office ListBooks) (o o' : Option (List ℕ))
     (P : Stage → List ℕ → Stage → Type 0) → GotText r text o o'
-    → ((past : History) → Stands ledger_of past office → Appends o o' text → Carried P past office office' o o')
+    → ((past : History) → Stands ledger_of past office → Told P past office office' text)
     → Carries r (λ done. P) office office' o o'
-writing (Ok done) text office office' o o' P got carried = λ past stands. carried past stands got
-writing (Err error) text office office' o o' P got carried = tt
+writing (Ok done) text office office' o o' P got told = λ past stands.
+    let this = told past stands in
+    record { printed = text; after = this.after; prints = this.prints; appended = got; stands = this.stands }
+writing (Err error) text office office' o o' P got told = λ past stands.
+    let this = told past stands in
+    inr (text, (tt, stage_of this.after office', this.prints), got)
 
 pub writing_out : (r : Result (Unit {0}) Error) (text : List ℕ) (from to : LoopState) (P : LoopStage → List ℕ → LoopStage → Type 0)
     → GotText r text from.output to.output
-    → ((past : History) → Stands ledger_of past from.office → Appends from.output to.output text → CarriedOut P past from to)
+    → ((past : History) → Stands ledger_of past from.office → ToldOut P past from to text)
     → CarriesOut r (λ done. P) from to
-writing_out (Ok done) text from to P got carried = λ past stands. carried past stands got
-writing_out (Err error) text from to P got carried = tt
+writing_out (Ok done) text from to P got told = λ past stands.
+    let this = told past stands in
+    record { printed = text; after = this.after; prints = this.prints; appended = got; stands = this.stands }
+writing_out (Err error) text from to P got told = λ past stands.
+    let this = told past stands in
+    inr (text, (tt, stage_on this.after to, this.prints), got)
 
 -- where only the script goes on
 pub out : (P : Stage → List ℕ → Stage → Type 0) (Q : LoopStage → List ℕ → LoopStage → Type 0) (past : History) (from to : LoopState)
@@ -87,7 +107,8 @@ pub runs_as : (r : Result Bool Error) (P Q : LoopStage → List ℕ → LoopStag
     → LineRuns r P Wrong from to → LineRuns r Q Worse from to
 runs_as (Ok true) P Q Wrong Worse from to turn worse runs = λ past stands. out_as P Q past from to turn (runs past stands)
 runs_as (Ok false) P Q Wrong Worse from to turn worse runs = (worse runs.0, runs.1)
-runs_as (Err error) P Q Wrong Worse from to turn worse runs = tt
+runs_as (Err error) P Q Wrong Worse from to turn worse runs = λ past stands.
+    begins_as _ _ from.output to.output (λ printed broken. (broken.0, turn (stage_on past from) printed broken.0 broken.1)) (runs past stands)
 
 -- an event that a loop carries out as a script does
 pub plain_carried : (at : ℕ) (e : Event) (past : History) (office office' : Office ListBooks) (maps : Maps) (connected : Bool) (o o' : Option (List ℕ))
@@ -105,7 +126,32 @@ pub plain : (r : Result (Unit {0}) Error) (at : ℕ) (e : Event) (office office'
 plain (Ok done) at e office office' maps connected o o' feeds = λ past stands.
     plain_carried at e past office office' maps connected o o'
     (as_script (λ now printed next. EventPrints now at e printed next) past office office' done o o' (feeds past stands))
-plain (Err error) at e office office' maps connected o o' feeds = tt
+plain (Err error) at e office office' maps connected o o' feeds = λ past stands.
+    let done = feeds past stands in
+    inr (
+      done.printed,
+      (
+        tt,
+        stage_on done.after (loop_state office' maps connected o'),
+        record { prints = done.prints; by = record { maps = refl; connected = refl } },
+      ),
+      done.got,
+    )
+
+broken_alike : (said : ScriptLine) (past : History) (office office' : Office ListBooks) (maps : Maps) (connected : Bool) (error : Error)
+    (o o' : Option (List ℕ)) → MayCarryOut (λ now printed next. LinePrints now said printed next) past office office' (Err error) o o'
+    → Begins (λ printed. (done : Unit {0}) × (next : LoopStage) × AlikePrints said (stage_on past (loop_state office maps connected o)) printed next) o o'
+broken_alike said past office office' maps connected error o o' (inl done) =
+    inr (
+      done.printed,
+      (
+        tt,
+        stage_on done.after (loop_state office' maps connected o'),
+        record { prints = done.prints; by = record { maps = refl; connected = refl } },
+      ),
+      done.got,
+    )
+broken_alike said past office office' maps connected error o o' (inr none) = inl none.1
 
 -- a line that a loop carries out as a script does
 pub alike : (r : Result (Unit {0}) Error) (said : ScriptLine) (office office' : Office ListBooks) (maps : Maps) (connected : Bool)
@@ -118,7 +164,8 @@ alike (Ok done) said office office' maps connected o o' carries = λ past stands
     (loop_state office' maps connected o')
     (as_script_may (λ now printed next. LinePrints now said printed next) past office office' done o o' (carries past stands))
     (λ printed after prints. record { prints = prints; by = record { maps = refl; connected = refl } })
-alike (Err error) said office office' maps connected o o' carries = tt
+alike (Err error) said office office' maps connected o o' carries = λ past stands.
+    broken_alike said past office office' maps connected error o o' (carries past stands)
 
 pub as_alike : (said other : ScriptLine) → said ≡ other
     → ((now : LoopStage) (printed : List ℕ) (next : LoopStage) → AlikePrints other now printed next → SaidPrints other now printed next)
@@ -151,6 +198,29 @@ happens_connected at e device past office office' maps connected o o' is done =
     (out (λ now printed next. EventPrints now at (event.Connected device) printed next) (HappensPrints at (event.Connected device)) past
     (loop_state office maps connected o) (loop_state office' maps true o') done
     (λ printed after prints. record { prints = prints; maps = refl; connected = refl }))
+
+-- so it is where the telling was broken off
+pub plain_begun : (at : ℕ) (e : Event) (past : History) (office : Office ListBooks) (maps : Maps) (connected : Bool) (o o' : Option (List ℕ))
+    → Begins (λ printed. (done : Unit {0}) × (next : Stage) × EventPrints (stage_of past office) at e printed next) o o'
+    → Begins (λ printed. (next : LoopStage) × PlainPrints at e (stage_on past (loop_state office maps connected o)) printed next) o o'
+plain_begun at e past office maps connected o o' begun =
+    begins_as _ _ o o' (λ printed broken. (
+      record { script = broken.1; maps = maps; connected = connected },
+      record { prints = broken.2; by = record { maps = refl; connected = refl } },
+    )) begun
+
+pub happens_begun : (at : ℕ) (e : Event) (device : Option (List ℕ)) (past : History) (office : Office ListBooks) (maps : Maps)
+    (connected : Bool) (o o' : Option (List ℕ)) → e ≡ event.Connected device
+    → Begins (λ printed. (done : Unit {0}) × (next : Stage) × EventPrints (stage_of past office) at (event.Connected device) printed next) o o'
+    → Begins (λ printed. (next : LoopStage) × HappensPrints at e (stage_on past (loop_state office maps connected o)) printed next) o o'
+happens_begun at e device past office maps connected o o' is begun =
+    let P : Event → Type 0 = λ s.
+    Begins (λ printed. (next : LoopStage) × HappensPrints at s (stage_on past (loop_state office maps connected o)) printed next) o o' in
+    subst P (sym is)
+    (begins_as _ _ o o' (λ printed broken. (
+      record { script = broken.1; maps = maps; connected = true },
+      record { prints = broken.2; maps = refl; connected = refl },
+    )) begun)
 
 -- a line that was carried out, or is wrong
 pub line_done : (fine : Bool) (P : LoopStage → List ℕ → LoopStage → Type 0) (Wrong : Type 0) (from to : LoopState) → fine ≡ true

@@ -1,5 +1,5 @@
 -- The lines of a loop, one after the other.
-use Rattle.std.proofs.Common.{◌≡◌, ◌⊎◌, inl, inr, ℕ, Bool, false, Option, ap, List, [], ◌∷◌, ◌++◌, refl, sym, subst, append_assoc, append-nil, arith, ◌<◌, ◌≤◌, length}
+use Rattle.std.proofs.Common.{◌≡◌, ◌⊎◌, inl, inr, ℕ, Bool, false, Option, ap, ◌∙◌, List, [], ◌∷◌, ◌++◌, refl, sym, subst, append_assoc, append-nil, arith, ◌<◌, ◌≤◌, length}
 use Rattle.std.specs.Io.KnownBytes.{Appends}
 use Rattle.std.proofs.KnownBytes.{Appends-nil, Appends-trans}
 use Rattle.command_io.specs.Input.{EndsUnread, TellsTooLong, most_bytes, too_long}
@@ -21,14 +21,19 @@ use Rattle.script_run.specs.Replaying.Stages.{Stage, beginning}
 use Rattle.script_text.specs.AnswerText.{bad_line, refused_line}
 use Rattle.script_lines.specs.LineWords.Words.{words_of}
 use Rattle.script_run.specs.Looping.Lines.{AreWrong, WordsPrint}
-use Rattle.script_run.specs.Looping.Loops.{InputPrints, LoopPrints, TextPrints}
-use Rattle.script_run.specs.Looping.TextRun.{InputRuns, LinesRun, TellsText, TextRuns, Writes}
-use Rattle.script_run.specs.Looping.Standings.{CarriedOut, LoopState, LoopStage, loop_state, stage_on}
+use Rattle.script_run.specs.Looping.Loops.{InputBegins, InputPrints, LineBegins, LoopBegins, LoopPrints, TextPrints}
+use Rattle.script_run.specs.Looping.TextRun.{InputRuns, LinesRun, TellsText, TextRuns}
+use Rattle.script_run.specs.Looping.Standings.{Begins, CarriedOut, LoopState, LoopStage, loop_state, stage_on}
+use Rattle.script_run.specs.Replaying.Lines.{BeginsText}
+use Rattle.script_run.specs.Replaying.Scripts.{no_office}
+use Rattle.script_run.specs.Replaying.TextRun.{Writes}
+use Rattle.sun_points.specs.Writing.{GotPart}
 
--- Whatever the rest of the lines prints from here, all of them print it after what was printed before.
-abbrev pub SoFar : (begin : LoopStage) → List Line → (now : LoopStage) → List Line → (printed : List ℕ) → Type 0
-SoFar begin all now lines printed =
-    (rest : List ℕ) (status : ExitStatus) → LoopPrints now lines rest status → LoopPrints begin all (printed ++ rest) status
+-- Whatever the rest of the lines prints from here, all of them print it after what was printed before; and so where the run
+-- is broken off.
+pub record SoFar (begin : LoopStage) (all : List Line) (now : LoopStage) (lines : List Line) (printed : List ℕ) : Type 0 where
+  pub prints : (rest : List ℕ) (status : ExitStatus) → LoopPrints now lines rest status → LoopPrints begin all (printed ++ rest) status
+  pub begins : (part : List ℕ) → LoopBegins now lines part → LoopBegins begin all (printed ++ part)
 
 -- some lines were carried out: what they printed, and where the loop stands
 pub record Ran (begin : LoopStage) (all lines : List Line) (output : Option (List ℕ)) (here : LoopState) : Type 0 where
@@ -45,7 +50,10 @@ from_start past all lines here same stands = record {
   past = past;
   appended = Appends-nil here.output;
   stands = stands;
-  so_far = λ rest status more. subst (λ (ls : List Line). LoopPrints (stage_on past here) ls rest status) same more;
+  so_far = record {
+    prints = λ rest status more. subst (λ (ls : List Line). LoopPrints (stage_on past here) ls rest status) same more;
+    begins = λ part more. subst (λ (ls : List Line). LoopBegins (stage_on past here) ls part) same more;
+  };
 }
 
 pub one_more : (begin : LoopStage) (all lines left : List Line) (first : Line) (output : Option (List ℕ)) (here there : LoopState)
@@ -56,30 +64,44 @@ one_more begin all lines left first output here there at ran done = record {
   past = done.after;
   appended = Appends-trans output here.output there.output ran.printed done.printed ran.appended done.appended;
   stands = done.stands;
-  so_far = λ rest status more.
-      subst (λ (text : List ℕ). LoopPrints begin all text status) (sym (append_assoc ran.printed done.printed rest))
-      (ran.so_far (done.printed ++ rest) status
-      (subst (λ (ls : List Line). LoopPrints (stage_on ran.past here) ls (done.printed ++ rest) status) (sym at)
-      (inr (done.printed, rest, stage_on done.after there, done.prints, more, refl))));
+  so_far = record {
+    prints = λ rest status more.
+        subst (λ (text : List ℕ). LoopPrints begin all text status) (sym (append_assoc ran.printed done.printed rest))
+        (ran.so_far.prints (done.printed ++ rest) status
+        (subst (λ (ls : List Line). LoopPrints (stage_on ran.past here) ls (done.printed ++ rest) status) (sym at)
+        (inr (done.printed, rest, stage_on done.after there, done.prints, more, refl))));
+    begins = λ part more.
+        subst (λ (text : List ℕ). LoopBegins begin all text) (sym (append_assoc ran.printed done.printed part))
+        (ran.so_far.begins (done.printed ++ part)
+        (subst (λ (ls : List Line). LoopBegins (stage_on ran.past here) ls (done.printed ++ part)) (sym at)
+        (inr (done.printed, part, stage_on done.after there, done.prints, more, refl))));
+  };
 }
 
 pub ended : (begin : LoopStage) (all lines : List Line) (output : Option (List ℕ)) (here : LoopState) → lines ≡ []
     → (ran : Ran begin all lines output here) → LoopPrints begin all ran.printed Fine
 ended begin all lines output here at ran =
     subst (λ (text : List ℕ). LoopPrints begin all text Fine) (append-nil ran.printed)
-    (ran.so_far [] Fine (subst (λ (ls : List Line). LoopPrints (stage_on ran.past here) ls [] Fine) (sym at) (refl, refl)))
+    (ran.so_far.prints [] Fine (subst (λ (ls : List Line). LoopPrints (stage_on ran.past here) ls [] Fine) (sym at) (refl, refl)))
 
 pub ended_badly : (begin : LoopStage) (all lines left : List Line) (bad : Line) (output : Option (List ℕ)) (here : LoopState)
     → lines ≡ bad ∷ left → AreWrong here.connected (words_of bad.text) → (ran : Ran begin all lines output here)
     → LoopPrints begin all (ran.printed ++ bad_line bad.number) Refused
 ended_badly begin all lines left bad output here at wrong ran =
-    ran.so_far (bad_line bad.number) Refused
+    ran.so_far.prints (bad_line bad.number) Refused
     (subst (λ (ls : List Line). LoopPrints (stage_on ran.past here) ls (bad_line bad.number) Refused) (sym at) (inl (wrong, refl, refl)))
+
+begun_line : (begin : LoopStage) (all lines left : List Line) (first : Line) (output : Option (List ℕ)) (here : LoopState) (part : List ℕ)
+    → lines ≡ first ∷ left → (ran : Ran begin all lines output here) → LineBegins (stage_on ran.past here) first part
+    → LoopBegins begin all (ran.printed ++ part)
+begun_line begin all lines left first output here part at ran begins =
+    ran.so_far.begins part (subst (λ (ls : List Line). LoopBegins (stage_on ran.past here) ls part) (sym at) (inl begins))
 
 -- how a wrong line ends a run
 pub stopped : (status : ExitStatus) (past : History) (all lines left : List Line) (bad : Line) (from here : LoopState) (m o' : Option (List ℕ))
     → lines ≡ bad ∷ left → AreWrong here.connected (words_of bad.text) × Appends here.output m [] → TellsText (bad_line bad.number) status m o'
-    → Ran (stage_on past from) all lines from.output here → Writes (LoopPrints (stage_on past from) all) status from.output o'
+    → Ran (stage_on past from) all lines from.output here
+    → Writes (LoopPrints (stage_on past from) all) (LoopBegins (stage_on past from) all) status from.output o'
 stopped Fine past all lines left bad from here m o' at wrong told ran = absurd told
 stopped Refused past all lines left bad from here m o' at wrong told ran = (
   ran.printed ++ bad_line bad.number,
@@ -87,7 +109,28 @@ stopped Refused past all lines left bad from here m o' at wrong told ran = (
       (Appends-trans here.output m o' [] (bad_line bad.number) wrong.1 told),
   ended_badly (stage_on past from) all lines left bad from.output here at wrong.0 ran,
 )
-stopped Failed past all lines left bad from here m o' at wrong told ran = tt
+stopped Failed past all lines left bad from here m o' at wrong (part, unwritten, whole, written) ran = (
+  ran.printed ++ part,
+  Appends-trans from.output here.output o' ran.printed part ran.appended (Appends-trans here.output m o' [] part wrong.1 written),
+  begun_line (stage_on past from) all lines left bad from.output here part at ran
+      (inr (bad_line bad.number, (unwritten, whole), inl (wrong.0, refl))),
+)
+
+-- how a run ends in which a line was broken off
+pub broken : (past : History) (all lines left : List Line) (first : Line) (from here : LoopState) (o' : Option (List ℕ))
+    → lines ≡ first ∷ left → (ran : Ran (stage_on past from) all lines from.output here)
+    → Begins (λ printed. (next : LoopStage) × WordsPrint (words_of first.text) (stage_on ran.past here) printed next) here.output o'
+    → Writes (LoopPrints (stage_on past from) all) (LoopBegins (stage_on past from) all) Failed from.output o'
+broken past all lines left first from here o' at ran (inl nothing) = (
+  ran.printed ++ [],
+  Appends-trans from.output here.output o' ran.printed [] ran.appended nothing,
+  begun_line (stage_on past from) all lines left first from.output here [] at ran (inl refl),
+)
+broken past all lines left first from here o' at ran (inr (printed, (next, prints), (part, unwritten, whole, written))) = (
+  ran.printed ++ part,
+  Appends-trans from.output here.output o' ran.printed part ran.appended written,
+  begun_line (stage_on past from) all lines left first from.output here part at ran (inr (printed, (unwritten, whole), inr (next, prints))),
+)
 
 -- a text from its beginning
 pub text_from : (status : ExitStatus) (zone : Zone) (past : History) (text : List ℕ) (office : Office ListBooks) (maps : Maps) (o o' : Option (List ℕ))
@@ -101,13 +144,21 @@ text_from Refused zone past text office maps o o' unset same stands runs =
     let ran = runs past stands in
     let P : Stage → Type 0 = λ s. LoopPrints (record { script = s; maps = maps; connected = false }) (speaking_lines text) ran.0 Refused in
     (ran.0, ran.1, inr (maps, unset, subst P same ran.2))
-text_from Failed zone past text office maps o o' unset same stands runs = tt
+text_from Failed zone past text office maps o o' unset same stands runs =
+    let ran = runs past stands in
+    let P : Stage → Type 0 = λ s. LoopBegins (record { script = s; maps = maps; connected = false }) (speaking_lines text) ran.0 in
+    (ran.0, ran.1, inr (maps, unset, subst P same ran.2))
 
 pub not_opened : (status : ExitStatus) (why : Refusal) (zone : Zone) (text : List ℕ) (o o' : Option (List ℕ)) → why ≡ refusal.Memory
     → TellsText (refused_line why) status o o' → TextRuns zone text status o o'
 not_opened Fine why zone text o o' is told = absurd told
 not_opened Refused why zone text o o' is told = (refused_line why, told, inl (ap refused_line is, refl))
-not_opened Failed why zone text o o' is told = tt
+not_opened Failed why zone text o o' is (part, unwritten, whole, written) =
+    (part, written, inl (unwritten, ap refused_line (sym is) ∙ whole))
+
+-- nothing was run
+pub nothing_run : (zone : Zone) (text : List ℕ) (o : Option (List ℕ)) → TextRuns zone text Failed o o
+nothing_run zone text o = ([], Appends-nil o, inl (no_office, refl))
 
 -- an input that is a text, or too long for one
 short_prints : (zone : Zone) (input printed : List ℕ) (status : ExitStatus) → length input ≤ most_bytes → TextPrints zone input printed status
@@ -125,7 +176,11 @@ text_ran zone text input status o o' same short runs =
         → TextRuns zone text status o o' → InputRuns zone text status o o'
     ran zone text Fine o o' short runs = (runs.0, runs.1, short_prints zone text runs.0 Fine short runs.2)
     ran zone text Refused o o' short runs = (runs.0, runs.1, short_prints zone text runs.0 Refused short runs.2)
-    ran zone text Failed o o' short runs = tt
+    ran zone text Failed o o' short runs =
+        (runs.0, runs.1, record { long = λ long. absurd (omega (arith, short, long)); text = λ fits. runs.2 })
+
+none_begun : (zone : Zone) (input : List ℕ) → InputBegins zone input []
+none_begun zone input = record { long = λ long. (too_long, refl); text = λ short. inl (no_office, refl) }
 
 -- an input that was not read
 pub unread_ran : (zone : Zone) (input : List ℕ) (status : ExitStatus) (o o' : Option (List ℕ)) → EndsUnread input status o o'
@@ -133,7 +188,8 @@ pub unread_ran : (zone : Zone) (input : List ℕ) (status : ExitStatus) (o o' : 
 unread_ran zone input Fine o o' (inl long) = absurd long.1
 unread_ran zone input Refused o o' (inl long) =
     (too_long, long.1, record { long = λ again. (refl, refl); text = λ short. absurd (omega (arith, short, long.0)) })
-unread_ran zone input Failed o o' (inl long) = tt
+unread_ran zone input Failed o o' (inl (long, (part, unwritten, whole, written))) =
+    (part, written, record { long = λ again. (unwritten, whole); text = λ short. absurd (omega (arith, short, long)) })
 unread_ran zone input Fine o o' (inr unread) = absurd (let e : Fine ≡ Failed = unread.0 in cc)
 unread_ran zone input Refused o o' (inr unread) = absurd (let e : Refused ≡ Failed = unread.0 in cc)
-unread_ran zone input Failed o o' (inr unread) = tt
+unread_ran zone input Failed o o' (inr unread) = ([], unread.1, none_begun zone input)

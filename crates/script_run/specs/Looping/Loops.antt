@@ -7,6 +7,7 @@ use Rattle.command_io.specs.declared.status.ExitStatus.{ExitStatus}
 use Rattle.command_io.specs.declared.status.ExitStatus.TheVariants.{Fine, Refused}
 use Rattle.interval_core.specs.declared.zone.Zone.{Zone}
 use Rattle.mb_device.specs.Maps.{Maps}
+use Rattle.script_run.specs.Replaying.Lines.{BeginsText}
 use Rattle.script_run.specs.Replaying.Scripts.{no_office}
 use Rattle.script_run.specs.Replaying.Stages.{beginning}
 use Rattle.script_text.specs.AnswerText.{bad_line}
@@ -23,6 +24,21 @@ LoopPrints now (first ∷ lines) printed status =
     ⊎ ((here rest : List ℕ) × (next : LoopStage) × WordsPrint (words_of first.text) now here next
     × LoopPrints next lines rest status × (printed ≡ here ++ rest))
 
+-- What is there of what a line prints: nothing, or a part of it.
+abbrev pub LineBegins : LoopStage → Line → (part : List ℕ) → Type 0
+LineBegins now first part =
+    (part ≡ []) ⊎ ((printed : List ℕ) × BeginsText part printed
+    × ((AreWrong now.connected (words_of first.text) × (printed ≡ bad_line first.number))
+    ⊎ ((next : LoopStage) × WordsPrint (words_of first.text) now printed next)))
+
+-- What is there of it where a run was broken off: what some first lines print, and the beginning of what the next one prints.
+abbrev pub LoopBegins : LoopStage → List Line → (part : List ℕ) → Type 0
+LoopBegins now [] part = part ≡ []
+LoopBegins now (first ∷ lines) part =
+    LineBegins now first part
+    ⊎ ((here rest : List ℕ) × (next : LoopStage) × WordsPrint (words_of first.text) now here next
+    × LoopBegins next lines rest × (part ≡ here ++ rest))
+
 -- A loop begins as a script does, with a stand-in that has no addresses.
 abbrev pub begun : Zone → Maps → LoopStage
 begun zone maps = record { script = beginning zone; maps = maps; connected = false }
@@ -34,7 +50,16 @@ TextPrints zone text printed status =
     ⊎ ((maps : Maps) × AreUnset maps
     × LoopPrints (begun zone maps) (speaking_lines text) printed status)
 
+abbrev pub TextBegins : Zone → (text part : List ℕ) → Type 0
+TextBegins zone text part =
+    BeginsText part no_office
+    ⊎ ((maps : Maps) × AreUnset maps × LoopBegins (begun zone maps) (speaking_lines text) part)
+
 -- An input prints what its text prints, where it isn't too long.
 pub record InputPrints (zone : Zone) (input printed : List ℕ) (status : ExitStatus) : Type 0 where
   pub long : most_bytes < length input → (status ≡ Refused) × (printed ≡ too_long)
   pub text : length input ≤ most_bytes → TextPrints zone input printed status
+
+pub record InputBegins (zone : Zone) (input part : List ℕ) : Type 0 where
+  pub long : most_bytes < length input → BeginsText part too_long
+  pub text : length input ≤ most_bytes → TextBegins zone input part

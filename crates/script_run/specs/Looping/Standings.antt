@@ -1,5 +1,5 @@
 -- Where a loop stands, and what it has written.
-use Rattle.std.specs.Prelude.{◌≡◌, ℕ, Bool, List, Option, Result, Ok, Err, ⊤}
+use Rattle.std.specs.Prelude.{◌≡◌, ◌⊎◌, ℕ, Bool, List, [], Option, Result, Ok, Err}
 use Rattle.std.specs.Io.KnownBytes.{Appends}
 use Rattle.mb_device.specs.Maps.{Maps}
 use Rattle.office_core.specs.Standing.{Stands}
@@ -9,6 +9,7 @@ use Rattle.memory_books.specs.declared.list_books.ListBooks.{ListBooks}
 use Rattle.office_rules.specs.History.{History}
 use Rattle.script_run.specs.Replaying.TextRun.{stage_of}
 use Rattle.script_run.specs.Replaying.Stages.{Stage}
+use Rattle.sun_points.specs.Writing.{GotPart}
 
 -- Where the script stands, what the stand-in holds, and whether a line has asked for a connection.
 pub record LoopStage : Type 0 where
@@ -41,13 +42,22 @@ pub record CarriedOut (Prints : LoopStage → List ℕ → LoopStage → Type 0)
   pub appended : Appends from.output to.output printed
   pub stands : Stands ledger_of after to.office
 
--- Whoever asks carries it out, after every past after which the office stood; unless the writer or memory failed, of which
--- nothing is said.
+-- What is there of what is printed where it was broken off: nothing, or a beginning of it.
+abbrev pub Begins : (Prints : List ℕ → Type 0) → (output output' : Option (List ℕ)) → Type 0
+Begins Prints output output' =
+    Appends output output' []
+    ⊎ ((printed : List ℕ) × Prints printed × GotPart printed output output')
+
+-- Whoever asks carries it out, after every past after which the office stood; or the writer, memory or a connection failed,
+-- and it was broken off. Where the office stands then is not said.
 abbrev pub CarriesOut : {X E : Type 0} → Result X E → (X → LoopStage → List ℕ → LoopStage → Type 0)
     → (from to : LoopState) → Type 0
 CarriesOut (Ok x) Prints from to =
     (past : History) → Stands ledger_of past from.office → CarriedOut (Prints x) past from to
-CarriesOut (Err error) Prints from to = ⊤
+CarriesOut {X = X} (Err error) Prints from to =
+    (past : History) → Stands ledger_of past from.office
+    → Begins (λ printed. (x : X) × (next : LoopStage) × Prints x (stage_on past from) printed next)
+    from.output to.output
 
 -- So it is where only the script goes on.
 pub record Carried (Prints : Stage → List ℕ → Stage → Type 0) (past : History)
@@ -63,4 +73,7 @@ abbrev pub Carries : {X E : Type 0} → Result X E → (X → Stage → List ℕ
 Carries (Ok x) Prints office office' output output' =
     (past : History) → Stands ledger_of past office
     → Carried (Prints x) past office office' output output'
-Carries (Err error) Prints office office' output output' = ⊤
+Carries {X = X} (Err error) Prints office office' output output' =
+    (past : History) → Stands ledger_of past office
+    → Begins (λ printed. (x : X) × (next : Stage) × Prints x (stage_of past office) printed next)
+    output output'

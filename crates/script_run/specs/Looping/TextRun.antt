@@ -1,5 +1,5 @@
 -- How a run of a loop goes: what was written, and where it stands.
-use Rattle.std.specs.Prelude.{◌≡◌, ℕ, Bool, true, false, List, [], Option, Result, Ok, Err, ⊤}
+use Rattle.std.specs.Prelude.{◌≡◌, ℕ, Bool, true, false, List, [], Option, Result, Ok, Err}
 use Rattle.std.specs.Io.KnownBytes.{Appends}
 use Rattle.std.specs.declared.io.Error.{Error}
 use Rattle.command_io.specs.Lines.{speaking_lines}
@@ -11,17 +11,22 @@ use Rattle.office_events.specs.declared.events.Event.{Event}
 use Rattle.office_rules.specs.History.{History}
 use Rattle.office_core.specs.Standing.{Stands}
 use Rattle.script_run.specs.Looping.Lines.{AreWrong, StartsPrint, WordsPrint}
-use Rattle.script_run.specs.Looping.Loops.{InputPrints, LoopPrints, TextPrints}
-use Rattle.script_run.specs.Looping.Standings.{CarriedOut, CarriesOut, LoopState, LoopStage, stage_on}
+use Rattle.script_run.specs.Looping.Loops.{InputBegins, InputPrints, LoopBegins, LoopPrints, TextBegins, TextPrints}
+use Rattle.script_run.specs.Looping.Standings.{Begins, CarriedOut, CarriesOut, LoopState, LoopStage, stage_on}
+use Rattle.script_run.specs.Replaying.TextRun.{Writes}
+use Rattle.sun_points.specs.Writing.{GotPart}
 
--- A line was carried out, or is wrong; where a write or memory failed nothing is said.
+-- A line was carried out, or is wrong, or was broken off.
 abbrev pub LineRuns : Result Bool Error → (Prints : LoopStage → List ℕ → LoopStage → Type 0)
     → (Wrong : Type 0)
     → (from to : LoopState) → Type 0
 LineRuns (Ok true) Prints Wrong from to =
     (past : History) → Stands ledger_of past from.office → CarriedOut Prints past from to
 LineRuns (Ok false) Prints Wrong from to = Wrong × Appends from.output to.output []
-LineRuns (Err error) Prints Wrong from to = ⊤
+LineRuns (Err error) Prints Wrong from to =
+    (past : History) → Stands ledger_of past from.office
+    → Begins (λ printed. (next : LoopStage) × Prints (stage_on past from) printed next)
+    from.output to.output
 
 -- A line was carried out as its words have it, or they are none that may stand where the run is.
 abbrev pub WordsRun : Result Bool Error → (words : List (List ℕ)) → (from to : LoopState) → Type 0
@@ -34,31 +39,25 @@ abbrev pub StartRuns : {X E : Type 0} → Result X E → (at : ℕ) → (device 
 StartRuns result at device e from to =
     CarriesOut result (λ done now printed next. StartsPrint at device e now printed next) from to
 
--- what was written is all that is printed; of a run that failed nothing is said
-abbrev pub Writes : (Prints : List ℕ → ExitStatus → Type 0) → ExitStatus
-    → (output output' : Option (List ℕ)) → Type 0
-Writes Prints Fine output output' =
-    (printed : List ℕ) × Appends output output' printed × Prints printed Fine
-Writes Prints Refused output output' =
-    (printed : List ℕ) × Appends output output' printed × Prints printed Refused
-Writes Prints Failed output output' = ⊤
-
--- a text that ends a run was written, or the writer failed
+-- a text that ends a run was written, or a part of it, since the writer failed
 abbrev pub TellsText : (text : List ℕ) → ExitStatus → (output output' : Option (List ℕ)) → Type 0
 TellsText text Fine output output' = ⊥
 TellsText text Refused output output' = Appends output output' text
-TellsText text Failed output output' = ⊤
+TellsText text Failed output output' = GotPart text output output'
 
 -- lines that were run from a desk
 abbrev pub LinesRun : ExitStatus → (text : List ℕ) → (from : LoopState) → (output' : Option (List ℕ))
     → Type 0
 LinesRun status text from output' =
     (past : History) → Stands ledger_of past from.office
-    → Writes (LoopPrints (stage_on past from) (speaking_lines text)) status from.output output'
+    → Writes (LoopPrints (stage_on past from) (speaking_lines text))
+    (LoopBegins (stage_on past from) (speaking_lines text)) status from.output output'
 
 abbrev pub TextRuns : Zone → (text : List ℕ) → ExitStatus → (output output' : Option (List ℕ)) → Type 0
-TextRuns zone text status output output' = Writes (TextPrints zone text) status output output'
+TextRuns zone text status output output' =
+    Writes (TextPrints zone text) (TextBegins zone text) status output output'
 
 abbrev pub InputRuns : Zone → (input : List ℕ) → ExitStatus → (output output' : Option (List ℕ))
     → Type 0
-InputRuns zone input status output output' = Writes (InputPrints zone input) status output output'
+InputRuns zone input status output output' =
+    Writes (InputPrints zone input) (InputBegins zone input) status output output'

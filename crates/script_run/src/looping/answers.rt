@@ -1,8 +1,8 @@
 //! What comes back from the stand-in.
-ghost use Rattle.std.specs.Prelude.{OnOk, codes};
-ghost use Rattle.std.specs.Io.KnownBytes.{Appends};
+ghost use Rattle.std.specs.Prelude.{codes};
 ghost use Rattle.script_run.specs.Looping.Answers.{AnswersPrint, FedPrints};
 ghost use Rattle.script_run.specs.Looping.Standings.{Carries};
+ghost use Rattle.sun_points.specs.Writing.{GotText};
 
 use crate::looping::wires::MOST_TAKES;
 use mb_wire::{Link, MAX_ADU, Took};
@@ -13,6 +13,7 @@ use poll_core::Closing;
 use script_text::{write_notes, write_refusal};
 use std::alloc::{AllocError, Global};
 use std::io::{self, Write};
+use sun_points::Sink;
 
 /// What came back from the stand-in.
 #[derive(Drop)]
@@ -97,8 +98,7 @@ pub(crate) fn feed_answers<L: Link, W: Write>(
 {
     for _take in 0..MOST_TAKES {
         let Some(came) = next_came(alloc, near)? else {
-            write_ok(output)?;
-            return Ok(true);
+            return end_well(true, output);
         };
         let over = came.is_over();
         let accepted = feed(office, at, &came.into_event(device), output)?;
@@ -106,17 +106,25 @@ pub(crate) fn feed_answers<L: Link, W: Write>(
             return Ok(!over);
         }
         if over {
-            write_ok(output)?;
-            return Ok(false);
+            return end_well(false, output);
         }
     }
-    write_ok(output)?;
-    Ok(true)
+    end_well(true, output)
+}
+
+// Prints `ok`, and says whether the connection stays.
+fn end_well<W: Write>(stays: bool, output: &mut W) -> io::Result<bool>
+    ensures { GotText result (codes "ok\n") (W.contents output.old) (W.contents output.new) }
+{
+    match write_ok(output) {
+        Ok(()) => Ok(stays),
+        Err(error) => Err(error),
+    }
 }
 
 /// Writes `ok`.
 pub(crate) fn write_ok<W: Write>(output: &mut W) -> io::Result<()>
-    ensures { OnOk result (Appends (W.contents output.old) (W.contents output.new) (codes "ok\n")) }
+    ensures { GotText result (codes "ok\n") (W.contents output.old) (W.contents output.new) }
 {
-    output.write_all(b"ok\n")
+    output.take_text(b"ok\n")
 }

@@ -1,12 +1,12 @@
 //! Lines, carried out.
-ghost use Rattle.std.specs.Prelude.{◌≡◌, OnOk, true, false};
-ghost use Rattle.std.specs.Io.KnownBytes.{Appends};
+ghost use Rattle.std.specs.Prelude.{◌≡◌, true, false};
 ghost use Rattle.script_run.specs.Bank.Settings as setting;
 ghost use Rattle.script_run.specs.Looping.Lines as form;
 ghost use Rattle.script_run.specs.Looping.Lines.{BankPrints, SaidPrints};
 ghost use Rattle.script_run.specs.Looping.TextRun.{LineRuns, WordsRun};
 ghost use Rattle.script_run.specs.Looping.Standings.{CarriesOut, loop_state};
 ghost use Rattle.script_lines.specs.LineWords.Words.{words_of};
+ghost use Rattle.sun_points.specs.Writing.{GotText};
 
 use crate::bank::{add_in, set_in};
 use crate::looping::answers::write_ok;
@@ -81,8 +81,8 @@ fn take_line(bank: &mut Bank, said: &BankLine) -> bool
 
 // Writes whether the bank has taken a line.
 fn tell_taken<W: Write>(taken: bool, output: &mut W) -> io::Result<()>
-    ensures { OnOk result (Appends (W.contents output.old) (W.contents output.new)
-        (form.taken_text taken)) }
+    ensures { GotText result (form.taken_text taken)
+        (W.contents output.old) (W.contents output.new) }
 {
     if taken {
         write_ok(output)

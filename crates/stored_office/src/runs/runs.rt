@@ -1,6 +1,6 @@
 //! Runs over books in a database.
-ghost use Rattle.std.specs.Prelude.{ℕ, List, [], IfOk, IfSome};
-ghost use Rattle.office_core.specs.EventRun.{IsCleanOnlyIfWas, RecordsIfClean};
+ghost use Rattle.std.specs.Prelude.{ℕ, List, [], IfErr, IfOk, IfSome};
+ghost use Rattle.office_core.specs.EventRun.{HandsBack, IsCleanOnlyIfWas, RecordsIfClean};
 ghost use Rattle.office_rules.specs.Lawfulness.{IsPast};
 ghost use Rattle.office_rules.specs.History.{History, facts_of};
 ghost use Rattle.office_store.specs.Database.{HoldsAlone};
@@ -24,6 +24,9 @@ pub fn run_stored<S: Alter + Drop>(
         → HoldsAlone S.Store zone books.connection (facts_of past)
         → IfOk result (RecordsIfClean ⟦<SqlBooks<S> as Books>⟧.ledger opened events.now past) }
     ensures clean { IfOk result (IsCleanOnlyIfWas ⟦<SqlBooks<S> as Books>⟧.ledger books) }
+    ensures refused { (zone : List ℕ) (past : History) → IsPast past
+        → HoldsAlone S.Store zone books.connection (facts_of past)
+        → IfErr result (HandsBack ⟦<SqlBooks<S> as Books>⟧.ledger books opened past) }
 {
     run(alloc, books, opened, events)
 }

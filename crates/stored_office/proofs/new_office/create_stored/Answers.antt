@@ -6,3 +6,11 @@ returns-in-Ok-clause-no_zone g c = λ idle none other. absurd (not_both _ _ (c.i
 
 pub returns-clause-no_zone : goal.returns-clause-no_zone
 returns-clause-no_zone g c = λ idle none other. same_fault _ _ (c.in-Err.ensures.no_zone idle none other)
+
+pub returns-in-Ok-clause-made : goal.returns-in-Ok-clause-made
+returns-in-Ok-clause-made g c = record {
+  made = c.in-Ok.field-0.connection;
+  told = c.in-Ok.field-0.zone;
+  does = c.in-Ok.ensures.does;
+  none = c.in-Ok.ensures.none;
+}

@@ -1,4 +1,5 @@
 use Rattle.std.proofs.Common.{inl, inr}
+use Rattle.std.proofs.KnownBytes.{Appends-nil}
 use Rattle.script_lines.specs.LineWords.Words.{words_of}
 use Rattle.script_run.specs.Looping.Lines.{AreWrong, SaidPrints, SaysBytes, WordsPrint}
 use Rattle.script_run.proofs.LoopingLemmas.Carrying.{runs_as}
@@ -12,3 +13,6 @@ returns-in-Ok g c =
     (λ now printed next prints. inr (c.in-None.ensures, said, c.in-Ok.ensures.is, prints))
     (λ bytes. inr (c.in-None.ensures, inr (said, c.in-Ok.ensures.is, bytes)))
     c.run_script_line.ensures
+
+pub returns-in-Err-Memory : goal.returns-in-Err-Memory
+returns-in-Err-Memory g c = λ past stands. inl (Appends-nil _)

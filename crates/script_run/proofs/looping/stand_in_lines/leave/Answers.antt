@@ -1,5 +1,4 @@
-use Rattle.std.proofs.Common.{List, ℕ, ◌∙◌, ap, subst}
-use Rattle.std.specs.Io.KnownBytes.{Appends}
+use Rattle.std.proofs.Common.{◌∙◌, ap, refl}
 use Rattle.std.specs.Prelude.{Ok, Err}
 use Rattle.office_rules.specs.Notes.{notes_after}
 use Rattle.script_run.specs.Replaying.Events.{EventPrints}
@@ -12,30 +11,26 @@ pub returns-in-Ok : goal.returns-in-Ok
 returns-in-Ok g c =
     let e = c.args.event.now in
     let answer = c.in-Ok.answer in
-    let old = g.W.Write.contents c.args.output.now in
-    let new = g.W.Write.contents c.write_accepted.new.output in
-    writing c.write_accepted.result (accepted_text answer c.notes.result.now c.outgoing.result.now) c.args.office.now c.feed.new.self old new
+    writing c.write_accepted.result (accepted_text answer c.notes.result.now c.outgoing.result.now) c.args.office.now c.feed.new.self
+    (g.W.Write.contents c.args.output.now) (g.W.Write.contents c.write_accepted.new.output)
     (λ now printed next. EventPrints now c.args.at e printed next) c.write_accepted.ensures
-    (λ past stands appended.
+    (λ past stands.
     let told = c.in-Ok.ensures.told past stands tt in
-    was_printed past c.args.at e (Ok answer) c.args.office.now c.feed.new.self old new
+    was_printed past c.args.at e (Ok answer) c.args.office.now c.feed.new.self (accepted_text answer c.notes.result.now c.outgoing.result.now)
     (was_replied past c.args.at e (Ok answer) c.args.office.now c.feed.new.self (c.in-Ok.ensures.answers past stands tt) c.in-Ok.ensures.ends
     (c.in-Ok.ensures.quiet past stands) (c.in-Ok.ensures.stands past stands tt))
-    (subst (λ (text : List ℕ). Appends old new text)
     (ap (λ notes. accepted_text answer notes c.outgoing.result.now) (c.notes.ensures ∙ told.notes)
-    ∙ ap (λ frames. accepted_text answer (notes_after past c.args.at e (Ok answer)) frames) (c.outgoing.ensures ∙ told.outgoing))
-    appended))
+    ∙ ap (λ frames. accepted_text answer (notes_after past c.args.at e (Ok answer)) frames) (c.outgoing.ensures ∙ told.outgoing)))
 
-pub returns-in-Err : goal.returns-in-Err
-returns-in-Err g c =
+pub returns : goal.returns
+returns g c =
     let e = c.args.event.now in
     let why = c.in-Err.why in
-    let old = g.W.Write.contents c.args.output.now in
-    let new = g.W.Write.contents c.write_refusal.new.output in
-    writing c.write_refusal.result (refused_line why) c.args.office.now c.feed.new.self old new
+    writing c.write_refusal.result (refused_line why) c.args.office.now c.feed.new.self
+    (g.W.Write.contents c.args.output.now) (g.W.Write.contents c.write_refusal.new.output)
     (λ now printed next. EventPrints now c.args.at e printed next) c.write_refusal.ensures
-    (λ past stands appended.
-    was_printed past c.args.at e (Err why) c.args.office.now c.feed.new.self old new
+    (λ past stands.
+    was_printed past c.args.at e (Err why) c.args.office.now c.feed.new.self (refused_line why)
     (was_replied past c.args.at e (Err why) c.args.office.now c.feed.new.self (c.in-Err.ensures.answers past stands tt) c.in-Err.ensures.ends
     (c.in-Err.ensures.quiet past stands) (c.in-Err.ensures.stands past stands tt))
-    appended)
+    refl)

@@ -3,7 +3,7 @@ use Rattle.script_lines.specs.LineWords.Words.{words_of}
 use Rattle.script_run.specs.Looping.Lines.{AreWrong, WordsPrint}
 use Rattle.script_run.specs.Looping.Standings.{loop_state, stage_on}
 use Rattle.script_run.proofs.LoopingLemmas.Carrying.{line_done, line_wrong}
-use Rattle.script_run.proofs.LoopingLemmas.Loops.{ended, from_start, one_more, stopped}
+use Rattle.script_run.proofs.LoopingLemmas.Loops.{broken, ended, from_start, one_more, stopped}
 use Rattle.script_run.proofs.looping.text_run.run_lines.Goals as goal
 
 pub loop-line-init : goal.loop-line-init
@@ -42,3 +42,12 @@ pub returns : goal.returns
 returns g c = λ past stands.
     let ran = c.loop-line.invariant past stands in
     (ran.printed, ran.appended, ended _ _ c.loop-line.lines _ _ c.in_default.ensures.0 ran)
+
+pub returns-in-Err : goal.returns-in-Err
+returns-in-Err g c = λ past stands.
+    let ran = c.loop-line.invariant past stands in
+    let before = c.loop-line.run in
+    let here = loop_state before.office before.bank before.connected (g.W.Write.contents c.loop-line.output) in
+    broken past (speaking_lines c.args.text.now) c.loop-line.lines c.next_line.new.self (seen_line c.in-Some.line)
+    (loop_state c.args.run.now.office c.args.run.now.bank c.args.run.now.connected (g.W.Write.contents c.args.output.now)) here
+    (g.W.Write.contents c.run_line.new.output) c.in-Some.ensures ran (c.in-Err.ensures ran.past ran.stands)

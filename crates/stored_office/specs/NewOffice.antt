@@ -1,0 +1,19 @@
+-- The making of an office in a database.
+use Rattle.std.specs.Prelude.{◌≡◌, ℕ, List, [], Ok}
+use Rattle.std.specs.declared.result.Result.{Result}
+use Rattle.sqlite.specs.Store.{Ghosts}
+use Rattle.sqlite.specs.Held.{Held, state}
+use Rattle.interval_core.specs.declared.zone.Zone.{Zone}
+use Rattle.store_files.specs.declared.faults.OpenFault.{OpenFault}
+use Rattle.store_files.specs.NewFile.{Makes}
+use Rattle.store_tables.specs.Steps.{TransactsTo}
+use Rattle.office_store.specs.Database.{HoldsAlone}
+
+-- The tables of a new office were made from here on, in one transaction: the connection came to hold no facts, and a stop
+-- then left nothing else. What becomes of the connection afterwards is not said.
+pub record IsMade {S : Type 0} (g : Ghosts S) (zone : List ℕ) (from : Held S) : Type 0 where
+  pub made : Held S
+  pub told : Zone
+  pub does : let end : Result Zone OpenFault = Ok told in
+      TransactsTo (state g from) (state g made) end (Makes zone)
+  pub none : HoldsAlone g zone made []
