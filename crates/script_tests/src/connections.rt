@@ -55,7 +55,7 @@ fn is_answered(alloc: Global, peer: &mut TcpStream, answer: &[u8]) -> bool {
 }
 
 // Whether so many connections are answered over a register that is 9.
-fn all_are_answered(alloc: Global, listener: &TcpListener, count: u64) -> bool {
+fn all_are_answered(alloc: Global, listener: &TcpListener, count: u32) -> bool {
     match bank_with_nine(alloc) {
         Ok(mut bank) => answer_all(listener, count, &mut bank, &[]).is_ok(),
         Err(_) => false,
