@@ -1,5 +1,5 @@
 //! Damage, column by column.
-use crate::columns::{COLUMNS, UNREAD};
+use crate::damaged_columns::{COLUMNS, UNREAD};
 use crate::made::{found, opened};
 use crate::questions::are_answered;
 use crate::tables::{loose, strict};
