@@ -1,7 +1,8 @@
 //! Databases that are no books are handed back.
 use office_store::SqlBooks;
-use sqlite::{Connection, MemStore};
+use sqlite::{Connection, Error, MemStore};
 use std::alloc::Global;
+use std::process::Abort;
 use std::test::Fail;
 
 /// The number of the fault where a connection is opened, and 0 for none; and the connection.
@@ -24,21 +25,40 @@ fn making(
     }
 }
 
+/// What is done to a database before books are made of it in a zone, or opened, and the number of the fault.
+type Step = (&'static str, Option<&'static str>, u8);
+
+static STEPS: [Step; 6] = [
+    ("", None, 1),
+    ("", Some("x"), 2),
+    ("", Some("UTC0"), 0),
+    ("", Some("UTC0"), 1),
+    ("UPDATE meta SET zone = 'x'", None, 2),
+    ("UPDATE meta SET version = 9", None, 1),
+];
+
+/// The connection after a step, which has its fault.
+fn stepped(
+    rt: &impl Abort,
+    alloc: Global,
+    mut connection: Connection<MemStore>,
+    step: &Step,
+) -> Result<Connection<MemStore>, Error> {
+    let (change, zone, number) = *step;
+    connection.execute_batch(change)?;
+    let (fault, left) = match zone {
+        Some(zone) => making(alloc, connection, zone),
+        None => opening(alloc, connection),
+    };
+    assert_eq!(rt; fault, number, "{change}");
+    Ok(left)
+}
+
 #[test]
 fn connections_are_handed_back(rt: HostRuntime) -> Result<(), Fail> {
-    let (fault, blank) = opening(rt.alloc(), Connection::open_in_memory(rt.alloc())?);
-    assert_eq!(rt; fault, 1);
-    let (fault, blank) = making(rt.alloc(), blank, "x");
-    assert_eq!(rt; fault, 2);
-    let (fault, made) = making(rt.alloc(), blank, "UTC0");
-    assert_eq!(rt; fault, 0);
-    let (fault, mut made) = making(rt.alloc(), made, "UTC0");
-    assert_eq!(rt; fault, 1);
-    made.execute_batch("UPDATE meta SET zone = 'x'")?;
-    let (fault, mut made) = opening(rt.alloc(), made);
-    assert_eq!(rt; fault, 2);
-    made.execute_batch("UPDATE meta SET version = 9")?;
-    let (fault, _) = opening(rt.alloc(), made);
-    assert_eq!(rt; fault, 1);
+    let mut connection = Connection::open_in_memory(rt.alloc())?;
+    for step in &STEPS {
+        connection = stepped(&rt, rt.alloc(), connection, step)?;
+    }
     Ok(())
 }
