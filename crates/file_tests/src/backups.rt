@@ -6,16 +6,17 @@ use std::fs;
 use std::test::Fail;
 use stored_office::{CopyFault, is_bare, is_office, whole_file, whole_files};
 
-/// Copies a file and its log.
-fn copy_both(rt: &HostRuntime, from: &str, to: &str) -> Result<(), Fail> {
-    let alloc = rt.alloc();
-    let (log, copied_log) = (
-        format!(in alloc; "{from}-wal")?,
-        format!(in alloc; "{to}-wal")?,
-    );
-    fs::copy(rt, from, to)?;
+fn copy_log(rt: &HostRuntime, from: &str, to: &str) -> Result<(), Fail> {
+    let log = format!(in rt.alloc(); "{from}-wal")?;
+    let copied_log = format!(in rt.alloc(); "{to}-wal")?;
     fs::copy(rt, log.as_str(), copied_log.as_str())?;
     Ok(())
+}
+
+/// Copies a file and its log.
+fn copy_both(rt: &HostRuntime, from: &str, to: &str) -> Result<(), Fail> {
+    fs::copy(rt, from, to)?;
+    copy_log(rt, from, to)
 }
 
 fn remove_log(rt: &HostRuntime, path: &str) -> Result<(), Fail> {
@@ -42,32 +43,77 @@ fn is_bare_before<C: Connects>(connects: &C, path: &str) -> Result<bool, Fail> {
     Ok(was_bare && !is_bare(&connection) && !is_office(&connection))
 }
 
-#[test]
-fn a_copy_holds_its_office_alone(rt: HostRuntime) -> Result<(), Fail> {
-    let (from, to) = (path(&rt)?, path(&rt)?);
-    let files = Files { rt: &rt };
-    fill(&rt, &files, &from)?;
-    copy_both(&rt, &from, &to)?;
-    assert_eq!(rt; why_not_whole(&rt, &to), None);
-    remove_log(&rt, &to)?;
-    assert!(rt; is_office(&files.open(&to)?));
-    assert!(rt; are_reported(&rt, &files, &to, &KNOWN)?);
-    remove(&rt, &from)?;
-    remove(&rt, &to)
+fn is_office_at<C: Connects>(connects: &C, path: &str) -> Result<bool, Fail> {
+    let connection = connects.open(path)?;
+    Ok(is_office(&connection))
+}
+
+/// Makes an office, and a copy of it that has no log. Why that isn't made whole, if it isn't.
+fn copy_alone<C: Connects>(
+    rt: &HostRuntime,
+    connects: &C,
+    from: &str,
+    to: &str,
+) -> Result<Option<CopyFault>, Fail> {
+    fill(rt, connects, from)?;
+    copy_both(rt, from, to)?;
+    let why = why_not_whole(rt, to);
+    remove_log(rt, to)?;
+    Ok(why)
+}
+
+/// Whether a copy of an office is one, without its log, and is reported as the office is.
+fn is_copied_alone<C: Connects>(
+    rt: &HostRuntime,
+    connects: &C,
+    from: &str,
+    to: &str,
+) -> Result<bool, Fail> {
+    let why = copy_alone(rt, connects, from, to)?;
+    let is_one = is_office_at(connects, to)?;
+    let reports = are_reported(rt, connects, to, &KNOWN)?;
+    Ok(why.is_none() && is_one && reports)
+}
+
+fn remove_both(rt: &HostRuntime, one: &str, other: &str) -> Result<(), Fail> {
+    remove(rt, one)?;
+    remove(rt, other)
 }
 
 #[test]
-fn no_other_file_is_an_office(rt: HostRuntime) -> Result<(), Fail> {
+fn a_copy_holds_its_office_alone(rt: HostRuntime) -> Result<(), Fail> {
+    let from = path(&rt)?;
+    let to = path(&rt)?;
+    assert!(rt; is_copied_alone(&rt, &Files { rt: &rt }, &from, &to)?);
+    remove_both(&rt, &from, &to)
+}
+
+/// Why a text isn't made whole, if it isn't.
+fn why_no_text(rt: &HostRuntime, path: &str) -> Result<Option<CopyFault>, Fail> {
+    fs::write(rt, path, "no database".as_bytes())?;
+    let why = why_not_whole(rt, path);
+    remove(rt, path)?;
+    Ok(why)
+}
+
+#[test]
+fn no_text_is_an_office(rt: HostRuntime) -> Result<(), Fail> {
+    let path = path(&rt)?;
+    assert_eq!(rt; why_no_text(&rt, &path)?, Some(CopyFault::Torn));
+    assert_eq!(rt; why_not_whole(&rt, "/"), Some(CopyFault::Unwritable));
+    Ok(())
+}
+
+/// Why a database isn't closed as an office's, if it isn't.
+fn why_not_closed(files: &Files<'_>, path: &str) -> Result<Option<CopyFault>, Fail> {
+    Ok(whole_files(files.open(path)?).err())
+}
+
+#[test]
+fn no_other_database_is_an_office(rt: HostRuntime) -> Result<(), Fail> {
     let path = path(&rt)?;
     let files = Files { rt: &rt };
-    fs::write(&rt, path.as_str(), "no database".as_bytes())?;
-    assert_eq!(rt; why_not_whole(&rt, &path), Some(CopyFault::Torn));
-    remove(&rt, &path)?;
-    assert_eq!(rt; why_not_whole(&rt, "/"), Some(CopyFault::Unwritable));
     assert!(rt; is_bare_before(&files, &path)?);
-    assert_eq!(rt;
-        whole_files(files.open(&path)?).err(),
-        Some(CopyFault::NotOurs)
-    );
+    assert_eq!(rt; why_not_closed(&files, &path)?, Some(CopyFault::NotOurs));
     remove(&rt, &path)
 }

@@ -61,19 +61,37 @@ fn a_day_is_read(rt: HostRuntime) -> Result<(), Fail> {
     Ok(())
 }
 
+static PERIODS: [(&str, Option<Period>); 4] = [
+    ("day", Some(Period::Day)),
+    ("month", Some(Period::Month)),
+    ("year", Some(Period::Year)),
+    ("week", None),
+];
+
+static UNITS: [(&str, Option<EnergyUnit>); 3] = [
+    ("mwh", Some(EnergyUnit::MilliwattHours)),
+    ("kwh", Some(EnergyUnit::KilowattHours)),
+    ("kWh", None),
+];
+
+static FORMATS: [(&str, Option<Format>); 4] = [
+    ("text", Some(Format::Text)),
+    ("csv", Some(Format::Csv)),
+    ("json", Some(Format::Json)),
+    ("", None),
+];
+
 #[test]
 fn forms_have_words(rt: HostRuntime) {
-    assert_eq!(rt; Period::read("day"), Some(Period::Day));
-    assert_eq!(rt; Period::read("month"), Some(Period::Month));
-    assert_eq!(rt; Period::read("year"), Some(Period::Year));
-    assert_eq!(rt; Period::read("week"), None);
-    assert_eq!(rt; EnergyUnit::read("mwh"), Some(EnergyUnit::MilliwattHours));
-    assert_eq!(rt; EnergyUnit::read("kwh"), Some(EnergyUnit::KilowattHours));
-    assert_eq!(rt; EnergyUnit::read("kWh"), None);
-    assert_eq!(rt; Format::read("text"), Some(Format::Text));
-    assert_eq!(rt; Format::read("csv"), Some(Format::Csv));
-    assert_eq!(rt; Format::read("json"), Some(Format::Json));
-    assert_eq!(rt; Format::read(""), None);
+    for (word, period) in &PERIODS {
+        assert_eq!(rt; Period::read(word), *period, "{word}");
+    }
+    for (word, unit) in &UNITS {
+        assert_eq!(rt; EnergyUnit::read(word), *unit, "{word}");
+    }
+    for (word, format) in &FORMATS {
+        assert_eq!(rt; Format::read(word), *format, "{word}");
+    }
 }
 
 /// Whether a range from a day until another has a day.

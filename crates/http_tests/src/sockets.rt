@@ -11,23 +11,49 @@ fn link_of(listener: &TcpListener) -> io::Result<SocketLink<TcpStream>> {
     SocketLink::new(listener.accept()?.0)
 }
 
+// Whether a link takes what its peer sent, and idles then.
+fn takes_hello(link: &mut SocketLink<TcpStream>) -> bool {
+    let mut piece = [0; 16];
+    link.take(&mut piece) == Ok(Took::Bytes(5))
+        && piece.starts_with(b"hello")
+        && link.take(&mut piece) == Ok(Took::Idle)
+}
+
+// Whether its peer reads what it gives; the peer goes then.
+fn gives_you(link: &mut SocketLink<TcpStream>, mut peer: TcpStream) -> bool {
+    let mut answer = [0; 3];
+    link.give(b"you") == Ok(3) && peer.read_exact(&mut answer).is_ok() && &answer == b"you"
+}
+
+// Whether its peer has gone, after three takes of which none failed.
+fn has_ended(link: &mut SocketLink<TcpStream>) -> bool {
+    let mut piece = [0; 16];
+    link.take(&mut piece) == Ok(Took::End) && link.takes() == 3 && link.failures() == 0
+}
+
 #[test]
 fn a_socket_gives_takes_idles_and_ends(rt: HostRuntime) -> Result<(), Fail> {
     let listener = TcpListener::bind(&rt, "127.0.0.1:0")?;
-    let mut peer = client_of(&rt, &listener, b"hello")?;
+    let peer = client_of(&rt, &listener, b"hello")?;
     let mut link = link_of(&listener)?;
-    let mut piece = [0; 16];
-    assert_eq!(rt; link.take(&mut piece), Ok(Took::Bytes(5)));
-    assert_eq!(rt; &piece[..5], b"hello".as_slice());
-    assert_eq!(rt; link.take(&mut piece), Ok(Took::Idle));
-    assert_eq!(rt; link.give(b"you"), Ok(3));
-    let mut answer = [0; 3];
-    assert!(rt; peer.read_exact(&mut answer).is_ok());
-    assert_eq!(rt; &answer, b"you");
-    drop(peer);
-    assert_eq!(rt; link.take(&mut piece), Ok(Took::End));
-    assert_eq!(rt; [link.takes(), link.failures()], [3, 0]);
+    assert!(rt; takes_hello(&mut link));
+    assert!(rt; gives_you(&mut link, peer));
+    assert!(rt; has_ended(&mut link));
     Ok(())
+}
+
+// Whether a link takes and gives.
+fn works_once<L: Link>(link: &mut L) -> bool {
+    let mut piece = [0; 16];
+    link.take(&mut piece) == Ok(Took::Bytes(3)) && link.give(b"you") == Ok(3)
+}
+
+// Whether it fails twice after that.
+fn fails_twice<L: Link>(link: &mut L) -> bool {
+    let mut piece = [0; 16];
+    link.take(&mut piece) == Err(LinkFailed)
+        && link.give(b"you") == Err(LinkFailed)
+        && [link.takes(), link.failures()] == [2, 2]
 }
 
 #[test]
@@ -36,12 +62,8 @@ fn a_link_fails_once_its_time_is_over(rt: HostRuntime) {
     let mut clock = FixedClock::new(&[10, 10, 11]);
     let mut inner = MemoryLink::new(b"hello", &mut given, 3, None);
     let mut link = DeadlineLink::new(&mut inner, &mut clock, 10);
-    let mut piece = [0; 16];
-    assert_eq!(rt; link.take(&mut piece), Ok(Took::Bytes(3)));
-    assert_eq!(rt; link.give(b"you"), Ok(3));
-    assert_eq!(rt; link.take(&mut piece), Err(LinkFailed));
-    assert_eq!(rt; link.give(b"you"), Err(LinkFailed));
-    assert_eq!(rt; [link.takes(), link.failures()], [2, 2]);
+    assert!(rt; works_once(&mut link));
+    assert!(rt; fails_twice(&mut link));
     assert_eq!(rt; inner.given(), b"you".as_slice());
 }
 

@@ -3,10 +3,11 @@ use crate::offices::{empty_books, event_of};
 use crate::runs::run_anew;
 use interval_core::Zone;
 use memory_books::ListBooks;
-use office_core::{Run, run};
+use office_core::{Office, Run, run};
 use office_events::{Answer, CommandKind, EndedPoll, Event, Name, Refusal};
 use poll_core::{LostCause, Outcome};
 use std::alloc::Global;
+use std::process::Abort;
 
 // What comes, and what it is answered.
 static EVENTS: [(&str, Result<Answer, Refusal>); 8] = [
@@ -60,17 +61,28 @@ fn ran(alloc: Global) -> Option<Run<ListBooks>> {
     run_anew(alloc, zone, 0, &events(alloc)?).ok()
 }
 
+// The events have these answers, in their order.
+fn answer(rt: &impl Abort, answers: &[Result<Answer, Refusal>]) {
+    assert_eq!(rt; answers.len(), EVENTS.len());
+    for (answer, (line, expected)) in answers.iter().zip(&EVENTS) {
+        assert!(rt; answer == expected, "{line}");
+    }
+}
+
+// Whether the meter was read.
+fn is_read(office: &mut Office<ListBooks>) -> bool {
+    match office.meter(&Name::new(b"m1")) {
+        Ok(meter) => meter.last.raw == 5200 && meter.total == 200_000,
+        Err(_) => false,
+    }
+}
+
 #[test]
 fn a_run_keeps_each_answer(rt: HostRuntime) {
     let mut done = ran(rt.alloc()).expect(&rt, "a run");
-    assert_eq!(rt; done.results.len(), EVENTS.len());
-    for (answer, (line, expected)) in done.results.iter().zip(&EVENTS) {
-        assert_eq!(rt; *answer, *expected, "{line}");
-    }
+    answer(&rt, &done.results);
     assert_eq!(rt; done.office.outgoing().len(), 12);
-    let meter = done.office.meter(&Name::new(b"m1")).expect(&rt, "a meter");
-    assert_eq!(rt; meter.last.raw, 5200);
-    assert_eq!(rt; meter.total, 200_000);
+    assert!(rt; is_read(&mut done.office));
 }
 
 // The poll that waited is lost when the books are opened again.
@@ -86,12 +98,15 @@ fn refused(alloc: Global) -> Option<(ListBooks, Refusal)> {
     run(alloc, books, 1900, &[]).err()
 }
 
+// How the poll that waited ended, once the books are opened again.
+fn ended(alloc: Global, books: ListBooks) -> Option<EndedPoll> {
+    let mut again = run(alloc, books, 1902, &[]).ok()?;
+    again.office.poll(2).ok()?.ended
+}
+
 #[test]
 fn books_of_a_run_are_opened_again(rt: HostRuntime) {
     let (books, why) = refused(rt.alloc()).expect(&rt, "a refusal");
     assert_eq!(rt; why, Refusal::ClockBack);
-    let again = run(rt.alloc(), books, 1902, &[]);
-    let mut again = again.ok().expect(&rt, "a run that is opened again");
-    let row = again.office.poll(2).expect(&rt, "a poll");
-    assert_eq!(rt; row.ended, Some(LOST));
+    assert_eq!(rt; ended(rt.alloc(), books), Some(LOST));
 }

@@ -155,14 +155,26 @@ fn request(alloc: Global, line: &str) -> Option<(u64, Event)> {
     Some((at, event))
 }
 
-// Books of a device, its register and its meter, which was read; and of a request.
-fn books_of_read(rt: &impl Abort, alloc: Global) -> ListBooks {
+fn is_taken(office: &mut Office<ListBooks>, event: Option<(u64, Event)>) -> bool {
+    match event {
+        Some((at, event)) => office.feed(at, &event).is_ok(),
+        None => false,
+    }
+}
+
+// An office of a device, its register and its meter, which was read.
+fn office_of_read(rt: &impl Abort, alloc: Global) -> Office<ListBooks> {
     let books = empty_books(alloc).expect(rt, "books");
     let mut office = Office::open(alloc, books, 0).ok().expect(rt, "an office");
     for line in READ.lines() {
-        let (at, event) = event_of(alloc, line).expect(rt, "an event");
-        assert!(rt; office.feed(at, &event).is_ok());
+        assert!(rt; is_taken(&mut office, event_of(alloc, line)));
     }
+    office
+}
+
+// Its books, and of a request.
+fn books_of_read(rt: &impl Abort, alloc: Global) -> ListBooks {
+    let mut office = office_of_read(rt, alloc);
     let (_, event) = request(alloc, KEPT).expect(rt, "a request");
     assert!(rt; office.feed(2000, &event).is_ok());
     office.into_books()
@@ -175,14 +187,24 @@ fn after(rt: &impl Abort, alloc: Global, look_ups: u8) -> Tried {
     opened(rt, alloc, books, 2000)
 }
 
+// What a line is answered once the books were asked so many times.
+fn answer_after(
+    rt: &impl Abort,
+    alloc: Global,
+    look_ups: u8,
+    line: &str,
+) -> Result<Answer, Refusal> {
+    let (at, event) = event_of(alloc, line).expect(rt, "an event");
+    after(rt, alloc, look_ups).feed(at, &event)
+}
+
 fn asks(rt: &impl Abort, alloc: Global, case: &Case) {
-    let (at, event) = event_of(alloc, case.line).expect(rt, "an event");
-    let answer = after(rt, alloc, case.look_ups).feed(at, &event);
-    assert_eq!(rt; answer, Err(case.answer), "{}", case.line);
+    let answer = answer_after(rt, alloc, case.look_ups, case.line);
+    assert!(rt; answer == Err(case.answer), "{}", case.line);
     if let Some(fewer) = case.look_ups.checked_sub(1) {
-        let answer = after(rt, alloc, fewer).feed(at, &event);
+        let answer = answer_after(rt, alloc, fewer, case.line);
         let refused = Refusal::Store(StoreCause::Refused);
-        assert_eq!(rt; answer, Err(refused), "{}", case.line);
+        assert!(rt; answer == Err(refused), "{}", case.line);
     }
 }
 

@@ -38,19 +38,21 @@ const TERMS: [(u64, bool, bool); 6] = [
     (61, false, false),
 ];
 
+fn seconds(n: u64) -> Option<u64> {
+    let timeout = Timeout::new(n)?;
+    Some(timeout.seconds())
+}
+
+fn polls(n: u64) -> Option<u64> {
+    let window = Window::new(n)?;
+    Some(window.polls() as u64)
+}
+
 #[test]
 fn terms_at_their_limits(rt: HostRuntime) {
     for (n, is_timeout, is_window) in TERMS {
-        let timeout = Timeout::new(n);
-        let window = Window::new(n);
-        assert_eq!(rt;
-            timeout.map(|timeout| timeout.seconds()),
-            is_timeout.then_some(n)
-        );
-        assert_eq!(rt;
-            window.map(|window| window.polls() as u64),
-            is_window.then_some(n)
-        );
+        assert_eq!(rt; seconds(n), is_timeout.then_some(n));
+        assert_eq!(rt; polls(n), is_window.then_some(n));
     }
 }
 

@@ -1,6 +1,6 @@
 //! Point lists with the reads of their plans.
 use crate::offices::{LIST, planned};
-use read_plan::lists_are_planned_once;
+use read_plan::{PlannedRead, lists_are_planned_once};
 
 // Rows of points below the header, and the first register and the count of each read.
 struct Case {
@@ -27,17 +27,23 @@ static CASES: [Case; 3] = [
     },
 ];
 
+// Whether reads have these first registers and counts, in this order.
+fn are_reads(reads: &[PlannedRead], told: &[(u16, u16)]) -> bool {
+    for (read, (address, count)) in reads.iter().zip(told) {
+        if read.span.address != *address || read.span.count != *count {
+            return false;
+        }
+    }
+    reads.len() == told.len()
+}
+
 #[test]
 fn reads_of_lists(rt: HostRuntime) {
     lists_are_planned_once();
     for case in &CASES {
         let list = planned(rt.alloc(), case.rows).expect(&rt, "a list");
         assert_eq!(rt; list.points().len(), case.points);
-        assert_eq!(rt; list.reads().len(), case.reads.len());
-        for (read, (address, count)) in list.reads().iter().zip(case.reads) {
-            assert_eq!(rt; read.span.address, *address);
-            assert_eq!(rt; read.span.count, *count);
-        }
+        assert!(rt; are_reads(list.reads(), case.reads));
     }
 }
 

@@ -32,7 +32,7 @@ fn refuse_call(rt: &impl Abort, alloc: Global, input: &[u8], number: u64) -> End
     let mut given = [0; 24];
     let mut link = MemoryLink::new(input, &mut given, 259, None);
     let done = round(alloc, &mut office, &mut link, &[1000]).done;
-    if office.poll(1).err() == Some(Refusal::Stopped) {
+    if matches!(office.poll(1), Err(Refusal::Stopped)) {
         refuse_all(rt, alloc, &mut office);
     }
     let polls = ends(&mut office);

@@ -1,9 +1,10 @@
 //! Requests that are sent again.
-use crate::offices::{command_of, new_office};
+use crate::offices::{Tried, command_of, new_office};
 use crate::scripts::{READ, print, prints};
 use office_books::Repeat;
 use office_events::{Answer, Asked, CommandKind, Event, Name, Piece, Refusal};
 use std::alloc::Global;
+use std::process::Abort;
 
 /// A command that is asked under a caller and a number, with the bytes of its request.
 struct Request {
@@ -177,19 +178,35 @@ static REPEATED: [Repeated; 5] = [
     (b"", 7, "exchange", Err(Refusal::NotFound)),
 ];
 
+// Whether a request is answered so, and a frame is sent where it starts a poll, and no other.
+fn acts(alloc: Global, office: &mut Tried, request: &Request) -> bool {
+    let Some((at, event)) = asked(alloc, request) else {
+        return false;
+    };
+    let is_start = matches!(&request.answer, Ok(Answer::Started { .. }));
+    office.feed(at, &event) == request.answer && office.outgoing().is_empty() != is_start
+}
+
+fn is_repeated(office: &mut Tried, repeated: &Repeated) -> bool {
+    let (caller, number, bytes, expected) = *repeated;
+    office.repeat(&Name::new(caller), number, bytes.as_bytes()) == expected
+}
+
+// An office whose meter was read, after the requests.
+fn requested(rt: &impl Abort, alloc: Global) -> Tried {
+    let mut office = new_office(rt, alloc);
+    let _ = print(rt, alloc, &mut office, READ);
+    for (place, request) in REQUESTS.iter().enumerate() {
+        assert!(rt; acts(alloc, &mut office, request), "at {place}");
+    }
+    office
+}
+
 #[test]
 fn requests_act_once(rt: HostRuntime) {
-    let mut office = new_office(&rt, rt.alloc());
-    let _ = print(&rt, rt.alloc(), &mut office, READ);
-    for (place, request) in REQUESTS.iter().enumerate() {
-        let (at, event) = asked(rt.alloc(), request).expect(&rt, "a request");
-        assert_eq!(rt; office.feed(at, &event), request.answer, "at {place}");
-        let is_start = matches!(request.answer, Ok(Answer::Started { .. }));
-        assert_eq!(rt; office.outgoing().is_empty(), !is_start, "at {place}");
-    }
+    let mut office = requested(&rt, rt.alloc());
     prints(&rt, rt.alloc(), &mut office, ROWS, PRINTED);
-    for (caller, number, bytes, expected) in REPEATED {
-        let found = office.repeat(&Name::new(caller), number, bytes.as_bytes());
-        assert_eq!(rt; found, expected, "{number}");
+    for (place, repeated) in REPEATED.iter().enumerate() {
+        assert!(rt; is_repeated(&mut office, repeated), "at {place}");
     }
 }

@@ -72,7 +72,10 @@ pub(crate) const RESTARTED: Option<Option<Outcome>> = Some(Some(Outcome::Lost(Lo
 
 fn end_of(office: &mut Tried, number: u64) -> Option<Option<Outcome>> {
     let row = office.poll(number).ok()?;
-    Some(row.ended.map(|ended| ended.outcome))
+    match row.ended {
+        Some(ended) => Some(Some(ended.outcome)),
+        None => Some(None),
+    }
 }
 
 pub(crate) fn ends(office: &mut Tried) -> Ends {

@@ -9,20 +9,36 @@ use office_rounds::RoundFault;
 use std::alloc::Global;
 use std::process::Abort;
 
+fn is_stopped<T: Drop>(answer: Result<T, Refusal>) -> bool {
+    matches!(answer, Err(Refusal::Stopped))
+}
+
+// Whether it refuses to tell what there is.
+fn tells_nothing(office: &mut Tried) -> bool {
+    is_stopped(office.device(&inv()))
+        && is_stopped(office.register(&inv()))
+        && is_stopped(office.meter(&inv()))
+        && is_stopped(office.installation(&inv()))
+        && is_stopped(office.site())
+}
+
+// Whether it refuses to tell what came of a poll and of a request.
+fn answers_nothing(office: &mut Tried) -> bool {
+    is_stopped(office.poll(1)) && is_stopped(office.repeat(&inv(), 1, b""))
+}
+
+// Whether it refuses to hand on quarter hours and days.
+fn hands_on_nothing(alloc: Global, office: &mut Tried) -> bool {
+    let mut shares: KeptRows<Share> = KeptRows::new(alloc);
+    let mut days: KeptRows<DayTotal> = KeptRows::new(alloc);
+    is_stopped(office.intervals(&inv(), &mut shares)) && is_stopped(office.days(&inv(), &mut days))
+}
+
 // It refuses each question.
 fn refuse_questions(rt: &impl Abort, alloc: Global, office: &mut Tried) {
-    const STOPPED: Option<Refusal> = Some(Refusal::Stopped);
-    assert_eq!(rt; office.device(&inv()).err(), STOPPED);
-    assert_eq!(rt; office.register(&inv()).err(), STOPPED);
-    assert_eq!(rt; office.meter(&inv()).err(), STOPPED);
-    assert_eq!(rt; office.poll(1).err(), STOPPED);
-    assert_eq!(rt; office.installation(&inv()).err(), STOPPED);
-    assert_eq!(rt; office.repeat(&inv(), 1, b"").err(), STOPPED);
-    assert_eq!(rt; office.site().err(), STOPPED);
-    let mut shares: KeptRows<Share> = KeptRows::new(alloc);
-    assert_eq!(rt; office.intervals(&inv(), &mut shares).err(), STOPPED);
-    let mut days: KeptRows<DayTotal> = KeptRows::new(alloc);
-    assert_eq!(rt; office.days(&inv(), &mut days).err(), STOPPED);
+    assert!(rt; tells_nothing(office));
+    assert!(rt; answers_nothing(office));
+    assert!(rt; hands_on_nothing(alloc, office));
 }
 
 /// Holds a stopped office to it that it refuses each event, each question and each round.

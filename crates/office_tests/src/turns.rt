@@ -98,11 +98,16 @@ static COME_AGAIN: [Moment; 3] = [
     (1003, Step::Stands(0)),
 ];
 
+// How far the round of a device is, by its place.
+fn stage(bench: &Bench<Seen>, place: usize) -> Option<Stage> {
+    let round = bench.rounds.get(place)?;
+    Some(round.stage)
+}
+
 #[test]
 fn a_device_that_came_again_waits(rt: HostRuntime) {
     let bench = seen(&rt, rt.alloc(), &COME_AGAIN);
-    let mut stages = bench.rounds.iter().map(|round| round.stage);
-    assert_eq!(rt; stages.next(), Some(Stage::Waiting));
-    assert_eq!(rt; stages.next(), Some(Stage::Off));
-    assert_eq!(rt; stages.next(), None);
+    assert_eq!(rt; stage(&bench, 0), Some(Stage::Waiting));
+    assert_eq!(rt; stage(&bench, 1), Some(Stage::Off));
+    assert_eq!(rt; stage(&bench, 2), None);
 }

@@ -16,18 +16,31 @@ enum Said {
     List(&'static [u8]),
 }
 
+fn is_inv(device: &Option<Name>) -> bool {
+    *device == Name::new(b"inv")
+}
+
+fn is_end(closing: Closing, wanted: Said) -> bool {
+    match wanted {
+        Said::Ended(end) => closing == end,
+        _ => false,
+    }
+}
+
+fn are_bytes(bytes: &[u8], wanted: Said) -> bool {
+    match wanted {
+        Said::Bytes(all) => bytes == all,
+        _ => false,
+    }
+}
+
 // Whether an event is this one.
 fn is_event(event: &Event, wanted: Said) -> bool {
-    let inv = Name::new(b"inv");
-    match (event, wanted) {
-        (Event::Connected(device), Said::Connected) => *device == inv,
-        (Event::Tick, Said::Tick) => true,
-        (Event::Gone(device, closing), Said::Ended(wanted)) => {
-            *device == inv && *closing == wanted
-        }
-        (Event::Bytes(device, piece), Said::Bytes(wanted)) => {
-            *device == inv && piece.as_slice() == wanted
-        }
+    match event {
+        Event::Connected(device) => is_inv(device) && matches!(wanted, Said::Connected),
+        Event::Tick => matches!(wanted, Said::Tick),
+        Event::Gone(device, closing) => is_inv(device) && is_end(*closing, wanted),
+        Event::Bytes(device, piece) => is_inv(device) && are_bytes(piece.as_slice(), wanted),
         _ => false,
     }
 }

@@ -115,10 +115,17 @@ Example:
   sunreg run --db office.db --listen 8080 --every 60 --devices inv=192.0.2.7:502
 ";
 
+fn is_told(alloc: Global, words: &[&str], expected: &str) -> bool {
+    match help(alloc, words) {
+        Some(text) => text.as_str() == expected,
+        None => false,
+    }
+}
+
 #[test]
 fn the_texts_of_help_stand(rt: HostRuntime) {
     for (words, expected) in [(["--help"], PROGRAM), (["help"], PROGRAM)] {
-        assert!(rt; help(rt.alloc(), &words).is_some_and(|text| text.as_str() == expected));
+        assert!(rt; is_told(rt.alloc(), &words, expected));
     }
     for (words, expected) in [
         (["help", "serve"], SERVE),
@@ -126,7 +133,7 @@ fn the_texts_of_help_stand(rt: HostRuntime) {
         (["run", "--help"], RUN),
         (["help", "explain"], EXPLAIN),
     ] {
-        assert!(rt; help(rt.alloc(), &words).is_some_and(|text| text.as_str() == expected));
+        assert!(rt; is_told(rt.alloc(), &words, expected));
     }
 }
 

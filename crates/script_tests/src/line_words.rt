@@ -4,7 +4,7 @@ use script_lines::{
     Words, hex_bytes, next_moment, next_name, next_number, next_range, next_scale, next_signed,
     nothing_more, number,
 };
-use std::test::Fail;
+use std::alloc::Global;
 
 #[test]
 fn words_stand_between_spaces(rt: HostRuntime) {
@@ -33,25 +33,42 @@ fn numbers_have_one_to_nineteen_digits(rt: HostRuntime) {
     }
 }
 
+// Whether hex digits are read as these bytes.
+fn are_read(alloc: Global, digits: &[u8], bytes: &[u8]) -> bool {
+    match hex_bytes(alloc, digits) {
+        Ok(Some(read)) => read.as_slice() == bytes,
+        _ => false,
+    }
+}
+
 #[test]
-fn hex_is_of_whole_bytes(rt: HostRuntime) -> Result<(), Fail> {
-    let bytes = hex_bytes(rt.alloc(), b"00fFa9")?.ok_or("no bytes")?;
-    assert_eq!(rt; bytes.as_slice(), b"\x00\xff\xa9".as_slice());
-    assert!(rt; hex_bytes(rt.alloc(), b"00f")?.is_none());
-    assert!(rt; hex_bytes(rt.alloc(), b"")?.is_none());
-    Ok(())
+fn hex_is_of_whole_bytes(rt: HostRuntime) {
+    assert!(rt; are_read(rt.alloc(), b"00fFa9", b"\x00\xff\xa9"));
+    for digits in [b"00f".as_slice(), b""] {
+        assert!(rt; matches!(hex_bytes(rt.alloc(), digits), Ok(None)));
+    }
+}
+
+// Whether a name, a number, a signed one and a scale come next.
+fn spells_the_first(words: &mut Words<'_>) -> bool {
+    next_name(words) == Some(Name::new(b"m1"))
+        && next_number(words) == Some(12)
+        && next_signed(words) == Some(-3)
+        && next_scale(words) == Some(GivenScale::Register(7))
+}
+
+// Whether a range and a moment come next, and then the end.
+fn spells_the_last(words: &mut Words<'_>) -> bool {
+    next_range(words) == Some(65_536)
+        && next_moment(words) == Some(Some(900))
+        && nothing_more(words) == Some(())
 }
 
 #[test]
 fn each_word_spells_a_value(rt: HostRuntime) {
     let mut words = Words::of(b"m1 12 -3 @7 65536 900");
-    assert_eq!(rt; next_name(&mut words), Some(Name::new(b"m1")));
-    assert_eq!(rt; next_number(&mut words), Some(12));
-    assert_eq!(rt; next_signed(&mut words), Some(-3));
-    assert_eq!(rt; next_scale(&mut words), Some(GivenScale::Register(7)));
-    assert_eq!(rt; next_range(&mut words), Some(65_536));
-    assert_eq!(rt; next_moment(&mut words), Some(Some(900)));
-    assert_eq!(rt; nothing_more(&mut words), Some(()));
+    assert!(rt; spells_the_first(&mut words));
+    assert!(rt; spells_the_last(&mut words));
 }
 
 #[test]

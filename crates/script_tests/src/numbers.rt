@@ -139,7 +139,7 @@ fn no_sentence_is_empty(rt: HostRuntime) {
 fn each_kind_is_named(rt: HostRuntime) {
     for kind in kinds() {
         let named = kind_named(kind.word());
-        assert!(rt; named.is_some_and(|found| found.word() == kind.word()));
+        assert!(rt; matches!(named, Some(found) if found.word() == kind.word()));
     }
     assert!(rt; kind_named("fault") == Some(Kind::RowFault));
     assert!(rt; kind_named("cause").is_none());

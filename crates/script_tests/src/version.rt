@@ -20,16 +20,7 @@ fn each_form_asks_for_the_version(rt: HostRuntime) {
 fn the_table_has_the_commands_in_the_order_of_help(rt: HostRuntime) {
     let program = program();
     assert!(rt; program.name == "sunreg" && program.commands.len() == 15);
-    assert!(rt;
-        program
-            .commands
-            .first()
-            .is_some_and(|command| command.name == "replay")
-    );
-    assert!(rt;
-        program
-            .commands
-            .last()
-            .is_some_and(|command| command.name == "completions")
-    );
+    let (first, last) = (program.commands.first(), program.commands.last());
+    assert!(rt; matches!(first, Some(command) if command.name == "replay"));
+    assert!(rt; matches!(last, Some(command) if command.name == "completions"));
 }

@@ -1,5 +1,6 @@
-//! Tests of the tables of the books, of the file that has them all, and of what is booked and looked up in them, over databases
-//! in memory, without the office above.
+//! Tests of the tables of the books, of the file that has them all, of what is booked and looked up in them, and of an office
+//! over them, over databases in memory. Scripts give the answers that they give over books in memory, and each column of each
+//! table is set to what it can't be, and the books say so.
 #![tactic(auto)]
 
 #[cfg(test)]
@@ -7,7 +8,13 @@ mod bookings;
 #[cfg(test)]
 mod columns;
 #[cfg(test)]
+mod damage;
+#[cfg(test)]
+mod damaged_columns;
+#[cfg(test)]
 mod damaged_rows;
+#[cfg(test)]
+mod databases;
 #[cfg(test)]
 mod device_rows;
 #[cfg(test)]
@@ -21,6 +28,8 @@ mod latest;
 #[cfg(test)]
 mod lookups;
 #[cfg(test)]
+mod made;
+#[cfg(test)]
 mod meter_lookups;
 #[cfg(test)]
 mod meter_rows;
@@ -33,13 +42,25 @@ mod one_meter;
 #[cfg(test)]
 mod opened_files;
 #[cfg(test)]
+mod player;
+#[cfg(test)]
 mod point_lists;
 #[cfg(test)]
 mod poll_rows;
 #[cfg(test)]
+mod printed;
+#[cfg(test)]
+mod questions;
+#[cfg(test)]
+mod requests;
+#[cfg(test)]
+mod scripts;
+#[cfg(test)]
 mod shares;
 #[cfg(test)]
 mod stories;
+#[cfg(test)]
+mod tables;
 #[cfg(test)]
 mod two_meters;
 #[cfg(test)]
