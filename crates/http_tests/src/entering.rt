@@ -30,7 +30,7 @@ impl NamedFiles for OneFile {
 
     // The counter of the register `main` shows 7000 Wh, and no other can be read.
     fn shown(&self, _device: &Device, register: &Register) -> Option<Shown> {
-        if register.name.as_bytes() == b"main" {
+        if register.name.as_bytes() == b"main".as_slice() {
             Some(Shown { raw: 7000, sf: 0 })
         } else {
             None
