@@ -55,11 +55,9 @@ fn is_answered(alloc: Global, peer: &mut TcpStream, answer: &[u8]) -> bool {
 }
 
 // Whether so many connections are answered over a register that is 9.
-fn all_are_answered(alloc: Global, listener: &TcpListener, count: u32) -> bool {
-    match bank_with_nine(alloc) {
-        Ok(mut bank) => answer_all(listener, count, &mut bank, &[]).is_ok(),
-        Err(_) => false,
-    }
+fn all_are_answered(alloc: Global, listener: &TcpListener, count: u32) -> Result<bool, Fail> {
+    let mut bank = bank_with_nine(alloc)?;
+    Ok(answer_all(listener, count, &mut bank, &[]).is_ok())
 }
 
 // Three peers, each of which has sent a frame.
@@ -82,7 +80,7 @@ fn have_answers(alloc: Global, peers: &mut [TcpStream; 3]) -> bool {
 fn each_connection_is_answered_in_turn(rt: HostRuntime) -> Result<(), Fail> {
     let listener = TcpListener::bind(&rt, "127.0.0.1:0")?;
     let mut peers = three_peers(&rt, &listener)?;
-    assert!(rt; all_are_answered(rt.alloc(), &listener, 3));
+    assert!(rt; all_are_answered(rt.alloc(), &listener, 3)?);
     assert!(rt; have_answers(rt.alloc(), &mut peers));
     Ok(())
 }
@@ -98,7 +96,7 @@ fn two_peers(rt: &HostRuntime, listener: &TcpListener) -> io::Result<[TcpStream;
 fn a_garbled_connection_ends_alone(rt: HostRuntime) -> Result<(), Fail> {
     let listener = TcpListener::bind(&rt, "127.0.0.1:0")?;
     let mut peers = two_peers(&rt, &listener)?;
-    assert!(rt; all_are_answered(rt.alloc(), &listener, 2));
+    assert!(rt; all_are_answered(rt.alloc(), &listener, 2)?);
     assert!(rt; is_answered(rt.alloc(), &mut peers[1], NINE));
     Ok(())
 }
