@@ -151,7 +151,6 @@ impl Running {
 
     // Goes on with the device of a place, and where something had come of it, with the peers that have asked meanwhile: they
     // wait for what one device brought, and not for all.
-    #[tactic(auto, using(crate::proofs::Going::goes_both))]
     fn attend_device<B: Books>(
         &mut self,
         place: usize,

@@ -2,8 +2,8 @@ use Rattle.http_request.specs.Hosts.{texts}
 use Rattle.office_running.proofs.Going.{goes_asked, may_ask_of}
 use Rattle.office_running.proofs.http_port.Serving.reply.Goals as goal
 
-pub returns-in-None : goal.returns-in-None
-returns-in-None g c =
+pub returns-else-lacks : goal.returns-else-lacks
+returns-else-lacks g c =
     goes_asked (texts c.args.names.now) g.B.Books.ledger c.args.now.moment c.args.office.now c.ask.new.office c.args.request.now c.ask.result
     (may_ask_of (texts c.args.names.now) c.args.request.now c.in-None.ensures) c.ask.ensures.asks c.ask.ensures.lasts
 
