@@ -11,8 +11,8 @@ returns-in-Some g c =
     let said = c.in-Some.said in
     let connected = c.args.run.now.connected in
     runs_as c.run_bank_line.result (BankPrints said) (WordsPrint words) (MayNotStand connected said) (AreWrong connected words) _ _
-    (λ now printed next prints. inl (said, c.in-Some.ensures, prints))
-    (λ wrong. inl (said, c.in-Some.ensures, wrong))
+    (λ now printed next prints. inl (said, c.in-Some.ensures.0, prints))
+    (λ wrong. inl (said, c.in-Some.ensures.0, wrong))
     c.run_bank_line.ensures
 
 pub returns-in-Ok : goal.returns-in-Ok
