@@ -18,10 +18,10 @@ returns-then-not-accepted g c = λ past stands.
 
 pub returns-then-over : goal.returns-then-over
 returns-then-over g c =
-    fed_end c.end_well-2.result (c.loop-take._take + 1) c.args.device.now c.args.at c.args.office.now c.feed.new.office _ _ _ (omega arith)
+    fed_end c.end_well-then-over.result (c.loop-take._take + 1) c.args.device.now c.args.at c.args.office.now c.feed.new.office _ _ _ (omega arith)
     (λ past stands. fed_more c.loop-take._take c.args.device.now c.args.at past c.in-Some.came c.into_event.result c.in_ok-accepted.accepted c.args.office.now c.loop-take.office
     c.feed.new.office _ _ _ (c.loop-take.invariant past stands) c.into_event.ensures c.if-not-accepted.false c.in_ok-accepted.ensures)
-    c.end_well-2.ensures
+    c.end_well-then-over.ensures
 
 pub loop-take-preserved : goal.loop-take-preserved
 loop-take-preserved g c = λ past stands.
@@ -30,10 +30,10 @@ loop-take-preserved g c = λ past stands.
 
 pub returns : goal.returns
 returns g c =
-    fed_end c.end_well-3.result c.loop-take._take c.args.device.now c.args.at c.args.office.now c.loop-take.office _ _ _ (omega arith) c.loop-take.invariant c.end_well-3.ensures
+    fed_end c.end_well-2.result c.loop-take._take c.args.device.now c.args.at c.args.office.now c.loop-take.office _ _ _ (omega arith) c.loop-take.invariant c.end_well-2.ensures
 
-pub returns-in_err-next_came : goal.returns-in_err-next_came
-returns-in_err-next_came g c =
+pub returns-in_err-came : goal.returns-in_err-came
+returns-in_err-came g c =
     breaks c.from_residual.result (λ stays now printed next. AnswersPrint c.args.device.now c.args.at now printed next) c.args.office.now c.loop-take.office
     _ _ c.from_residual.ensures.0
     (λ past stands.

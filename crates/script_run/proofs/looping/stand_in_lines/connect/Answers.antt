@@ -43,7 +43,7 @@ returns-in_err-connect-in-Ok g c =
     breaks c.from_residual.result (λ done now printed next. EventPrints now c.args.at (event.Connected c.args.device.now) printed next) c.args.office.now _ _ _
     c.from_residual.ensures.0 (λ past stands. inl (Appends-nil _))
 
-pub returns-in_err-connect-2-in-Ok : goal.returns-in_err-connect-2-in-Ok
-returns-in_err-connect-2-in-Ok g c =
-    breaks c.from_residual-in_err-connect-2-in-Ok.result (λ done now printed next. EventPrints now c.args.at (event.Connected c.args.device.now) printed next)
-    c.args.office.now _ _ _ c.from_residual-in_err-connect-2-in-Ok.ensures.0 (λ past stands. inl (Appends-nil _))
+pub returns-in_err-connect-in-Ok-2 : goal.returns-in_err-connect-in-Ok-2
+returns-in_err-connect-in-Ok-2 g c =
+    breaks c.from_residual-in_err-connect-in-Ok-2.result (λ done now printed next. EventPrints now c.args.at (event.Connected c.args.device.now) printed next)
+    c.args.office.now _ _ _ c.from_residual-in_err-connect-in-Ok-2.ensures.0 (λ past stands. inl (Appends-nil _))

@@ -22,8 +22,8 @@ returns-in-Ok g c =
     (ap (λ notes. accepted_text answer notes c.outgoing.result.now) (c.notes.ensures ∙ told.notes)
     ∙ ap (λ frames. accepted_text answer (notes_after past c.args.at e (Ok answer)) frames) (c.outgoing.ensures ∙ told.outgoing)))
 
-pub returns : goal.returns
-returns g c =
+pub returns-in-Err : goal.returns-in-Err
+returns-in-Err g c =
     let e = c.args.event.now in
     let why = c.in-Err.why in
     writing c.write_refusal.result (refused_line why) c.args.office.now c.feed.new.self
