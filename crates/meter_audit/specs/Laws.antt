@@ -1,0 +1,67 @@
+-- Laws of rows that fit.
+use Rattle.std.specs.Prelude.{◌≡◌, ℕ, ◌+◌, List, ◌∷◌, length, Option, Ok, IsOk}
+use Rattle.energy_core.specs.declared.entries.Step.{Step}
+use Rattle.meter_journal.specs.declared.lines.Installed.{Installed}
+use Rattle.meter_journal.specs.declared.lines.EntryRow.{EntryRow}
+use Rattle.meter_journal.specs.Books.{IsWellInstalled, last_after, total_after}
+use Rattle.meter_journal.specs.Fitting.{AreFitting}
+use Rattle.meter_journal.specs.Journal.{Journal, standing, entries_in, entries_of, rows_of}
+use Rattle.meter_journal.specs.Lists.{step_past}
+use Rattle.meter_journal.specs.Standing.{entering}
+use Rattle.meter_audit.specs.declared.checks.Check.{Check}
+use Rattle.meter_audit.specs.declared.rows.TableRow.{TableRow}
+use Rattle.meter_audit.specs.Rows.{scale_after, table_row}
+use Rattle.meter_audit.specs.Fitting.{RowFits, AllFit, is_ended}
+use Rattle.meter_audit.specs.Passing.{passed}
+
+-- The rows of every lawful journal fit, those that were voided too.
+abbrev pub RowsOfJournalsFit : Type 0
+RowsOfJournalsFit = (meter : Installed) (lines : Journal) → IsWellInstalled meter
+    → AreFitting meter lines
+    → AllFit meter (rows_of meter.opening lines)
+
+-- What stands of rows is lawful by itself: entered one after the other, those that stand are a lawful journal, and
+-- leave their own entries.
+pub record StandsAlone (meter : Installed) (rows : List EntryRow) : Type 0 where
+  pub fit : AreFitting meter (entering (standing rows))
+  pub entries : entries_of meter.opening (entering (standing rows)) ≡ entries_in rows
+
+-- So it is of rows that fit.
+abbrev pub FittingRowsStandAlone : Type 0
+FittingRowsStandAlone = (meter : Installed) (rows : List EntryRow) → AllFit meter rows
+    → StandsAlone meter rows
+
+-- where a check stands behind these rows
+abbrev pub check_after : Installed → List EntryRow → Check
+check_after meter rows = record {
+  place = length rows + 1;
+  last = last_after meter (entries_in rows);
+  total = total_after meter (entries_in rows);
+  is_ended = is_ended rows;
+}
+
+-- All these rows fit, and the check stands behind them.
+pub record HasTaken (meter : Installed) (rows : List EntryRow) (check : Check) : Type 0 where
+  pub fit : AllFit meter rows
+  pub check_is : check ≡ check_after meter rows
+
+-- A row of the table is that of a row that fits after these. The check stands behind it, and the step to it was answered.
+pub record IsTaken (meter : Installed) (rows : List EntryRow) (told : TableRow) (after : Check)
+    (step : Option Step) : Type 0 where
+  pub row : EntryRow
+  pub told_is : told ≡ table_row (scale_after meter (row ∷ rows)) row
+  pub taken : HasTaken meter (row ∷ rows) after
+  pub step_is : step ≡ step_past meter.range (last_after meter (entries_in rows)) row
+
+-- What passes is the row of the table of a row that fits.
+abbrev pub PassedRowsFit : Type 0
+PassedRowsFit = (meter : Installed) (rows : List EntryRow) (check : Check) (told : TableRow)
+    (after : Check) (step : Option Step) → IsWellInstalled meter → HasTaken meter rows check
+    → passed meter check told ≡ Ok (after, step)
+    → IsTaken meter rows told after step
+
+-- What the table has for a row that fits passes.
+abbrev pub FittingRowsPass : Type 0
+FittingRowsPass = (meter : Installed) (rows : List EntryRow) (check : Check) (row : EntryRow)
+    → IsWellInstalled meter → HasTaken meter rows check → RowFits meter rows row
+    → IsOk (passed meter check (table_row (scale_after meter (row ∷ rows)) row))
