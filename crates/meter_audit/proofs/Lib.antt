@@ -1,1 +1,6 @@
 pub mod Alone
+pub mod Passed
+pub mod Passing
+pub mod Journals
+pub mod Lawful
+pub mod Comparing

@@ -1,17 +1,18 @@
 -- Laws of rows that fit.
-use Rattle.std.specs.Prelude.{◌≡◌, ℕ, ◌+◌, List, ◌∷◌, length, Option, Ok, IsOk}
+use Rattle.std.specs.Prelude.{◌≡◌, ◌+◌, List, ◌∷◌, length, Option, Ok, IsOk}
 use Rattle.energy_core.specs.declared.entries.Step.{Step}
+use Rattle.interval_core.specs.Account.{energy_of}
 use Rattle.meter_journal.specs.declared.lines.Installed.{Installed}
 use Rattle.meter_journal.specs.declared.lines.EntryRow.{EntryRow}
-use Rattle.meter_journal.specs.Books.{IsWellInstalled, last_after, total_after}
+use Rattle.meter_journal.specs.Books.{IsWellInstalled, last_after, total_after, last_in, total_in, interval_rows}
 use Rattle.meter_journal.specs.Fitting.{AreFitting}
-use Rattle.meter_journal.specs.Journal.{Journal, standing, entries_in, entries_of, rows_of}
+use Rattle.meter_journal.specs.Journal.{Journal, is_ended as has_closing, standing, entries_in, entries_of, rows_of}
 use Rattle.meter_journal.specs.Lists.{step_past}
 use Rattle.meter_journal.specs.Standing.{entering}
 use Rattle.meter_audit.specs.declared.checks.Check.{Check}
 use Rattle.meter_audit.specs.declared.rows.TableRow.{TableRow}
 use Rattle.meter_audit.specs.Rows.{scale_after, table_row}
-use Rattle.meter_audit.specs.Fitting.{RowFits, AllFit, is_ended}
+use Rattle.meter_audit.specs.Fitting.{RowFits, AllFit, Tables, tables_of, AreFine, is_ended}
 use Rattle.meter_audit.specs.Passing.{passed}
 
 -- The rows of every lawful journal fit, those that were voided too.
@@ -30,6 +31,28 @@ pub record StandsAlone (meter : Installed) (rows : List EntryRow) : Type 0 where
 abbrev pub FittingRowsStandAlone : Type 0
 FittingRowsStandAlone = (meter : Installed) (rows : List EntryRow) → AllFit meter rows
     → StandsAlone meter rows
+
+-- Tables tell what a lawful journal comes to: where the counter stands, the energy, the interval rows, and whether the
+-- meter has ended. So the interval rows add up to the energy.
+pub record AreLawful (meter : Installed) (tables : Tables) : Type 0 where
+  pub lines : Journal
+  pub fit : AreFitting meter lines
+  pub last : tables.last ≡ last_in meter lines
+  pub total : tables.total ≡ total_in meter lines
+  pub intervals : tables.intervals ≡ interval_rows meter lines
+  pub ended : tables.ended ≡ has_closing lines
+  pub adds_up : energy_of tables.intervals ≡ tables.total
+
+-- Fine tables do.
+abbrev pub FineTablesAreLawful : Type 0
+FineTablesAreLawful = (meter : Installed) (tables : Tables) → IsWellInstalled meter
+    → AreFine meter tables → AreLawful meter tables
+
+-- The tables of every lawful journal are fine.
+abbrev pub LawfulTablesAreFine : Type 0
+LawfulTablesAreFine = (meter : Installed) (lines : Journal) → IsWellInstalled meter
+    → AreFitting meter lines
+    → AreFine meter (tables_of meter (rows_of meter.opening lines))
 
 -- where a check stands behind these rows
 abbrev pub check_after : Installed → List EntryRow → Check

@@ -1,4 +1,5 @@
 pub mod Rows
 pub mod Fitting
 pub mod Passing
+pub mod Comparing
 pub mod Laws

@@ -3,10 +3,15 @@
 
 mod checks;
 mod faults;
+mod intervals;
 mod laws;
 mod rows;
 
 pub use checks::{Check, begin, pass};
 pub use faults::RowFault;
-pub use laws::fitting_rows_stand_alone;
+pub use intervals::{IntervalDifference, IntervalFault, first_difference};
+pub use laws::{
+    fine_tables_are_lawful, fitting_rows_pass, fitting_rows_stand_alone, lawful_tables_are_fine,
+    passed_rows_fit, rows_of_journals_fit,
+};
 pub use rows::{RowKind, TableRow};
