@@ -30,11 +30,19 @@ missing_at wanted found i d same lt le =
     first_at wanted found (get_or wanted i d ∷ drop (suc i) wanted) [] i _ same (omega (arith, lt))
     (drop-cons wanted i d lt) (drop_of_length-le found le) refl
 
-pub unwanted_at : (wanted found : List Share) (i : ℕ) (d : Share) → take i wanted ≡ take i found → i ≡ length wanted → i < length found
+unwanted_at : (wanted found : List Share) (i : ℕ) (d : Share) → take i wanted ≡ take i found → i ≡ length wanted → i < length found
     → IsFirst wanted found (difference_behind i (fault.Unwanted (get_or found i d).start (get_or found i d).mwh))
 unwanted_at wanted found i d same all lt =
     first_at wanted found [] (get_or found i d ∷ drop (suc i) found) i _ same (omega (arith, all))
     (drop_of_length-le wanted (omega (arith, all))) (drop-cons found i d lt) refl
+
+pub unwanted_end : (wanted found : List Share) (i : ℕ) (d : Share) → take i wanted ≡ take i found → length wanted ≤ i → i ≤ length wanted
+    → length wanted < length found
+    → IsFirst wanted found
+    (difference_behind (length wanted) (fault.Unwanted (get_or found (length wanted) d).start (get_or found (length wanted) d).mwh))
+unwanted_end wanted found i d same le ge lt =
+    let is : i ≡ length wanted = omega (arith, le, ge) in
+    unwanted_at wanted found (length wanted) d (subst (λ n. take n wanted ≡ take n found) is same) refl lt
 
 pub between_at : (wanted found : List Share) (i : ℕ) (d e : Share) (f : IntervalFault) → take i wanted ≡ take i found
     → i < length wanted → i < length found → fault_between (get_or wanted i d) (get_or found i e) ≡ Some f

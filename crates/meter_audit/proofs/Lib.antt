@@ -4,3 +4,5 @@ pub mod Passing
 pub mod Journals
 pub mod Lawful
 pub mod Comparing
+pub mod Apart
+pub mod Examples

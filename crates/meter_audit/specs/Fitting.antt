@@ -13,7 +13,7 @@ use Rattle.meter_journal.specs.Fitting.{EntryFits}
 use Rattle.meter_journal.specs.Intervals.{rows_of_steps}
 use Rattle.meter_journal.specs.Journal.{is_closing, entries_in}
 use Rattle.meter_audit.specs.declared.rows.TableRow.{TableRow}
-use Rattle.meter_audit.specs.Rows.{table_rows}
+use Rattle.meter_audit.specs.Rows.{later_rows, table_rows}
 
 -- a row is that of a closing
 abbrev pub is_ended : List EntryRow → Bool
@@ -47,6 +47,12 @@ pub record RowFits (meter : Installed) (rows : List EntryRow) (row : EntryRow) :
 abbrev pub AllFit : Installed → List EntryRow → Type 0
 AllFit meter [] = Unit {0}
 AllFit meter (row ∷ rows) = RowFits meter rows row × AllFit meter rows
+
+-- Rows of the table behind an opening, the latest first, are those of some rows that fit.
+pub record AreTold (meter : Installed) (told : List TableRow) : Type 0 where
+  pub rows : List EntryRow
+  pub fit : AllFit meter rows
+  pub told_is : told ≡ later_rows meter rows
 
 -- what the tables tell of a meter: its rows, the latest first, its intervals in order, and where it stands
 pub record Tables : Type 0 where

@@ -1,5 +1,5 @@
 -- Laws of rows that fit.
-use Rattle.std.specs.Prelude.{◌≡◌, ◌+◌, List, ◌∷◌, length, Option, Ok, IsOk}
+use Rattle.std.specs.Prelude.{◌≡◌, ◌+◌, List, ◌∷◌, length, reverse, take, slice_get, Option, Some, Ok, Err, IsOk}
 use Rattle.energy_core.specs.declared.entries.Step.{Step}
 use Rattle.interval_core.specs.Account.{energy_of}
 use Rattle.meter_journal.specs.declared.lines.Installed.{Installed}
@@ -10,8 +10,9 @@ use Rattle.meter_journal.specs.Journal.{Journal, is_ended as has_closing, standi
 use Rattle.meter_journal.specs.Lists.{step_past}
 use Rattle.meter_journal.specs.Standing.{entering}
 use Rattle.meter_audit.specs.declared.checks.Check.{Check}
+use Rattle.meter_audit.specs.declared.lists.RefusedRow.{RefusedRow}
 use Rattle.meter_audit.specs.declared.rows.TableRow.{TableRow}
-use Rattle.meter_audit.specs.Rows.{scale_after, table_row}
+use Rattle.meter_audit.specs.Rows.{scale_after, table_row, later_rows}
 use Rattle.meter_audit.specs.Fitting.{RowFits, AllFit, Tables, tables_of, AreFine, is_ended}
 use Rattle.meter_audit.specs.Passing.{passed}
 
@@ -88,3 +89,22 @@ abbrev pub FittingRowsPass : Type 0
 FittingRowsPass = (meter : Installed) (rows : List EntryRow) (check : Check) (row : EntryRow)
     → IsWellInstalled meter → HasTaken meter rows check → RowFits meter rows row
     → IsOk (passed meter check (table_row (scale_after meter (row ∷ rows)) row))
+
+-- Rows that fit can be read back: other rows are told by other rows of the table.
+abbrev pub RowsAreToldApart : Type 0
+RowsAreToldApart = (meter : Installed) (rows others : List EntryRow) → AllFit meter rows
+    → AllFit meter others → later_rows meter rows ≡ later_rows meter others → rows ≡ others
+
+-- A check went over rows of the table, the latest first: they are those of rows that fit, and it stands behind them.
+pub record HasPassed (meter : Installed) (told : List TableRow) (check : Check) : Type 0 where
+  pub rows : List EntryRow
+  pub taken : HasTaken meter rows check
+  pub told_is : told ≡ later_rows meter rows
+
+-- Of rows of the table in their order, a check passed those before an index, and refused that one.
+pub record IsFirstRefused (meter : Installed) (told : List TableRow) (at : RefusedRow) : Type 0 where
+  pub check : Check
+  pub before : HasPassed meter (reverse (take at.index told)) check
+  pub row : TableRow
+  pub there : slice_get told at.index ≡ Some row
+  pub refused : passed meter check row ≡ Err at.fault

@@ -1,5 +1,5 @@
 -- The rows that the table of entries has for a meter.
-use Rattle.std.specs.Prelude.{ℕ, ℤ, false, not, List, [], ◌∷◌}
+use Rattle.std.specs.Prelude.{ℕ, ℤ, false, not, List, [], ◌∷◌, ◌++◌}
 use Rattle.energy_core.specs.declared.entries.Last.{Last}
 use Rattle.energy_core.specs.declared.entries.Entry.{Entry}
 use Rattle.energy_core.specs.declared.entries.Entry.TheVariants as entry
@@ -63,8 +63,12 @@ opening_row opening = record {
   is_voided = false;
 }
 
--- The opening and these rows after it, each with the scale factor after it, the latest first.
+-- These rows, each with the scale factor after it, the latest first.
+abbrev pub later_rows : Installed → List EntryRow → List TableRow
+later_rows meter [] = []
+later_rows meter (row ∷ rows) =
+    table_row (scale_after meter (row ∷ rows)) row ∷ later_rows meter rows
+
+-- They and the opening before them.
 abbrev pub table_rows : Installed → List EntryRow → List TableRow
-table_rows meter [] = opening_row meter.opening ∷ []
-table_rows meter (row ∷ rows) =
-    table_row (scale_after meter (row ∷ rows)) row ∷ table_rows meter rows
+table_rows meter rows = later_rows meter rows ++ opening_row meter.opening ∷ []

@@ -2,7 +2,7 @@
 //! empty.
 ghost use Rattle.meter_audit.specs.Laws.{RowsOfJournalsFit, FittingRowsStandAlone};
 ghost use Rattle.meter_audit.specs.Laws.{FineTablesAreLawful, LawfulTablesAreFine};
-ghost use Rattle.meter_audit.specs.Laws.{PassedRowsFit, FittingRowsPass};
+ghost use Rattle.meter_audit.specs.Laws.{PassedRowsFit, FittingRowsPass, RowsAreToldApart};
 
 use meter_journal::interval_rows_add_up;
 
@@ -36,4 +36,9 @@ pub fn passed_rows_fit()
 /// What the table has for a row that fits passes.
 pub fn fitting_rows_pass()
     ensures { FittingRowsPass }
+{}
+
+/// Rows that fit can be read back from the table.
+pub fn rows_are_told_apart()
+    ensures { RowsAreToldApart }
 {}

@@ -5,6 +5,7 @@ mod checks;
 mod faults;
 mod intervals;
 mod laws;
+mod lists;
 mod rows;
 
 pub use checks::{Check, begin, pass};
@@ -12,6 +13,7 @@ pub use faults::RowFault;
 pub use intervals::{IntervalDifference, IntervalFault, first_difference};
 pub use laws::{
     fine_tables_are_lawful, fitting_rows_pass, fitting_rows_stand_alone, lawful_tables_are_fine,
-    passed_rows_fit, rows_of_journals_fit,
+    passed_rows_fit, rows_are_told_apart, rows_of_journals_fit,
 };
+pub use lists::{RefusedRow, check_rows};
 pub use rows::{RowKind, TableRow};
