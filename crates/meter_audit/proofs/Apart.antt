@@ -1,5 +1,5 @@
 -- Rows that fit can be read back from the table.
-use Rattle.std.proofs.Common.{◌≡◌, ℕ, ◌+◌, ◌<◌, Bool, true, false, not, List, [], ◌∷◌, ◌++◌, reverse, take, drop, length, get_or, Option, Some, None, Result, Ok, Err, IsOk, refl, sym, ap, subst, ◌∙◌, arith}
+use Rattle.std.proofs.Common.{◌≡◌, ℕ, ◌+◌, ◌<◌, Bool, true, false, not, List, [], ◌∷◌, ◌++◌, reverse, take, drop, length, get_or, Option, Some, None, Result, Ok, Err, IsOk, refl, sym, ap, subst, ◌∙◌}
 use Rattle.std.proofs.lemmas.Option.{slice_get-get_or}
 use Rattle.std.proofs.lemmas.List.{reverse-append, take_more, take-append-drop}
 use Rattle.energy_core.specs.declared.entries.Step.{Step}
@@ -17,7 +17,7 @@ use Rattle.meter_audit.specs.declared.rows.TableRow.{TableRow}
 use Rattle.meter_audit.specs.Rows.{scale_after, table_row, later_rows}
 use Rattle.meter_audit.specs.Fitting.{MayCome, RowFits, AllFit, AreTold}
 use Rattle.meter_audit.specs.Passing.{kind_in, entry_in, passed}
-use Rattle.meter_audit.specs.Laws.{check_after, HasTaken, PassedRowsFit, RowsAreToldApart, HasPassed, IsFirstRefused}
+use Rattle.meter_audit.specs.Laws.{check_after, PassedRowsFit, RowsAreToldApart, HasPassed, IsFirstRefused}
 use Rattle.meter_audit.proofs.Passing.{fitting_rows_pass}
 
 abbrev kind_or : Option EntryKind → EntryKind

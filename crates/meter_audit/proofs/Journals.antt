@@ -1,5 +1,5 @@
 -- The rows of every lawful journal fit.
-use Rattle.std.proofs.Common.{◌≡◌, ◌≢◌, ℕ, ◌+◌, ◌<◌, ◌≤◌, ◌==◌, Bool, true, false, nat_lt, if◌then◌else◌, List, [], ◌∷◌, length, Option, Some, None, refl, sym, ap, subst, ◌∙◌, inl, inr, arith}
+use Rattle.std.proofs.Common.{◌≡◌, ℕ, ◌≤◌, ◌==◌, Bool, true, false, nat_lt, if◌then◌else◌, List, [], ◌∷◌, Some, None, refl, sym, ap, subst, ◌∙◌, inl, inr, arith}
 use Rattle.std.proofs.lemmas.Bool.{cases_Bool, cond-true, cond-false}
 use Rattle.std.proofs.lemmas.Option.{same_Some}
 use Rattle.energy_core.specs.declared.entries.Last.{Last}
@@ -11,7 +11,7 @@ use Rattle.meter_journal.specs.declared.lines.Installed.{Installed}
 use Rattle.meter_journal.specs.declared.lines.EntryKind.{EntryKind}
 use Rattle.meter_journal.specs.declared.lines.EntryKind.TheVariants as kind
 use Rattle.meter_journal.specs.declared.lines.EntryRow.{EntryRow}
-use Rattle.meter_journal.specs.Books.{IsWellInstalled, last_after, total_after}
+use Rattle.meter_journal.specs.Books.{IsWellInstalled, last_after}
 use Rattle.meter_journal.specs.Fitting.{reading_at, IsAcceptedAs, EntryFits, is_free, VoidFits, AreFitting}
 use Rattle.meter_journal.specs.Journal.{Entered, Held, Voided, Journal, Around, is_read, is_closing, is_ended as journal_ended, entries_in, rows_of, rolled, struck, with_void, passed, row_at}
 use Rattle.meter_journal.specs.Lists.{AreNumbered}
@@ -20,9 +20,8 @@ use Rattle.meter_journal.proofs.AsEntered.{AreRowsOf, rows_are_entered, rows_sta
 use Rattle.meter_journal.proofs.Chains.{last_moment}
 use Rattle.meter_journal.proofs.Keeping.{all_three, entries_standing, entries_struck, follow_rest, above, by_read, unrolled, mapped_some, rows_are_sound}
 use Rattle.meter_journal.proofs.StillFitting.{rolls_of, terms_after}
-use Rattle.meter_audit.specs.Fitting.{is_ended, WasReading, VoidedFits, MayCome, RowFits, AllFit}
+use Rattle.meter_audit.specs.Fitting.{is_ended, WasReading, VoidedFits, MayCome, AllFit}
 use Rattle.meter_audit.specs.Laws.{RowsOfJournalsFit}
-use Rattle.meter_audit.proofs.Alone.{unended_parts}
 
 -- ---- a closing ends a journal and its rows alike
 

@@ -8,13 +8,13 @@ use Rattle.meter_journal.specs.declared.lines.Installed.{Installed}
 use Rattle.meter_journal.specs.declared.lines.EntryKind.{EntryKind}
 use Rattle.meter_journal.specs.declared.lines.EntryKind.TheVariants as kind
 use Rattle.meter_journal.specs.declared.lines.EntryRow.{EntryRow}
-use Rattle.meter_journal.specs.Books.{IsWellInstalled, last_after, total_after, steps_after, total_in, interval_rows}
+use Rattle.meter_journal.specs.Books.{last_after, total_after, steps_after, total_in, interval_rows}
 use Rattle.meter_journal.specs.Intervals.{rows_of_steps}
 use Rattle.meter_journal.specs.Journal.{Journal, is_closing, is_ended as has_closing, standing, entries_in, rows_of}
 use Rattle.meter_journal.specs.Laws.{IntervalRowsAddUp}
 use Rattle.meter_journal.specs.Standing.{entering}
 use Rattle.meter_journal.proofs.AsEntered.{stands_on}
-use Rattle.meter_audit.specs.Fitting.{is_ended, VoidedFits, MayCome, AllFit, Tables, AreFine}
+use Rattle.meter_audit.specs.Fitting.{is_ended, VoidedFits, MayCome, AllFit, Tables}
 use Rattle.meter_audit.specs.Laws.{FineTablesAreLawful, LawfulTablesAreFine}
 use Rattle.meter_audit.proofs.Alone.{fitting_rows_stand_alone}
 use Rattle.meter_audit.proofs.Journals.{rows_of_journals_fit}

@@ -1,5 +1,5 @@
 -- What passes is the row of the table of a row that fits.
-use Rattle.std.proofs.Common.{◌≡◌, ◌≢◌, ℕ, ℤ, ◌+◌, ◌<◌, ◌≤◌, ◌==◌, nat_lt, nat_le, Bool, true, false, not, cond, ◌&&◌, if◌then◌else◌, List, [], ◌∷◌, length, Option, Some, None, Result, Ok, Err, refl, sym, ap, subst, ◌∙◌, inl, inr, arith}
+use Rattle.std.proofs.Common.{◌≡◌, ◌≢◌, ℕ, ℤ, ◌+◌, ◌<◌, ◌≤◌, ◌==◌, nat_lt, nat_le, Bool, true, false, not, ◌&&◌, if◌then◌else◌, List, ◌∷◌, length, Option, Some, None, Result, Ok, Err, refl, sym, ap, subst, ◌∙◌, inl, inr, arith}
 use Rattle.std.specs.Ordering.{int_eq}
 use Rattle.std.proofs.lemmas.Bool.{cases_Bool, cond-true, cond-false, eqb-true}
 use Rattle.std.proofs.lemmas.Bool.Decides.{nat_tests, Decides-int_eq}
@@ -7,7 +7,6 @@ use Rattle.std.proofs.lemmas.Option.{same_Some}
 use Rattle.energy_core.specs.declared.entries.Last.{Last}
 use Rattle.energy_core.specs.declared.entries.Step.{Step}
 use Rattle.energy_core.specs.declared.entries.Entry.{Entry}
-use Rattle.energy_core.specs.declared.entries.Entry.TheVariants as entry
 use Rattle.energy_core.specs.declared.admission.TermFault.{TermFault}
 use Rattle.energy_core.specs.declared.verdicts.Verdict.{Verdict}
 use Rattle.energy_core.specs.declared.verdicts.Verdict.TheVariants as verdict
@@ -18,10 +17,9 @@ use Rattle.meter_journal.specs.declared.lines.Installed.{Installed}
 use Rattle.meter_journal.specs.declared.lines.EntryKind.{EntryKind}
 use Rattle.meter_journal.specs.declared.lines.EntryKind.TheVariants as kind
 use Rattle.meter_journal.specs.declared.lines.EntryRow.{EntryRow}
-use Rattle.meter_journal.specs.Books.{IsWellInstalled, last_after, total_after, HasAccount}
-use Rattle.meter_journal.specs.Fitting.{IsAcceptedAs, IsEntered, EntryFits}
+use Rattle.meter_journal.specs.Books.{IsWellInstalled, last_after, total_after}
+use Rattle.meter_journal.specs.Fitting.{EntryFits}
 use Rattle.meter_journal.specs.Journal.{is_reading, is_closing, entries_in}
-use Rattle.meter_journal.specs.Lists.{step_past}
 use Rattle.meter_journal.proofs.Keeping.{entries_standing, entries_struck}
 use Rattle.meter_journal.proofs.Voiding.{whole_with}
 use Rattle.meter_audit.specs.declared.checks.Check.{Check}
@@ -31,8 +29,8 @@ use Rattle.meter_audit.specs.declared.rows.RowKind.TheVariants as row_kind
 use Rattle.meter_audit.specs.declared.rows.TableRow.{TableRow}
 use Rattle.meter_audit.specs.Rows.{kind_as, scale_after, table_row}
 use Rattle.meter_audit.specs.Fitting.{is_ended, WasReading, VoidedFits, MayCome, RowFits, AllFit}
-use Rattle.meter_audit.specs.Passing.{kind_in, is_change, entry_in, has_unused, is_off_scale, shape_by, shape_of, fault_by, reading_fault, voided_fault, unless, behind, stood, voided, passed_by, passed}
-use Rattle.meter_audit.specs.Laws.{check_after, HasTaken, IsTaken, PassedRowsFit}
+use Rattle.meter_audit.specs.Passing.{kind_in, entry_in, has_unused, is_off_scale, shape_by, shape_of, fault_by, reading_fault, voided_fault, unless, behind, stood, voided, passed_by, passed}
+use Rattle.meter_audit.specs.Laws.{check_after, IsTaken, PassedRowsFit}
 use Rattle.meter_audit.proofs.Alone.{fitting_account}
 
 -- ---- where no fault is told

@@ -1,5 +1,5 @@
 -- What the table has for a row that fits passes.
-use Rattle.std.proofs.Common.{◌≡◌, ◌≢◌, ℕ, ℤ, ◌+◌, ◌<◌, ◌≤◌, ◌==◌, nat_lt, nat_le, Bool, true, false, not, ◌&&◌, if◌then◌else◌, List, ◌∷◌, length, Option, Some, None, Result, Ok, Err, IsOk, refl, sym, ap, subst, ◌∙◌, arith, eq-eqb}
+use Rattle.std.proofs.Common.{◌≡◌, ◌≢◌, ℕ, ℤ, ◌+◌, ◌<◌, ◌≤◌, ◌==◌, nat_lt, nat_le, Bool, true, false, not, ◌&&◌, List, ◌∷◌, length, Option, Some, None, Result, Ok, IsOk, refl, sym, ap, subst, ◌∙◌, arith, eq-eqb}
 use Rattle.std.specs.Ordering.{int_eq}
 use Rattle.std.proofs.lemmas.Bool.{cond-true, cond-false}
 use Rattle.std.proofs.lemmas.Bool.Decides.{nat_tests, Decides-int_eq}
@@ -9,7 +9,6 @@ use Rattle.energy_core.specs.declared.entries.Entry.{Entry}
 use Rattle.energy_core.specs.declared.entries.Entry.TheVariants as entry
 use Rattle.energy_core.specs.declared.verdicts.Verdict.TheVariants as verdict
 use Rattle.energy_core.specs.Admission.{entered}
-use Rattle.energy_core.specs.Verdict.{verdict_of}
 use Rattle.energy_core.proofs.Acceptance.{accepted_is_entered}
 use Rattle.meter_journal.specs.declared.lines.Installed.{Installed}
 use Rattle.meter_journal.specs.declared.lines.EntryKind.{EntryKind}
@@ -55,9 +54,9 @@ pub passes_standing : (meter : Installed) (check : Check) (told : TableRow) (k :
     → IsOk (passed meter check told)
 passes_standing meter check told k next step shape stands none booked =
     subst IsOk (sym (
-      ap (passed_by meter check told) shape ∙ cond-false _ _ _ stands
-          ∙ ap (λ o. unless o (behind check k told (entered meter.range check.total check.last (entry_in k told)))) none
-          ∙ ap (behind check k told) booked
+    ap (passed_by meter check told) shape ∙ cond-false _ _ _ stands
+    ∙ ap (λ o. unless o (behind check k told (entered meter.range check.total check.last (entry_in k told)))) none
+    ∙ ap (behind check k told) booked
     )) refl
 
 pub passes_voided : (meter : Installed) (check : Check) (told : TableRow) (k : EntryKind)

@@ -8,21 +8,11 @@ use interval_core::Share;
 #[derive(Clone, Copy, Debug, PartialEq, Eq)]
 pub enum IntervalFault {
     /// The table has no row where the entries give one.
-    Missing {
-        start: u64,
-        wanted: u64,
-    },
+    Missing { start: u64, wanted: u64 },
     /// The table has a row where the entries give none.
-    Unwanted {
-        start: u64,
-        has: u64,
-    },
+    Unwanted { start: u64, has: u64 },
     /// The table has a row with another energy.
-    Differs {
-        start: u64,
-        has: u64,
-        wanted: u64,
-    },
+    Differs { start: u64, has: u64, wanted: u64 },
 }
 
 /// A difference, how many rows on both sides are the same before it, and how many of each side are done with behind it.
