@@ -5,4 +5,5 @@ pub mod Journals
 pub mod Lawful
 pub mod Comparing
 pub mod Apart
+pub mod Going
 pub mod Examples

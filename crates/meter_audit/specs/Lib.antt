@@ -3,3 +3,4 @@ pub mod Fitting
 pub mod Passing
 pub mod Comparing
 pub mod Laws
+pub mod Going

@@ -121,6 +121,11 @@ abbrev pub unless : {X : Type 0} → Option RowFault → Result X RowFault → R
 unless (Some f) answer = Err f
 unless None answer = answer
 
+-- the energy of a step, if there is one, in mWh
+abbrev pub energy_in : Option Step → ℕ
+energy_in None = 0
+energy_in (Some step) = step.mwh
+
 -- behind an entry that was booked, and the step to it
 abbrev pub behind : Check → EntryKind → TableRow → Result (Last × Step) TermFault
     → Result (Check × Option Step) RowFault

@@ -1,5 +1,5 @@
 //! A check of a meter's rows, one after the other, in memory that doesn't grow.
-ghost use Rattle.std.specs.Prelude.{◌≡◌, ◌<◌, ◌^◌, IfOk};
+ghost use Rattle.std.specs.Prelude.{◌≡◌, ◌+◌, ◌<◌, ◌^◌, IfOk};
 ghost use Rattle.std.specs.Option.{ForSome};
 ghost use Rattle.energy_core.specs.Laws.{IsShareable};
 ghost use Rattle.meter_journal.specs.Journal as journal;
@@ -154,6 +154,7 @@ fn stand(
     requires place { row.now.place < 2 ^ 63 }
     ensures value { result ≡ passing.stood meter.now check.now kind row.now }
     ensures sound { IfOk result (λ r. passing.IsSoundCheck meter.now r.0) }
+    ensures total { IfOk result (λ r. r.0.total ≡ check.now.total + passing.energy_in r.1) }
     ensures step { IfOk result (λ r. ForSome r.1 IsShareable) }
 {
     if let Some(fault) = reading_fault(meter, check, kind, row) {
@@ -192,6 +193,7 @@ pub fn pass(
     requires place { row.now.place < 2 ^ 63 }
     ensures value { result ≡ passing.passed meter.now check.now row.now }
     ensures sound { IfOk result (λ r. passing.IsSoundCheck meter.now r.0) }
+    ensures total { IfOk result (λ r. r.0.total ≡ check.now.total + passing.energy_in r.1) }
     ensures step { IfOk result (λ r. ForSome r.1 IsShareable) }
 {
     let kind = shape(check, row)?;

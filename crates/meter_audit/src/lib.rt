@@ -6,6 +6,7 @@ mod faults;
 mod intervals;
 mod laws;
 mod lists;
+mod progress;
 mod rows;
 
 pub use checks::{Check, begin, pass};
@@ -16,4 +17,5 @@ pub use laws::{
     passed_rows_fit, rows_are_told_apart, rows_of_journals_fit,
 };
 pub use lists::{RefusedRow, check_rows};
+pub use progress::{Progress, drop_done, start, take_row};
 pub use rows::{RowKind, TableRow};
