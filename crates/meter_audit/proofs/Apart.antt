@@ -62,10 +62,10 @@ read_back meter rows place false kind.Rescale e h = absurd h
 is_back : (meter : Installed) (rows : List EntryRow) (row : EntryRow) → RowFits meter rows row → decoded (told_after meter rows row) ≡ row
 is_back meter rows row fits = read_back meter rows row.place row.stands row.kind row.entry fits.entry
 
-same_head : {X : Type 0} (x y : X) (xs ys : List X) → x ∷ xs ≡ y ∷ ys → x ≡ y
+pub same_head : {X : Type 0} (x y : X) (xs ys : List X) → x ∷ xs ≡ y ∷ ys → x ≡ y
 same_head x y xs ys h = cc
 
-same_tail : {X : Type 0} (x y : X) (xs ys : List X) → x ∷ xs ≡ y ∷ ys → xs ≡ ys
+pub same_tail : {X : Type 0} (x y : X) (xs ys : List X) → x ∷ xs ≡ y ∷ ys → xs ≡ ys
 same_tail x y xs ys h = cc
 
 pub rows_are_told_apart : RowsAreToldApart
@@ -98,7 +98,7 @@ refused_next meter rows told f (row ∷ rows') well fit why all h =
     absurd (cc)
 
 -- rows of the table up to one that is refused, the latest first, with whatever comes behind it
-refused_below : (meter : Installed) (rows : List EntryRow) (told : TableRow) (f : RowFault) (newer : List TableRow) (all : List EntryRow)
+pub refused_below : (meter : Installed) (rows : List EntryRow) (told : TableRow) (f : RowFault) (newer : List TableRow) (all : List EntryRow)
     → IsWellInstalled meter → AllFit meter rows → passed meter (check_after meter rows) told ≡ Err f → AllFit meter all
     → newer ++ told ∷ later_rows meter rows ≡ later_rows meter all → ⊥
 refused_below meter rows told f [] all well fit why fits h = refused_next meter rows told f all well fit why fits h

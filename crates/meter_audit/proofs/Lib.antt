@@ -6,4 +6,5 @@ pub mod Lawful
 pub mod Comparing
 pub mod Apart
 pub mod Going
+pub mod Finished
 pub mod Examples

@@ -1,16 +1,17 @@
 -- A check of a meter under way.
-use Rattle.std.specs.Prelude.{◌≡◌, ◌≤◌, List, [], ◌∷◌, ◌++◌, Option, Some, None, Err}
+use Rattle.std.specs.Prelude.{◌≡◌, ◌↔◌, ◌≤◌, List, [], ◌∷◌, ◌++◌, Option, Some, None, Err}
 use Rattle.interval_core.specs.declared.shares.Share.{Share}
 use Rattle.interval_core.specs.Account.{energy_of}
 use Rattle.meter_journal.specs.declared.lines.Installed.{Installed}
 use Rattle.meter_journal.specs.declared.lines.EntryRow.{EntryRow}
-use Rattle.meter_journal.specs.Books.{steps_after}
+use Rattle.meter_journal.specs.Books.{IsWellInstalled, steps_after}
 use Rattle.meter_journal.specs.Intervals.{rows_of_steps}
 use Rattle.meter_journal.specs.Journal.{entries_in}
 use Rattle.meter_audit.specs.declared.faults.RowFault.{RowFault}
 use Rattle.meter_audit.specs.declared.progress.Progress.{Progress}
 use Rattle.meter_audit.specs.declared.rows.TableRow.{TableRow}
-use Rattle.meter_audit.specs.Rows.{later_rows}
+use Rattle.meter_audit.specs.Rows.{opening_row, later_rows}
+use Rattle.meter_audit.specs.Fitting.{AreTold, Tables, AreFine}
 use Rattle.meter_audit.specs.Passing.{IsSoundCheck, passed}
 use Rattle.meter_audit.specs.Laws.{HasTaken}
 
@@ -36,3 +37,25 @@ abbrev pub GoesOn : Installed → Progress → TableRow → Progress → Option 
 GoesOn meter old row new None = (told : List TableRow) (done : List Share)
     → HasGone meter told done old → HasGone meter (row ∷ told) done new
 GoesOn meter old row new (Some fault) = passed meter old.check row ≡ Err fault
+
+-- What the other tables tell agrees with the check: the intervals that were done with and those that are still wanted, where
+-- the counter stands, the energy, and whether the meter has ended.
+pub record Agrees (tables : Tables) (done : List Share) (progress : Progress) : Type 0 where
+  pub intervals : tables.intervals ≡ done ++ progress.wanted.items
+  pub last : tables.last ≡ progress.check.last
+  pub total : tables.total ≡ progress.check.total
+  pub ended : tables.ended ≡ progress.check.is_ended
+
+-- Behind all rows of a meter its tables are fine exactly if they agree with the check.
+abbrev pub FinishedIsFine : Type 0
+FinishedIsFine = (meter : Installed) (told : List TableRow) (done : List Share)
+    (progress : Progress) (tables : Tables) → HasGone meter told done progress
+    → tables.entries ≡ told ++ opening_row meter.opening ∷ []
+    → AreFine meter tables ↔ Agrees tables done progress
+
+-- A row that is refused makes that no rows with it are those of rows that fit, whatever comes behind it.
+abbrev pub RefusedIsNotFine : Type 0
+RefusedIsNotFine = (meter : Installed) (told newer : List TableRow) (done : List Share)
+    (progress : Progress) (row : TableRow) (fault : RowFault) → IsWellInstalled meter
+    → HasGone meter told done progress → passed meter progress.check row ≡ Err fault
+    → AreTold meter (newer ++ row ∷ told) → ⊥

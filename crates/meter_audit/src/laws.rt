@@ -3,6 +3,7 @@
 ghost use Rattle.meter_audit.specs.Laws.{RowsOfJournalsFit, FittingRowsStandAlone};
 ghost use Rattle.meter_audit.specs.Laws.{FineTablesAreLawful, LawfulTablesAreFine};
 ghost use Rattle.meter_audit.specs.Laws.{PassedRowsFit, FittingRowsPass, RowsAreToldApart};
+ghost use Rattle.meter_audit.specs.Going.{FinishedIsFine, RefusedIsNotFine};
 
 use meter_journal::interval_rows_add_up;
 
@@ -41,4 +42,14 @@ pub fn fitting_rows_pass()
 /// Rows that fit can be read back from the table.
 pub fn rows_are_told_apart()
     ensures { RowsAreToldApart }
+{}
+
+/// Behind all rows of a meter its tables are fine exactly if they agree with the check.
+pub fn finished_is_fine()
+    ensures { FinishedIsFine }
+{}
+
+/// No rows with one that was refused are those of rows that fit.
+pub fn refused_is_not_fine()
+    ensures { RefusedIsNotFine }
 {}
