@@ -5,10 +5,10 @@ use crate::samples::HOUSE;
 use energy_core::{Cause, TermFault};
 use interval_core::Share;
 use meter_audit::{
-    IntervalDifference, IntervalFault, RefusedRow, RowFault, RowKind, TableRow, check_rows, drop_done,
-    fine_tables_are_lawful, first_difference, fitting_rows_pass, fitting_rows_stand_alone,
-    lawful_tables_are_fine, passed_rows_fit, rows_are_told_apart, rows_of_journals_fit, start,
-    take_row,
+    IntervalDifference, IntervalFault, RefusedRow, RowFault, RowKind, TableRow, check_rows,
+    drop_done, fine_tables_are_lawful, first_difference, fitting_rows_pass,
+    fitting_rows_stand_alone, lawful_tables_are_fine, passed_rows_fit, rows_are_told_apart,
+    rows_of_journals_fit, start, take_row,
 };
 use std::test::Fail;
 

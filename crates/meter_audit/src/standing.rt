@@ -45,7 +45,15 @@ pub fn standing_faults(check: &Check, standing: &Standing) -> StandingFaults
         } else {
             Some(check.last)
         },
-        total: if is_same_total { None } else { Some(check.total) },
-        is_ended: if is_same_end { None } else { Some(check.is_ended) },
+        total: if is_same_total {
+            None
+        } else {
+            Some(check.total)
+        },
+        is_ended: if is_same_end {
+            None
+        } else {
+            Some(check.is_ended)
+        },
     }
 }
