@@ -4,6 +4,8 @@
 #[cfg(test)]
 mod admission;
 #[cfg(test)]
+mod audits;
+#[cfg(test)]
 mod books;
 #[cfg(test)]
 mod corrections;

@@ -1,0 +1,10 @@
+pub mod Alone
+pub mod Passed
+pub mod Passing
+pub mod Journals
+pub mod Lawful
+pub mod Comparing
+pub mod Apart
+pub mod Going
+pub mod Finished
+pub mod Examples

@@ -1,0 +1,153 @@
+-- What the table has for a row that fits passes.
+use Rattle.std.proofs.Common.{◌≡◌, ◌≢◌, ℕ, ℤ, ◌+◌, ◌<◌, ◌≤◌, ◌==◌, nat_lt, nat_le, Bool, true, false, not, ◌&&◌, List, ◌∷◌, length, Option, Some, None, Result, Ok, IsOk, refl, sym, ap, subst, ◌∙◌, arith, eq-eqb}
+use Rattle.std.specs.Ordering.{int_eq}
+use Rattle.std.proofs.lemmas.Bool.{cond-true, cond-false}
+use Rattle.std.proofs.lemmas.Bool.Decides.{nat_tests, Decides-int_eq}
+use Rattle.energy_core.specs.declared.entries.Last.{Last}
+use Rattle.energy_core.specs.declared.entries.Step.{Step}
+use Rattle.energy_core.specs.declared.entries.Entry.{Entry}
+use Rattle.energy_core.specs.declared.entries.Entry.TheVariants as entry
+use Rattle.energy_core.specs.declared.verdicts.Verdict.TheVariants as verdict
+use Rattle.energy_core.specs.Admission.{entered}
+use Rattle.energy_core.proofs.Acceptance.{accepted_is_entered}
+use Rattle.meter_journal.specs.declared.lines.Installed.{Installed}
+use Rattle.meter_journal.specs.declared.lines.EntryKind.{EntryKind}
+use Rattle.meter_journal.specs.declared.lines.EntryKind.TheVariants as kind
+use Rattle.meter_journal.specs.declared.lines.EntryRow.{EntryRow}
+use Rattle.meter_journal.specs.Books.{IsWellInstalled, last_after}
+use Rattle.meter_journal.specs.Fitting.{reading_at}
+use Rattle.meter_journal.specs.Journal.{is_reading, entries_in}
+use Rattle.meter_journal.proofs.Keeping.{last_under}
+use Rattle.meter_audit.specs.declared.checks.Check.{Check}
+use Rattle.meter_audit.specs.declared.faults.RowFault.{RowFault}
+use Rattle.meter_audit.specs.declared.rows.TableRow.{TableRow}
+use Rattle.meter_audit.specs.Rows.{kind_as, scale_after, table_row}
+use Rattle.meter_audit.specs.Fitting.{is_ended, WasReading, MayCome, AllFit}
+use Rattle.meter_audit.specs.Passing.{kind_in, entry_in, has_unused, is_off_scale, shape_by, shape_of, fault_by, terms_of, reading_fault, voided_fault, unless, behind, passed_by, passed}
+use Rattle.meter_audit.specs.Laws.{check_after, FittingRowsPass}
+use Rattle.meter_audit.proofs.Alone.{fitting_account}
+
+-- ---- its place, its kind and its columns
+
+kind_there : (k : EntryKind) → kind_in (kind_as k) ≡ Some k
+kind_there kind.Reading = refl
+kind_there kind.Manual = refl
+kind_there kind.Closing = refl
+kind_there kind.Reset = refl
+kind_there kind.Rescale = refl
+
+pub shape_is : (check : Check) (told : TableRow) (k : EntryKind) → told.place ≡ check.place + 1 → kind_in told.kind ≡ Some k
+    → check.is_ended ≡ false → told.is_voided && not (is_reading k) ≡ false → has_unused k told ≡ false → is_off_scale check k told ≡ false
+    → shape_of check told ≡ Ok k
+shape_is check told k place kind unended voidable used scale =
+    cond-true _ _ _ (eq-eqb told.place (check.place + 1) place) ∙ ap (shape_by check told) kind ∙ cond-false _ _ _ unended
+    ∙ cond-false _ _ _ voidable ∙ cond-false _ _ _ used ∙ cond-false _ _ _ scale
+
+differs : (a b : ℤ) → a ≡ b → not (int_eq a b) ≡ false
+differs a b h = ap not ((Decides-int_eq a b).1 h)
+
+-- ---- one that stands, and one that was voided
+
+pub passes_standing : (meter : Installed) (check : Check) (told : TableRow) (k : EntryKind) (next : Last) (step : Step)
+    → shape_of check told ≡ Ok k → told.is_voided ≡ false → reading_fault meter check k told ≡ None
+    → entered meter.range check.total check.last (entry_in k told) ≡ Ok (next, step)
+    → IsOk (passed meter check told)
+passes_standing meter check told k next step shape stands none booked =
+    subst IsOk (sym (
+    ap (passed_by meter check told) shape ∙ cond-false _ _ _ stands
+    ∙ ap (λ o. unless o (behind check k told (entered meter.range check.total check.last (entry_in k told)))) none
+    ∙ ap (behind check k told) booked
+    )) refl
+
+pub passes_voided : (meter : Installed) (check : Check) (told : TableRow) (k : EntryKind)
+    → shape_of check told ≡ Ok k → told.is_voided ≡ true → voided_fault meter check told ≡ None
+    → IsOk (passed meter check told)
+passes_voided meter check told k shape v none =
+    let next : Check = record check { place = told.place } in
+    let answer : Result (Check × Option Step) RowFault = Ok (next, None) in
+    subst IsOk (sym (ap (passed_by meter check told) shape ∙ cond-true _ _ _ v ∙ ap (λ o. unless o answer) none)) refl
+
+zero_not : (n : ℕ) → n ≢ 0 → (n == 0) ≡ false
+zero_not n h = grind (arith, nat_tests)
+
+not_le : (a b : ℕ) → b < a → nat_le a b ≡ false
+not_le a b h = grind (arith, nat_tests)
+
+not_lt : (a b : ℕ) → b ≤ a → nat_lt a b ≡ false
+not_lt a b h = grind (arith, nat_tests)
+
+no_voided_fault : (meter : Installed) (check : Check) (told : TableRow) → WasReading meter.range check.last told.moment told.raw told.rolls
+    → voided_fault meter check told ≡ None
+no_voided_fault meter check told h =
+    cond-false _ _ _ (zero_not told.raw h.accumulated) ∙ cond-false _ _ _ (not_le meter.range told.raw h.below)
+    ∙ cond-false _ _ _ (not_le told.moment check.last.at h.later) ∙ cond-false _ _ _ (not_lt 1 told.rolls h.once)
+
+no_reading_fault : (rolls step : ℕ) → fault_by rolls (verdict.Accepted rolls step) ≡ None
+no_reading_fault rolls step = cond-true _ _ _ (eq-eqb rolls rolls refl)
+
+-- ---- by its kind
+
+abbrev row_with : (place : ℕ) → EntryKind → Entry → Bool → EntryRow
+row_with place k e stands = record { place = place; kind = k; entry = e; stands = stands }
+
+-- what the table has for a row after these
+abbrev told_after : Installed → List EntryRow → EntryRow → TableRow
+told_after meter rows row = table_row (scale_after meter (row ∷ rows)) row
+
+passes : (meter : Installed) (rows : List EntryRow) (place : ℕ) (stands : Bool) (k : EntryKind) (e : Entry) → IsWellInstalled meter → AllFit meter rows
+    → place ≡ length rows + 2 → is_ended rows ≡ false → MayCome meter (entries_in rows) stands k e
+    → IsOk (passed meter (check_after meter rows) (told_after meter rows (row_with place k e stands)))
+passes meter rows place true kind.Reading (entry.Step at raw rolls) well fit at_place unended h =
+    let check : Check = check_after meter rows in
+    let l : Last = last_after meter (entries_in rows) in
+    let told : TableRow = told_after meter rows (row_with place kind.Reading (entry.Step at raw rolls) true) in
+    let under = last_under meter (entries_in rows) well.raw (fitting_account meter rows well fit).follow in
+    passes_standing meter check told kind.Reading _ _
+    (shape_is check told kind.Reading (omega (arith, at_place)) refl unended refl refl (differs l.sf l.sf refl))
+    refl (ap (fault_by rolls) h.accepted ∙ no_reading_fault rolls h.step)
+    (accepted_is_entered meter.range (terms_of meter check) l (reading_at l at raw) rolls h.step under h.accepted)
+passes meter rows place true kind.Manual (entry.Step at raw rolls) well fit at_place unended h =
+    let check : Check = check_after meter rows in
+    let l : Last = last_after meter (entries_in rows) in
+    let told : TableRow = told_after meter rows (row_with place kind.Manual (entry.Step at raw rolls) true) in
+    passes_standing meter check told kind.Manual h.next h.step
+    (shape_is check told kind.Manual (omega (arith, at_place)) refl unended refl refl (differs l.sf l.sf refl)) refl refl h.entered
+passes meter rows place true kind.Closing (entry.Step at raw rolls) well fit at_place unended h =
+    let check : Check = check_after meter rows in
+    let l : Last = last_after meter (entries_in rows) in
+    let told : TableRow = told_after meter rows (row_with place kind.Closing (entry.Step at raw rolls) true) in
+    passes_standing meter check told kind.Closing h.next h.step
+    (shape_is check told kind.Closing (omega (arith, at_place)) refl unended refl refl (differs l.sf l.sf refl)) refl refl h.entered
+passes meter rows place true kind.Reset (entry.Change at before new sf) well fit at_place unended h =
+    let check : Check = check_after meter rows in
+    let l : Last = last_after meter (entries_in rows) in
+    let told : TableRow = told_after meter rows (row_with place kind.Reset (entry.Change at before new sf) true) in
+    passes_standing meter check told kind.Reset h.0.next h.0.step
+    (shape_is check told kind.Reset (omega (arith, at_place)) refl unended refl refl (differs sf l.sf h.1)) refl refl h.0.entered
+passes meter rows place true kind.Rescale (entry.Change at before new sf) well fit at_place unended h =
+    let check : Check = check_after meter rows in
+    let told : TableRow = told_after meter rows (row_with place kind.Rescale (entry.Change at before new sf) true) in
+    passes_standing meter check told kind.Rescale h.next h.step
+    (shape_is check told kind.Rescale (omega (arith, at_place)) refl unended refl refl refl) refl refl h.entered
+passes meter rows place true kind.Reading (entry.Change at before new sf) well fit at_place unended h = absurd h
+passes meter rows place true kind.Manual (entry.Change at before new sf) well fit at_place unended h = absurd h
+passes meter rows place true kind.Closing (entry.Change at before new sf) well fit at_place unended h = absurd h
+passes meter rows place true kind.Reset (entry.Step at raw rolls) well fit at_place unended h = absurd h
+passes meter rows place true kind.Rescale (entry.Step at raw rolls) well fit at_place unended h = absurd h
+passes meter rows place false kind.Reading (entry.Step at raw rolls) well fit at_place unended h =
+    let check : Check = check_after meter rows in
+    let l : Last = last_after meter (entries_in rows) in
+    let told : TableRow = told_after meter rows (row_with place kind.Reading (entry.Step at raw rolls) false) in
+    passes_voided meter check told kind.Reading
+    (shape_is check told kind.Reading (omega (arith, at_place)) refl unended refl refl (differs l.sf l.sf refl)) refl
+    (no_voided_fault meter check told h)
+passes meter rows place false kind.Reading (entry.Change at before new sf) well fit at_place unended h = absurd h
+passes meter rows place false kind.Manual e well fit at_place unended h = absurd h
+passes meter rows place false kind.Closing e well fit at_place unended h = absurd h
+passes meter rows place false kind.Reset e well fit at_place unended h = absurd h
+passes meter rows place false kind.Rescale e well fit at_place unended h = absurd h
+
+pub fitting_rows_pass : FittingRowsPass
+fitting_rows_pass meter rows check row well taken fits =
+    subst (λ (c : Check). IsOk (passed meter c (told_after meter rows row))) (sym taken.check_is)
+    (passes meter rows row.place row.stands row.kind row.entry well taken.fit fits.place fits.unended fits.entry)

@@ -1,0 +1,50 @@
+-- Interval rows of a table against those that the entries give, both in order of their starts.
+use Rattle.std.specs.Prelude.{◌≡◌, ℕ, ◌+◌, ◌==◌, nat_lt, List, [], ◌∷◌, ◌++◌, length, Option, Some, None, if◌then◌else◌}
+use Rattle.interval_core.specs.declared.shares.Share.{Share}
+use Rattle.meter_audit.specs.declared.intervals.IntervalFault.{IntervalFault}
+use Rattle.meter_audit.specs.declared.intervals.IntervalFault.TheVariants as fault
+use Rattle.meter_audit.specs.declared.intervals.IntervalDifference.{IntervalDifference}
+
+-- how two rows differ; where they start apart, the earlier one is alone
+abbrev pub fault_between : (wanted found : Share) → Option IntervalFault
+fault_between wanted found =
+    if nat_lt wanted.start found.start then Some (fault.Missing wanted.start wanted.mwh) else
+    if nat_lt found.start wanted.start then Some (fault.Unwanted found.start found.mwh) else
+    if wanted.mwh == found.mwh then None else
+    Some (fault.Differs wanted.start found.mwh wanted.mwh)
+
+-- how the next rows differ
+abbrev pub next_fault : (wanted found : List Share) → Option IntervalFault
+next_fault [] [] = None
+next_fault [] (row ∷ found) = Some (fault.Unwanted row.start row.mwh)
+next_fault (row ∷ wanted) [] = Some (fault.Missing row.start row.mwh)
+next_fault (row ∷ wanted) (other ∷ found) = fault_between row other
+
+-- how many of the rows that the entries give are done with, and of those that were found
+abbrev pub wanted_with : IntervalFault → ℕ
+wanted_with (fault.Missing start wanted) = 1
+wanted_with (fault.Unwanted start has) = 0
+wanted_with (fault.Differs start has wanted) = 1
+
+abbrev pub found_with : IntervalFault → ℕ
+found_with (fault.Missing start wanted) = 0
+found_with (fault.Unwanted start has) = 1
+found_with (fault.Differs start has wanted) = 1
+
+abbrev pub difference_behind : (same : ℕ) → IntervalFault → IntervalDifference
+difference_behind same f = record {
+  same = same;
+  fault = f;
+  wanted_done = same + wanted_with f;
+  found_done = same + found_with f;
+}
+
+-- Both sides begin with the same rows, and the next rows differ so.
+pub record IsFirst (wanted found : List Share) (difference : IntervalDifference) : Type 0 where
+  pub rows : List Share
+  pub wanted_left : List Share
+  pub found_left : List Share
+  pub wanted_is : wanted ≡ rows ++ wanted_left
+  pub found_is : found ≡ rows ++ found_left
+  pub next : next_fault wanted_left found_left ≡ Some difference.fault
+  pub is : difference ≡ difference_behind (length rows) difference.fault

@@ -1,0 +1,61 @@
+-- A check of a meter under way.
+use Rattle.std.specs.Prelude.{◌≡◌, ◌↔◌, ◌≤◌, List, [], ◌∷◌, ◌++◌, Option, Some, None, Err}
+use Rattle.interval_core.specs.declared.shares.Share.{Share}
+use Rattle.interval_core.specs.Account.{energy_of}
+use Rattle.meter_journal.specs.declared.lines.Installed.{Installed}
+use Rattle.meter_journal.specs.declared.lines.EntryRow.{EntryRow}
+use Rattle.meter_journal.specs.Books.{IsWellInstalled, steps_after}
+use Rattle.meter_journal.specs.Intervals.{rows_of_steps}
+use Rattle.meter_journal.specs.Journal.{entries_in}
+use Rattle.meter_audit.specs.declared.faults.RowFault.{RowFault}
+use Rattle.meter_audit.specs.declared.progress.Progress.{Progress}
+use Rattle.meter_audit.specs.declared.rows.TableRow.{TableRow}
+use Rattle.meter_audit.specs.Rows.{opening_row, later_rows}
+use Rattle.meter_audit.specs.Fitting.{AreTold, Tables, AreFine}
+use Rattle.meter_audit.specs.Passing.{IsSoundCheck, passed}
+use Rattle.meter_audit.specs.Laws.{HasTaken}
+
+-- what a check under way keeps, whatever rows it was given
+pub record IsSoundProgress (meter : Installed) (progress : Progress) : Type 0 where
+  pub check : IsSoundCheck meter progress.check
+  pub within : energy_of progress.wanted.items ≤ progress.check.total
+
+-- It went over these rows of the table, the latest first, and they are those of rows that fit. Interval rows were looked
+-- up and done with; they and those that are still wanted are all that the entries give.
+pub record HasGone (meter : Installed) (told : List TableRow) (done : List Share)
+    (progress : Progress) : Type 0 where
+  pub rows : List EntryRow
+  pub taken : HasTaken meter rows progress.check
+  pub told_is : told ≡ later_rows meter rows
+  pub intervals : done ++ progress.wanted.items
+      ≡ rows_of_steps (steps_after meter (entries_in rows))
+  -- nothing was done with before there was a row to leave
+  pub begun : progress.wanted.items ≡ [] → done ≡ []
+
+-- What a check that went over rows makes of one more: it went over that one too, or tells why that is refused.
+abbrev pub GoesOn : Installed → Progress → TableRow → Progress → Option RowFault → Type 0
+GoesOn meter old row new None = (told : List TableRow) (done : List Share)
+    → HasGone meter told done old → HasGone meter (row ∷ told) done new
+GoesOn meter old row new (Some fault) = passed meter old.check row ≡ Err fault
+
+-- What the other tables tell agrees with the check: the intervals that were done with and those that are still wanted, where
+-- the counter stands, the energy, and whether the meter has ended.
+pub record Agrees (tables : Tables) (done : List Share) (progress : Progress) : Type 0 where
+  pub intervals : tables.intervals ≡ done ++ progress.wanted.items
+  pub last : tables.last ≡ progress.check.last
+  pub total : tables.total ≡ progress.check.total
+  pub ended : tables.ended ≡ progress.check.is_ended
+
+-- Behind all rows of a meter its tables are fine exactly if they agree with the check.
+abbrev pub FinishedIsFine : Type 0
+FinishedIsFine = (meter : Installed) (told : List TableRow) (done : List Share)
+    (progress : Progress) (tables : Tables) → HasGone meter told done progress
+    → tables.entries ≡ told ++ opening_row meter.opening ∷ []
+    → AreFine meter tables ↔ Agrees tables done progress
+
+-- A row that is refused makes that no rows with it are those of rows that fit, whatever comes behind it.
+abbrev pub RefusedIsNotFine : Type 0
+RefusedIsNotFine = (meter : Installed) (told newer : List TableRow) (done : List Share)
+    (progress : Progress) (row : TableRow) (fault : RowFault) → IsWellInstalled meter
+    → HasGone meter told done progress → passed meter progress.check row ≡ Err fault
+    → AreTold meter (newer ++ row ∷ told) → ⊥

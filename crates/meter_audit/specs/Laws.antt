@@ -1,0 +1,110 @@
+-- Laws of rows that fit.
+use Rattle.std.specs.Prelude.{◌≡◌, ◌+◌, List, ◌∷◌, length, reverse, take, slice_get, Option, Some, Ok, Err, IsOk}
+use Rattle.energy_core.specs.declared.entries.Step.{Step}
+use Rattle.interval_core.specs.Account.{energy_of}
+use Rattle.meter_journal.specs.declared.lines.Installed.{Installed}
+use Rattle.meter_journal.specs.declared.lines.EntryRow.{EntryRow}
+use Rattle.meter_journal.specs.Books.{IsWellInstalled, last_after, total_after, last_in, total_in, interval_rows}
+use Rattle.meter_journal.specs.Fitting.{AreFitting}
+use Rattle.meter_journal.specs.Journal.{Journal, is_ended as has_closing, standing, entries_in, entries_of, rows_of}
+use Rattle.meter_journal.specs.Lists.{step_past}
+use Rattle.meter_journal.specs.Standing.{entering}
+use Rattle.meter_audit.specs.declared.checks.Check.{Check}
+use Rattle.meter_audit.specs.declared.lists.RefusedRow.{RefusedRow}
+use Rattle.meter_audit.specs.declared.rows.TableRow.{TableRow}
+use Rattle.meter_audit.specs.Rows.{scale_after, table_row, later_rows}
+use Rattle.meter_audit.specs.Fitting.{RowFits, AllFit, Tables, tables_of, AreFine, is_ended}
+use Rattle.meter_audit.specs.Passing.{passed}
+
+-- The rows of every lawful journal fit, those that were voided too.
+abbrev pub RowsOfJournalsFit : Type 0
+RowsOfJournalsFit = (meter : Installed) (lines : Journal) → IsWellInstalled meter
+    → AreFitting meter lines
+    → AllFit meter (rows_of meter.opening lines)
+
+-- What stands of rows is lawful by itself: entered one after the other, those that stand are a lawful journal, and
+-- leave their own entries.
+pub record StandsAlone (meter : Installed) (rows : List EntryRow) : Type 0 where
+  pub fit : AreFitting meter (entering (standing rows))
+  pub entries : entries_of meter.opening (entering (standing rows)) ≡ entries_in rows
+
+-- So it is of rows that fit.
+abbrev pub FittingRowsStandAlone : Type 0
+FittingRowsStandAlone = (meter : Installed) (rows : List EntryRow) → AllFit meter rows
+    → StandsAlone meter rows
+
+-- Tables tell what a lawful journal comes to: where the counter stands, the energy, the interval rows, and whether the
+-- meter has ended. So the interval rows add up to the energy.
+pub record AreLawful (meter : Installed) (tables : Tables) : Type 0 where
+  pub lines : Journal
+  pub fit : AreFitting meter lines
+  pub last : tables.last ≡ last_in meter lines
+  pub total : tables.total ≡ total_in meter lines
+  pub intervals : tables.intervals ≡ interval_rows meter lines
+  pub ended : tables.ended ≡ has_closing lines
+  pub adds_up : energy_of tables.intervals ≡ tables.total
+
+-- Fine tables do.
+abbrev pub FineTablesAreLawful : Type 0
+FineTablesAreLawful = (meter : Installed) (tables : Tables) → IsWellInstalled meter
+    → AreFine meter tables → AreLawful meter tables
+
+-- The tables of every lawful journal are fine.
+abbrev pub LawfulTablesAreFine : Type 0
+LawfulTablesAreFine = (meter : Installed) (lines : Journal) → IsWellInstalled meter
+    → AreFitting meter lines
+    → AreFine meter (tables_of meter (rows_of meter.opening lines))
+
+-- where a check stands behind these rows
+abbrev pub check_after : Installed → List EntryRow → Check
+check_after meter rows = record {
+  place = length rows + 1;
+  last = last_after meter (entries_in rows);
+  total = total_after meter (entries_in rows);
+  is_ended = is_ended rows;
+}
+
+-- All these rows fit, and the check stands behind them.
+pub record HasTaken (meter : Installed) (rows : List EntryRow) (check : Check) : Type 0 where
+  pub fit : AllFit meter rows
+  pub check_is : check ≡ check_after meter rows
+
+-- A row of the table is that of a row that fits after these. The check stands behind it, and the step to it was answered.
+pub record IsTaken (meter : Installed) (rows : List EntryRow) (told : TableRow) (after : Check)
+    (step : Option Step) : Type 0 where
+  pub row : EntryRow
+  pub told_is : told ≡ table_row (scale_after meter (row ∷ rows)) row
+  pub taken : HasTaken meter (row ∷ rows) after
+  pub step_is : step ≡ step_past meter.range (last_after meter (entries_in rows)) row
+
+-- What passes is the row of the table of a row that fits.
+abbrev pub PassedRowsFit : Type 0
+PassedRowsFit = (meter : Installed) (rows : List EntryRow) (check : Check) (told : TableRow)
+    (after : Check) (step : Option Step) → IsWellInstalled meter → HasTaken meter rows check
+    → passed meter check told ≡ Ok (after, step)
+    → IsTaken meter rows told after step
+
+-- What the table has for a row that fits passes.
+abbrev pub FittingRowsPass : Type 0
+FittingRowsPass = (meter : Installed) (rows : List EntryRow) (check : Check) (row : EntryRow)
+    → IsWellInstalled meter → HasTaken meter rows check → RowFits meter rows row
+    → IsOk (passed meter check (table_row (scale_after meter (row ∷ rows)) row))
+
+-- Rows that fit can be read back: other rows are told by other rows of the table.
+abbrev pub RowsAreToldApart : Type 0
+RowsAreToldApart = (meter : Installed) (rows others : List EntryRow) → AllFit meter rows
+    → AllFit meter others → later_rows meter rows ≡ later_rows meter others → rows ≡ others
+
+-- A check went over rows of the table, the latest first: they are those of rows that fit, and it stands behind them.
+pub record HasPassed (meter : Installed) (told : List TableRow) (check : Check) : Type 0 where
+  pub rows : List EntryRow
+  pub taken : HasTaken meter rows check
+  pub told_is : told ≡ later_rows meter rows
+
+-- Of rows of the table in their order, a check passed those before an index, and refused that one.
+pub record IsFirstRefused (meter : Installed) (told : List TableRow) (at : RefusedRow) : Type 0 where
+  pub check : Check
+  pub before : HasPassed meter (reverse (take at.index told)) check
+  pub row : TableRow
+  pub there : slice_get told at.index ≡ Some row
+  pub refused : passed meter check row ≡ Err at.fault

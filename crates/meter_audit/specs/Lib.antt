@@ -1,0 +1,6 @@
+pub mod Rows
+pub mod Fitting
+pub mod Passing
+pub mod Comparing
+pub mod Laws
+pub mod Going

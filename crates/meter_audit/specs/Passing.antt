@@ -1,0 +1,161 @@
+-- The table by which a row passes behind those before it, or is refused for the first fault.
+use Rattle.std.specs.Prelude.{ℕ, ◌+◌, ◌^◌, ◌<◌, ◌≤◌, ◌==◌, nat_lt, nat_le, Bool, true, false, not, ◌&&◌, Option, Some, None, Result, Ok, Err, if◌then◌else◌}
+use Rattle.std.specs.Ordering.{int_eq}
+use Rattle.energy_core.specs.declared.limits.TheConstants.{MAX_CEILING, MAX_TOTAL}
+use Rattle.energy_core.specs.declared.entries.Last.{Last}
+use Rattle.energy_core.specs.declared.entries.Step.{Step}
+use Rattle.energy_core.specs.declared.entries.Entry.{Entry}
+use Rattle.energy_core.specs.declared.entries.Entry.TheVariants as entry
+use Rattle.energy_core.specs.declared.admission.TermFault.{TermFault}
+use Rattle.energy_core.specs.declared.verdicts.Terms.{Terms}
+use Rattle.energy_core.specs.declared.verdicts.Cause.TheVariants as cause
+use Rattle.energy_core.specs.declared.verdicts.Verdict.{Verdict}
+use Rattle.energy_core.specs.declared.verdicts.Verdict.TheVariants as verdict
+use Rattle.energy_core.specs.Account.{IsScale}
+use Rattle.energy_core.specs.Admission.{entered}
+use Rattle.energy_core.specs.Ranged.{IsRange}
+use Rattle.energy_core.specs.Verdict.{verdict_of}
+use Rattle.meter_journal.specs.declared.lines.Installed.{Installed}
+use Rattle.meter_journal.specs.declared.lines.EntryKind.{EntryKind}
+use Rattle.meter_journal.specs.declared.lines.EntryKind.TheVariants as kind
+use Rattle.meter_journal.specs.Books.{IsWellInstalled}
+use Rattle.meter_journal.specs.Fitting.{reading_at}
+use Rattle.meter_journal.specs.Journal.{is_reading, is_closing}
+use Rattle.meter_audit.specs.declared.checks.Check.{Check}
+use Rattle.meter_audit.specs.declared.faults.RowFault.{RowFault}
+use Rattle.meter_audit.specs.declared.faults.RowFault.TheVariants as fault
+use Rattle.meter_audit.specs.declared.rows.RowKind.{RowKind}
+use Rattle.meter_audit.specs.declared.rows.RowKind.TheVariants as row_kind
+use Rattle.meter_audit.specs.declared.rows.TableRow.{TableRow}
+
+-- a meter that may be checked: its range and its ceiling are lawful, and so is where it was opened
+pub record MayBeChecked (meter : Installed) : Type 0 where
+  pub range : IsRange meter.range
+  pub ceiling : (1 ≤ meter.ceiling) × (meter.ceiling ≤ MAX_CEILING)
+  pub installed : IsWellInstalled meter
+
+-- what a check keeps, whatever rows it was given
+pub record IsSoundCheck (meter : Installed) (check : Check) : Type 0 where
+  pub place : check.place < 2 ^ 63
+  pub total : check.total ≤ MAX_TOTAL
+  pub raw : check.last.raw < meter.range
+  pub scale : IsScale check.last.sf
+
+-- behind the opening
+abbrev pub begun : Installed → Check
+begun meter = record { place = 1; last = meter.opening; total = 0; is_ended = false }
+
+-- the kind of the entry; an opening is none
+abbrev pub kind_in : RowKind → Option EntryKind
+kind_in row_kind.Opening = None
+kind_in row_kind.Reading = Some kind.Reading
+kind_in row_kind.Manual = Some kind.Manual
+kind_in row_kind.Closing = Some kind.Closing
+kind_in row_kind.Reset = Some kind.Reset
+kind_in row_kind.Rescale = Some kind.Rescale
+
+-- a change sets the counter, at its own scale factor
+abbrev pub is_change : EntryKind → Bool
+is_change kind.Reset = true
+is_change kind.Rescale = true
+is_change _ = false
+
+-- the entry that a row tells, by its kind
+abbrev pub entry_in : EntryKind → TableRow → Entry
+entry_in k row =
+    if is_change k then entry.Change row.moment row.raw row.after row.sf
+    else entry.Step row.moment row.raw row.rolls
+
+-- a column that entries of this kind have no use for is not 0
+abbrev pub has_unused : EntryKind → TableRow → Bool
+has_unused k row = if is_change k then not (row.rolls == 0) else not (row.after == 0)
+
+-- another scale factor, though only a rescaling may set one
+abbrev pub is_rescale : EntryKind → Bool
+is_rescale kind.Rescale = true
+is_rescale _ = false
+
+abbrev pub is_off_scale : Check → EntryKind → TableRow → Bool
+is_off_scale check k row = not (is_rescale k) && not (int_eq row.sf check.last.sf)
+
+-- the kind of a row with the next place, whose columns are such as its kind can have
+abbrev pub shape_by : Check → TableRow → Option EntryKind → Result EntryKind RowFault
+shape_by check row None = Err fault.OpenedAgain
+shape_by check row (Some k) =
+    if check.is_ended then Err fault.AfterClosing else
+    if row.is_voided && not (is_reading k) then Err fault.CannotBeVoided else
+    if has_unused k row then Err fault.Unused else
+    if is_off_scale check k row then Err (fault.Scale check.last.sf) else Ok k
+
+abbrev pub shape_of : Check → TableRow → Result EntryKind RowFault
+shape_of check row =
+    if row.place == check.place + 1 then shape_by check row (kind_in row.kind)
+    else Err (fault.Place (check.place + 1))
+
+-- A reading that stands is one that the verdict accepts, with its rollovers.
+abbrev pub fault_by : (rolls : ℕ) → Verdict → Option RowFault
+fault_by rolls (verdict.Held why) = Some (fault.Held why)
+fault_by rolls (verdict.Accepted wanted step) =
+    if rolls == wanted then None else Some (fault.Rolls wanted)
+
+abbrev pub terms_of : Installed → Check → Terms
+terms_of meter check = record { ceiling = meter.ceiling; total = check.total }
+
+abbrev pub reading_fault : Installed → Check → EntryKind → TableRow → Option RowFault
+reading_fault meter check k row =
+    if is_reading k
+    then fault_by row.rolls (verdict_of meter.range (terms_of meter check) check.last
+    (reading_at check.last row.moment row.raw))
+    else None
+
+-- One that was voided showed something that the counter can show, later than what stands.
+abbrev pub voided_fault : Installed → Check → TableRow → Option RowFault
+voided_fault meter check row =
+    if row.raw == 0 then Some (fault.Held cause.NotAccumulated) else
+    if nat_le meter.range row.raw then Some (fault.Held cause.NotBelowRange) else
+    if nat_le row.moment check.last.at then Some (fault.Held cause.NotLater) else
+    if nat_lt 1 row.rolls then Some (fault.Rolls 1) else None
+
+-- a fault, or what comes else
+abbrev pub unless : {X : Type 0} → Option RowFault → Result X RowFault → Result X RowFault
+unless (Some f) answer = Err f
+unless None answer = answer
+
+-- the energy of a step, if there is one, in mWh
+abbrev pub energy_in : Option Step → ℕ
+energy_in None = 0
+energy_in (Some step) = step.mwh
+
+-- behind an entry that was booked, and the step to it
+abbrev pub behind : Check → EntryKind → TableRow → Result (Last × Step) TermFault
+    → Result (Check × Option Step) RowFault
+behind check k row (Err f) = Err (fault.Refused f)
+behind check k row (Ok (last, step)) = Ok (
+  record {
+    place = row.place;
+    last = last;
+    total = check.total + step.mwh;
+    is_ended = is_closing k;
+  },
+  Some step,
+)
+
+abbrev pub stood : Installed → Check → EntryKind → TableRow → Result (Check × Option Step) RowFault
+stood meter check k row =
+    unless (reading_fault meter check k row)
+    (behind check k row (entered meter.range check.total check.last (entry_in k row)))
+
+-- behind a row that was voided; there is no step to it
+abbrev pub voided : Installed → Check → TableRow → Result (Check × Option Step) RowFault
+voided meter check row =
+    unless (voided_fault meter check row) (Ok (record check { place = row.place }, None))
+
+abbrev pub passed_by : Installed → Check → TableRow → Result EntryKind RowFault
+    → Result (Check × Option Step) RowFault
+passed_by meter check row (Err f) = Err f
+passed_by meter check row (Ok k) =
+    if row.is_voided then voided meter check row else stood meter check k row
+
+-- Where the check stands behind a row, and the step to it, if it stands.
+abbrev pub passed : Installed → Check → TableRow → Result (Check × Option Step) RowFault
+passed meter check row = passed_by meter check row (shape_of check row)

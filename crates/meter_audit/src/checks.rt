@@ -1,0 +1,215 @@
+//! A check of a meter's rows, one after the other, in memory that doesn't grow.
+ghost use Rattle.std.specs.Prelude.{◌≡◌, ◌+◌, ◌<◌, ◌^◌, IfOk};
+ghost use Rattle.std.specs.Option.{ForSome};
+ghost use Rattle.energy_core.specs.Laws.{IsShareable};
+ghost use Rattle.meter_journal.specs.Journal as journal;
+ghost use Rattle.meter_audit.specs.Passing as passing;
+
+use crate::faults::RowFault;
+use crate::rows::{TableRow, entry_of, has_unused, kind_of};
+use energy_core::{Cause, Last, Ranged, Reading, Step, Terms, Verdict, enter, judge};
+use meter_journal::{EntryKind, Installed};
+
+/// Where a check stands behind a row: the place of the row, where the counter stands after the entries that stand, their
+/// energy in mWh, and whether the meter was closed.
+#[derive(Clone, Copy, Debug, PartialEq, Eq)]
+pub struct Check {
+    pub place: u64,
+    pub last: Last,
+    pub total: u64,
+    pub is_ended: bool,
+}
+
+/// A check behind the opening.
+pub fn begin(meter: &Installed) -> Check
+    requires { passing.MayBeChecked meter.now }
+    ensures value { result ≡ passing.begun meter.now }
+    ensures sound { passing.IsSoundCheck meter.now result }
+{
+    Check {
+        place: 1,
+        last: meter.opening,
+        total: 0,
+        is_ended: false,
+    }
+}
+
+/// Whether entries of this kind are readings.
+fn is_reading(kind: EntryKind) -> bool
+    ensures { result ≡ journal.is_reading kind }
+{
+    match kind {
+        EntryKind::Reading => true,
+        EntryKind::Manual | EntryKind::Closing | EntryKind::Reset | EntryKind::Rescale => false,
+    }
+}
+
+/// Whether a row has another scale factor, though only a rescaling may set one.
+fn is_off_scale(check: &Check, kind: EntryKind, row: &TableRow) -> bool
+    ensures { result ≡ passing.is_off_scale check.now kind row.now }
+{
+    match kind {
+        EntryKind::Rescale => false,
+        EntryKind::Reading | EntryKind::Manual | EntryKind::Closing | EntryKind::Reset => {
+            row.sf != check.last.sf
+        }
+    }
+}
+
+/// The kind of a row that has the next place and columns such as its kind can have.
+fn shape(check: &Check, row: &TableRow) -> Result<EntryKind, RowFault>
+    requires { check.now.place < 2 ^ 63 }
+    ensures { result ≡ passing.shape_of check.now row.now }
+{
+    let wanted = check.place + 1;
+    if row.place != wanted {
+        return Err(RowFault::Place { wanted });
+    }
+    let Some(kind) = kind_of(row) else {
+        return Err(RowFault::OpenedAgain);
+    };
+    if check.is_ended {
+        return Err(RowFault::AfterClosing);
+    }
+    if row.is_voided && !is_reading(kind) {
+        return Err(RowFault::CannotBeVoided);
+    }
+    if has_unused(kind, row) {
+        return Err(RowFault::Unused);
+    }
+    if is_off_scale(check, kind, row) {
+        return Err(RowFault::Scale {
+            wanted: check.last.sf,
+        });
+    }
+    Ok(kind)
+}
+
+/// What is wrong with a reading that stands.
+fn reading_fault(
+    meter: &Installed,
+    check: &Check,
+    kind: EntryKind,
+    row: &TableRow,
+) -> Option<RowFault>
+    requires meter { passing.MayBeChecked meter.now }
+    requires sound { passing.IsSoundCheck meter.now check.now }
+    ensures { result ≡ passing.reading_fault meter.now check.now kind row.now }
+{
+    if !is_reading(kind) {
+        return None;
+    }
+    let Some(counter) = Ranged::new(meter.range) else {
+        unreachable!()
+    };
+    let terms = Terms {
+        ceiling: meter.ceiling,
+        total: check.total,
+    };
+    let reading = Reading {
+        at: row.moment,
+        raw: row.raw,
+        sf: check.last.sf,
+    };
+    match judge(&counter, &terms, &check.last, &reading) {
+        Verdict::Held(cause) => Some(RowFault::Held(cause)),
+        Verdict::Accepted { rolls, step: _ } => {
+            if row.rolls == rolls {
+                None
+            } else {
+                Some(RowFault::Rolls { wanted: rolls })
+            }
+        }
+    }
+}
+
+/// What is wrong with a reading that was voided.
+fn voided_fault(meter: &Installed, check: &Check, row: &TableRow) -> Option<RowFault>
+    ensures { result ≡ passing.voided_fault meter.now check.now row.now }
+{
+    if row.raw == 0 {
+        return Some(RowFault::Held(Cause::NotAccumulated));
+    }
+    if meter.range <= u64::from(row.raw) {
+        return Some(RowFault::Held(Cause::NotBelowRange));
+    }
+    if row.moment <= check.last.at {
+        return Some(RowFault::Held(Cause::NotLater));
+    }
+    if 1 < row.rolls {
+        return Some(RowFault::Rolls { wanted: 1 });
+    }
+    None
+}
+
+/// Where the check stands behind a row that stands, and the step to it.
+fn stand(
+    meter: &Installed,
+    check: &Check,
+    kind: EntryKind,
+    row: &TableRow,
+) -> Result<(Check, Option<Step>), RowFault>
+    requires meter { passing.MayBeChecked meter.now }
+    requires sound { passing.IsSoundCheck meter.now check.now }
+    requires place { row.now.place < 2 ^ 63 }
+    ensures value { result ≡ passing.stood meter.now check.now kind row.now }
+    ensures sound { IfOk result (λ r. passing.IsSoundCheck meter.now r.0) }
+    ensures total { IfOk result (λ r. r.0.total ≡ check.now.total + passing.energy_in r.1) }
+    ensures step { IfOk result (λ r. ForSome r.1 IsShareable) }
+{
+    if let Some(fault) = reading_fault(meter, check, kind, row) {
+        return Err(fault);
+    }
+    let Some(counter) = Ranged::new(meter.range) else {
+        unreachable!()
+    };
+    let terms = Terms {
+        ceiling: meter.ceiling,
+        total: check.total,
+    };
+    match enter(&counter, &terms, &check.last, &entry_of(kind, row)) {
+        Ok((last, step)) => {
+            let next = Check {
+                place: row.place,
+                last,
+                total: check.total + step.mwh,
+                is_ended: kind.is_closing(),
+            };
+            Ok((next, Some(step)))
+        }
+        Err(fault) => Err(RowFault::Refused(fault)),
+    }
+}
+
+/// Takes the next row: where the check stands behind it, and the step to it, which a voided one has not; or the first
+/// fault. Behind a row that was refused a check goes on from the place of that row, and is otherwise as it was.
+pub fn pass(
+    meter: &Installed,
+    check: &Check,
+    row: &TableRow,
+) -> Result<(Check, Option<Step>), RowFault>
+    requires meter { passing.MayBeChecked meter.now }
+    requires sound { passing.IsSoundCheck meter.now check.now }
+    requires place { row.now.place < 2 ^ 63 }
+    ensures value { result ≡ passing.passed meter.now check.now row.now }
+    ensures sound { IfOk result (λ r. passing.IsSoundCheck meter.now r.0) }
+    ensures total { IfOk result (λ r. r.0.total ≡ check.now.total + passing.energy_in r.1) }
+    ensures step { IfOk result (λ r. ForSome r.1 IsShareable) }
+{
+    let kind = shape(check, row)?;
+    if !row.is_voided {
+        return stand(meter, check, kind, row);
+    }
+    match voided_fault(meter, check, row) {
+        Some(fault) => Err(fault),
+        None => {
+            let next = Check {
+                place: row.place,
+                last: check.last,
+                total: check.total,
+                is_ended: check.is_ended,
+            };
+            Ok((next, None))
+        }
+    }
+}

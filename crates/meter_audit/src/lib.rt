@@ -1,0 +1,24 @@
+//! Whether a meter's rows are those of a lawful journal, whoever wrote them.
+#![tactic(auto)]
+
+mod checks;
+mod faults;
+mod intervals;
+mod laws;
+mod lists;
+mod progress;
+mod rows;
+mod standing;
+
+pub use checks::{Check, begin, pass};
+pub use faults::RowFault;
+pub use intervals::{IntervalDifference, IntervalFault, first_difference};
+pub use laws::{
+    fine_tables_are_lawful, finished_is_fine, fitting_rows_pass, fitting_rows_stand_alone,
+    lawful_tables_are_fine, passed_rows_fit, refused_is_not_fine, rows_are_told_apart,
+    rows_of_journals_fit,
+};
+pub use lists::{RefusedRow, check_rows};
+pub use progress::{Progress, drop_done, start, take_row};
+pub use rows::{RowKind, TableRow};
+pub use standing::{Standing, StandingFaults, standing_faults};

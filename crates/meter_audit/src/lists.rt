@@ -1,0 +1,38 @@
+//! All rows of a meter at once.
+ghost use Rattle.std.specs.Prelude.{◌<◌, ◌^◌, All, reverse, IfOk, IfErr};
+ghost use Rattle.meter_audit.specs.Fitting.{AreTold};
+ghost use Rattle.meter_audit.specs.Passing.{MayBeChecked};
+ghost use Rattle.meter_audit.specs.Laws.{HasPassed, IsFirstRefused};
+
+use crate::checks::{Check, begin, pass};
+use crate::faults::RowFault;
+use crate::laws::passed_rows_fit;
+use crate::rows::TableRow;
+use meter_journal::Installed;
+
+/// A row that can't come behind those before it, by its index, and why.
+#[derive(Clone, Copy, Debug, PartialEq, Eq)]
+pub struct RefusedRow {
+    pub index: usize,
+    pub fault: RowFault,
+}
+
+/// Checks the rows behind an opening, in order of their places: where the check stands behind all of them, or the first
+/// that is refused.
+pub fn check_rows(meter: &Installed, rows: &[TableRow]) -> Result<Check, RefusedRow>
+    requires meter { MayBeChecked meter.now }
+    requires places { All (λ row. row.place < 2 ^ 63) rows.now }
+    ensures fine { IfOk result (HasPassed meter.now (reverse rows.now)) }
+    ensures refused { IfErr result (λ _. AreTold meter.now (reverse rows.now) → ⊥) }
+    ensures first { IfErr result (IsFirstRefused meter.now rows.now) }
+{
+    passed_rows_fit();
+    let mut check = begin(meter);
+    for (index, row) in rows.iter().enumerate() {
+        match pass(meter, &check, row) {
+            Ok((next, _)) => check = next,
+            Err(fault) => return Err(RefusedRow { index, fault }),
+        }
+    }
+    Ok(check)
+}

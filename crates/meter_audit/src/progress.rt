@@ -1,0 +1,77 @@
+//! A check of a meter under way: of its rows, and of the interval rows that they give.
+ghost use Rattle.std.specs.Prelude.{◌≡◌, ◌<◌, ◌^◌, ◌++◌, ◌-◌, [], take, drop, length};
+ghost use Rattle.std.specs.Prelude.{IfOk, OnOk};
+ghost use Rattle.meter_audit.specs.Passing.{MayBeChecked};
+ghost use Rattle.meter_audit.specs.Going.{IsSoundProgress, HasGone, GoesOn};
+
+use crate::checks::{Check, begin, pass};
+use crate::faults::RowFault;
+use crate::laws::passed_rows_fit;
+use crate::rows::TableRow;
+use interval_core::{Share, shares_add_up};
+use meter_journal::{Installed, append_shares};
+use std::alloc::{AllocError, Global};
+
+/// Where the check stands behind a row, and the interval rows that the entries so far give and that were not yet looked
+/// up. The next entry may add to the last of them, and to none before it.
+#[derive(Debug, Drop)]
+pub struct Progress {
+    pub check: Check,
+    pub wanted: Vec<Share>,
+}
+
+/// A check behind the opening. The allocator is kept; no memory is taken.
+pub fn start(alloc: Global, meter: &Installed) -> Progress
+    requires { MayBeChecked meter.now }
+    ensures sound { IsSoundProgress meter.now result }
+    ensures gone { HasGone meter.now [] [] result }
+{
+    Progress {
+        check: begin(meter),
+        wanted: Vec::new(alloc),
+    }
+}
+
+/// Takes the next row, or tells why it is refused; then the check goes on from its place, and is otherwise as it was. Where
+/// memory is wanting, nothing is known of the interval rows.
+pub fn take_row(
+    meter: &Installed,
+    progress: &mut Progress,
+    row: &TableRow,
+) -> Result<Option<RowFault>, AllocError>
+    requires meter { MayBeChecked meter.now }
+    requires sound { IsSoundProgress meter.now progress.old }
+    requires place { row.now.place < 2 ^ 63 }
+    ensures sound { OnOk result (IsSoundProgress meter.now progress.new) }
+    ensures goes_on { IfOk result (GoesOn meter.now progress.old row.now progress.new) }
+{
+    shares_add_up();
+    passed_rows_fit();
+    match pass(meter, &progress.check, row) {
+        Ok((next, step)) => {
+            if let Some(step) = step {
+                append_shares(&mut progress.wanted, &step)?;
+            }
+            progress.check = next;
+            Ok(None)
+        }
+        Err(fault) => {
+            progress.check.place = row.place;
+            Ok(Some(fault))
+        }
+    }
+}
+
+/// Drops the interval rows that no later entry adds to: all but the last.
+pub fn drop_done(progress: &mut Progress)
+    ensures check { progress.new.check ≡ progress.old.check }
+    ensures last { let done = length progress.old.wanted.items - 1 in
+        progress.new.wanted.items ≡ drop done progress.old.wanted.items }
+{
+    let count = progress.wanted.len();
+    if count > 1 {
+        let last = progress.wanted[count - 1];
+        progress.wanted[0] = last;
+        progress.wanted.truncate(1);
+    }
+}

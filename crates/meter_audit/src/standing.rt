@@ -1,0 +1,59 @@
+//! What the row of an installation tells, against what its entries give.
+ghost use Rattle.std.specs.Prelude.{◌≡◌, ◌↔◌, IsTrue, IsNone, IfSome};
+
+use crate::checks::Check;
+use energy_core::Last;
+
+/// What the row of an installation tells of where its meter stands: its last entry that stands, its energy in mWh, and
+/// whether it was closed.
+#[derive(Clone, Copy, Debug, PartialEq, Eq)]
+pub struct Standing {
+    pub last: Last,
+    pub total: u64,
+    pub is_ended: bool,
+}
+
+/// What was wanted, of each that differs.
+#[derive(Clone, Copy, Debug, PartialEq, Eq)]
+pub struct StandingFaults {
+    pub last: Option<Last>,
+    pub total: Option<u64>,
+    pub is_ended: Option<bool>,
+}
+
+/// Whether a counter stands the same.
+fn is_same(last: &Last, other: &Last) -> bool
+    ensures { IsTrue result ↔ (last.now ≡ other.now) }
+{
+    last.at == other.at && last.raw == other.raw && last.sf == other.sf
+}
+
+/// How the row of an installation differs from where the check stands behind all entries.
+pub fn standing_faults(check: &Check, standing: &Standing) -> StandingFaults
+    ensures last { IsNone result.last ↔ (standing.now.last ≡ check.now.last) }
+    ensures total { IsNone result.total ↔ (standing.now.total ≡ check.now.total) }
+    ensures ended { IsNone result.is_ended ↔ (standing.now.is_ended ≡ check.now.is_ended) }
+    ensures wanted_last { IfSome result.last (λ wanted. wanted ≡ check.now.last) }
+    ensures wanted_total { IfSome result.total (λ wanted. wanted ≡ check.now.total) }
+    ensures wanted_ended { IfSome result.is_ended (λ wanted. wanted ≡ check.now.is_ended) }
+{
+    let is_same_total = standing.total == check.total;
+    let is_same_end = standing.is_ended == check.is_ended;
+    StandingFaults {
+        last: if is_same(&standing.last, &check.last) {
+            None
+        } else {
+            Some(check.last)
+        },
+        total: if is_same_total {
+            None
+        } else {
+            Some(check.total)
+        },
+        is_ended: if is_same_end {
+            None
+        } else {
+            Some(check.is_ended)
+        },
+    }
+}
