@@ -4,6 +4,7 @@ use mb_wire::MemoryLink;
 use std::alloc::Global;
 use std::io::{self, Read, Write};
 use std::net::{Shutdown, TcpListener, TcpStream};
+use std::process::Abort;
 use std::test::Fail;
 
 // A read of holding register 0 by unit 1, and its answer where the register is 9.
@@ -48,16 +49,17 @@ fn peer_of(
     Ok(peer)
 }
 
-// Whether an answer comes to a peer, and then the end.
-fn is_answered(alloc: Global, peer: &mut TcpStream, answer: &[u8]) -> bool {
+// Checks that an answer comes to a peer, and then the end.
+fn is_answered(
+    rt: &impl Abort,
+    alloc: Global,
+    peer: &mut TcpStream,
+    answer: &[u8],
+) -> io::Result<()> {
     let mut got = Vec::new(alloc);
-    peer.read_to_end(&mut got).is_ok() && got.as_slice() == answer
-}
-
-// Whether so many connections are answered over a register that is 9.
-fn all_are_answered(alloc: Global, listener: &TcpListener, count: u32) -> Result<bool, Fail> {
-    let mut bank = bank_with_nine(alloc)?;
-    Ok(answer_all(listener, count, &mut bank, &[]).is_ok())
+    peer.read_to_end(&mut got)?;
+    assert_eq!(rt; got.as_slice(), answer);
+    Ok(())
 }
 
 // Three peers, each of which has sent a frame.
@@ -68,20 +70,15 @@ fn three_peers(rt: &HostRuntime, listener: &TcpListener) -> io::Result<[TcpStrea
     Ok([first, second, third])
 }
 
-// Whether each of them is answered: a read, a write, and a read of what was written.
-fn have_answers(alloc: Global, peers: &mut [TcpStream; 3]) -> bool {
-    let [first, second, third] = peers;
-    is_answered(alloc, first, NINE)
-        && is_answered(alloc, second, WRITE)
-        && is_answered(alloc, third, FIVE)
-}
-
 #[test]
 fn each_connection_is_answered_in_turn(rt: HostRuntime) -> Result<(), Fail> {
     let listener = TcpListener::bind(&rt, "127.0.0.1:0")?;
-    let mut peers = three_peers(&rt, &listener)?;
-    assert!(rt; all_are_answered(rt.alloc(), &listener, 3)?);
-    assert!(rt; have_answers(rt.alloc(), &mut peers));
+    let [mut first, mut second, mut third] = three_peers(&rt, &listener)?;
+    let mut bank = bank_with_nine(rt.alloc())?;
+    assert!(rt; answer_all(&listener, 3, &mut bank, &[]).is_ok());
+    assert!(rt; is_answered(&rt, rt.alloc(), &mut first, NINE).is_ok());
+    assert!(rt; is_answered(&rt, rt.alloc(), &mut second, WRITE).is_ok());
+    assert!(rt; is_answered(&rt, rt.alloc(), &mut third, FIVE).is_ok());
     Ok(())
 }
 
@@ -95,9 +92,10 @@ fn two_peers(rt: &HostRuntime, listener: &TcpListener) -> io::Result<[TcpStream;
 #[test]
 fn a_garbled_connection_ends_alone(rt: HostRuntime) -> Result<(), Fail> {
     let listener = TcpListener::bind(&rt, "127.0.0.1:0")?;
-    let mut peers = two_peers(&rt, &listener)?;
-    assert!(rt; all_are_answered(rt.alloc(), &listener, 2)?);
-    assert!(rt; is_answered(rt.alloc(), &mut peers[1], NINE));
+    let [_first, mut second] = two_peers(&rt, &listener)?;
+    let mut bank = bank_with_nine(rt.alloc())?;
+    assert!(rt; answer_all(&listener, 2, &mut bank, &[]).is_ok());
+    assert!(rt; is_answered(&rt, rt.alloc(), &mut second, NINE).is_ok());
     Ok(())
 }
 
@@ -107,8 +105,8 @@ fn a_trick_is_played_on_a_link(rt: HostRuntime) -> Result<(), Fail> {
     let mut output = [0; 64];
     let mut link = MemoryLink::new(READ, &mut output, 260, None);
     let tricks = [(1, Trick::Cut(4))];
-    assert!(rt; answer_one(&mut link, &mut bank, &tricks) == Ok(1));
-    assert!(rt; link.given() == &NINE[..4]);
+    assert_eq!(rt; answer_one(&mut link, &mut bank, &tricks), Ok(1));
+    assert_eq!(rt; link.given(), &NINE[..4]);
     Ok(())
 }
 
@@ -118,6 +116,6 @@ fn a_link_that_fails_is_told(rt: HostRuntime) -> Result<(), Fail> {
     let mut output = [0; 64];
     let mut link = MemoryLink::new(READ, &mut output, 260, Some(1));
     let answered = answer_one(&mut link, &mut bank, &[]);
-    assert!(rt; answered == Err(ServeFault::Read));
+    assert_eq!(rt; answered, Err(ServeFault::Read));
     Ok(())
 }
