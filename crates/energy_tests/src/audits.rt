@@ -63,7 +63,7 @@ fn rows_give_intervals(rt: HostRuntime) -> Result<(), Fail> {
     let fault = take_row(&HOUSE, &mut progress, &FIRST)?;
     assert!(rt; fault.is_none());
     assert!(rt; progress.check.total == 200_000);
-    assert!(rt; progress.wanted.as_slice() == SHARES);
+    assert!(rt; progress.wanted.as_slice() == SHARES.as_slice());
     drop_done(&mut progress);
     assert!(rt; progress.wanted.as_slice() == &SHARES[1..]);
     Ok(())
