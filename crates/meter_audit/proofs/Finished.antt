@@ -1,9 +1,8 @@
 -- A check behind all rows of a meter.
-use Rattle.std.proofs.Common.{◌≡◌, ℕ, ◌↔◌, Bool, List, [], ◌∷◌, ◌++◌, Err, refl, sym, ap, subst, ◌∙◌}
+use Rattle.std.proofs.Common.{◌≡◌, ℕ, Bool, List, [], ◌∷◌, ◌++◌, Err, refl, sym, ap, subst, ◌∙◌}
 use Rattle.energy_core.specs.declared.entries.Last.{Last}
 use Rattle.interval_core.specs.declared.shares.Share.{Share}
 use Rattle.meter_journal.specs.declared.lines.Installed.{Installed}
-use Rattle.meter_journal.specs.declared.lines.EntryRow.{EntryRow}
 use Rattle.meter_audit.specs.declared.checks.Check.{Check}
 use Rattle.meter_audit.specs.declared.progress.Progress.{Progress}
 use Rattle.meter_audit.specs.declared.rows.TableRow.{TableRow}

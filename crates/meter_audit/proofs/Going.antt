@@ -1,6 +1,7 @@
 -- One more row, and the interval rows that it gives.
-use Rattle.std.proofs.Common.{◌≡◌, ℕ, ◌+◌, ◌≤◌, ◌<◌, ◌==◌, true, false, if◌then◌else◌, List, [], ◌∷◌, ◌++◌, Option, Some, None, Result, Ok, refl, sym, ap, subst, ◌∙◌, inl, inr, arith}
+use Rattle.std.proofs.Common.{◌≡◌, ℕ, zero, suc, drop, ◌+◌, ◌≤◌, ◌==◌, true, false, if◌then◌else◌, List, [], ◌∷◌, ◌++◌, Option, Some, None, Result, Ok, refl, sym, ap, subst, ◌∙◌, inl, inr, arith}
 use Rattle.std.proofs.lemmas.Bool.{cases_Bool, cond-true, cond-false}
+use Rattle.std.proofs.lemmas.List.Sums.{sum_by-cons}
 use Rattle.std.proofs.lemmas.Option.{same_Some}
 use Rattle.energy_core.specs.declared.entries.Last.{Last}
 use Rattle.energy_core.specs.declared.entries.Step.{Step}
@@ -21,10 +22,10 @@ use Rattle.meter_audit.specs.declared.checks.Check.{Check}
 use Rattle.meter_audit.specs.declared.faults.RowFault.{RowFault}
 use Rattle.meter_audit.specs.declared.progress.Progress.{Progress}
 use Rattle.meter_audit.specs.declared.rows.TableRow.{TableRow}
-use Rattle.meter_audit.specs.Rows.{scale_after, table_row, later_rows}
-use Rattle.meter_audit.specs.Passing.{passed}
+use Rattle.meter_audit.specs.Rows.{scale_after, table_row}
+use Rattle.meter_audit.specs.Passing.{IsSoundCheck, passed}
 use Rattle.meter_audit.specs.Laws.{PassedRowsFit, HasTaken, IsTaken}
-use Rattle.meter_audit.specs.Going.{HasGone}
+use Rattle.meter_audit.specs.Going.{HasGone, IsSoundProgress}
 
 -- shares are joined to the last row
 pub joins_last : (done : List Share) (row : Share) (rows shares : List Share)
@@ -122,3 +123,20 @@ pub passed_as : (r : Result (Check × Option Step) RowFault) (next : Check) (ste
     → (let q : Result (Check × Option Step) RowFault = Ok (next, step) in q) ≡ r → step ≡ step' → r ≡ Ok (next, step')
 passed_as r next step step' h is =
     sym h ∙ ap (λ (o : Option Step). let q : Result (Check × Option Step) RowFault = Ok (next, o) in q) is
+
+-- what is left of rows has no more energy
+less_left : (n : ℕ) (rows : List Share) → energy_of (drop n rows) ≤ energy_of rows
+less_left zero rows = omega (arith)
+less_left (suc n) [] = omega (arith)
+less_left (suc n) (row ∷ rows) =
+    let whole : energy_of (row ∷ rows) ≡ row.mwh + energy_of rows = sum_by-cons (λ (share : Share). share.mwh) row rows in
+    let left : energy_of (drop (suc n) (row ∷ rows)) ≡ energy_of (drop n rows) = refl in
+    omega (arith, whole, left, less_left n rows)
+
+-- a check from which rows were dropped is as sound as it was
+pub left_is_sound : (n : ℕ) (meter : Installed) (old new : Progress) → new.check ≡ old.check → new.wanted.items ≡ drop n old.wanted.items
+    → IsSoundProgress meter old → IsSoundProgress meter new
+left_is_sound n meter old new same left sound = record {
+  check = subst (λ (check : Check). IsSoundCheck meter check) (sym same) sound.check;
+  within = omega (arith, sound.within, less_left n old.wanted.items, ap energy_of left, ap (λ (check : Check). check.total) same);
+}

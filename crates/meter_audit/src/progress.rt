@@ -1,6 +1,7 @@
 //! A check of a meter under way: of its rows, and of the interval rows that they give.
 ghost use Rattle.std.specs.Prelude.{◌≡◌, ◌<◌, ◌^◌, ◌++◌, ◌-◌, [], take, drop, length};
 ghost use Rattle.std.specs.Prelude.{IfOk, OnOk};
+ghost use Rattle.meter_journal.specs.declared.lines.Installed.{Installed as TheMeter};
 ghost use Rattle.meter_audit.specs.Passing.{MayBeChecked};
 ghost use Rattle.meter_audit.specs.Going.{IsSoundProgress, HasGone, GoesOn};
 
@@ -62,16 +63,25 @@ pub fn take_row(
     }
 }
 
+// Leaves the last of some interval rows.
+fn leave_last(wanted: &mut Vec<Share>)
+    ensures { let done = length wanted.old.items - 1 in wanted.new.items ≡ drop done wanted.old.items }
+{
+    let count = wanted.len();
+    if count > 1 {
+        let last = wanted[count - 1];
+        wanted[0] = last;
+        wanted.truncate(1);
+    }
+}
+
 /// Drops the interval rows that no later entry adds to: all but the last.
 pub fn drop_done(progress: &mut Progress)
+    ensures sound { (meter : TheMeter) → IsSoundProgress meter progress.old
+        → IsSoundProgress meter progress.new }
     ensures check { progress.new.check ≡ progress.old.check }
     ensures last { let done = length progress.old.wanted.items - 1 in
         progress.new.wanted.items ≡ drop done progress.old.wanted.items }
 {
-    let count = progress.wanted.len();
-    if count > 1 {
-        let last = progress.wanted[count - 1];
-        progress.wanted[0] = last;
-        progress.wanted.truncate(1);
-    }
+    leave_last(&mut progress.wanted);
 }

@@ -1,4 +1,4 @@
-use Rattle.std.proofs.Common.{◌+◌, Option, Some, None, ap, refl, sym, ◌∙◌, arith}
+use Rattle.std.proofs.Common.{◌+◌, Option, Some, None, ap, refl, ◌∙◌, arith}
 use Rattle.energy_core.specs.declared.entries.Step.{Step}
 use Rattle.interval_core.specs.Account.{energy_of}
 use Rattle.meter_audit.specs.declared.progress.Progress.{Progress}
