@@ -108,6 +108,7 @@ Options:
       --devices <LIST>    1 to 64 of NAME=HOST:PORT, joined by commas
       --for <SECONDS>     Ends after this long, 1 to 4000000000
       --host-name <NAME>  Another name that Host may say; may stand several times
+      --most-kept <MB>    Answers commands 503 past so many megabytes of kept ones, 1 to 1000000
       --verbose           Prints more of what goes on
   -h, --help              Print help
 
