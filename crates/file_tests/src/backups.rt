@@ -99,8 +99,8 @@ fn why_no_text(rt: &HostRuntime, path: &str) -> Result<Option<CopyFault>, Fail> 
 #[test]
 fn no_text_is_an_office(rt: HostRuntime) -> Result<(), Fail> {
     let path = path(&rt)?;
-    assert_eq!(rt; why_no_text(&rt, &path)?, Some(CopyFault::Torn));
-    assert_eq!(rt; why_not_whole(&rt, "/"), Some(CopyFault::Unwritable));
+    assert!(rt; why_no_text(&rt, &path)? == Some(CopyFault::Torn));
+    assert!(rt; why_not_whole(&rt, "/") == Some(CopyFault::Unwritable));
     Ok(())
 }
 
@@ -114,6 +114,6 @@ fn no_other_database_is_an_office(rt: HostRuntime) -> Result<(), Fail> {
     let path = path(&rt)?;
     let files = Files { rt: &rt };
     assert!(rt; is_bare_before(&files, &path)?);
-    assert_eq!(rt; why_not_closed(&files, &path)?, Some(CopyFault::NotOurs));
+    assert!(rt; why_not_closed(&files, &path)? == Some(CopyFault::NotOurs));
     remove(&rt, &path)
 }

@@ -39,7 +39,7 @@ fn kept<C: Connects>(connects: &C, path: &str) -> Result<i64, Fail> {
 fn a_file_that_is_missing_is_not_made(rt: HostRuntime) -> Result<(), Fail> {
     let path = path(&rt)?;
     let files = Files { rt: &rt };
-    assert_eq!(rt; unopened(&files, &path), Some(FileFault::Missing));
+    assert!(rt; unopened(&files, &path) == Some(FileFault::Missing));
     assert!(rt; !fs::exists(&rt, path.as_str())?);
     Ok(())
 }
@@ -48,8 +48,8 @@ fn a_file_that_is_missing_is_not_made(rt: HostRuntime) -> Result<(), Fail> {
 fn a_file_is_made_and_found_again(rt: HostRuntime) -> Result<(), Fail> {
     let path = path(&rt)?;
     let files = Files { rt: &rt };
-    assert_eq!(rt; unopened_twice(&files, &path)?, Some(FileFault::Busy));
-    assert_eq!(rt; kept(&files, &path)?, 7);
+    assert!(rt; unopened_twice(&files, &path)? == Some(FileFault::Busy));
+    assert!(rt; kept(&files, &path)? == 7);
     remove(&rt, &path)
 }
 
@@ -59,9 +59,9 @@ fn what_is_no_database_is_told(rt: HostRuntime) -> Result<(), Fail> {
     let path = path(&rt)?;
     let files = Files { rt: &rt };
     fs::write(&rt, path.as_str(), "no database".as_bytes())?;
-    assert_eq!(rt; unopened(&files, &path), Some(FileFault::NoDatabase));
+    assert!(rt; unopened(&files, &path) == Some(FileFault::NoDatabase));
     for name in ["/", ":memory:", "/none/office.db"] {
-        assert_eq!(rt; unmade(&files, name), Some(FileFault::Unreadable));
+        assert!(rt; unmade(&files, name) == Some(FileFault::Unreadable));
     }
     remove(&rt, &path)
 }
@@ -76,6 +76,6 @@ fn faults_have_numbers(rt: HostRuntime) {
         FileFault::Memory,
     ];
     for (number, fault) in (1..6).zip(faults) {
-        assert_eq!(rt; fault.number(), number);
+        assert!(rt; fault.number() == number);
     }
 }

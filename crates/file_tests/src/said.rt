@@ -11,8 +11,8 @@ fn said(rt: &HostRuntime, ending: &Ending<'_>) -> Result<String, Fail> {
 
 #[test]
 fn what_standard_output_tells_is_not_said(rt: HostRuntime) -> Result<(), Fail> {
-    assert_eq!(rt; said(&rt, &Ending::Fine)?.as_str(), "");
-    assert_eq!(rt; said(&rt, &Ending::Refused)?.as_str(), "");
+    assert!(rt; said(&rt, &Ending::Fine)?.as_str() == "");
+    assert!(rt; said(&rt, &Ending::Refused)?.as_str() == "");
     Ok(())
 }
 
@@ -39,7 +39,7 @@ fn wrong_words_are_said(rt: HostRuntime) -> Result<(), Fail> {
         ),
     ];
     for (ending, text) in &endings {
-        assert_eq!(rt; said(&rt, ending)?.as_str(), *text);
+        assert!(rt; said(&rt, ending)?.as_str() == *text);
     }
     Ok(())
 }
@@ -48,9 +48,9 @@ fn wrong_words_are_said(rt: HostRuntime) -> Result<(), Fail> {
 fn a_failure_is_said(rt: HostRuntime) -> Result<(), Fail> {
     let host = "no.such.invalid";
     let text = said(&rt, &Ending::Failed(Failure::Host { host }))?;
-    assert_eq!(rt;
-        text.as_str(),
-        "failed\nsunreg: no address is found for no.such.invalid: is it right, and can names of hosts be looked up here?\n"
+    assert!(rt;
+        text.as_str()
+            == "failed\nsunreg: no address is found for no.such.invalid: is it right, and can names of hosts be looked up here?\n"
     );
     Ok(())
 }

@@ -82,7 +82,7 @@ fn ends(
     text: &str,
 ) -> Result<(), Fail> {
     let ending = ending_of_done(done, "h", 80);
-    assert_eq!(rt; ending.number(), status);
+    assert!(rt; ending.number() == status);
     match &ending {
         Ending::Failed(failure) => begins(rt, alloc, *failure, text),
         _ => {

@@ -35,7 +35,7 @@ fn answers_are_written(rt: HostRuntime) -> Result<(), Fail> {
     for (answer, frames, wanted) in &ANSWERS {
         let mut written = Vec::new(rt.alloc());
         write_answer(answer, frames, &mut written)?;
-        assert_eq!(rt; written.as_slice(), wanted.as_bytes());
+        assert!(rt; written.as_slice() == wanted.as_bytes());
     }
     Ok(())
 }
@@ -72,7 +72,7 @@ fn notes_are_written(rt: HostRuntime) -> Result<(), Fail> {
     let notes = notes().ok_or("no name")?;
     let mut written = Vec::new(rt.alloc());
     write_notes(&notes, &mut written)?;
-    assert_eq!(rt; written.as_slice(), NOTED.as_bytes());
+    assert!(rt; written.as_slice() == NOTED.as_bytes());
     Ok(())
 }
 
@@ -84,7 +84,7 @@ fn each_failing_write_is_told(rt: HostRuntime) -> Result<(), Fail> {
         let mut kept = Kept::new(rt.alloc(), failing, 2);
         let ended = write_accepted(&STARTED, &notes, b"\x00\xff", &mut kept);
         let whole = kept.is_whole(&rt, WHOLE);
-        assert_eq!(rt; ended.is_ok(), whole);
+        assert!(rt; ended.is_ok() == whole);
         assert!(rt; whole || failing < 79);
     }
     Ok(())
@@ -113,7 +113,7 @@ fn outcomes_are_written(rt: HostRuntime) -> Result<(), Fail> {
         };
         let mut written = Vec::new(rt.alloc());
         write_note(&note, &mut written)?;
-        assert_eq!(rt; written.as_slice(), wanted.as_bytes());
+        assert!(rt; written.as_slice() == wanted.as_bytes());
     }
     Ok(())
 }
@@ -131,7 +131,7 @@ fn refusals_are_written(rt: HostRuntime) -> Result<(), Fail> {
     for (refusal, wanted) in &REFUSALS {
         let mut written = Vec::new(rt.alloc());
         write_refusal(*refusal, &mut written)?;
-        assert_eq!(rt; written.as_slice(), wanted.as_bytes());
+        assert!(rt; written.as_slice() == wanted.as_bytes());
     }
     Ok(())
 }
@@ -189,7 +189,7 @@ fn meters_are_written(rt: HostRuntime) -> Result<(), Fail> {
         let row = meter(last, *total, *ended).ok_or("no name")?;
         let mut written = Vec::new(rt.alloc());
         write_meter(&row, &mut written)?;
-        assert_eq!(rt; written.as_slice(), wanted.as_bytes());
+        assert!(rt; written.as_slice() == wanted.as_bytes());
     }
     Ok(())
 }
@@ -224,7 +224,7 @@ fn polls_are_written(rt: HostRuntime) -> Result<(), Fail> {
         let row = poll(*ended).ok_or("no poll")?;
         let mut written = Vec::new(rt.alloc());
         write_poll(&row, &mut written)?;
-        assert_eq!(rt; written.as_slice(), wanted.as_bytes());
+        assert!(rt; written.as_slice() == wanted.as_bytes());
     }
     Ok(())
 }
@@ -251,9 +251,6 @@ fn wrong_lines(alloc: Global) -> io::Result<Vec<u8>> {
 #[test]
 fn faults_and_bad_lines_are_written(rt: HostRuntime) -> Result<(), Fail> {
     let written = wrong_lines(rt.alloc())?;
-    assert_eq!(rt;
-        written.as_slice(),
-        b"row 1 fault 2\nrow 514 fault 12\nbad line 3\n".as_slice()
-    );
+    assert!(rt; written.as_slice() == b"row 1 fault 2\nrow 514 fault 12\nbad line 3\n".as_slice());
     Ok(())
 }

@@ -99,7 +99,7 @@ fn a_part_that_is_no_device_is_told(rt: HostRuntime) {
         let Err(WordsFault::Wrong(text)) = command_of(rt.alloc(), &words) else {
             panic!(rt; "not wrong");
         };
-        assert_eq!(rt; text.as_str(), *expected);
+        assert!(rt; text.as_str() == *expected);
     }
 }
 

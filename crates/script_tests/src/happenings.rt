@@ -129,7 +129,7 @@ fn starts_are_of_spans(rt: HostRuntime) {
             address: *address,
             count: *count,
         };
-        assert_eq!(rt; start.span().is_some(), *is_span);
+        assert!(rt; start.span().is_some() == *is_span);
     }
 }
 
@@ -139,9 +139,9 @@ fn reads_starts(rt: HostRuntime) {
     let Ok(ScriptLine::Start { at, start }) = &read else {
         panic!(rt; "no start");
     };
-    assert_eq!(rt; *at, 1898);
-    assert_eq!(rt; start.device, Name::new(b"inv"));
-    assert_eq!(rt; start.span(), ReadSpan::new(3, 40094, 3));
+    assert!(rt; *at == 1898);
+    assert!(rt; start.device == Name::new(b"inv"));
+    assert!(rt; start.span() == ReadSpan::new(3, 40094, 3));
 }
 
 // What a line asks: a letter for the question, and the name.

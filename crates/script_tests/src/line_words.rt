@@ -10,10 +10,10 @@ use std::alloc::Global;
 fn words_stand_between_spaces(rt: HostRuntime) {
     let mut words = Words::of(b"a  bc ");
     for word in [b"a".as_slice(), b"", b"bc", b""] {
-        assert_eq!(rt; words.next_word(), Some(word));
+        assert!(rt; words.next_word() == Some(word));
     }
-    assert_eq!(rt; words.next_word(), None);
-    assert_eq!(rt; words.next_word(), None);
+    assert!(rt; words.next_word() == None);
+    assert!(rt; words.next_word() == None);
 }
 
 static NUMBERS: [(&[u8], Option<u64>); 7] = [
@@ -29,7 +29,7 @@ static NUMBERS: [(&[u8], Option<u64>); 7] = [
 #[test]
 fn numbers_have_one_to_nineteen_digits(rt: HostRuntime) {
     for (word, value) in &NUMBERS {
-        assert_eq!(rt; number(word), *value);
+        assert!(rt; number(word) == *value);
     }
 }
 
@@ -74,9 +74,9 @@ fn each_word_spells_a_value(rt: HostRuntime) {
 #[test]
 fn some_words_may_be_missing(rt: HostRuntime) {
     let mut words = Words::of(b"x");
-    assert_eq!(rt; nothing_more(&mut words), None);
-    assert_eq!(rt; next_range(&mut words), Some(4_294_967_296));
-    assert_eq!(rt; next_moment(&mut words), Some(None));
-    assert_eq!(rt; next_number(&mut words), None);
-    assert_eq!(rt; next_name(&mut words), None);
+    assert!(rt; nothing_more(&mut words) == None);
+    assert!(rt; next_range(&mut words) == Some(4_294_967_296));
+    assert!(rt; next_moment(&mut words) == Some(None));
+    assert!(rt; next_number(&mut words) == None);
+    assert!(rt; next_name(&mut words) == None);
 }

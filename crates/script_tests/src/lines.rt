@@ -13,6 +13,6 @@ fn reads_no_other_lines(rt: HostRuntime) {
 
 #[test]
 fn faults_have_their_numbers(rt: HostRuntime) {
-    assert_eq!(rt; LineFault::Bad.number(), 1);
-    assert_eq!(rt; LineFault::Memory.number(), 2);
+    assert!(rt; LineFault::Bad.number() == 1);
+    assert!(rt; LineFault::Memory.number() == 2);
 }

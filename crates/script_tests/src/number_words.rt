@@ -134,5 +134,5 @@ fn a_number_past_its_range_is_told(rt: HostRuntime) {
     let Err(WordsFault::Wrong(text)) = command_of(rt.alloc(), &PAST) else {
         panic!(rt; "not wrong");
     };
-    assert_eq!(rt; text.as_str(), PAST_TEXT);
+    assert!(rt; text.as_str() == PAST_TEXT);
 }

@@ -132,7 +132,7 @@ fn no_sentence_is_empty(rt: HostRuntime) {
             }
         }
     }
-    assert_eq!(rt; count, 70);
+    assert!(rt; count == 70);
 }
 
 #[test]

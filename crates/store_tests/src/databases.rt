@@ -50,7 +50,7 @@ fn stepped(
         Some(zone) => making(alloc, connection, zone),
         None => opening(alloc, connection),
     };
-    assert_eq!(rt; fault, number, "{change}");
+    assert!(rt; fault == number, "{change}");
     Ok(left)
 }
 

@@ -110,7 +110,7 @@ fn is_device(read: &Result<Device, RowFault>, name: &str, row: DeviceRow) -> boo
 fn devices_stand_in_the_order_of_their_places(rt: HostRuntime) -> Result<(), Fail> {
     let mut conn = two_devices(rt.alloc())?;
     let devices = device_rows(&mut conn)?;
-    assert_eq!(rt; devices.len(), 2);
+    assert!(rt; devices.len() == 2);
     assert!(rt; is_device(&read_device(&devices[0]), "inv", FIRST_DEVICE));
     assert!(rt; is_device(&read_device(&devices[1]), "pv", DEVICE));
     Ok(())
@@ -120,10 +120,10 @@ fn devices_stand_in_the_order_of_their_places(rt: HostRuntime) -> Result<(), Fai
 fn registers_are_those_of_their_device(rt: HostRuntime) -> Result<(), Fail> {
     let mut conn = two_devices(rt.alloc())?;
     let registers = register_rows(&mut conn, "inv")?;
-    assert_eq!(rt; registers.len(), 1);
+    assert!(rt; registers.len() == 1);
     let scale = RegisterScale::At(40_096);
     assert!(rt; matches!(read_register(&registers[0]), Ok(main) if main.row.scale == scale));
-    assert_eq!(rt; register_count(&mut conn, "pv"), Ok(1));
+    assert!(rt; register_count(&mut conn, "pv") == Ok(1));
     assert!(rt; matches!(register_of(&mut conn, "pv"), Ok(None)));
     Ok(())
 }
@@ -157,10 +157,10 @@ fn is_energy(read: &Result<Point, RowFault>) -> bool {
 fn points_stand_in_the_order_of_their_list(rt: HostRuntime) -> Result<(), Fail> {
     let mut conn = two_devices(rt.alloc())?;
     let points = point_rows(&mut conn, "inv")?;
-    assert_eq!(rt; points.len(), 2);
+    assert!(rt; points.len() == 2);
     assert!(rt; is_energy(&read_point(&points[0])));
     empty_list(&mut conn)?;
-    assert_eq!(rt; point_count(&mut conn, "inv"), Ok(0));
-    assert_eq!(rt; point_count(&mut conn, "pv"), Ok(1));
+    assert!(rt; point_count(&mut conn, "inv") == Ok(0));
+    assert!(rt; point_count(&mut conn, "pv") == Ok(1));
     Ok(())
 }

@@ -29,7 +29,7 @@ fn a_row_out_of_its_ranges_is_damage(rt: HostRuntime) -> Result<(), Fail> {
     let mut conn = damaged(rt.alloc())?;
     let mut seen = Seen::new(rt.alloc());
     let answer = meter_intervals(&mut conn, "m1", &mut seen);
-    assert_eq!(rt; answer, Err(RowFault::Damaged));
+    assert!(rt; answer == Err(RowFault::Damaged));
     assert!(rt; seen.are(&[(900, 177_777)]));
     assert!(rt; conn.is_autocommit());
     assert!(rt; are(&of_meter(rt.alloc(), &mut conn, "m0"), &NEXT));

@@ -28,9 +28,9 @@ fn a_meter_is_found_by_its_name_and_at_its_register(rt: HostRuntime) -> Result<(
     assert!(rt; is_installed(&installation_at(&mut conn, "main"), INSTALLED));
     assert!(rt; matches!(installation_of(&mut conn, "m2"), Ok(None)));
     assert!(rt; matches!(installation_at(&mut conn, "m1"), Ok(None)));
-    assert_eq!(rt; last_installation(&mut conn), Ok(Some(1)));
-    assert_eq!(rt; range_of(&mut conn, "m1"), Ok(Some(4_294_967_296)));
-    assert_eq!(rt; INSTALLED.last, OPENED);
+    assert!(rt; last_installation(&mut conn) == Ok(Some(1)));
+    assert!(rt; range_of(&mut conn, "m1") == Ok(Some(4_294_967_296)));
+    assert!(rt; INSTALLED.last == OPENED);
     Ok(())
 }
 
@@ -41,12 +41,12 @@ static ENTRIES: [(u64, Option<EntryRow>); 3] = [(1, Some(OPENING)), (2, Some(REA
 fn entries_are_found_by_their_places(rt: HostRuntime) -> Result<(), Fail> {
     let mut conn = one_meter(rt.alloc())?;
     for (place, entry) in &ENTRIES {
-        assert_eq!(rt; entry_at(&mut conn, "m1", *place), Ok(*entry), "{place}");
+        assert!(rt; entry_at(&mut conn, "m1", *place) == Ok(*entry), "{place}");
     }
     let rows = entry_rows(&mut conn, "m1")?;
-    assert_eq!(rt; rows.len(), 2);
-    assert_eq!(rt; read_entry(&rows[0]), Ok(OPENING));
-    assert_eq!(rt; read_entry(&rows[1]), Ok(READING));
+    assert!(rt; rows.len() == 2);
+    assert!(rt; read_entry(&rows[0]) == Ok(OPENING));
+    assert!(rt; read_entry(&rows[1]) == Ok(READING));
     Ok(())
 }
 
@@ -87,11 +87,11 @@ fn rows_are_changed(rt: HostRuntime) -> Result<(), Fail> {
         rolls: 1,
         ..READING
     };
-    assert_eq!(rt; entry_at(&mut conn, "m1", 2), Ok(Some(rolled)));
-    assert_eq!(rt; entry_at(&mut conn, "m1", 1), Ok(Some(OPENING)));
+    assert!(rt; entry_at(&mut conn, "m1", 2) == Ok(Some(rolled)));
+    assert!(rt; entry_at(&mut conn, "m1", 1) == Ok(Some(OPENING)));
     let voids = void_rows(&mut conn, "m1")?;
-    assert_eq!(rt; voids.len(), 1);
-    assert_eq!(rt; read_void(&voids[0]), Ok(2));
+    assert!(rt; voids.len() == 1);
+    assert!(rt; read_void(&voids[0]) == Ok(2));
     Ok(())
 }
 
@@ -131,10 +131,10 @@ fn is_ended(row: &Row) -> bool {
 fn a_transaction_sees_its_own_writes(rt: HostRuntime) -> Result<(), Fail> {
     let mut conn = one_meter(rt.alloc())?;
     let (installed, last) = see_inside(&mut conn)?;
-    assert_eq!(rt; installed.len(), 1);
+    assert!(rt; installed.len() == 1);
     assert!(rt; is_ended(&installed[0]));
-    assert_eq!(rt; last.len(), 1);
-    assert_eq!(rt; first_whole(&last, 1, GREATEST_PLACE), Ok(Some(3)));
-    assert_eq!(rt; entry_at(&mut conn, "m1", 3), Ok(None));
+    assert!(rt; last.len() == 1);
+    assert!(rt; first_whole(&last, 1, GREATEST_PLACE) == Ok(Some(3)));
+    assert!(rt; entry_at(&mut conn, "m1", 3) == Ok(None));
     Ok(())
 }

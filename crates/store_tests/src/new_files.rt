@@ -46,8 +46,8 @@ fn a_new_file_has_its_tables_and_one_row(rt: HostRuntime) -> Result<(), Fail> {
         assert_eq!(rt; rows, Ok(i64::from(*name == "meta")), "{name}");
     }
     let marked = "meta WHERE id = 1 AND version = 3 AND zone = 'UTC0'";
-    assert_eq!(rt; count(rt.alloc(), &mut conn, marked), Ok(1));
-    assert_eq!(rt; fault(create(&mut conn, "UTC0")), 1);
+    assert!(rt; count(rt.alloc(), &mut conn, marked) == Ok(1));
+    assert!(rt; fault(create(&mut conn, "UTC0")) == 1);
     Ok(())
 }
 
@@ -62,27 +62,24 @@ fn fault_beside(alloc: Global, table: &str) -> Result<u8, Error> {
 #[test]
 fn a_database_with_a_table_is_not_ours(rt: HostRuntime) {
     for table in TABLES.iter().chain(&["notes"]) {
-        assert_eq!(rt; fault_beside(rt.alloc(), table), Ok(1), "{table}");
+        assert!(rt; fault_beside(rt.alloc(), table) == Ok(1), "{table}");
     }
 }
 
 #[test]
 fn a_refused_file_has_no_tables(rt: HostRuntime) -> Result<(), Fail> {
     let mut conn = Connection::open_in_memory(rt.alloc())?;
-    assert_eq!(rt; fault(create(&mut conn, "x")), 2);
+    assert!(rt; fault(create(&mut conn, "x")) == 2);
     conn.execute_batch("BEGIN")?;
-    assert_eq!(rt; fault(create(&mut conn, "UTC0")), 1);
+    assert!(rt; fault(create(&mut conn, "UTC0")) == 1);
     conn.execute_batch("COMMIT")?;
-    assert_eq!(rt;
-        number(&mut conn, "SELECT count(*) FROM sqlite_schema"),
-        Ok(0)
-    );
-    assert_eq!(rt; fault(create(&mut conn, "CET-1CEST,M3.5.0,M10.5.0/3")), 0);
+    assert!(rt; number(&mut conn, "SELECT count(*) FROM sqlite_schema") == Ok(0));
+    assert!(rt; fault(create(&mut conn, "CET-1CEST,M3.5.0,M10.5.0/3")) == 0);
     Ok(())
 }
 
 #[test]
 fn faults_have_numbers(rt: HostRuntime) {
-    assert_eq!(rt; OpenFault::Store.number(), 3);
-    assert_eq!(rt; OpenFault::Memory.number(), 4);
+    assert!(rt; OpenFault::Store.number() == 3);
+    assert!(rt; OpenFault::Memory.number() == 4);
 }

@@ -31,11 +31,11 @@ fn planned(alloc: Global) -> Result<PlannedList, Fail> {
 fn a_list_has_its_points_in_order(rt: HostRuntime) -> Result<(), Fail> {
     let planned = planned(rt.alloc())?;
     let points = planned.points();
-    assert_eq!(rt; points.len(), 4);
-    assert_eq!(rt; points[0].kind, PointType::Acc32);
-    assert_eq!(rt; points[1].name.as_bytes(), b"whsf".as_slice());
-    assert_eq!(rt; points[2].address, 40_168);
-    assert_eq!(rt; points[3].function, ReadFunction::HoldingRegisters);
+    assert!(rt; points.len() == 4);
+    assert!(rt; points[0].kind == PointType::Acc32);
+    assert!(rt; points[1].name.as_bytes() == b"whsf".as_slice());
+    assert!(rt; points[2].address == 40_168);
+    assert!(rt; points[3].function == ReadFunction::HoldingRegisters);
     Ok(())
 }
 
@@ -43,9 +43,9 @@ fn a_list_has_its_points_in_order(rt: HostRuntime) -> Result<(), Fail> {
 fn a_list_has_the_reads_of_its_plan(rt: HostRuntime) -> Result<(), Fail> {
     let planned = planned(rt.alloc())?;
     let reads = planned.reads();
-    assert_eq!(rt; reads.len(), 1);
-    assert_eq!(rt; reads[0].span.address, 40_094);
-    assert_eq!(rt; reads[0].span.count, 83);
+    assert!(rt; reads.len() == 1);
+    assert!(rt; reads[0].span.address == 40_094);
+    assert!(rt; reads[0].span.count == 83);
     Ok(())
 }
 

@@ -76,13 +76,13 @@ fn is_first(found: &Result<Option<Poll>, RowFault>) -> bool {
 #[test]
 fn a_poll_is_found_with_its_outcome(rt: HostRuntime) -> Result<(), Fail> {
     let mut conn = one_meter(rt.alloc())?;
-    assert_eq!(rt; last_poll(&mut conn), Ok(None));
+    assert!(rt; last_poll(&mut conn) == Ok(None));
     start_three(&mut conn)?;
-    assert_eq!(rt; last_poll(&mut conn), Ok(Some(3)));
+    assert!(rt; last_poll(&mut conn) == Ok(Some(3)));
     assert!(rt; is_first(&poll_at(&mut conn, 1)));
     assert!(rt; matches!(poll_at(&mut conn, 4), Ok(None)));
-    assert_eq!(rt; outcome_of(&mut conn, 1), Ok(None));
-    assert_eq!(rt; outcome_of(&mut conn, 2), Ok(Some(LOST)));
+    assert!(rt; outcome_of(&mut conn, 1) == Ok(None));
+    assert!(rt; outcome_of(&mut conn, 2) == Ok(Some(LOST)));
     Ok(())
 }
 
@@ -95,7 +95,7 @@ fn has_number(row: &Row, number: u64) -> bool {
 fn polls_without_an_outcome_are_pending(rt: HostRuntime) -> Result<(), Fail> {
     let mut conn = three_polls(rt.alloc())?;
     let rows = pending_rows(&mut conn)?;
-    assert_eq!(rt; rows.len(), 2);
+    assert!(rt; rows.len() == 2);
     assert!(rt; has_number(&rows[0], 1));
     assert!(rt; has_number(&rows[1], 3));
     Ok(())
@@ -136,11 +136,11 @@ static REQUESTS: [(&str, u64, &[u8], Option<Repeat>); 4] = [
 fn a_request_is_kept_with_its_bytes(rt: HostRuntime) -> Result<(), Fail> {
     let mut conn = three_polls(rt.alloc())?;
     let held = keep(&mut conn)?;
-    assert_eq!(rt; held.len(), 1);
-    assert_eq!(rt; first_whole(&held, 1, GREATEST_PLACE), Ok(Some(1)));
+    assert!(rt; held.len() == 1);
+    assert!(rt; first_whole(&held, 1, GREATEST_PLACE) == Ok(Some(1)));
     for (caller, number, request, repeat) in &REQUESTS {
         let found = repeat_of(&mut conn, caller, *number, request);
-        assert_eq!(rt; found, Ok(*repeat), "{caller} {number}");
+        assert!(rt; found == Ok(*repeat), "{caller} {number}");
     }
     Ok(())
 }
