@@ -4,7 +4,7 @@ use Rattle.std.specs.Prelude.{IfErr}
 use Rattle.std.specs.Result.{IsErrAnd}
 use Rattle.office_books.specs.declared.faults.BooksFault.{BooksFault}
 use Rattle.office_books.specs.declared.faults.BooksFault.TheVariants.{Memory}
-use Rattle.office_books.specs.Ledgers.{Ledger, LedgerPasses, Consults}
+use Rattle.office_books.specs.Ledgers.{Ledger, LedgerAfterCalls, Consults}
 use Rattle.office_books.proofs.Moving.{consults_then, passes_well, passes_failed, passes_without}
 
 -- a call that lacks memory doesn't ask the books
@@ -20,19 +20,19 @@ reads_lacking a b x (Ok y) reads lacks = absurd lacks
 reads_lacking a b x (Err fault) reads lacks = reads_without a b x (Err fault) reads lacks
 
 -- nothing was asked
-pub passes_lacking : {U : Type 0} (a : Ledger) (r : Result U BooksFault) → IsErrAnd r (λ fault. fault ≡ Memory) → LedgerPasses a a r
+pub passes_lacking : {U : Type 0} (a : Ledger) (r : Result U BooksFault) → IsErrAnd r (λ fault. fault ≡ Memory) → LedgerAfterCalls a a r
 passes_lacking a (Ok y) lacks = absurd lacks
 passes_lacking {U} a (Err fault) lacks =
-    subst (λ f. LedgerPasses {T = U} a a (Err f)) (sym lacks) (record { clean = λ c. c; faults = inr refl; zone = refl })
+    subst (λ f. LedgerAfterCalls {T = U} a a (Err f)) (sym lacks) (record { clean = λ c. c; faults = inr refl; zone = refl })
 
 pub asks_lacking : {U : Type 0} (a : Ledger) (r : Result U BooksFault) → IsErrAnd r (λ fault. fault ≡ Memory) → Consults a a r
 asks_lacking a r lacks = record { goes = passes_lacking a r lacks; keeps = record { facts = λ known h. h; left = λ left may. may } }
 
 -- a failure that is handed on
-pub passes_as : {T U : Type 0} (a b : Ledger) (fault : BooksFault) (r : Result U BooksFault) → LedgerPasses {T = T} a b (Err fault) → IsErrAnd r (λ f. f ≡ fault)
-    → LedgerPasses a b r
+pub passes_as : {T U : Type 0} (a b : Ledger) (fault : BooksFault) (r : Result U BooksFault) → LedgerAfterCalls {T = T} a b (Err fault) → IsErrAnd r (λ f. f ≡ fault)
+    → LedgerAfterCalls a b r
 passes_as a b fault (Ok y) goes is = absurd is
-passes_as {T} {U} a b fault (Err f) goes is = subst (λ e. LedgerPasses {T = U} a b (Err e)) (sym is) (passes_failed a b fault goes)
+passes_as {T} {U} a b fault (Err f) goes is = subst (λ e. LedgerAfterCalls {T = U} a b (Err e)) (sym is) (passes_failed a b fault goes)
 
 pub reads_as : {T U : Type 0} (a b : Ledger) (fault : BooksFault) (r : Result U BooksFault) → Consults {T = T} a b (Err fault) → IsErrAnd r (λ f. f ≡ fault)
     → Consults a b r

@@ -5,11 +5,11 @@ use Rattle.office_rules.specs.Lawful.{AreLawful}
 use Rattle.office_books.specs.declared.faults.BooksFault.{BooksFault}
 use Rattle.office_books.specs.declared.faults.BooksFault.TheVariants.{Store, Memory}
 use Rattle.office_books.specs.declared.failures.Failures.{Failures}
-use Rattle.office_books.specs.Faults.{FailuresGoOn}
-use Rattle.office_books.specs.Ledgers.{Ledger, LedgerGoesOn, LedgerPasses, KeepsFacts, OnlyReads, Consults, Books, Moves, with_facts}
+use Rattle.office_books.specs.Faults.{FailuresAfterCalls}
+use Rattle.office_books.specs.Ledgers.{Ledger, LedgerAfterCall, LedgerAfterCalls, KeepsFacts, OnlyReads, Consults, Books, Moves, with_facts}
 
 -- one call is some
-pub passes : {T : Type 0} (old new : Ledger) (result : Result T BooksFault) → LedgerGoesOn old new result → LedgerPasses old new result
+pub passes : {T : Type 0} (old new : Ledger) (result : Result T BooksFault) → LedgerAfterCall old new result → LedgerAfterCalls old new result
 passes old new (Ok x) goes = record { clean = goes.clean; faults = goes.faults; zone = goes.zone }
 passes old new (Err (Store fault)) goes = record { clean = goes.clean; faults = goes.faults; zone = goes.zone }
 passes old new (Err Memory) goes = record { clean = goes.clean; faults = inl goes.faults; zone = goes.zone }
@@ -18,22 +18,22 @@ pub consults : {T : Type 0} (old new : Ledger) (result : Result T BooksFault) �
 consults old new result reads = record { goes = passes old new result reads.goes; keeps = reads.keeps }
 
 -- a success goes on as one, and a failure, whatever was to be answered
-pub passes_well : {T S : Type 0} (old new : Ledger) (x : T) (y : S) → LedgerPasses old new (Ok x) → LedgerPasses old new (Ok y)
+pub passes_well : {T S : Type 0} (old new : Ledger) (x : T) (y : S) → LedgerAfterCalls old new (Ok x) → LedgerAfterCalls old new (Ok y)
 passes_well old new x y goes = record { clean = goes.clean; faults = goes.faults; zone = goes.zone }
 
-pub passes_failed : {T S : Type 0} (old new : Ledger) (why : BooksFault) → LedgerPasses {T = T} old new (Err why) → LedgerPasses {T = S} old new (Err why)
+pub passes_failed : {T S : Type 0} (old new : Ledger) (why : BooksFault) → LedgerAfterCalls {T = T} old new (Err why) → LedgerAfterCalls {T = S} old new (Err why)
 passes_failed old new (Store fault) goes = record { clean = goes.clean; faults = goes.faults; zone = goes.zone }
 passes_failed old new Memory goes = record { clean = goes.clean; faults = goes.faults; zone = goes.zone }
 
 -- memory ran out after a success
-pub passes_without : {T S : Type 0} (old new : Ledger) (x : T) → LedgerPasses old new (Ok x) → LedgerPasses {T = S} old new (Err Memory)
+pub passes_without : {T S : Type 0} (old new : Ledger) (x : T) → LedgerAfterCalls old new (Ok x) → LedgerAfterCalls {T = S} old new (Err Memory)
 passes_without old new x goes = record { clean = goes.clean; faults = inr goes.faults; zone = goes.zone }
 
 pub passes_then : {T S : Type 0} (old between new : Ledger) (x : T) (result : Result S BooksFault)
-    → LedgerPasses old between (Ok x) → LedgerPasses between new result → LedgerPasses old new result
+    → LedgerAfterCalls old between (Ok x) → LedgerAfterCalls between new result → LedgerAfterCalls old new result
 passes_then old between new x result first after = record {
   clean = λ c. first.clean (after.clean c);
-  faults = let P : Failures → Type 0 = λ failures. FailuresGoOn result failures new.failures in subst P first.faults after.faults;
+  faults = let P : Failures → Type 0 = λ failures. FailuresAfterCalls result failures new.failures in subst P first.faults after.faults;
   zone = after.zone ∙ first.zone;
 }
 

@@ -39,7 +39,7 @@ faults_after (Err fault) failures = failed_by fault failures
 
 -- How the failures go on over calls on the books, and what is done between them: the books failed as is answered in the end,
 -- by the same fault, and not otherwise. Only memory may have run out elsewhere; then the books have not failed.
-abbrev pub FailuresGoOn : {T : Type 0} → Result T BooksFault → (old new : Failures) → Type 0
-FailuresGoOn (Ok x) old new = new ≡ old
-FailuresGoOn (Err (Store fault)) old new = new ≡ failed_by (Store fault) old
-FailuresGoOn (Err Memory) old new = (new ≡ failed_by Memory old) ⊎ (new ≡ old)
+abbrev pub FailuresAfterCalls : {T : Type 0} → Result T BooksFault → (old new : Failures) → Type 0
+FailuresAfterCalls (Ok x) old new = new ≡ old
+FailuresAfterCalls (Err (Store fault)) old new = new ≡ failed_by (Store fault) old
+FailuresAfterCalls (Err Memory) old new = (new ≡ failed_by Memory old) ⊎ (new ≡ old)

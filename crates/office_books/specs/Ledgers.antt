@@ -5,7 +5,7 @@ use Rattle.office_events.specs.declared.facts.Fact.{Fact}
 use Rattle.office_rules.specs.Lawful.{AreLawful}
 use Rattle.office_books.specs.declared.faults.BooksFault.{BooksFault}
 use Rattle.office_books.specs.declared.failures.Failures.{Failures}
-use Rattle.office_books.specs.Faults.{FailuresGoOn, faults_after}
+use Rattle.office_books.specs.Faults.{FailuresAfterCalls, faults_after}
 
 -- What is known of books at a moment: which facts they hold, which lists of facts a stop just now may leave in their
 -- place, that no wrong answer of a store was taken as true, that their store is still open, how they failed so far, and
@@ -19,15 +19,15 @@ pub record Ledger : Type 1 where
   pub zone : Zone
 
 -- A call on books: a wrong answer that was taken as true stays one, a failure is noted, and the zone stays.
-pub record LedgerGoesOn {T : Type 0} (old new : Ledger) (result : Result T BooksFault) : Type 0 where
+pub record LedgerAfterCall {T : Type 0} (old new : Ledger) (result : Result T BooksFault) : Type 0 where
   pub clean : new.is_clean → old.is_clean
   pub faults : new.failures ≡ faults_after result old.failures
   pub zone : new.zone ≡ old.zone
 
 -- The same of several calls, and what is done between them: they failed as is answered, or memory ran out elsewhere.
-pub record LedgerPasses {T : Type 0} (old new : Ledger) (result : Result T BooksFault) : Type 0 where
+pub record LedgerAfterCalls {T : Type 0} (old new : Ledger) (result : Result T BooksFault) : Type 0 where
   pub clean : new.is_clean → old.is_clean
-  pub faults : FailuresGoOn result old.failures new.failures
+  pub faults : FailuresAfterCalls result old.failures new.failures
   pub zone : new.zone ≡ old.zone
 
 -- The books hold what they held, and a stop leaves no more than it left.
@@ -37,12 +37,12 @@ pub record KeepsFacts (old new : Ledger) : Type 0 where
 
 -- A look-up changes nothing.
 pub record OnlyReads {T : Type 0} (old new : Ledger) (result : Result T BooksFault) : Type 0 where
-  pub goes : LedgerGoesOn old new result
+  pub goes : LedgerAfterCall old new result
   pub keeps : KeepsFacts old new
 
 -- Several look-ups change nothing.
 pub record Consults {T : Type 0} (old new : Ledger) (result : Result T BooksFault) : Type 0 where
-  pub goes : LedgerPasses old new result
+  pub goes : LedgerAfterCalls old new result
   pub keeps : KeepsFacts old new
 
 -- What is answered is what the facts say.
@@ -69,7 +69,7 @@ pub record Books (old new : Ledger) (facts : List Fact) (result : Result (Unit {
       → AreLawful (with_facts facts known)
       → old.may_leave left → OnErr result (new.may_leave (left ++ with_facts facts known ∷ []))
   pub nothing : facts ≡ [] → IsOk result × KeepsFacts old new
-  pub goes : LedgerGoesOn old new result
+  pub goes : LedgerAfterCall old new result
 
 -- Calls take the books from these facts to later ones. At Ok they hold the later ones, and a stop leaves nothing else, or
 -- nothing was recorded and it leaves what it left. Where they fail the books hold what they held, and a stop may yet leave
@@ -82,4 +82,4 @@ pub record Moves {T : Type 0} (old new : Ledger) (known later : List Fact)
       → OnOk result (new.may_leave (later ∷ []) ⊎ ((later ≡ known) × new.may_leave left))
   pub under_way : (left : List (List Fact)) → old.holds known → new.is_clean → old.may_leave left
       → OnErr result (new.may_leave left ⊎ new.may_leave (left ++ later ∷ []))
-  pub goes : LedgerPasses old new result
+  pub goes : LedgerAfterCalls old new result

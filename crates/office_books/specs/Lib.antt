@@ -4,3 +4,5 @@ pub mod Sound
 pub mod Repeats
 pub mod Rows
 pub mod Same
+pub mod Spans
+pub mod Entries

@@ -1,5 +1,5 @@
 -- Installations whose next reading can be judged.
-use Rattle.std.specs.Prelude.{◌≡◌, ◌≤◌, ◌<◌, ◌+◌, false, Option, Result, Ok, Err, IfOk, IfSome}
+use Rattle.std.specs.Prelude.{◌≡◌, ◌≤◌, ◌<◌, ◌+◌, false, List, Option, Result, Ok, Err, IfOk, IfSome}
 use Rattle.energy_core.specs.declared.limits.TheConstants.{MAX_CEILING, MAX_RANGE, MIN_RANGE}
 use Rattle.energy_core.specs.declared.admission.TermFault.{TermFault}
 use Rattle.energy_core.specs.declared.entries.Entry.{Entry}
@@ -7,10 +7,14 @@ use Rattle.energy_core.specs.declared.entries.Last.{Last}
 use Rattle.energy_core.specs.declared.entries.Step.{Step}
 use Rattle.energy_core.specs.Account.{IsScale, after, step_to}
 use Rattle.energy_core.specs.Admission.{entered}
+use Rattle.meter_journal.specs.declared.lines.EntryRow.{EntryRow}
+use Rattle.meter_journal.specs.Books.{HasAccount}
+use Rattle.meter_journal.specs.Journal.{entries_in}
+use Rattle.meter_journal.specs.Lists.{latest_first}
 use Rattle.office_events.specs.declared.facts.Opening.{Opening}
 use Rattle.office_events.specs.declared.questions.Installation.{Installation}
 use Rattle.office_events.specs.declared.questions.EntryPlace.{EntryPlace}
-use Rattle.office_rules.specs.Meters.{opened}
+use Rattle.office_rules.specs.Meters.{opened, installed}
 use Rattle.office_rules.specs.Ranges.{IsSound}
 use Rattle.office_books.specs.declared.faults.BooksFault.{BooksFault}
 use Rattle.office_books.specs.Ledgers.{Ledger, OnlyReads}
@@ -25,6 +29,10 @@ pub record HasNumbers (opening : Opening) : Type 0 where
   pub ceiling : (1 ≤ opening.ceiling) × (opening.ceiling ≤ MAX_CEILING)
   pub raw : opening.raw < opening.range
   pub scale : IsScale opening.sf
+
+-- the entries that stand among these rows of a meter, the oldest first, can be added up
+abbrev pub HaveAccount : Opening → List EntryRow → Type 0
+HaveAccount opening rows = HasAccount (installed opening) (entries_in (latest_first rows))
 
 -- A look-up that answers such installations alone, whatever the store gives.
 pub record ReadsInstallation (old new : Ledger) (result : Result (Option Installation) BooksFault) :

@@ -1,6 +1,8 @@
 //! Books: what holds the facts, however it is kept.
 
+use crate::entries::MeterEntry;
 use crate::faults::BooksFault;
+use crate::spans::Span;
 use interval_core::{Share, Zone};
 use office_events::{
     CommandKind, Device, EntryPlace, Fact, Installation, Name, PlannedList, Poll, PollRow, Register,
@@ -37,12 +39,14 @@ pub trait Books: Drop {
     ghost use Rattle.office_rules.specs.Meters.{meter_of, installation_at, entry_at};
     ghost use Rattle.office_rules.specs.Readings.{poll_row_of};
     ghost use Rattle.office_rules.specs.Intervals.{rows_of_meter, rows_of_register};
+    ghost use Rattle.office_books.specs.Entries.{entries_from, installations_of};
     ghost use Rattle.office_books.specs.Ledgers as ledgers;
     ghost use Rattle.office_books.specs.Ledgers.{Ledger, Finds, OnlyReads};
     ghost use Rattle.office_books.specs.Sound.{ReadsInstallation, ReadsPlace};
     ghost use Rattle.office_books.specs.Repeats.{repeat_of};
     ghost use Rattle.office_books.specs.Rows.{HandsOn};
     ghost use Rattle.office_books.specs.Same.{AreKnown};
+    ghost use Rattle.office_books.specs.Spans.{rows_within};
 
     /// What is known of them.
     ghost ledger: { Self → Ledger };
@@ -101,6 +105,12 @@ pub trait Books: Drop {
             (λ known row. row ≡ installation_at known register.now) }
         ensures reads { ReadsInstallation (ledger self.old) (ledger self.new) result };
 
+    /// The installations at a register as they stand, ended ones too, in the order in which they were installed.
+    fn meters(&mut self, register: &Name) -> Result<Vec<Installation>, BooksFault>
+        ensures found { Finds (ledger self.old) (ledger self.new) result
+            (λ known v. v.items ≡ installations_of known register.now) }
+        ensures reads { OnlyReads (ledger self.old) (ledger self.new) result };
+
     /// How many meters were installed.
     fn installation_count(&mut self) -> Result<usize, BooksFault>
         ensures found { Finds (ledger self.old) (ledger self.new) result
@@ -112,6 +122,12 @@ pub trait Books: Drop {
         ensures found { Finds (ledger self.old) (ledger self.new) result
             (λ known row. row ≡ entry_at known meter.now place) }
         ensures reads { ReadsPlace (ledger self.old) (ledger self.new) result };
+
+    /// The entries of a meter from a place on, voided ones too, in their order: at most so many. The opening has the place 1.
+    fn entries(&mut self, meter: &Name, from: u64, most: u32) -> Result<Vec<MeterEntry>, BooksFault>
+        ensures found { Finds (ledger self.old) (ledger self.new) result
+            (λ known v. v.items ≡ entries_from known meter.now from most) }
+        ensures reads { OnlyReads (ledger self.old) (ledger self.new) result };
 
     /// The poll of a number, and how it ended.
     fn poll(&mut self, number: u64) -> Result<Option<PollRow>, BooksFault>
@@ -148,20 +164,27 @@ pub trait Books: Drop {
             (λ known kept. kept ≡ repeat_of known caller.now number request.now) }
         ensures reads { OnlyReads (ledger self.old) (ledger self.new) result };
 
-    /// Hands on the energy of a meter by quarter hours, in order of their starts.
-    fn intervals<K: RowSink<Share>>(&mut self, meter: &Name, sink: &mut K) -> Result<(), BooksFault>
-        ensures rows { HandsOn K.takes (ledger self.old) (ledger self.new) sink.old sink.new result
-            (λ known. rows_of_meter known meter.now) }
-        ensures reads { OnlyReads (ledger self.old) (ledger self.new) result };
-
-    /// Hands on the energy of a register by quarter hours: meter after meter, in the order in which they were installed.
-    fn register_intervals<K: RowSink<Share>>(
+    /// Hands on the energy of a meter by the quarter hours that are asked for, in order of their starts.
+    fn intervals<K: RowSink<Share>>(
         &mut self,
-        register: &Name,
+        meter: &Name,
+        span: Span,
         sink: &mut K,
     ) -> Result<(), BooksFault>
         ensures rows { HandsOn K.takes (ledger self.old) (ledger self.new) sink.old sink.new result
-            (λ known. rows_of_register known register.now) }
+            (λ known. rows_within span (rows_of_meter known meter.now)) }
+        ensures reads { OnlyReads (ledger self.old) (ledger self.new) result };
+
+    /// Hands on the energy of a register by the quarter hours that are asked for: meter after meter, in the order in which they
+    /// were installed.
+    fn register_intervals<K: RowSink<Share>>(
+        &mut self,
+        register: &Name,
+        span: Span,
+        sink: &mut K,
+    ) -> Result<(), BooksFault>
+        ensures rows { HandsOn K.takes (ledger self.old) (ledger self.new) sink.old sink.new result
+            (λ known. rows_within span (rows_of_register known register.now)) }
         ensures reads { OnlyReads (ledger self.old) (ledger self.new) result };
 
     /// Adds facts that may follow those that are known: all of them, or none.

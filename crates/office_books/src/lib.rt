@@ -1,18 +1,24 @@
 //! What an office asks of the books that hold its facts, however they are kept.
 #![tactic(auto)]
 
+mod accounts;
 mod books;
+mod entries;
 mod failures;
 mod faults;
 mod named;
 mod next_entry;
 mod openings;
 mod soundness;
+mod spans;
 
+pub use accounts::installation_after;
 pub use books::{Books, Repeat, RowSink};
+pub use entries::MeterEntry;
 pub use failures::Failures;
 pub use faults::{BooksFault, StoreFault};
 pub use named::{list_at, meter_at};
-pub use next_entry::{enter, judge, moved};
+pub use next_entry::{after_entry, moved, verdict_at};
 pub use openings::{begun, has_numbers, installed, opened};
 pub use soundness::is_sound;
+pub use spans::Span;

@@ -21,7 +21,7 @@ fn terms_of(row: &Installation) -> Terms
 }
 
 /// The verdict on a reading of an installation.
-pub fn judge(row: &Installation, reading: &Reading) -> Verdict
+pub fn verdict_at(row: &Installation, reading: &Reading) -> Verdict
     requires { IsSound row.now }
     ensures { result ≡ judgement row.now reading.now }
 {
@@ -32,7 +32,7 @@ pub fn judge(row: &Installation, reading: &Reading) -> Verdict
 }
 
 /// The installation after one more entry, where that may be entered; else as it was.
-pub fn enter(row: &Installation, entry: &Entry) -> Installation
+pub fn after_entry(row: &Installation, entry: &Entry) -> Installation
     requires { IsSound row.now }
     ensures sound { IsSound result }
     ensures same { (result.opening ≡ row.now.opening) × (result.ended ≡ row.now.ended) }
@@ -62,7 +62,7 @@ pub fn moved(row: &Installation, booked: &BookedEntry) -> Installation
     if !is_sound(row) {
         return *row;
     }
-    let entered = enter(row, &booked.entry);
+    let entered = after_entry(row, &booked.entry);
     Installation {
         opening: entered.opening,
         last: entered.last,

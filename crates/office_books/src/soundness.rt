@@ -2,7 +2,7 @@
 ghost use Rattle.std.specs.Prelude.{◌≡◌, false, IsTrue};
 ghost use Rattle.office_rules.specs.Ranges.{IsSound};
 
-use energy_core::{MAX_CEILING, MAX_RANGE, MAX_TOTAL, MIN_RANGE};
+use energy_core::{MAX_CEILING, MAX_RANGE, MAX_SCALE, MAX_TOTAL, MIN_RANGE, MIN_SCALE};
 use office_events::Installation;
 
 /// Whether the numbers of an installation are in their ranges.
@@ -13,7 +13,7 @@ pub fn is_sound(row: &Installation) -> bool
 {
     let ranged = MIN_RANGE <= row.opening.range && row.opening.range <= MAX_RANGE;
     let limited = 1 <= row.opening.ceiling && row.opening.ceiling <= MAX_CEILING;
-    let scaled = -3 <= row.last.sf && row.last.sf <= 3;
+    let scaled = MIN_SCALE <= row.last.sf && row.last.sf <= MAX_SCALE;
     let shown = u64::from(row.last.raw) < row.opening.range;
     ranged && limited && scaled && shown && row.total <= MAX_TOTAL
 }

@@ -11,7 +11,7 @@ use Rattle.office_rules.specs.Lawfulness.{IsPast}
 use Rattle.office_booking.specs.declared.sessions.slots.Slot.{Slot}
 use Rattle.office_books.specs.declared.faults.BooksFault.{BooksFault}
 use Rattle.office_books.specs.declared.faults.BooksFault.TheVariants.{Store, Memory}
-use Rattle.office_books.specs.Faults.{FailuresGoOn, as_refusal}
+use Rattle.office_books.specs.Faults.{FailuresAfterCalls, as_refusal}
 use Rattle.office_books.specs.Ledgers.{Ledger, OnlyReads}
 use Rattle.office_booking.specs.Opening.OpenedOffice.{MayOpen, Opens}
 use Rattle.office_core.specs.Leaving.{BooksStand, Leaves, LeftByOpening, LeftOnceDone, LeftOnceFailed}
@@ -80,5 +80,5 @@ not_booked past at old between new x fault why reads stand none clean opens is =
           (failed_left between new (Opened at) past fault opened.books (opened_past past at stand.is_past (sym none)) clean kept));
       reason =
           inr (failed_outside (Vec Slot Global) (opening_refusal_of (facts_of past) at ≡ None) _ _ fault
-          (subst (λ n. FailuresGoOn {T = Vec Slot Global} (Err fault) n new.failures) reads.goes.faults opened.books.goes.faults) (sym none));
+          (subst (λ n. FailuresAfterCalls {T = Vec Slot Global} (Err fault) n new.failures) reads.goes.faults opened.books.goes.faults) (sym none));
     })

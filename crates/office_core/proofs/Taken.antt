@@ -16,7 +16,7 @@ use Rattle.office_books.specs.declared.faults.BooksFault.{BooksFault}
 use Rattle.office_books.specs.declared.faults.BooksFault.TheVariants.{Store, Memory}
 use Rattle.office_books.specs.declared.faults.StoreFault.TheVariants.{Refused, Damaged}
 use Rattle.office_books.specs.declared.failures.Failures.{Failures}
-use Rattle.office_books.specs.Faults.{FailuresGoOn, as_refusal, faults_after}
+use Rattle.office_books.specs.Faults.{FailuresAfterCalls, as_refusal, faults_after}
 use Rattle.office_rules.specs.Refusals.{with_answer}
 use Rattle.office_rules.specs.Notes.{notes_of, outgoing_of, notes_after, outgoing_after}
 use Rattle.office_booking.specs.Sessions.Keeping.{KeepsSlots}
@@ -82,7 +82,7 @@ pub refused_left : (old new : Ledger) (past : History) (at : ℕ) (e : Event) (w
 refused_left old new past at e why keeps = λ before may. (before, left_by_refused past at e why before, keeps.left before may)
 
 -- how failures of books are told and counted
-pub failed_outside : (T takes_memory : Type 0) (before after : Failures) (why : BooksFault) → FailuresGoOn {T = T} (Err why) before after → takes_memory
+pub failed_outside : (T takes_memory : Type 0) (before after : Failures) (why : BooksFault) → FailuresAfterCalls {T = T} (Err why) before after → takes_memory
     → IsOutside takes_memory before after (as_refusal why)
 failed_outside T takes_memory before after (Store Refused) is takes = is
 failed_outside T takes_memory before after (Store Damaged) is takes = is

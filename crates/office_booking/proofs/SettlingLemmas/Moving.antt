@@ -13,7 +13,7 @@ use Rattle.office_events.specs.declared.facts.Fact.{Fact}
 use Rattle.office_rules.specs.Lawful.{AreLawful}
 use Rattle.office_books.specs.declared.faults.BooksFault.{BooksFault}
 use Rattle.office_books.proofs.Moving.{failed, passes_then}
-use Rattle.office_books.specs.Ledgers.{Ledger, LedgerPasses, Consults, Moves, with_facts}
+use Rattle.office_books.specs.Ledgers.{Ledger, LedgerAfterCalls, Consults, Moves, with_facts}
 
 -- there are none to book
 pub moves_nothing : (old : Ledger) (facts known : List Fact) → facts ≡ [] → Moves {T = Unit {0}} old old known (with_facts facts known) (Ok tt)
@@ -35,7 +35,7 @@ Leads old clean facts known later = old.holds known → clean → (with_facts fa
 pub moves_after : {T U : Type 0} (old mid new : Ledger) (facts known later : List Fact) (x : T) (r : Result U BooksFault)
     → Consults old mid (Ok x) → Leads old mid.is_clean facts known later
     → (AreLawful (with_facts facts known) → Moves mid new known (with_facts facts known) r)
-    → (mid.holds known → OnErr r (new.holds known)) → LedgerPasses mid new r → Moves old new known later r
+    → (mid.holds known → OnErr r (new.holds known)) → LedgerAfterCalls mid new r → Moves old new known later r
 moves_after old mid new facts known later x r reads leads moves refused goes = record {
   holds = λ h clean.
       let there = leads h (goes.clean clean) in

@@ -21,7 +21,7 @@ use Rattle.office_booking.specs.declared.sessions.slots.Slot.{Slot}
 use Rattle.office_booking.specs.Sessions.Keeping.{KeepsSlot, KeepsSlots}
 use Rattle.office_rules.specs.Lawfulness.{IsPast}
 use Rattle.office_books.specs.declared.faults.BooksFault.{BooksFault}
-use Rattle.office_books.specs.Ledgers.{Ledger, LedgerPasses, Moves, with_facts}
+use Rattle.office_books.specs.Ledgers.{Ledger, LedgerAfterCalls, Moves, with_facts}
 use Rattle.office_booking.specs.declared.commands.effects.Done.{Done}
 
 -- the event asks a command
@@ -50,7 +50,7 @@ pub record Tries (old new : Ledger) (facts : List Fact)
       → AreLawful (with_facts facts known)
       → old.may_leave left
       → OnErr result (new.may_leave left ⊎ new.may_leave (left ++ with_facts facts known ∷ []))
-  pub goes : LedgerPasses old new result
+  pub goes : LedgerAfterCalls old new result
 
 -- a slot once a command started its reads there, and all of them
 abbrev pub started_on : (number at : ℕ) → List ReadSpan → Command → sessions.Slot

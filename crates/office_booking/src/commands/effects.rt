@@ -9,7 +9,7 @@ ghost use Rattle.office_booking.specs.Sessions.Keeping.{KeepsSlots};
 ghost use Rattle.office_booking.specs.Sessions.Places.{AsksOnSlot, StartsOnSlot, has_slot};
 ghost use Rattle.office_booking.specs.Sessions.Ranges.{IsCommandInRange, AsksInRange};
 ghost use Rattle.office_rules.specs.Lawfulness.{PutsPlanned};
-ghost use Rattle.office_books.specs.Ledgers.{LedgerPasses};
+ghost use Rattle.office_books.specs.Ledgers.{LedgerAfterCalls};
 ghost use Rattle.office_booking.specs.Commands.Effects.{AsksCommand, CarriesEvent, CarriesOut};
 
 use crate::commands::records::record;
@@ -86,7 +86,7 @@ fn add_device<B: Books>(
     ensures carried { CarriesOut (B.ledger books.old) (B.ledger books.new) slots.old.items
         slots.new.items moment command.now (option_to_list reply) result }
     ensures unchanged { OnErr result (slots.new.items ≡ slots.old.items) }
-    ensures goes { LedgerPasses (B.ledger books.old) (B.ledger books.new) result }
+    ensures goes { LedgerAfterCalls (B.ledger books.old) (B.ledger books.new) result }
 {
     facts_are_lawful();
     puts_planned(command);
@@ -111,7 +111,7 @@ fn note<B: Books>(
     requires no_slot { slots_added (Some command.now) ≡ [] }
     ensures carried { CarriesOut (B.ledger books.old) (B.ledger books.new) slots.now slots.now
         moment command.now (option_to_list reply) result }
-    ensures goes { LedgerPasses (B.ledger books.old) (B.ledger books.new) result }
+    ensures goes { LedgerAfterCalls (B.ledger books.old) (B.ledger books.new) result }
 {
     facts_are_lawful();
     puts_planned(command);
@@ -135,7 +135,7 @@ fn start_at<B: Books>(
     ensures carried { CarriesOut (B.ledger books.old) (B.ledger books.new) slots.old slots.new
         moment command.now (option_to_list reply) result }
     ensures unchanged { OnErr result (slots.new ≡ slots.old) }
-    ensures goes { LedgerPasses (B.ledger books.old) (B.ledger books.new) result }
+    ensures goes { LedgerAfterCalls (B.ledger books.old) (B.ledger books.new) result }
 {
     facts_are_lawful();
     each_once();
@@ -162,7 +162,7 @@ fn obey<B: Books>(
     ensures carried { CarriesOut (B.ledger books.old) (B.ledger books.new) slots.old.items
         slots.new.items moment command.now (option_to_list reply) result }
     ensures unchanged { OnErr result (slots.new.items ≡ slots.old.items) }
-    ensures goes { LedgerPasses (B.ledger books.old) (B.ledger books.new) result }
+    ensures goes { LedgerAfterCalls (B.ledger books.old) (B.ledger books.new) result }
 {
     match command {
         Command::AddDevice(add) => add_device(alloc, slots, books, moment, add, command, reply),
@@ -200,7 +200,7 @@ pub fn carry_out<B: Books>(
     ensures carried { CarriesEvent (B.ledger books.old) (B.ledger books.new) slots.old.items
         slots.new.items moment event.now result }
     ensures unchanged { OnErr result (slots.new.items ≡ slots.old.items) }
-    ensures goes { LedgerPasses (B.ledger books.old) (B.ledger books.new) result }
+    ensures goes { LedgerAfterCalls (B.ledger books.old) (B.ledger books.new) result }
 {
     let reply = reply_of(moment, event)?;
     match event {

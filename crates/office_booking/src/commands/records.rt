@@ -8,7 +8,7 @@ ghost use Rattle.office_rules.specs.Sessions as sessions;
 ghost use Rattle.office_rules.specs.History.{kind_of};
 ghost use Rattle.office_rules.specs.Refusals.{is_start};
 ghost use Rattle.office_booking.specs.Sessions.Ranges.{IsCommandInRange};
-ghost use Rattle.office_books.specs.Ledgers.{LedgerPasses, Moves};
+ghost use Rattle.office_books.specs.Ledgers.{LedgerAfterCalls, Moves};
 ghost use Rattle.office_booking.specs.Commands.Effects.{MovesOnBy, Tries};
 
 use crate::commands::additions::facts_by;
@@ -55,7 +55,7 @@ pub fn record<B: Books>(
     requires no_start { is_start command.now ≡ false }
     ensures books { MovesOnBy moment command.now (option_to_list reply) (B.ledger books.old)
         (B.ledger books.new) result }
-    ensures goes { LedgerPasses (B.ledger books.old) (B.ledger books.new) result }
+    ensures goes { LedgerAfterCalls (B.ledger books.old) (B.ledger books.new) result }
     ensures answer { IfOk result (λ done. done.answer ≡ answers.Done (kind_of command.now)) }
     ensures sent { IfOk result (λ done. done.outgoing ≡ []) }
 {

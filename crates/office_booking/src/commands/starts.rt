@@ -2,7 +2,7 @@
 ghost use Rattle.std.specs.Prelude.{◌≡◌, ◌≤◌, true, OnErr};
 ghost use Rattle.std.specs.Option.{option_to_list};
 ghost use Rattle.office_rules.specs.Refusals.{is_start};
-ghost use Rattle.office_books.specs.Ledgers.{LedgerPasses};
+ghost use Rattle.office_books.specs.Ledgers.{LedgerAfterCalls};
 ghost use Rattle.office_booking.specs.Commands.Effects.{WhereStarted, BooksStart, StandsStarted};
 ghost use Rattle.office_booking.specs.Commands.Effects.{AnswersStart, SendsStart};
 
@@ -35,7 +35,7 @@ pub fn start<B: Books>(
         (B.ledger books.old) (B.ledger books.new) result) }
     ensures sent { WhereStarted slot.old (SendsStart moment command.now
         (B.ledger books.old) (B.ledger books.new) result) }
-    ensures goes { LedgerPasses (B.ledger books.old) (B.ledger books.new) result }
+    ensures goes { LedgerAfterCalls (B.ledger books.old) (B.ledger books.new) result }
     ensures unchanged { OnErr result (slot.new ≡ slot.old) }
 {
     let reads = reads_by(alloc, books, command)?;

@@ -6,7 +6,7 @@ ghost use Rattle.office_rules.specs.History as history;
 ghost use Rattle.office_rules.specs.History.{History, with_lost};
 ghost use Rattle.office_rules.specs.Lawful.{AreLawful};
 ghost use Rattle.office_rules.specs.Refusals as refusals;
-ghost use Rattle.office_books.specs.Ledgers.{Finds, LedgerPasses, Moves, Consults, OnlyReads};
+ghost use Rattle.office_books.specs.Ledgers.{Finds, LedgerAfterCalls, Moves, Consults, OnlyReads};
 ghost use Rattle.office_booking.specs.Opening.OpenedOffice as opening;
 ghost use Rattle.office_booking.specs.Opening.OpenedOffice.{MayOpen, Opens, IsOfOpening};
 
@@ -68,7 +68,7 @@ fn book_lost<B: Books>(alloc: Global, books: &mut B, moment: u64) -> Result<(), 
         → Moves (B.ledger books.old) (B.ledger books.new) known (with_lost moment known) result }
     ensures refused { (known : List Fact) → (B.ledger books.old).holds known
         → OnErr result ((B.ledger books.new).holds known) }
-    ensures goes { LedgerPasses (B.ledger books.old) (B.ledger books.new) result }
+    ensures goes { LedgerAfterCalls (B.ledger books.old) (B.ledger books.new) result }
 {
     let polls = books.pending()?;
     if polls.is_empty() {
@@ -108,7 +108,7 @@ pub fn book_opening<B: Books>(
         → Opens past moment (B.ledger books.old) (B.ledger books.new) result }
     ensures refused { (known : List Fact) → (B.ledger books.old).holds known
         → OnErr result ((B.ledger books.new).holds known) }
-    ensures goes { LedgerPasses (B.ledger books.old) (B.ledger books.new) result }
+    ensures goes { LedgerAfterCalls (B.ledger books.old) (B.ledger books.new) result }
 {
     facts_are_lawful();
     let slots = slots_in(alloc, books)?;

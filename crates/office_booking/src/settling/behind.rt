@@ -8,7 +8,7 @@ ghost use Rattle.office_booking.specs.Settling.Behind.{installation_with, Stands
 
 use crate::settling::drafts::Draft;
 use energy_core::{accepted_is_entered, accounts_go_on, entered_is_booked};
-use office_books::{Books, BooksFault, enter};
+use office_books::{Books, BooksFault, after_entry};
 use office_events::{Fact, Installation, Name};
 use office_rules::{meters_are_kept, names_are_distinct};
 
@@ -19,7 +19,7 @@ fn with_fact(row: &Installation, fact: &Fact) -> Installation
     ensures with_it { result ≡ installation_with fact.now row.now }
 {
     match fact {
-        Fact::Entry(booked) if booked.meter.is(&row.opening.meter) => enter(row, &booked.entry),
+        Fact::Entry(booked) if booked.meter.is(&row.opening.meter) => after_entry(row, &booked.entry),
         _ => *row,
     }
 }

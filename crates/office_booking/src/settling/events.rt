@@ -4,7 +4,7 @@ ghost use Rattle.office_rules.specs.Facts.{moment_limit};
 ghost use Rattle.office_rules.specs.History.{History, facts_of, slots_of, next_poll};
 ghost use Rattle.office_events.specs.declared.facts.Fact.{Fact};
 ghost use Rattle.office_rules.specs.Lawful.{AreLawful};
-ghost use Rattle.office_books.specs.Ledgers.{LedgerPasses, Moves, with_facts};
+ghost use Rattle.office_books.specs.Ledgers.{LedgerAfterCalls, Moves, with_facts};
 ghost use Rattle.office_booking.specs.Settling.Settling.{IsSettling, SettleNothing};
 ghost use Rattle.office_booking.specs.Settling.Events.{IsNext, IsQuiet, Settles};
 
@@ -23,7 +23,7 @@ fn book_all<B: Books>(books: &mut B, facts: Vec<Fact>) -> Result<(), BooksFault>
     ensures refused { (known : List Fact) → (B.ledger books.old).holds known
         → OnErr result ((B.ledger books.new).holds known) }
     ensures quiet { facts.items ≡ [] → IsOk result × (books.new ≡ books.old) }
-    ensures goes { LedgerPasses (B.ledger books.old) (B.ledger books.new) result }
+    ensures goes { LedgerAfterCalls (B.ledger books.old) (B.ledger books.new) result }
 {
     if facts.is_empty() {
         return Ok(());
@@ -48,7 +48,7 @@ pub fn settle_event<B: Books>(
     ensures quiet { (past : History) → IsNext past slots.old moment event.now
         → SettleNothing (next_poll (facts_of past)) moment event.now (slots_of past)
         → IsQuiet books.old books.new result }
-    ensures goes { LedgerPasses (B.ledger books.old) (B.ledger books.new) result }
+    ensures goes { LedgerAfterCalls (B.ledger books.old) (B.ledger books.new) result }
 {
     facts_are_lawful();
     let mut draft = Draft::new(alloc);

@@ -16,7 +16,7 @@ use crate::settling::drafts::Draft;
 use crate::settling::readings::{is_read_by, reading_of};
 use energy_core::{Entry, Reading, Verdict};
 use mb_wire::Reply;
-use office_books::{Books, BooksFault, judge};
+use office_books::{Books, BooksFault, verdict_at};
 use office_events::{
     BookedEntry, EndedPoll, EntryKind, Fact, HeldReading, Installation, Name, Note, Poll, Register,
 };
@@ -75,7 +75,7 @@ fn add_judged(
         (readings.reading_fact poll reading.now row.now) (notes.reading_note reading.now row.now)) }
     ensures err { IfErr result (λ fault. fault ≡ Memory) }
 {
-    let verdict = judge(row, reading);
+    let verdict = verdict_at(row, reading);
     let (fact, note) = told_of(row.opening.meter, poll, reading, verdict);
     draft.add(fact, note)
 }

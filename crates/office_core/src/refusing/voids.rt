@@ -11,7 +11,7 @@ ghost use Rattle.office_core.specs.Refusing.Spots as spots;
 use crate::refusing::arrivals::Arrival;
 use energy_core::{Entry, Reading, Verdict};
 use meter_journal::is_voidable;
-use office_books::{Books, BooksFault, judge};
+use office_books::{Books, BooksFault, verdict_at};
 use office_events::{EntryPlace, Installation, Name, Refusal, VoidEntry};
 
 /// What is at a place of a meter.
@@ -61,7 +61,7 @@ fn verdict_on(before: &Installation, entry: &Entry) -> Option<Verdict>
                 raw,
                 sf: before.last.sf,
             };
-            Some(judge(before, &reading))
+            Some(verdict_at(before, &reading))
         }
         Entry::Change { .. } => None,
     }

@@ -1,0 +1,49 @@
+-- The entries of a meter in order, from a place on, and the installations at a register.
+use Rattle.std.specs.Prelude.{ℕ, ℤ, nat_le, List, [], ◌∷◌, map, reverse, take, Option, Some, None}
+use Rattle.std.specs.List.{filter}
+use Rattle.energy_core.specs.Account.{last_of}
+use Rattle.meter_journal.specs.declared.lines.EntryRow.{EntryRow}
+use Rattle.meter_journal.specs.Journal.{entries_in}
+use Rattle.office_events.specs.declared.facts.Opening.{Opening}
+use Rattle.office_events.specs.declared.facts.Fact.{Fact}
+use Rattle.office_events.specs.declared.questions.Installation.{Installation}
+use Rattle.office_rules.specs.Facts.{opening_of}
+use Rattle.office_rules.specs.Intervals.{installations_at}
+use Rattle.office_rules.specs.Meters.{opened, rows_of, installation_of}
+use Rattle.office_books.specs.declared.entries.MeterEntry.{MeterEntry}
+use Rattle.office_books.specs.declared.entries.MeterEntry.TheVariants as entry
+
+-- the opening has the place 1, and the others are numbered from 2 on
+abbrev pub place_of : MeterEntry → ℕ
+place_of (entry.Opening last) = 1
+place_of (entry.Later row sf) = row.place
+
+-- the scale after the entries that stand
+abbrev pub scale_after : Opening → List EntryRow → ℤ
+scale_after opening rows = (last_of (opened opening) (entries_in rows)).sf
+
+-- The opening and these rows after it, each with the scale after it, the latest first.
+abbrev pub listed_rows : Opening → List EntryRow → List MeterEntry
+listed_rows opening [] = entry.Opening (opened opening) ∷ []
+listed_rows opening (row ∷ rows) =
+    entry.Later row (scale_after opening (row ∷ rows)) ∷ listed_rows opening rows
+
+-- All entries of a meter, voided ones too, in their order.
+abbrev pub entries_at : List Fact → Option Opening → List MeterEntry
+entries_at facts None = []
+entries_at facts (Some opening) = reverse (listed_rows opening (rows_of facts opening))
+
+abbrev pub all_entries : List Fact → (meter : List ℕ) → List MeterEntry
+all_entries facts meter = entries_at facts (opening_of facts meter)
+
+-- Those at a place or after it, the first so many of them.
+abbrev pub first_from : (from most : ℕ) → List MeterEntry → List MeterEntry
+first_from from most entries = take most (filter (λ e. nat_le from (place_of e)) entries)
+
+abbrev pub entries_from : List Fact → (meter : List ℕ) → (from most : ℕ) → List MeterEntry
+entries_from facts meter from most = first_from from most (all_entries facts meter)
+
+-- The installations at a register as they stand, ended ones too, in the order in which they were installed.
+abbrev pub installations_of : List Fact → (register : List ℕ) → List Installation
+installations_of facts register =
+    map (installation_of facts) (installations_at facts register)
