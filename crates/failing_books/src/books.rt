@@ -6,7 +6,7 @@ ghost use Rattle.office_books.specs.declared.faults.StoreFault.TheVariants.{Refu
 
 use interval_core::{Share, Zone};
 use memory_books::ListBooks;
-use office_books::{Books, BooksFault, Failures, Repeat, RowSink, StoreFault};
+use office_books::{Books, BooksFault, Failures, MeterEntry, Repeat, RowSink, Span, StoreFault};
 use office_events::{
     Device, EntryPlace, Fact, Installation, Name, PlannedList, Poll, PollRow, Register,
 };
@@ -121,6 +121,12 @@ impl Books for FailingBooks {
         self.failures.noted(found)
     }
 
+    fn meters(&mut self, register: &Name) -> Result<Vec<Installation>, BooksFault> {
+        self.called()?;
+        let found = self.books.meters(register);
+        self.failures.noted(found)
+    }
+
     fn installation_count(&mut self) -> Result<usize, BooksFault> {
         self.called()?;
         let found = self.books.installation_count();
@@ -130,6 +136,17 @@ impl Books for FailingBooks {
     fn entry(&mut self, meter: &Name, place: u64) -> Result<Option<EntryPlace>, BooksFault> {
         self.called()?;
         let found = self.books.entry(meter, place);
+        self.failures.noted(found)
+    }
+
+    fn entries(
+        &mut self,
+        meter: &Name,
+        from: u64,
+        most: u32,
+    ) -> Result<Vec<MeterEntry>, BooksFault> {
+        self.called()?;
+        let found = self.books.entries(meter, from, most);
         self.failures.noted(found)
     }
 
@@ -171,30 +188,32 @@ impl Books for FailingBooks {
     fn intervals<K: RowSink<Share>>(
         &mut self,
         meter: &Name,
+        span: Span,
         sink: &mut K,
     ) -> Result<(), BooksFault> {
         if self.rows_come_first {
-            let handed = self.books.intervals(meter, sink);
+            let handed = self.books.intervals(meter, span, sink);
             self.failures.noted(handed)?;
             return self.called();
         }
         self.called()?;
-        let found = self.books.intervals(meter, sink);
+        let found = self.books.intervals(meter, span, sink);
         self.failures.noted(found)
     }
 
     fn register_intervals<K: RowSink<Share>>(
         &mut self,
         register: &Name,
+        span: Span,
         sink: &mut K,
     ) -> Result<(), BooksFault> {
         if self.rows_come_first {
-            let handed = self.books.register_intervals(register, sink);
+            let handed = self.books.register_intervals(register, span, sink);
             self.failures.noted(handed)?;
             return self.called();
         }
         self.called()?;
-        let found = self.books.register_intervals(register, sink);
+        let found = self.books.register_intervals(register, span, sink);
         self.failures.noted(found)
     }
 

@@ -4,7 +4,7 @@ ghost use Rattle.kept_books.specs.Keeping.{StandsAs, beneath, ledger_over};
 
 use crate::known::Known;
 use interval_core::{Share, Zone};
-use office_books::{Books, BooksFault, Repeat, RowSink};
+use office_books::{Books, BooksFault, MeterEntry, Repeat, RowSink, Span};
 use office_events::{
     Device, EntryPlace, Fact, Installation, Name, PlannedList, Poll, PollRow, Register,
 };
@@ -104,12 +104,25 @@ impl<B: Books> Books for KeptBooks<B> {
         Ok(found)
     }
 
+    fn meters(&mut self, register: &Name) -> Result<Vec<Installation>, BooksFault> {
+        self.books.meters(register)
+    }
+
     fn installation_count(&mut self) -> Result<usize, BooksFault> {
         self.books.installation_count()
     }
 
     fn entry(&mut self, meter: &Name, place: u64) -> Result<Option<EntryPlace>, BooksFault> {
         self.books.entry(meter, place)
+    }
+
+    fn entries(
+        &mut self,
+        meter: &Name,
+        from: u64,
+        most: u32,
+    ) -> Result<Vec<MeterEntry>, BooksFault> {
+        self.books.entries(meter, from, most)
     }
 
     fn poll(&mut self, number: u64) -> Result<Option<PollRow>, BooksFault> {
@@ -148,17 +161,19 @@ impl<B: Books> Books for KeptBooks<B> {
     fn intervals<K: RowSink<Share>>(
         &mut self,
         meter: &Name,
+        span: Span,
         sink: &mut K,
     ) -> Result<(), BooksFault> {
-        self.books.intervals(meter, sink)
+        self.books.intervals(meter, span, sink)
     }
 
     fn register_intervals<K: RowSink<Share>>(
         &mut self,
         register: &Name,
+        span: Span,
         sink: &mut K,
     ) -> Result<(), BooksFault> {
-        self.books.register_intervals(register, sink)
+        self.books.register_intervals(register, span, sink)
     }
 
     fn book(&mut self, facts: Vec<Fact>) -> Result<(), BooksFault> {

@@ -11,3 +11,5 @@ pub mod Passing
 pub mod Known
 pub mod Joined
 pub mod Waiting
+pub mod Spans
+pub mod Listing

@@ -1,4 +1,3 @@
-pub mod Accounts
 pub mod Growing
 pub mod IntervalRows
 pub mod Keys

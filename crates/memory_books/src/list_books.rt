@@ -10,7 +10,7 @@ use crate::figures::Figures;
 use crate::lookups;
 use crate::tables::Tables;
 use interval_core::{Share, Zone};
-use office_books::{Books, BooksFault, Repeat, RowSink};
+use office_books::{Books, BooksFault, MeterEntry, Repeat, RowSink, Span};
 use office_events::{
     Device, EntryPlace, Fact, Installation, Name, PlannedList, Poll, PollRow, Register,
 };
@@ -164,6 +164,13 @@ impl Books for ListBooks {
         Ok(self.tables.installation(&self.facts, register))
     }
 
+    fn meters(&mut self, register: &Name) -> Result<Vec<Installation>, BooksFault> {
+        self.ready()?;
+        let alloc = *self.facts.allocator();
+        let found = self.tables.installations(alloc, &self.facts, register);
+        told(&mut self.last_failure, found)
+    }
+
     fn installation_count(&mut self) -> Result<usize, BooksFault> {
         Ok(self.figures.installations)
     }
@@ -171,6 +178,18 @@ impl Books for ListBooks {
     fn entry(&mut self, meter: &Name, place: u64) -> Result<Option<EntryPlace>, BooksFault> {
         self.ready()?;
         Ok(self.tables.entry(meter, place))
+    }
+
+    fn entries(
+        &mut self,
+        meter: &Name,
+        from: u64,
+        most: u32,
+    ) -> Result<Vec<MeterEntry>, BooksFault> {
+        self.ready()?;
+        let alloc = *self.facts.allocator();
+        let found = self.tables.entries(alloc, meter, from, most);
+        told(&mut self.last_failure, found)
     }
 
     fn poll(&mut self, number: u64) -> Result<Option<PollRow>, BooksFault> {
@@ -207,20 +226,23 @@ impl Books for ListBooks {
     fn intervals<K: RowSink<Share>>(
         &mut self,
         meter: &Name,
+        span: Span,
         sink: &mut K,
     ) -> Result<(), BooksFault> {
         self.ready()?;
-        self.tables.intervals(meter, sink);
+        self.tables.intervals(meter, span, sink);
         Ok(())
     }
 
     fn register_intervals<K: RowSink<Share>>(
         &mut self,
         register: &Name,
+        span: Span,
         sink: &mut K,
     ) -> Result<(), BooksFault> {
         self.ready()?;
-        self.tables.register_intervals(&self.facts, register, sink);
+        self.tables
+            .register_intervals(&self.facts, register, span, sink);
         Ok(())
     }
 

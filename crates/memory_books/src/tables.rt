@@ -1,6 +1,5 @@
 //! Tables in memory: what facts say, ready to be looked up.
 
-mod accounts;
 mod interval_rows;
 mod keys;
 mod lookups;

@@ -1,3 +1,4 @@
 pub mod Moving
 pub mod Handing
+pub mod Listing
 mod Examples

@@ -14,7 +14,7 @@ mod spans;
 
 pub use accounts::installation_after;
 pub use books::{Books, Repeat, RowSink};
-pub use entries::MeterEntry;
+pub use entries::{MeterEntry, list_entries};
 pub use failures::Failures;
 pub use faults::{BooksFault, StoreFault};
 pub use named::{list_at, meter_at};

@@ -3,7 +3,7 @@ use crate::books::SqlBooks;
 use crate::fault_counts::answered;
 use crate::laws::databases_tell_their_facts;
 use interval_core::{Share, Zone};
-use office_books::{Books, BooksFault, Repeat, RowSink};
+use office_books::{Books, BooksFault, MeterEntry, Repeat, RowSink, Span};
 use office_events::{
     Device, EntryPlace, Fact, Installation, Name, PlannedList, Poll, PollRow, Register,
 };
@@ -61,6 +61,11 @@ impl<S: Alter + Drop> Books for SqlBooks<S> {
         answered(&mut self.failures, found)
     }
 
+    fn meters(&mut self, register: &Name) -> Result<Vec<Installation>, BooksFault> {
+        let found = store_queries::meters(self.alloc, &mut self.connection, register);
+        answered(&mut self.failures, found)
+    }
+
     fn installation_count(&mut self) -> Result<usize, BooksFault> {
         let found = store_queries::installation_count(&mut self.connection);
         answered(&mut self.failures, found)
@@ -68,6 +73,16 @@ impl<S: Alter + Drop> Books for SqlBooks<S> {
 
     fn entry(&mut self, meter: &Name, place: u64) -> Result<Option<EntryPlace>, BooksFault> {
         let found = store_queries::entry(self.alloc, &mut self.connection, meter, place);
+        answered(&mut self.failures, found)
+    }
+
+    fn entries(
+        &mut self,
+        meter: &Name,
+        from: u64,
+        most: u32,
+    ) -> Result<Vec<MeterEntry>, BooksFault> {
+        let found = store_queries::entries(self.alloc, &mut self.connection, meter, from, most);
         answered(&mut self.failures, found)
     }
 
@@ -104,18 +119,20 @@ impl<S: Alter + Drop> Books for SqlBooks<S> {
     fn intervals<K: RowSink<Share>>(
         &mut self,
         meter: &Name,
+        span: Span,
         sink: &mut K,
     ) -> Result<(), BooksFault> {
-        let found = store_queries::intervals(&mut self.connection, meter, sink);
+        let found = store_queries::intervals(&mut self.connection, meter, span, sink);
         answered(&mut self.failures, found)
     }
 
     fn register_intervals<K: RowSink<Share>>(
         &mut self,
         register: &Name,
+        span: Span,
         sink: &mut K,
     ) -> Result<(), BooksFault> {
-        let found = store_queries::register_intervals(&mut self.connection, register, sink);
+        let found = store_queries::register_intervals(&mut self.connection, register, span, sink);
         answered(&mut self.failures, found)
     }
 

@@ -1,5 +1,6 @@
 pub mod GoingLemmas
 pub mod Placed
+pub mod MeterRows
 pub mod Passing
 pub mod Booked
 pub mod Recorded

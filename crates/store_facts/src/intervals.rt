@@ -7,4 +7,6 @@ mod streams;
 
 pub use replacement::replace_shares;
 pub use step_shares::book_step;
-pub use streams::{meter_intervals, register_intervals};
+pub use streams::{
+    meter_intervals, meter_intervals_between, register_intervals, register_intervals_between,
+};

@@ -2,11 +2,16 @@
 #![tactic(auto)]
 
 pub mod intervals;
+mod meter_rows;
 mod names;
 mod points;
 mod rows;
 
-pub use intervals::{book_step, meter_intervals, register_intervals, replace_shares};
+pub use intervals::{
+    book_step, meter_intervals, meter_intervals_between, register_intervals,
+    register_intervals_between, replace_shares,
+};
+pub use meter_rows::register_meter_rows;
 pub use names::{name, text};
 pub use points::points_at;
 pub use rows::{

@@ -1,6 +1,7 @@
 pub mod Orders
 pub mod Picked
 pub mod Found
+pub mod Spans
 pub mod Shared
 pub mod Handed
 pub mod Shapes

@@ -1,4 +1,5 @@
 pub mod Sound
 pub mod Looking
+pub mod RegisterMeters
 pub mod Meters
 pub mod Entries

@@ -8,6 +8,6 @@ pub use finding::{
     devices, latest, list, pending, poll, poll_count, register, register_count, registers, repeat,
 };
 pub use metering::{
-    entry, installation, installation_count, intervals, journal_rows, meter, register_intervals,
-    tally,
+    entries, entry, installation, installation_count, intervals, journal_rows, meter, meters,
+    register_intervals, tally,
 };

@@ -3,13 +3,17 @@
 mod entries;
 mod installations;
 mod journal;
+mod listing;
 mod meters;
 mod places;
+mod register_meters;
 mod rows;
 mod streams;
 
 pub use entries::entry;
 pub use journal::journal_rows;
+pub use listing::entries;
 pub use meters::{installation, installation_count, meter};
 pub use places::tally;
+pub use register_meters::meters;
 pub use streams::{intervals, register_intervals};

@@ -1,11 +1,14 @@
-//! The energy of entries by quarter hours, handed on row by row.
+//! The energy of entries by quarter hours, handed on row by row where it is asked for.
 ghost use Rattle.std.specs.Prelude.{◌+◌, ◌^◌, ◌≤◌, ◌<◌, ◌∷◌, []};
 ghost use Rattle.std.specs.Option.{ForSome, option_to_list};
 ghost use Rattle.interval_core.specs.Account.{energy_of};
 ghost use Rattle.energy_core.specs.Account.{intervals_touched};
 ghost use Rattle.interval_core.specs.Share.{shares_of};
 ghost use Rattle.meter_journal.specs.Books as books;
+ghost use Rattle.office_books.specs.Sound.{HasNumbers};
+ghost use Rattle.office_rules.specs.Meters as meters;
 ghost use Rattle.memory_books.specs.Tables.IntervalRows.{Passes, TakesRowsOf, TakesSome};
+ghost use Rattle.memory_books.specs.Tables.IntervalRows.{TakesWithin};
 
 use energy_core::{
     MAX_INTERVALS, MAX_RANGE, MAX_TOTAL, MIN_RANGE, Ranged, Step, Terms, accounts_are_sound, enter,
@@ -13,43 +16,53 @@ use energy_core::{
 };
 use interval_core::{Share, Shares, shares_add_up};
 use meter_journal::{EntryRow, Installed, Tally, join};
-use office_books::RowSink;
+use office_books::{RowSink, Span, has_numbers, installed};
+use office_events::Opening;
 
-/// Takes one more share after the row that waits, and hands that on where it is done.
-fn hand_share<K: RowSink<Share>>(waits: &mut Option<Share>, share: Share, sink: &mut K)
-    requires { ForSome waits.old (λ row. row.mwh + share.mwh < 2 ^ 64) }
-    ensures passes { Passes K.takes sink.old sink.new waits.old waits.new (share ∷ []) }
-    ensures energy { energy_of (option_to_list waits.new)
-        ≤ energy_of (option_to_list waits.old) + share.mwh }
+/// Hands on a row, where its quarter hour is asked for.
+fn put_within<K: RowSink<Share>>(span: Span, row: Share, sink: &mut K)
+    ensures { TakesWithin K.takes span sink.old row sink.new }
 {
-    if let Some(row) = join(waits, share) {
+    if span.contains(row.start) {
         sink.put(row);
     }
 }
 
+/// Takes one more share after the row that waits, and hands that on where it is done.
+fn hand_share<K: RowSink<Share>>(waits: &mut Option<Share>, share: Share, span: Span, sink: &mut K)
+    requires { ForSome waits.old (λ row. row.mwh + share.mwh < 2 ^ 64) }
+    ensures passes { Passes (TakesWithin K.takes span) sink.old sink.new waits.old waits.new (share ∷ []) }
+    ensures energy { energy_of (option_to_list waits.new)
+        ≤ energy_of (option_to_list waits.old) + share.mwh }
+{
+    if let Some(row) = join(waits, share) {
+        put_within(span, row, sink);
+    }
+}
+
 /// Takes the shares of one more step.
-fn hand_step<K: RowSink<Share>>(waits: &mut Option<Share>, step: &Step, sink: &mut K)
+fn hand_step<K: RowSink<Share>>(waits: &mut Option<Share>, step: &Step, span: Span, sink: &mut K)
     requires forward { step.now.from < step.now.till }
     requires intervals { intervals_touched step.now.from step.now.till ≤ MAX_INTERVALS }
     requires energy { energy_of (option_to_list waits.old) + step.now.mwh ≤ MAX_TOTAL }
-    ensures passes { Passes K.takes sink.old sink.new waits.old waits.new (shares_of step.now) }
+    ensures passes { Passes (TakesWithin K.takes span) sink.old sink.new waits.old waits.new (shares_of step.now) }
     ensures energy { energy_of (option_to_list waits.new)
         ≤ energy_of (option_to_list waits.old) + step.now.mwh }
 {
     shares_add_up();
     let mut shares = Shares::of(step);
     while let Some(share) = shares.next() {
-        hand_share(waits, share, sink);
+        hand_share(waits, share, span, sink);
     }
 }
 
 /// Hands on the interval rows of the entries that stand, in order. Where they have no account, these are some rows or none.
-pub(crate) fn hand_rows<K: RowSink<Share>>(meter: &Installed, rows: &[EntryRow], sink: &mut K)
+fn hand_rows<K: RowSink<Share>>(meter: &Installed, rows: &[EntryRow], span: Span, sink: &mut K)
     requires range_low { MIN_RANGE ≤ meter.now.range }
     requires range_high { meter.now.range ≤ MAX_RANGE }
     requires installed { books.IsWellInstalled meter.now }
-    ensures whole { TakesRowsOf K.takes sink.old meter.now rows.now sink.new }
-    ensures some { TakesSome K.takes sink.old sink.new }
+    ensures whole { TakesRowsOf (TakesWithin K.takes span) sink.old meter.now rows.now sink.new }
+    ensures some { TakesSome (TakesWithin K.takes span) sink.old sink.new }
 {
     accounts_are_sound();
     entered_is_booked();
@@ -69,7 +82,7 @@ pub(crate) fn hand_rows<K: RowSink<Share>>(meter: &Installed, rows: &[EntryRow],
             };
             match enter(&counter, &terms, &tally.last, &row.entry) {
                 Ok((last, step)) => {
-                    hand_step(&mut waits, &step, sink);
+                    hand_step(&mut waits, &step, span, sink);
                     let total = tally.total + step.mwh;
                     tally = Tally { last, total };
                 }
@@ -78,6 +91,24 @@ pub(crate) fn hand_rows<K: RowSink<Share>>(meter: &Installed, rows: &[EntryRow],
         }
     }
     if let Some(row) = waits {
-        sink.put(row);
+        put_within(span, row, sink);
+    }
+}
+
+/// Hands on the interval rows of these rows, where their quarter hours are asked for; some or none if they have no account.
+pub(crate) fn hand_on<K: RowSink<Share>>(
+    opening: &Opening,
+    rows: &[EntryRow],
+    span: Span,
+    sink: &mut K,
+)
+    ensures whole { HasNumbers opening.now
+        → TakesRowsOf (TakesWithin K.takes span) sink.old (meters.installed opening.now) rows.now
+        sink.new }
+    ensures some { TakesSome (TakesWithin K.takes span) sink.old sink.new }
+{
+    if has_numbers(opening) {
+        let meter = installed(opening);
+        hand_rows(&meter, rows, span, sink);
     }
 }

@@ -1,22 +1,27 @@
 //! A meter as it stands.
-ghost use Rattle.std.specs.Prelude.{◌≡◌, take, OnOk, OnErr, IfSome};
+ghost use Rattle.std.specs.Prelude.{◌≡◌, List, Some, take, IfOk, OnOk, OnErr, IfSome};
 ghost use Rattle.std.specs.Option.{option_map};
 ghost use Rattle.meter_journal.specs.Journal.{row_at};
 ghost use Rattle.meter_journal.specs.Lists as lists;
+ghost use Rattle.office_books.specs.Entries.{entries_at, first_from};
 ghost use Rattle.office_books.specs.Rows.{TakesAll};
+ghost use Rattle.office_events.specs.declared.facts.Fact.{Fact};
+ghost use Rattle.office_events.specs.declared.facts.Opening.{Opening as RecordedOpening};
 ghost use Rattle.office_rules.specs.Ranges.{IsSound};
 ghost use Rattle.office_rules.specs.Intervals.{rows_of_opening};
 ghost use Rattle.office_rules.specs.Meters.{place_in, rows_of};
-ghost use Rattle.memory_books.specs.Tables.IntervalRows.{TakesSome};
+ghost use Rattle.memory_books.specs.Tables.IntervalRows.{TakesSome, TakesWithin};
 ghost use Rattle.memory_books.specs.Tables.Moving.{VoidsAt};
 
-use crate::tables::accounts::{hand_on, standing};
+use crate::tables::interval_rows::hand_on;
 use energy_core::Last;
 use interval_core::Share;
 use meter_journal::{
     EntryRow, are_numbered, find_row, journals_are_kept, places_were_kept, row_after, strike,
 };
-use office_books::{RowSink, begun, moved, opened};
+use office_books::{
+    MeterEntry, RowSink, Span, begun, installation_after, list_entries, moved, opened,
+};
 use office_events::{BookedEntry, EntryPlace, Installation, Opening};
 use office_rules::{installations_are_in_range, journals_fit};
 use std::alloc::{AllocError, Global};
@@ -57,7 +62,7 @@ pub(crate) struct Meter {
 }
 
 impl Meter {
-    ghost use Rattle.memory_books.specs.Tables.Moving.{HasBegun, HasEntered, IsSame, HasStruck, WhereSaid};
+    ghost use Rattle.memory_books.specs.Tables.Moving.{HasBegun, HasEntered, IsAsSaid, IsSame, HasStruck, WhereSaid};
 
     /// A meter that was just installed.
     pub(crate) fn begin(alloc: Global, opening: &Opening) -> Meter
@@ -88,7 +93,7 @@ impl Meter {
         let ended = self.row.ended;
         let last = opened(&opening);
         strike_there(&last, &mut self.rows, place);
-        if let Some(row) = standing(&opening, &self.rows, ended) {
+        if let Some(row) = installation_after(&opening, &self.rows, ended) {
             self.row = row;
         }
     }
@@ -109,7 +114,7 @@ impl Meter {
         let Some(found) = find_row(&self.rows, place) else {
             return None;
         };
-        let Some(before) = standing(
+        let Some(before) = installation_after(
             &self.row.opening,
             first(&self.rows, found.index),
             self.row.ended,
@@ -123,15 +128,28 @@ impl Meter {
         })
     }
 
-    /// Hands on its energy by quarter hours.
-    pub(crate) fn hand_on<K: RowSink<Share>>(&self, sink: &mut K)
+    /// Its entries from a place on, so many at most.
+    pub(crate) fn entries(
+        &self,
+        alloc: Global,
+        from: u64,
+        most: u32,
+    ) -> Result<Vec<MeterEntry>, AllocError>
+        ensures { (known : List Fact) (opening : RecordedOpening) → IsAsSaid known opening self.now
+            → IfOk result (λ v. v.items ≡ first_from from most (entries_at known (Some opening))) }
+    {
+        list_entries(alloc, &self.row.opening, &self.rows, from, most)
+    }
+
+    /// Hands on its energy by the quarter hours that are asked for.
+    pub(crate) fn hand_on<K: RowSink<Share>>(&self, span: Span, sink: &mut K)
         ensures whole { WhereSaid self.now (λ known opening.
-            TakesAll K.takes sink.old (rows_of_opening known opening) sink.new) }
-        ensures some { TakesSome K.takes sink.old sink.new }
+            TakesAll (TakesWithin K.takes span) sink.old (rows_of_opening known opening) sink.new) }
+        ensures some { TakesSome (TakesWithin K.takes span) sink.old sink.new }
     {
         journals_fit();
         journals_are_kept();
         installations_are_in_range();
-        hand_on(&self.row.opening, &self.rows, sink);
+        hand_on(&self.row.opening, &self.rows, span, sink);
     }
 }

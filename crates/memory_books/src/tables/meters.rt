@@ -1,12 +1,13 @@
 //! The meters, by name.
-ghost use Rattle.std.specs.Prelude.{◌≡◌, List, [], OnOk, OnErr, IfSome};
+ghost use Rattle.std.specs.Prelude.{◌≡◌, List, [], IfOk, OnOk, OnErr, IfSome};
 ghost use Rattle.office_events.specs.declared.facts.Fact.{Fact};
+ghost use Rattle.office_books.specs.Entries.{entries_from};
 ghost use Rattle.office_books.specs.Rows.{TakesAll};
 ghost use Rattle.office_rules.specs.Ranges.{IsSound};
 ghost use Rattle.office_rules.specs.Intervals.{rows_of_meter};
 ghost use Rattle.office_rules.specs.Lawful.{AreLawful};
 ghost use Rattle.office_rules.specs.Meters.{meter_of, entry_at};
-ghost use Rattle.memory_books.specs.Tables.IntervalRows.{TakesSome};
+ghost use Rattle.memory_books.specs.Tables.IntervalRows.{TakesSome, TakesWithin};
 ghost use Rattle.memory_books.specs.Tables.Moving.{HasEntered, IsSame, HasStruck};
 
 use crate::tables::keys::Key;
@@ -15,7 +16,7 @@ use crate::tables::places::named;
 use crate::tables::table::Table;
 use interval_core::Share;
 use meter_journal::journals_are_kept;
-use office_books::{RowSink, is_sound};
+use office_books::{MeterEntry, RowSink, Span, is_sound};
 use office_events::{BookedEntry, EntryPlace, Fact, Installation, Name, Opening, VoidedEntry};
 use office_rules::{
     entries_move_on, holds_change_nothing, installations_are_in_range, journals_fit,
@@ -108,17 +109,35 @@ impl Meters {
         meter.placed(place)
     }
 
-    /// Hands on the energy of a meter by quarter hours.
-    pub(crate) fn hand_on<K: RowSink<Share>>(&self, name: &Name, sink: &mut K)
+    /// The entries of a meter from a place on, so many at most.
+    pub(crate) fn entries(
+        &self,
+        alloc: Global,
+        name: &Name,
+        from: u64,
+        most: u32,
+    ) -> Result<Vec<MeterEntry>, AllocError>
+        ensures { (known : List Fact) → AreMeters self.now known
+            → IfOk result (λ v. v.items ≡ entries_from known name.now from most) }
+    {
+        let key = named(name);
+        match self.meters.get(&key) {
+            Some(meter) => meter.entries(alloc, from, most),
+            None => Ok(Vec::new(alloc)),
+        }
+    }
+
+    /// Hands on the energy of a meter by the quarter hours that are asked for.
+    pub(crate) fn hand_on<K: RowSink<Share>>(&self, name: &Name, span: Span, sink: &mut K)
         ensures whole { (known : List Fact) → AreLawful known → AreMeters self.now known
-            → TakesAll K.takes sink.old (rows_of_meter known name.now) sink.new }
-        ensures some { TakesSome K.takes sink.old sink.new }
+            → TakesAll (TakesWithin K.takes span) sink.old (rows_of_meter known name.now) sink.new }
+        ensures some { TakesSome (TakesWithin K.takes span) sink.old sink.new }
     {
         let key = named(name);
         let Some(meter) = self.meters.get(&key) else {
             return;
         };
-        meter.hand_on(sink);
+        meter.hand_on(span, sink);
     }
 }
 

@@ -1,16 +1,20 @@
 //! All tables of some facts.
-ghost use Rattle.std.specs.Prelude.{◌≡◌, ◌∷◌, List, [], reverse, length, IfOk, IfSome, OnOk};
+ghost use Rattle.std.specs.Prelude.{◌≡◌, ◌∷◌, List, [], map, reverse, length, IfOk, IfSome, OnOk};
+ghost use Rattle.std.specs.List.{filter_map};
+ghost use Rattle.std.specs.Option.{option_map};
 ghost use Rattle.office_events.specs.declared.facts.Fact.{Fact};
 ghost use Rattle.office_rules.specs.Facts.{polls_in, pending_in, list_of, register_of, registers_of, installed_at};
 ghost use Rattle.office_books.specs.Repeats.{repeat_of};
 ghost use Rattle.office_rules.specs.Ranges.{IsSound};
+ghost use Rattle.office_books.specs.Entries.{entries_from, installations_of};
 ghost use Rattle.office_books.specs.Rows.{TakesAll};
 ghost use Rattle.office_rules.specs.Intervals.{rows_of_meter, rows_of_register};
 ghost use Rattle.office_rules.specs.Lawful.{AreLawful};
-ghost use Rattle.office_rules.specs.Meters.{meter_of, installation_at, entry_at};
+ghost use Rattle.office_rules.specs.Meters.{meter_of, installation_at, installation_of, entry_at};
 ghost use Rattle.office_rules.specs.Readings.{poll_row_of};
 ghost use Rattle.memory_books.specs.Tables.Growing.{latest_first};
-ghost use Rattle.memory_books.specs.Tables.IntervalRows.{TakesSome, rows_at};
+ghost use Rattle.memory_books.specs.Tables.Lookups as spots;
+ghost use Rattle.memory_books.specs.Tables.IntervalRows.{TakesSome, TakesWithin, rows_at};
 
 use crate::tables::keys::Key;
 use crate::tables::lookups::{list_at, opening_at, register_at, registers_at, repeat_at};
@@ -19,7 +23,7 @@ use crate::tables::places::{Kind, Places, named};
 use crate::tables::polls::{Pending, Polls};
 use crate::tables::table::Kept;
 use interval_core::Share;
-use office_books::{Repeat, RowSink};
+use office_books::{MeterEntry, Repeat, RowSink, Span};
 use office_events::{
     EntryPlace, Fact, Installation, Name, Opening, PlannedList, Poll, PollRow, Register,
 };
@@ -203,49 +207,113 @@ impl Tables {
         self.meters.table.entry(meter, place)
     }
 
-    /// Hands on the energy of a meter by quarter hours, in order of their starts. This takes no memory.
-    pub fn intervals<K: RowSink<Share>>(&self, meter: &Name, sink: &mut K)
-        ensures whole { (known : List Fact) → AreLawful known → AreWhole self.now known
-            → TakesAll K.takes sink.old (rows_of_meter known meter.now) sink.new }
-        ensures some { TakesSome K.takes sink.old sink.new }
+    /// The entries of a meter from a place on, so many at most.
+    pub fn entries(
+        &self,
+        alloc: Global,
+        meter: &Name,
+        from: u64,
+        most: u32,
+    ) -> Result<Vec<MeterEntry>, AllocError>
+        ensures { (known : List Fact) → AreWhole self.now known
+            → IfOk result (λ v. v.items ≡ entries_from known meter.now from most) }
     {
-        self.meters.table.hand_on(meter, sink);
+        self.meters.table.entries(alloc, meter, from, most)
+    }
+
+    /// The installation that was opened at a place of the facts, if one was, as it stands.
+    fn installation_there(&self, facts: &[Fact], place: usize) -> Option<Installation>
+        ensures { WhereWhole self.now facts.now (λ known.
+            result ≡ option_map (installation_of known) (spots.opening_at facts.now place)) }
+    {
+        match opening_at(facts, place) {
+            Some(opening) => self.meter(&opening.meter),
+            None => None,
+        }
+    }
+
+    /// The installations that were opened at these places.
+    fn installations_there(
+        &self,
+        alloc: Global,
+        facts: &[Fact],
+        places: &[usize],
+    ) -> Result<Vec<Installation>, AllocError>
+        ensures { WhereWhole self.now facts.now (λ known. IfOk result (λ v.
+            v.items ≡ map (installation_of known) (filter_map (spots.opening_at facts.now) places.now))) }
+    {
+        let mut rows = Vec::new(alloc);
+        for place in places {
+            if let Some(row) = self.installation_there(facts, *place) {
+                rows.push(row)?;
+            }
+        }
+        Ok(rows)
+    }
+
+    /// The installations at a register as they stand, ended ones too, in the order in which they were installed.
+    pub fn installations(
+        &self,
+        alloc: Global,
+        facts: &[Fact],
+        register: &Name,
+    ) -> Result<Vec<Installation>, AllocError>
+        ensures { WhereWhole self.now facts.now (λ known.
+            IfOk result (λ v. v.items ≡ installations_of known register.now)) }
+    {
+        self.installations_there(alloc, facts, self.openings.table.all(named(register)))
+    }
+
+    /// Hands on the energy of a meter by the quarter hours that are asked for, in order of their starts. This takes no memory.
+    pub fn intervals<K: RowSink<Share>>(&self, meter: &Name, span: Span, sink: &mut K)
+        ensures whole { (known : List Fact) → AreLawful known → AreWhole self.now known
+            → TakesAll (TakesWithin K.takes span) sink.old (rows_of_meter known meter.now) sink.new }
+        ensures some { TakesSome (TakesWithin K.takes span) sink.old sink.new }
+    {
+        self.meters.table.hand_on(meter, span, sink);
     }
 
     /// Hands on the energy of the installation that was opened at a place of the facts, if one was.
-    fn hand_on_at<K: RowSink<Share>>(&self, facts: &[Fact], place: usize, sink: &mut K)
+    fn hand_on_at<K: RowSink<Share>>(&self, facts: &[Fact], place: usize, span: Span, sink: &mut K)
         ensures whole { WhereWhole self.now facts.now (λ known.
-            TakesAll K.takes sink.old (rows_at known facts.now (place ∷ [])) sink.new) }
-        ensures some { TakesSome K.takes sink.old sink.new }
+            TakesAll (TakesWithin K.takes span) sink.old (rows_at known facts.now (place ∷ [])) sink.new) }
+        ensures some { TakesSome (TakesWithin K.takes span) sink.old sink.new }
     {
         match opening_at(facts, place) {
-            Some(opening) => self.intervals(&opening.meter, sink),
+            Some(opening) => self.intervals(&opening.meter, span, sink),
             None => {}
         }
     }
 
     /// Hands on the energy of the installations that were opened at these places, one after the other.
-    fn hand_on_all<K: RowSink<Share>>(&self, facts: &[Fact], places: &[usize], sink: &mut K)
+    fn hand_on_all<K: RowSink<Share>>(
+        &self,
+        facts: &[Fact],
+        places: &[usize],
+        span: Span,
+        sink: &mut K,
+    )
         ensures whole { WhereWhole self.now facts.now (λ known.
-            TakesAll K.takes sink.old (rows_at known facts.now places.now) sink.new) }
-        ensures some { TakesSome K.takes sink.old sink.new }
+            TakesAll (TakesWithin K.takes span) sink.old (rows_at known facts.now places.now) sink.new) }
+        ensures some { TakesSome (TakesWithin K.takes span) sink.old sink.new }
     {
         for place in places {
-            self.hand_on_at(facts, *place, sink);
+            self.hand_on_at(facts, *place, span, sink);
         }
     }
 
-    /// Hands on the energy of a register by quarter hours, installation after installation. This takes no memory.
+    /// Hands on the energy of a register by the quarter hours that are asked for, installation after installation. This takes no memory.
     pub fn register_intervals<K: RowSink<Share>>(
         &self,
         facts: &[Fact],
         register: &Name,
+        span: Span,
         sink: &mut K,
     )
         ensures whole { WhereWhole self.now facts.now (λ known.
-            TakesAll K.takes sink.old (rows_of_register known register.now) sink.new) }
-        ensures some { TakesSome K.takes sink.old sink.new }
+            TakesAll (TakesWithin K.takes span) sink.old (rows_of_register known register.now) sink.new) }
+        ensures some { TakesSome (TakesWithin K.takes span) sink.old sink.new }
     {
-        self.hand_on_all(facts, self.openings.table.all(named(register)), sink);
+        self.hand_on_all(facts, self.openings.table.all(named(register)), span, sink);
     }
 }

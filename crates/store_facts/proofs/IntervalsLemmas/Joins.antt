@@ -1,7 +1,7 @@
 -- What the queries find.
-use Rattle.std.proofs.Common.{◌≡◌, ◌<◌, ◌≤◌, ◌<ℤ◌, ◌⊎◌, inl, inr, pos, ℕ, List, [], ◌∷◌, ◌++◌, map, filter, flat_map, Bool, true, false, bytes_eq, if◌then◌else◌, Ordering, Less, Equal, Greater, is_gt, refl, sym, ap, ap₂, subst, ◌∙◌, arith, IsPermutation}
+use Rattle.std.proofs.Common.{◌≡◌, ◌<◌, ◌≤◌, ◌<ℤ◌, ◌⊎◌, ◌&&◌, nat_le, nat_lt, le-leb, lt-leb, lt-ltb, le-ltb, Some, inl, inr, pos, ℕ, List, [], ◌∷◌, ◌++◌, map, filter, flat_map, Bool, true, false, bytes_eq, if◌then◌else◌, Ordering, Less, Equal, Greater, is_gt, refl, sym, ap, ap₂, subst, ◌∙◌, arith, IsPermutation}
 use Rattle.std.specs.List.{AllByRecursion, list_all}
-use Rattle.std.specs.Ordering.{ordering_then, int_cmp, MatchOrdering}
+use Rattle.std.specs.Ordering.{ordering_then, int_cmp, is_ge, is_lt, MatchOrdering}
 use Rattle.std.specs.Cmp.{int_ranks}
 use Rattle.std.proofs.lemmas.Int.{ints}
 use Rattle.std.proofs.lemmas.Bool.{cases_Bool}
@@ -11,12 +11,17 @@ use Rattle.std.proofs.lemmas.List.Sorted.{All-permutation, IsPermutation-refl, I
 use Rattle.sqlite.specs.declared.types.Value.TheVariants.{Int, Text}
 use Rattle.sqlite.specs.Order.{Row, value_cmp}
 use Rattle.sqlite.specs.Effect.{Database}
-use Rattle.sqlite.specs.Term.{Env, holds}
+use Rattle.sqlite.specs.Term.{Env, Term, holds}
 use Rattle.sqlite.specs.Tree.{IsAscending}
 use Rattle.sqlite.specs.Query.{Query, IsAnswer, Output, output, output_cmp, page}
 use Rattle.sqlite.specs.Program.{overlay}
 use Rattle.sqlite_sql.proofs.QueryLemmas.{output_cmp_total}
+use Rattle.sqlite.specs.Ops.{binary, is_true, from_truth}
+use Rattle.sqlite.specs.Collation.TheVariants.{Binary}
+use Rattle.sqlite_sql.specs.declared.ops.BinaryOp.TheVariants.{Compare}
+use Rattle.sqlite_sql.specs.declared.ops.CompareOp.TheVariants.{Ge, Lt}
 use Rattle.sqlite_value.proofs.OrderLemmas.{value_cmp-Int}
+use Rattle.interval_core.specs.declared.shares.Share.{Share}
 use Rattle.sqlite_keyed.specs.Lists.{pairs}
 use Rattle.sqlite_keyed.proofs.ListLemmas.{all-filter, all-append, all_map, map-map, filter-map, ascending-map, ascending_from_map, ascending_weaker, IsPermutation-filter, IsPermutation-flat_map, IsPermutation-flat_map_each}
 use Rattle.store_tables.specs.Schema.{books_schema, intervals_table, installations_table}
@@ -31,11 +36,45 @@ use Rattle.store_tables.specs.Meters.Trees.{installations}
 use Rattle.store_tables.specs.Meters.Rows.{Installed, installed_columns}
 use Rattle.store_facts.specs.Intervals.Trees.{intervals}
 use Rattle.store_facts.specs.Intervals.Rows.{Interval, interval_columns, share_shown, is_of, start_of, IsSoundInterval}
-use Rattle.store_facts.specs.Intervals.Handing.{HaveIntervals, AreSharesOfMeter, AreSoundIntervals, Lying, HaveLying, lies_at, ComesAfter, AreSharesAt, AreSoundLying}
+use Rattle.store_facts.specs.Intervals.Handing.{HaveIntervals, AreSharesOfMeter, AreSoundIntervals, Lying, HaveLying, lies_at, is_between, ComesAfter, AreSharesOfMeterBetween, AreSoundLying}
 use Rattle.store_facts.proofs.IntervalsLemmas.Texts as text
 
 all_found : {X : Type 0} (P : X → Type 0) (p : X → Bool) (xs found : List X) → IsPermutation (filter p xs) found → AllByRecursion P xs → AllByRecursion P found
 all_found P p xs found same all = recursion_from_All P found (All-permutation P _ _ same (All-from_recursion P _ (all-filter P p xs all)))
+
+-- ---- numbers that are compared
+
+truth_back : (b : Bool) → is_true (from_truth (Some b)) ≡ b
+truth_back true = refl
+truth_back false = refl
+
+at_least : (a b : ℕ) → is_ge (int_cmp (pos a) (pos b)) ≡ nat_le b a
+at_least a b = go (int_cmp (pos a) (pos b)) (int_ranks (pos a) (pos b))
+  where
+    go : (o : Ordering) → MatchOrdering o (pos a <ℤ pos b) (pos a ≡ pos b) (pos b <ℤ pos a) → is_ge o ≡ nat_le b a
+    go Less h = sym (lt-leb b a (omega (arith, ints)))
+    go Equal h = sym (le-leb b a (omega (arith, ints)))
+    go Greater h = sym (le-leb b a (omega (arith, ints)))
+
+below : (a b : ℕ) → is_lt (int_cmp (pos a) (pos b)) ≡ nat_lt a b
+below a b = go (int_cmp (pos a) (pos b)) (int_ranks (pos a) (pos b))
+  where
+    go : (o : Ordering) → MatchOrdering o (pos a <ℤ pos b) (pos a ≡ pos b) (pos b <ℤ pos a) → is_lt o ≡ nat_lt a b
+    go Less h = sym (lt-ltb a b (omega (arith, ints)))
+    go Equal h = sym (le-ltb a b (omega (arith, ints)))
+    go Greater h = sym (le-ltb a b (omega (arith, ints)))
+
+at_least_is : (a b : ℕ) → is_true (binary (Compare Ge Binary) (Int (pos a)) (Int (pos b))) ≡ nat_le b a
+unfolding binary
+at_least_is a b = truth_back _ ∙ (ap is_ge (value_cmp-Int (pos a) (pos b)) ∙ at_least a b)
+
+below_is : (a b : ℕ) → is_true (binary (Compare Lt Binary) (Int (pos a)) (Int (pos b))) ≡ nat_lt a b
+unfolding binary
+below_is a b = truth_back _ ∙ (ap is_lt (value_cmp-Int (pos a) (pos b)) ∙ below a b)
+
+and_first : (a b c : Bool) → a && (b && c) ≡ (a && b) && c
+and_first true b c = refl
+and_first false b c = refl
 
 -- ---- the rows of a meter
 
@@ -49,6 +88,18 @@ of_meter meter db content is rows has have a =
     (λ n i. rw (text_is i.meter meter, and_true (bytes_eq i.meter meter)) refl) (λ n i. refl) (λ m n i j le. in_order i.share.start j.share.start le)
     db.trees rows is (laid_from false interval_columns (db.trees intervals) (content intervals) is apart.keyed (has.rows intervals there) have) a in
     (it.0, it.2, (it.0, it.1, refl), λ sound. all_found IsSoundInterval (is_of meter) is it.0 it.1.all sound)
+
+pub of_meter_between : (meter : List ℕ) (from till : ℕ) (db : Database) (content : Content) (is : List Interval) (rows : List Row) → AreTables db content → HaveIntervals is content
+    → IsAnswer (scan 14 text.meter_between_tests text.shares_project text.meter_intervals_order no_limit) (overlay db.trees []) (Text meter ∷ Int (pos from) ∷ Int (pos till) ∷ []) rows
+    → (found : List Interval) × (rows ≡ map share_shown found) × AreSharesOfMeterBetween meter from till is (map (λ i. i.share) found) × (AreSoundIntervals is → AllByRecursion IsSoundInterval found)
+of_meter_between meter from till db content is rows has have a =
+    let there = tree_at books_schema.tables 9 intervals_table refl in
+    let apart = has.apart intervals there in
+    let asked : Interval → Bool = λ i. is_of meter i && is_between from till i in
+    let it = selected intervals text.meter_between_tests text.shares_project text.meter_intervals_order no_limit (Text meter ∷ Int (pos from) ∷ Int (pos till) ∷ []) interval_columns asked share_shown (FirstFirst start_of)
+    (λ n i. rw (text_is i.meter meter, at_least_is i.share.start from, below_is i.share.start till, and_true (nat_lt i.share.start till)) refl) (λ n i. refl) (λ m n i j le. in_order i.share.start j.share.start le)
+    db.trees rows is (laid_from false interval_columns (db.trees intervals) (content intervals) is apart.keyed (has.rows intervals there) have) a in
+    (it.0, it.2, (it.0, it.1, refl), λ sound. all_found IsSoundInterval asked is it.0 it.1.all sound)
 
 -- ---- the order of two numbers
 
@@ -78,10 +129,14 @@ pairs-permutation xs zs ys ws first second =
     IsPermutation-trans _ _ _ (IsPermutation-flat_map (λ x. map (λ y. (x, y)) ys) xs zs first)
     (IsPermutation-flat_map_each (λ x. map (λ y. (x, y)) ys) (λ x. map (λ y. (x, y)) ws) (λ x. IsPermutation-map (λ y. (x, y)) ys ws second) zs)
 
-module _ (register : List ℕ) where
-  abbrev params : Row
-  params = Text register ∷ []
+-- the shares of the pairs that pass, in order
+abbrev AreShown : (passes : Installed × Interval → Bool) → Lying → List Share → Type 0
+AreShown passes lying all =
+    (found : List (Installed × Interval)) × AreFound passes ComesAfter (pairs lying.installed lying.rows) found × (all ≡ map (λ p. p.1.share) found)
 
+-- a query of this form, whose tests pass these pairs
+module _ (params : Row) (tests : List Term) (passes : Installed × Interval → Bool)
+    (tells : (p : Numbered Installed × Numbered Interval) → list_all (holds (params ∷ lay true installed_columns p.0 ∷ lay false interval_columns p.1 ∷ [])) tests ≡ passes (p.0.1, p.1.1)) where
   abbrev Pair : Type 0
   Pair = Numbered Installed × Numbered Interval
 
@@ -95,13 +150,13 @@ module _ (register : List ℕ) where
   bare p = (p.0.1, p.1.1)
 
   abbrev passes_both : Pair → Bool
-  passes_both p = lies_at register (bare p)
+  passes_both p = passes (bare p)
 
   abbrev test : Env → Bool
-  test e = list_all (holds e) text.register_intervals_tests
+  test e = list_all (holds e) tests
 
   test_is : (p : Pair) → test (env_of p) ≡ passes_both p
-  test_is p = rw (text_is p.1.1.meter p.0.1.meter, text_is p.0.1.register register, and_true (bytes_eq p.0.1.register register)) refl
+  test_is p = tells p
 
   abbrev step : Row → Row → List Env
   step r s = if test (env r s) then env r s ∷ [] else []
@@ -121,7 +176,7 @@ module _ (register : List ℕ) where
       ∙ (sym (map-append env_of (filter passes_both (map (λ z. (y, z)) zs)) (filter passes_both (pairs ys zs))) ∙ ap (map env_of) (sym (filter-append passes_both (map (λ z. (y, z)) zs) (pairs ys zs))))
 
   abbrev query : Query
-  query = text.register_intervals_query
+  query = text.joined tests
 
   abbrev out : Pair → Output
   out p = output query (env_of p)
@@ -136,10 +191,10 @@ module _ (register : List ℕ) where
   sound_pairs [] rows sound = tt
   sound_pairs (i ∷ is) rows sound = all-append (λ (p : Installed × Interval). IsSoundInterval p.1) (map (λ r. (i, r)) rows) (pairs is rows) (all_map (λ (p : Installed × Interval). IsSoundInterval p.1) (λ r. (i, r)) rows sound) (sound_pairs is rows sound)
 
-  pub at_register : (db : Database) (content : Content) (lying : Lying) (rows : List Row) → AreTables db content → HaveLying lying content → IsAnswer query (overlay db.trees []) params rows
-      → (found : List (Installed × Interval)) × (rows ≡ map (λ p. share_shown p.1) found) × AreSharesAt register lying (map (λ p. p.1.share) found)
+  pub of_pairs : (db : Database) (content : Content) (lying : Lying) (rows : List Row) → AreTables db content → HaveLying lying content → IsAnswer query (overlay db.trees []) params rows
+      → (found : List (Installed × Interval)) × (rows ≡ map (λ p. share_shown p.1) found) × AreShown passes lying (map (λ p. p.1.share) found)
       × (AreSoundLying lying → AllByRecursion (λ p. IsSoundInterval p.1) found)
-  at_register db content lying rows has have a =
+  of_pairs db content lying rows has have a =
       let first = tree_at books_schema.tables 4 installations_table refl in
       let second = tree_at books_schema.tables 9 intervals_table refl in
       let one = laid_from true installed_columns (db.trees installations) (content installations) lying.installed (has.apart installations first).keyed (has.rows installations first) have.installed in
@@ -154,16 +209,36 @@ module _ (register : List ℕ) where
       let found = map bare moved.0 in
       let stripped : map bare (pairs one.all two.all) ≡ pairs (map (λ (z : Numbered Installed). z.1) one.all) (map (λ (z : Numbered Interval). z.1) two.all) = map-pairs (λ (z : Numbered Installed). z.1) (λ (z : Numbered Interval). z.1) one.all two.all in
       let whole = pairs-permutation _ _ _ _ one.same two.same in
-      let before : IsPermutation (filter (lies_at register) (pairs lying.installed lying.rows)) (map bare chosen) =
-      IsPermutation-trans _ _ _ (IsPermutation-filter (lies_at register) _ _ (IsPermutation-sym _ _ whole))
-      (subst (λ xs. IsPermutation (filter (lies_at register) (pairs (map (λ (z : Numbered Installed). z.1) one.all) (map (λ (z : Numbered Interval). z.1) two.all))) xs) (ap (filter (lies_at register)) (sym stripped) ∙ filter-map (lies_at register) bare (pairs one.all two.all))
+      let before : IsPermutation (filter passes (pairs lying.installed lying.rows)) (map bare chosen) =
+      IsPermutation-trans _ _ _ (IsPermutation-filter passes _ _ (IsPermutation-sym _ _ whole))
+      (subst (λ xs. IsPermutation (filter passes (pairs (map (λ (z : Numbered Installed). z.1) one.all) (map (λ (z : Numbered Interval). z.1) two.all))) xs) (ap (filter passes) (sym stripped) ∙ filter-map passes bare (pairs one.all two.all))
       (IsPermutation-refl _)) in
-      let are : AreFound (lies_at register) ComesAfter (pairs lying.installed lying.rows) found = record {
+      let are : AreFound passes ComesAfter (pairs lying.installed lying.rows) found = record {
         all = IsPermutation-trans _ _ _ before (IsPermutation-map bare _ _ moved.1);
         order = ascending-map ComesAfter bare moved.0 up;
       } in (
         found,
         a.shown ∙ (ap (page query params) (ap (map (λ (o : Output). o.1)) moved.2 ∙ shown_all moved.0)),
         (found, are, refl),
-        λ sound. all_found (λ (p : Installed × Interval). IsSoundInterval p.1) (lies_at register) (pairs lying.installed lying.rows) found are.all (sound_pairs lying.installed lying.rows sound),
+        λ sound. all_found (λ (p : Installed × Interval). IsSoundInterval p.1) passes (pairs lying.installed lying.rows) found are.all (sound_pairs lying.installed lying.rows sound),
       )
+
+abbrev Shows : (passes : Installed × Interval → Bool) → Lying → List Row → Type 0
+Shows passes lying rows =
+    (found : List (Installed × Interval)) × (rows ≡ map (λ p. share_shown p.1) found) × AreShown passes lying (map (λ p. p.1.share) found)
+    × (AreSoundLying lying → AllByRecursion (λ p. IsSoundInterval p.1) found)
+
+pub at_register : (register : List ℕ) (db : Database) (content : Content) (lying : Lying) (rows : List Row) → AreTables db content → HaveLying lying content
+    → IsAnswer text.register_intervals_query (overlay db.trees []) (Text register ∷ []) rows → Shows (lies_at register) lying rows
+at_register register =
+    of_pairs (Text register ∷ []) text.register_intervals_tests (lies_at register)
+    (λ p. rw (text_is p.1.1.meter p.0.1.meter, text_is p.0.1.register register, and_true (bytes_eq p.0.1.register register)) refl)
+
+pub at_register_between : (register : List ℕ) (from till : ℕ) (db : Database) (content : Content) (lying : Lying) (rows : List Row) → AreTables db content → HaveLying lying content
+    → IsAnswer text.register_between_query (overlay db.trees []) (Text register ∷ Int (pos from) ∷ Int (pos till) ∷ []) rows
+    → Shows (λ p. lies_at register p && is_between from till p.1) lying rows
+at_register_between register from till =
+    of_pairs (Text register ∷ Int (pos from) ∷ Int (pos till) ∷ []) text.register_between_tests (λ p. lies_at register p && is_between from till p.1)
+    (λ p.
+    rw (text_is p.1.1.meter p.0.1.meter, text_is p.0.1.register register, at_least_is p.1.1.share.start from, below_is p.1.1.share.start till, and_true (nat_lt p.1.1.share.start till))
+    (and_first (bytes_eq p.1.1.meter p.0.1.meter) (bytes_eq p.0.1.register register) (is_between from till p.1.1)))

@@ -13,7 +13,7 @@ use Rattle.sqlite_schema.specs.declared.command.Conflict.TheVariants.{Abort}
 use Rattle.sqlite_schema.specs.declared.command.Upsert.{Upsert}
 use Rattle.sqlite_sql.specs.Term.{op2}
 use Rattle.sqlite_sql.specs.declared.ops.BinaryOp.TheVariants.{Compare, Arith}
-use Rattle.sqlite_sql.specs.declared.ops.CompareOp.TheVariants.{Eq}
+use Rattle.sqlite_sql.specs.declared.ops.CompareOp.TheVariants.{Eq, Ge, Lt}
 use Rattle.sqlite_sql.specs.declared.ops.ArithOp.TheVariants.{Add}
 use Rattle.sqlite.specs.Collation.TheVariants.{Binary}
 use Rattle.sqlite_tied.specs.Compute.{everything}
@@ -118,6 +118,38 @@ pub meter_intervals_suits : (meter : List ℕ) → Suits books_schema meter_inte
 unfolding understood everything
 meter_intervals_suits meter = suits_scan 14 meter_intervals_tests shares_project meter_intervals_order no_limit meter_intervals names (Text meter ∷ []) (refl, refl, refl) meter_intervals_plain meter_intervals_unlisted meter_intervals_is refl
 
+-- ---- meter_intervals_between
+
+-- a column of the second table, or of the first, is at least a parameter, and less than one
+abbrev pub is_at_least : (table column param : ℕ) → Term
+is_at_least table column param = op2 (Compare Ge Binary) (col table column) (col 0 param)
+
+abbrev pub is_below : (table column param : ℕ) → Term
+is_below table column param = op2 (Compare Lt Binary) (col table column) (col 0 param)
+
+abbrev pub meter_between : List ℕ
+meter_between = codes "SELECT start, mwh FROM intervals WHERE meter = ?1 AND start >= ?2 AND start < ?3 ORDER BY start"
+
+abbrev pub meter_between_tests : List Term
+meter_between_tests = is_param 1 0 ∷ is_at_least 1 2 1 ∷ is_below 1 2 2 ∷ []
+
+pub meter_between_is : command_of (understood books_schema meter_between) ≡ Select (record { lets = []; body = scan 14 meter_between_tests shares_project meter_intervals_order no_limit }) names
+unfolding understood everything
+meter_between_is = refl
+
+pub meter_between_unlisted : reads_listing books_schema meter_between ≡ false
+unfolding understood everything
+meter_between_unlisted = refl
+
+pub meter_between_plain : IsPlain (understood books_schema meter_between)
+unfolding understood everything
+meter_between_plain = (refl, refl)
+
+pub meter_between_suits : (meter : List ℕ) (from till : ℕ) → Suits books_schema meter_between (Text meter ∷ Int (pos from) ∷ Int (pos till) ∷ [])
+unfolding understood everything
+meter_between_suits meter from till =
+    suits_scan 14 meter_between_tests shares_project meter_intervals_order no_limit meter_between names (Text meter ∷ Int (pos from) ∷ Int (pos till) ∷ []) (refl, refl, refl) meter_between_plain meter_between_unlisted meter_between_is refl
+
 -- ---- register_intervals
 
 abbrev pub register_intervals : List ℕ
@@ -132,10 +164,11 @@ register_intervals_project = col 2 2 ∷ col 2 3 ∷ []
 abbrev pub register_intervals_order : List (Term × Key)
 register_intervals_order = (col 1 0, rising) ∷ (col 2 2, rising) ∷ []
 
-abbrev pub register_intervals_query : Query
-register_intervals_query = record {
+-- pairs of an installation and a row that pass tests, in the order of their places and starts
+abbrev pub joined : (tests : List Term) → Query
+joined tests = record {
   from = inner 7 (inner 14 end);
-  filter = register_intervals_tests;
+  filter = tests;
   group = None;
   project = register_intervals_project;
   distinct = false;
@@ -144,6 +177,9 @@ register_intervals_query = record {
   limit = lit (Int (negsuc 0));
   offset = lit (Int (pos 0));
 }
+
+abbrev pub register_intervals_query : Query
+register_intervals_query = joined register_intervals_tests
 
 pub register_intervals_is : command_of (understood books_schema register_intervals) ≡ Select (record { lets = []; body = register_intervals_query }) names
 unfolding understood everything
@@ -172,4 +208,44 @@ register_intervals_suits register = record {
   is = register_intervals_is;
   typed = refl;
   flows = join_flows (Text register ∷ []);
+}
+
+-- ---- register_intervals_between
+
+abbrev pub register_between : List ℕ
+register_between = codes "SELECT intervals.start, intervals.mwh FROM installations JOIN intervals ON intervals.meter = installations.meter WHERE installations.register = ?1 AND intervals.start >= ?2 AND intervals.start < ?3 ORDER BY installations.place, intervals.start"
+
+abbrev pub register_between_tests : List Term
+register_between_tests = op2 (Compare Eq Binary) (col 2 1) (col 1 2) ∷ is_param 3 0 ∷ is_at_least 2 2 1 ∷ is_below 2 2 2 ∷ []
+
+abbrev pub register_between_query : Query
+register_between_query = joined register_between_tests
+
+pub register_between_is : command_of (understood books_schema register_between) ≡ Select (record { lets = []; body = register_between_query }) names
+unfolding understood everything
+register_between_is = refl
+
+pub register_between_unlisted : reads_listing books_schema register_between ≡ false
+unfolding understood everything
+register_between_unlisted = refl
+
+pub register_between_plain : IsPlain (understood books_schema register_between)
+unfolding understood everything
+register_between_plain = (refl, refl)
+
+between_flows : (params : Row) (db : Trees) → QueryOverflows register_between_query (overlay db []) params → ⊥
+between_flows params db (inl sum) = sum
+between_flows params db (inr row) = row.4.4
+
+pub register_between_suits : (register : List ℕ) (from till : ℕ) → Suits books_schema register_between (Text register ∷ Int (pos from) ∷ Int (pos till) ∷ [])
+unfolding understood everything
+register_between_suits register from till = record {
+  query = register_between_query;
+  names = names;
+  whole = (refl, refl, refl);
+  plain = register_between_plain;
+  unlisted = register_between_unlisted;
+  is = register_between_is;
+  typed = refl;
+  flows = between_flows (Text register ∷ Int (pos from) ∷ Int (pos till) ∷ []);
 }

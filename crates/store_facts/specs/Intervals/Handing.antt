@@ -1,5 +1,5 @@
 -- Rows of the table, handed on to a sink in order, as they come.
-use Rattle.std.specs.Prelude.{◌≡◌, ◌<◌, ◌≤◌, ◌⊎◌, ℕ, Bool, bytes_eq, ◌&&◌, List, [], ◌∷◌, ◌++◌, length, map, Result, Ok, Err, OnOk, IfErr}
+use Rattle.std.specs.Prelude.{◌≡◌, ◌<◌, ◌≤◌, ◌⊎◌, ℕ, nat_le, nat_lt, Bool, bytes_eq, ◌&&◌, List, [], ◌∷◌, ◌++◌, length, map, Result, Ok, Err, OnOk, IfErr}
 use Rattle.std.specs.List.{AllByRecursion, AllZip}
 use Rattle.sqlite.specs.Given.{IsPlain}
 use Rattle.sqlite.specs.Listing.{understood}
@@ -104,6 +104,25 @@ AreSharesAt register lying all =
 
 abbrev pub AreSoundLying : Lying → Type 0
 AreSoundLying lying = AreSoundIntervals lying.rows
+
+-- ---- of both those alone that start at a moment or later, and before another
+
+abbrev pub is_between : (from till : ℕ) → Interval → Bool
+is_between from till i = nat_le from (start_of i) && nat_lt (start_of i) till
+
+abbrev pub AreSharesOfMeterBetween : (meter : List ℕ) → (from till : ℕ) → List Interval
+    → List Share → Type 0
+AreSharesOfMeterBetween meter from till rows all =
+    (found : List Interval)
+    × AreFound (λ i. is_of meter i && is_between from till i) (FirstFirst start_of) rows found
+    × (all ≡ map (λ i. i.share) found)
+
+abbrev pub AreSharesAtBetween : (register : List ℕ) → (from till : ℕ) → Lying → List Share → Type 0
+AreSharesAtBetween register from till lying all =
+    (found : List (Installed × Interval))
+    × AreFound (λ p. lies_at register p && is_between from till p.1) ComesAfter
+    (pairs lying.installed lying.rows) found
+    × (all ≡ map (λ p. p.1.share) found)
 
 -- ---- the rows of a query
 

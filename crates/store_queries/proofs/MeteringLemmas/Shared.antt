@@ -1,6 +1,6 @@
 -- The interval rows of the tables, in their order.
 use Rattle.std.proofs.Common.{◌≡◌, ℕ, ◌+◌, ◌<◌, ◌≤◌, ◌==◌, ◌&&◌, ◌||◌, Bool, true, false, cond, inl, inr, ◌⊎◌, List, [], ◌∷◌, ◌++◌, map, filter, reverse, length, Option, Some, None, bytes_eq, refl, sym, ap, ap₂, subst, ◌∙◌, arith, append-nil, eq-eqb, eqb-true, lt-ltb, ltb-true, le-ltb, IsPermutation}
-use Rattle.std.specs.Prelude.{nat_lt}
+use Rattle.std.specs.Prelude.{min, nat_le, nat_lt}
 use Rattle.std.specs.List.{AllByRecursion, flat_map}
 use Rattle.std.proofs.lemmas.Bool.{cond-true, cond-false}
 use Rattle.std.proofs.lemmas.Grind.{flat_map-append}
@@ -9,7 +9,7 @@ use Rattle.std.proofs.lemmas.List.Elements.{filter-append}
 use Rattle.std.proofs.lemmas.List.Sorted.{All-permutation, IsPermutation-refl, IsPermutation-sym, IsPermutation-trans, IsPermutation-map, IsPermutation-append, IsPermutation-append_comm}
 use Rattle.sqlite.specs.Tree.{IsAscending}
 use Rattle.sqlite_keyed.specs.Lists.{pairs}
-use Rattle.sqlite_keyed.proofs.ListLemmas.{all_of, all_weaker, all_map, map-map, filter-map, filter_none, filter_same, ascending-map, ascending-append, all-append, IsPermutation-same}
+use Rattle.sqlite_keyed.proofs.ListLemmas.{all_of, all_weaker, all_map, map-map, filter-map, filter_none, filter_same, ascending-map, ascending-append, ascending-filter, all-append, IsPermutation-filter, IsPermutation-same}
 use Rattle.interval_core.specs.declared.shares.Share.{Share}
 use Rattle.meter_journal.proofs.Merging.{Above, Rising, rising_of}
 use Rattle.office_events.specs.declared.facts.Opening.{Opening}
@@ -25,7 +25,12 @@ use Rattle.store_facts.specs.Intervals.Rows.{Interval, is_of, start_of, IsSoundS
 use Rattle.store_queries.specs.Metering.Sound.{HasReadableIntervals}
 use Rattle.std.proofs.lemmas.List.Elements.{recursion_from_All, All-from_recursion}
 use Rattle.office_rules.proofs.Lookups.{same_itself}
-use Rattle.store_facts.specs.Intervals.Handing.{AreSharesOfMeter, Lying, lies_at, ComesAfter, AreSharesAt}
+use Rattle.store_facts.specs.Intervals.Handing.{AreSharesOfMeter, AreSharesOfMeterBetween, Lying, lies_at, is_between, ComesAfter, AreSharesAt, AreSharesAtBetween}
+use Rattle.store_tables.specs.Limits.{latest_moment}
+use Rattle.office_books.specs.declared.spans.Span.TheVariants.{Between}
+use Rattle.office_books.specs.Spans.{rows_within}
+use Rattle.office_rules.specs.Registers.{RegistersAreInTurn}
+use Rattle.store_queries.proofs.MeteringLemmas.Spans.{one_by_one, bounded_rows, meter_in_time, register_in_time}
 use Rattle.store_facts.specs.Rows.{placed, installed_row, interval_of}
 use Rattle.store_facts.proofs.Energy.{found_recorded}
 use Rattle.store_queries.proofs.MeteringLemmas.Orders.{one_order}
@@ -95,6 +100,20 @@ module _ (kept : MetersAreKept) (facts : List Fact) (lawful : AreLawful facts) w
       (rising_rows meter (rows_of_meter facts meter) (rising_found meter (opening_of facts meter) refl))
       (IsPermutation-trans _ _ _ (IsPermutation-sym _ _ (each meter)) h.1.all) h.1.order in
       h.2 ∙ ap (map (λ (i : Interval). i.share)) here ∙ shares_back meter (rows_of_meter facts meter)
+
+  pub of_meter_between : RegistersAreInTurn → (meter : List ℕ) (from till low high : ℕ) → low ≡ min from (latest_moment + 1) → high ≡ min till (latest_moment + 1) → (rows : List Interval) (all : List Share)
+      → AreEach facts rows → AreSharesOfMeterBetween meter low high rows all → all ≡ rows_within (Between from till) (rows_of_meter facts meter)
+  of_meter_between turn meter from till low high low_is high_is rows all each h =
+      let shares = rows_of_meter facts meter in
+      let own = map (interval_of meter) shares in
+      let asked : Interval → Bool = is_between low high in
+      let same_rows : IsPermutation (filter (λ i. is_of meter i && asked i) rows) (filter asked own) =
+      subst (λ l. IsPermutation l (filter asked own)) (sym (one_by_one (is_of meter) asked rows)) (IsPermutation-filter asked _ _ (each meter)) in
+      let here = one_order starts_before (FirstFirst start_of) (λ i. not_before (start_of i)) (λ i j k lt le. still_before (start_of i) (start_of j) (start_of k) lt le) (filter asked own) h.0
+      (ascending-filter (λ i j. starts_before i j ≡ true) asked own (rising_rows meter shares (rising_found meter (opening_of facts meter) refl)))
+      (IsPermutation-trans _ _ _ (IsPermutation-sym _ _ same_rows) h.1.all) h.1.order in
+      h.2 ∙ ap (map (λ (i : Interval). i.share)) (here ∙ filter-map asked (interval_of meter) shares) ∙ shares_back meter _
+      ∙ bounded_rows from till low high low_is high_is shares (meter_in_time turn facts lawful meter)
 
   -- ---- the rows of a register
 
@@ -255,3 +274,23 @@ module _ (kept : MetersAreKept) (facts : List Fact) (lawful : AreLawful facts) w
         let found = one_order comes_before ComesAfter pair_itself pair_still (wanted os) h.0 (in_turn os rise)
         (IsPermutation-trans _ _ _ (IsPermutation-sym _ _ (all_lie os own_rows)) h.1.all) h.1.order in
         h.2 ∙ ap (map share_of) found ∙ shares_are os
+
+    pub at_register_between : RegistersAreInTurn → (from till low high : ℕ) → low ≡ min from (latest_moment + 1) → high ≡ min till (latest_moment + 1) → (all : List Share) → AreEach facts rows
+        → AreSharesAtBetween register low high (record { installed = placed (installed_row facts) (openings_in facts); rows = rows }) all → all ≡ rows_within (Between from till) (rows_of_register facts register)
+    at_register_between turn from till low high low_is high_is all each h =
+        let os = openings_in facts in
+        let lone = alone facts lawful in
+        let asked : Pair → Bool = λ p. is_between low high p.1 in
+        let kept_shares : Share → Bool = λ share. nat_le low share.start && nat_lt share.start high in
+        let own_rows : AllByRecursion HasOwn os = all_weaker (λ (o : Opening). opening_of facts o.meter ≡ Some o) HasOwn
+        (λ o is. subst (λ (l : List Share). IsPermutation (filter (is_of o.meter) rows) (map (interval_of o.meter) l)) (ap (rows_of_installed facts) is) (each o.meter)) os lone in
+        let rise : AllByRecursion (λ (o : Opening). Rising (rows_of_opening facts o)) os = all_weaker (λ (o : Opening). opening_of facts o.meter ≡ Some o) _
+        (λ o is. rising_opening o (found_recorded (λ (x : Opening). same x.meter o.meter) os o is)) os lone in
+        let same_pairs : IsPermutation (filter (λ p. lies_at register p && asked p) (pairs (placed (installed_row facts) os) rows)) (filter asked (wanted os)) =
+        subst (λ l. IsPermutation l (filter asked (wanted os))) (sym (one_by_one (lies_at register) asked (pairs (placed (installed_row facts) os) rows)))
+        (IsPermutation-filter asked _ _ (all_lie os own_rows)) in
+        let found = one_order comes_before ComesAfter pair_itself pair_still (filter asked (wanted os)) h.0
+        (ascending-filter (λ (p q : Pair). comes_before p q ≡ true) asked (wanted os) (in_turn os rise))
+        (IsPermutation-trans _ _ _ (IsPermutation-sym _ _ same_pairs) h.1.all) h.1.order in
+        h.2 ∙ ap (map share_of) found ∙ sym (filter-map kept_shares share_of (wanted os)) ∙ ap (filter kept_shares) (shares_are os)
+        ∙ bounded_rows from till low high low_is high_is (rows_of_register facts register) (register_in_time turn facts lawful register)

@@ -42,7 +42,7 @@ fn voids<S: Alter>(conn: &mut Connection<S>, meter: &str) -> Result<Vec<Row>, Ro
 }
 
 /// The rows of a meter after its opening, the oldest first.
-fn rows<S: Alter>(
+pub(crate) fn rows<S: Alter>(
     alloc: Global,
     conn: &mut Connection<S>,
     meter: &str,

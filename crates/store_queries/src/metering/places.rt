@@ -14,9 +14,9 @@ ghost use Rattle.office_rules.specs.Meters.{installation_of, rows_of, place_in};
 ghost use Rattle.store_tables.specs.declared.faults.RowFault.TheVariants.{Damaged};
 ghost use Rattle.store_queries.specs.Metering.Entries.{CanBePlaced};
 
-use energy_core::{MAX_RANGE, MIN_RANGE, accounts_are_sound};
+use energy_core::{MAX_RANGE, MIN_RANGE};
 use meter_journal::{EntryRow, Installed, Tally, are_numbered, checked_tally, find_row};
-use office_books::{has_numbers, installed};
+use office_books::installation_after;
 use office_events::{EntryPlace, Installation};
 use store_tables::RowFault;
 
@@ -47,8 +47,8 @@ pub fn tally(meter: &Installed, rows: &[EntryRow]) -> Result<Tally, RowFault>
     }
 }
 
-/// An installation where it stood after these rows.
-fn behind(whole: &Installation, rows: &[EntryRow]) -> Result<Installation, RowFault>
+/// An installation where it stood after these rows; damaged where they have no account.
+fn stood_after(whole: &Installation, rows: &[EntryRow]) -> Result<Installation, RowFault>
     ensures stands { let es = entries_in (lists.latest_first rows.now) in
         IfOk result (λ row. row ≡ meters.standing whole.now.opening es whole.now.ended) }
     ensures sound { IfOk result IsSound }
@@ -56,19 +56,10 @@ fn behind(whole: &Installation, rows: &[EntryRow]) -> Result<Installation, RowFa
         IfErr result (λ e. (e ≡ Damaged) × (HasNumbers whole.now.opening
         → ¬ books.HasAccount (meters.installed whole.now.opening) es)) }
 {
-    accounts_are_sound();
-    let opening = whole.opening;
-    if !has_numbers(&opening) {
-        return Err(RowFault::Damaged);
+    match installation_after(&whole.opening, rows, whole.ended) {
+        Some(row) => Ok(row),
+        None => Err(RowFault::Damaged),
     }
-    let meter = installed(&opening);
-    let tally = tally(&meter, rows)?;
-    Ok(Installation {
-        opening,
-        last: tally.last,
-        total: tally.total,
-        ended: whole.ended,
-    })
 }
 
 /// The entry at a place among all rows of a meter, the oldest first: where the meter stood before it, and the next that
@@ -91,7 +82,7 @@ pub(crate) fn placed(
     let Some(found) = find_row(rows, place) else {
         return Ok(None);
     };
-    let before = behind(whole, first(rows, found.index))?;
+    let before = stood_after(whole, first(rows, found.index))?;
     Ok(Some(EntryPlace {
         before,
         row: found.row,

@@ -1,47 +1,70 @@
 //! Interval rows, handed on as they come.
-ghost use Rattle.std.specs.Prelude.{◌≡◌, false, IsUtf8};
+ghost use Rattle.std.specs.Prelude.{◌≡◌, ◌+◌, false, min, IsUtf8};
+ghost use Rattle.office_books.specs.Spans.{rows_within};
 ghost use Rattle.office_rules.specs.Intervals.{rows_of_meter, rows_of_register};
+ghost use Rattle.store_tables.specs.Limits.{latest_moment};
 ghost use Rattle.store_queries.specs.Metering.Looking.{HandsOn};
 ghost use Rattle.store_queries.specs.Metering.Sound.{HasReadableIntervals};
 
 use interval_core::Share;
-use office_books::RowSink;
+use office_books::{RowSink, Span};
 use office_events::Name;
-use office_rules::meters_are_kept;
+use office_rules::{meters_are_kept, registers_are_in_turn};
 use sqlite::{Alter, Connection};
 use store_facts::{intervals as tables, text};
-use store_tables::{RowFault, check_open};
+use store_tables::{LATEST_MOMENT, RowFault, check_open};
 
-/// Hands on the energy of a meter by quarter hours, in order of their starts.
+/// A bound of the quarter hours that are asked for, where none starts past the latest moment.
+fn bound(moment: u64) -> u64
+    ensures { result ≡ min moment (latest_moment + 1) }
+{
+    moment.min(LATEST_MOMENT + 1)
+}
+
+/// Hands on the energy of a meter by the quarter hours that are asked for, in order of their starts. No other row is read.
 pub fn intervals<S: Alter, K: RowSink<Share>>(
     conn: &mut Connection<S>,
     meter: &Name,
+    span: Span,
     sink: &mut K,
 ) -> Result<(), RowFault>
     requires { conn.old.in_transaction ≡ false }
     ensures { HandsOn S.Store conn.old conn.new K.takes sink.old sink.new result
-        (λ facts. rows_of_meter facts meter.now)
+        (λ facts. rows_within span (rows_of_meter facts meter.now))
         (λ facts. IsUtf8 meter.now × HasReadableIntervals facts) }
 {
     meters_are_kept();
+    registers_are_in_turn();
     let meter = text(meter)?;
     check_open(conn)?;
-    tables::meter_intervals(conn, meter, sink)
+    match span {
+        Span::All => tables::meter_intervals(conn, meter, sink),
+        Span::Between { from, till } => {
+            tables::meter_intervals_between(conn, meter, bound(from), bound(till), sink)
+        }
+    }
 }
 
-/// Hands on the energy of a register by quarter hours: meter after meter, in the order in which they were installed.
+/// Hands on the energy of a register by the quarter hours that are asked for: meter after meter, in the order in which they were installed.
 pub fn register_intervals<S: Alter, K: RowSink<Share>>(
     conn: &mut Connection<S>,
     register: &Name,
+    span: Span,
     sink: &mut K,
 ) -> Result<(), RowFault>
     requires { conn.old.in_transaction ≡ false }
     ensures { HandsOn S.Store conn.old conn.new K.takes sink.old sink.new result
-        (λ facts. rows_of_register facts register.now)
+        (λ facts. rows_within span (rows_of_register facts register.now))
         (λ facts. IsUtf8 register.now × HasReadableIntervals facts) }
 {
     meters_are_kept();
+    registers_are_in_turn();
     let register = text(register)?;
     check_open(conn)?;
-    tables::register_intervals(conn, register, sink)
+    match span {
+        Span::All => tables::register_intervals(conn, register, sink),
+        Span::Between { from, till } => {
+            tables::register_intervals_between(conn, register, bound(from), bound(till), sink)
+        }
+    }
 }

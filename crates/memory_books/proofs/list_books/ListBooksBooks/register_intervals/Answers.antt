@@ -6,7 +6,7 @@ use Rattle.memory_books.proofs.list_books.ListBooksBooks.register_intervals.Goal
 
 pub returns-clause-rows : goal.returns-clause-rows
 returns-clause-rows g c =
-    handed_on g.K.RowSink.takes (ledger_of c.args.self.now) (ledger_of c.ready.new.self) c.args.sink.now c.register_intervals.new.sink
+    handed_on g.K.RowSink.takes c.args.span (ledger_of c.args.self.now) (ledger_of c.ready.new.self) c.args.sink.now c.register_intervals.new.sink
     (λ known. rows_of_register known c.args.register.now)
     (λ known listed.
     c.register_intervals.ensures.whole known (c.deref.ensures.value ∙ ap (λ v. v.items) c.ready.ensures.facts ∙ listed.facts) listed.lawful

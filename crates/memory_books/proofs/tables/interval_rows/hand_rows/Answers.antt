@@ -16,7 +16,7 @@ use Rattle.meter_journal.specs.Journal.{entries_in}
 use Rattle.meter_journal.specs.Lists.{latest_first}
 use Rattle.meter_journal.proofs.Going.{may_go_on, earlier_standing, earlier_struck, earlier_all, shares_next}
 use Rattle.office_books.specs.Rows.{TakesAll}
-use Rattle.memory_books.specs.Tables.IntervalRows.{TookBut}
+use Rattle.memory_books.specs.Tables.IntervalRows.{TookBut, TakesWithin}
 use Rattle.memory_books.proofs.TablesLemmas.Waiting.{took_more, took_all}
 use Rattle.memory_books.proofs.tables.interval_rows.hand_rows.Goals as goal
 use Rattle.memory_books.proofs.tables.interval_rows.hand_rows.Goals.{then-row+in-Ok, else-row}
@@ -76,13 +76,13 @@ loop-row-preserved g c =
           record {
             account = subst (λ (es : List Entry). IsAccount range opening es c.if-row.tally.last c.if-row.tally.total) (sym standing)
                 (subst (λ (t : Tally). IsAccount range opening (entry ∷ before) t.last t.total) (sym w.tally-is) more);
-            took = subst (λ (k : g.row.K.Denot). TookBut g.K.RowSink.takes c.args.sink.now k c.if-row.waits (rows_of_steps (steps_after c.args.meter.now (entries_in (latest_first (take (i + 1) rows))))))
+            took = subst (λ (k : g.row.K.Denot). TookBut (TakesWithin g.K.RowSink.takes c.args.span) c.args.sink.now k c.if-row.waits (rows_of_steps (steps_after c.args.meter.now (entries_in (latest_first (take (i + 1) rows))))))
                 (sym w.sink-is)
-                (subst (λ (o : Option Share). TookBut g.K.RowSink.takes c.args.sink.now w.hand_step.new.sink o (rows_of_steps (steps_after c.args.meter.now (entries_in (latest_first (take (i + 1) rows))))))
+                (subst (λ (o : Option Share). TookBut (TakesWithin g.K.RowSink.takes c.args.span) c.args.sink.now w.hand_step.new.sink o (rows_of_steps (steps_after c.args.meter.now (entries_in (latest_first (take (i + 1) rows))))))
                 (sym w.waits-is)
-                (subst (λ (rs : List Share). TookBut g.K.RowSink.takes c.args.sink.now w.hand_step.new.sink w.hand_step.new.waits rs)
+                (subst (λ (rs : List Share). TookBut (TakesWithin g.K.RowSink.takes c.args.span) c.args.sink.now w.hand_step.new.sink w.hand_step.new.waits rs)
                 (shares_next c.args.meter.now rows i _ c.loop-row.tally.last so_far (with_shares so_far (shares_of step)) step lt w.if-row.true account.last_is refl is_step refl)
-                (took_more g.K.RowSink.takes c.args.sink.now c.loop-row.sink w.hand_step.new.sink c.loop-row.waits w.hand_step.new.waits so_far (shares_of step)
+                (took_more (TakesWithin g.K.RowSink.takes c.args.span) c.args.sink.now c.loop-row.sink w.hand_step.new.sink c.loop-row.waits w.hand_step.new.waits so_far (shares_of step)
                 c.loop-row.invariant.took w.hand_step.ensures.passes)));
             energy = omega (arith, ap (λ (t : Tally). t.total) w.tally-is, ap (λ o. energy_of (option_to_list o)) w.waits-is, w.hand_step.ensures.energy, c.loop-row.invariant.energy);
           }
@@ -91,26 +91,26 @@ loop-row-preserved g c =
           record {
             account = subst (λ (es : List Entry). IsAccount range opening es c.if-row.tally.last c.if-row.tally.total) (sym struck)
                 (subst (λ (t : Tally). IsAccount range opening before t.last t.total) (sym w.tally-is) account);
-            took = subst (λ (es : List Entry). TookBut g.K.RowSink.takes c.args.sink.now c.if-row.sink c.if-row.waits (rows_of_steps (steps_after c.args.meter.now es))) (sym struck)
-                (subst (λ (k : g.row.K.Denot). TookBut g.K.RowSink.takes c.args.sink.now k c.if-row.waits so_far) (sym w.sink-is)
-                (subst (λ (o : Option Share). TookBut g.K.RowSink.takes c.args.sink.now c.loop-row.sink o so_far) (sym w.waits-is) c.loop-row.invariant.took));
+            took = subst (λ (es : List Entry). TookBut (TakesWithin g.K.RowSink.takes c.args.span) c.args.sink.now c.if-row.sink c.if-row.waits (rows_of_steps (steps_after c.args.meter.now es))) (sym struck)
+                (subst (λ (k : g.row.K.Denot). TookBut (TakesWithin g.K.RowSink.takes c.args.span) c.args.sink.now k c.if-row.waits so_far) (sym w.sink-is)
+                (subst (λ (o : Option Share). TookBut (TakesWithin g.K.RowSink.takes c.args.span) c.args.sink.now c.loop-row.sink o so_far) (sym w.waits-is) c.loop-row.invariant.took));
             energy = omega (arith, ap (λ (t : Tally). t.total) w.tally-is, ap (λ o. energy_of (option_to_list o)) w.waits-is, c.loop-row.invariant.energy);
           }
     ]
 
 pub returns-in-Some-waits-clause-whole : goal.returns-in-Some-waits-clause-whole
 returns-in-Some-waits-clause-whole g c = λ whole.
-    let P : List Entry → Type 0 = λ es. TakesAll g.K.RowSink.takes c.args.sink.now (rows_of_steps (steps_after c.args.meter.now es)) c.put.new.self in
+    let P : List Entry → Type 0 = λ es. TakesAll (TakesWithin g.K.RowSink.takes c.args.span) c.args.sink.now (rows_of_steps (steps_after c.args.meter.now es)) c.put_within.new.sink in
     subst P (earlier_all c.args.rows.now c.loop-row.row-index (omega (arith, c.loop-row-test.false)))
-    (took_all g.K.RowSink.takes c.args.sink.now c.loop-row.sink c.put.new.self c.in-Some-waits.row
+    (took_all (TakesWithin g.K.RowSink.takes c.args.span) c.args.sink.now c.loop-row.sink c.put_within.new.sink c.in-Some-waits.row
     (rows_of_steps (steps_after c.args.meter.now (entries_in (latest_first (take c.loop-row.row-index c.args.rows.now)))))
-    (subst (λ (o : Option Share). TookBut g.K.RowSink.takes c.args.sink.now c.loop-row.sink o (rows_of_steps (steps_after c.args.meter.now (entries_in (latest_first (take c.loop-row.row-index c.args.rows.now)))))) c.in-Some-waits.is
-    c.loop-row.invariant.took) c.put.ensures)
+    (subst (λ (o : Option Share). TookBut (TakesWithin g.K.RowSink.takes c.args.span) c.args.sink.now c.loop-row.sink o (rows_of_steps (steps_after c.args.meter.now (entries_in (latest_first (take c.loop-row.row-index c.args.rows.now)))))) c.in-Some-waits.is
+    c.loop-row.invariant.took) c.put_within.ensures)
 
 pub returns-in-Some-waits-clause-some : goal.returns-in-Some-waits-clause-some
 returns-in-Some-waits-clause-some g c =
     let P : Option Share → Type 0 = λ o.
-    TookBut g.K.RowSink.takes c.args.sink.now c.loop-row.sink o (rows_of_steps (steps_after c.args.meter.now (entries_in (latest_first (take c.loop-row.row-index c.args.rows.now))))) in (
+    TookBut (TakesWithin g.K.RowSink.takes c.args.span) c.args.sink.now c.loop-row.sink o (rows_of_steps (steps_after c.args.meter.now (entries_in (latest_first (take c.loop-row.row-index c.args.rows.now))))) in (
       rows_of_steps (steps_after c.args.meter.now (entries_in (latest_first (take c.loop-row.row-index c.args.rows.now)))),
-      took_all g.K.RowSink.takes c.args.sink.now c.loop-row.sink c.put.new.self c.in-Some-waits.row _ (subst P c.in-Some-waits.is c.loop-row.invariant.took) c.put.ensures,
+      took_all (TakesWithin g.K.RowSink.takes c.args.span) c.args.sink.now c.loop-row.sink c.put_within.new.sink c.in-Some-waits.row _ (subst P c.in-Some-waits.is c.loop-row.invariant.took) c.put_within.ensures,
     )

@@ -2,6 +2,7 @@ use Rattle.std.proofs.Common.{◌≡◌, ◌∷◌, ap, arith}
 use Rattle.interval_core.specs.Account.{energy_of}
 use Rattle.interval_core.specs.Share.{shares_of}
 use Rattle.meter_journal.proofs.Joining.{first_and_rest}
+use Rattle.memory_books.specs.Tables.IntervalRows.{TakesWithin}
 use Rattle.memory_books.proofs.TablesLemmas.Waiting.{goes_by_next, goes_by_whole}
 use Rattle.memory_books.proofs.tables.interval_rows.hand_step.Goals as goal
 
@@ -11,12 +12,12 @@ loop-share-preserved g c =
     record {
       can = tt;
       finite = tt;
-      goes = goes_by_next g.K.RowSink.takes c.args.sink.now c.loop-share.sink c.hand_share.new.sink c.args.waits.now c.loop-share.waits c.hand_share.new.waits
+      goes = goes_by_next (TakesWithin g.K.RowSink.takes c.args.span) c.args.sink.now c.loop-share.sink c.hand_share.new.sink c.args.waits.now c.loop-share.waits c.hand_share.new.waits
           (shares_of c.args.step.now) c.loop-share.shares c.next.new.self c.in-Some.share left c.loop-share.invariant.goes c.hand_share.ensures.passes;
       within = omega (arith, ap energy_of left, first_and_rest c.in-Some.share c.next.new.self, c.hand_share.ensures.energy, c.loop-share.invariant.within);
     }
 
 pub returns-clause-passes : goal.returns-clause-passes
 returns-clause-passes g c =
-    goes_by_whole c.shares_add_up.ensures g.K.RowSink.takes c.args.sink.now c.loop-share.sink c.args.waits.now c.loop-share.waits c.args.step.now
+    goes_by_whole c.shares_add_up.ensures (TakesWithin g.K.RowSink.takes c.args.span) c.args.sink.now c.loop-share.sink c.args.waits.now c.loop-share.waits c.args.step.now
     c.loop-share.shares c.in_default.ensures.steps.0 c.requires.forward c.loop-share.invariant.goes

@@ -11,6 +11,7 @@ use Rattle.office_events.specs.declared.facts.Opening.{Opening}
 use Rattle.office_events.specs.declared.questions.Installation.{Installation}
 use Rattle.office_rules.specs.Meters.{installed, rows_of}
 use Rattle.office_books.specs.Sound.{HasNumbers}
+use Rattle.memory_books.specs.Tables.IntervalRows.{TakesWithin}
 use Rattle.memory_books.proofs.TablesLemmas.Known.{known}
 use Rattle.memory_books.proofs.tables.meter.Meter.hand_on.Goals as goal
 
@@ -21,7 +22,7 @@ returns-clause-whole g c = λ facts o lawful there said.
     let rows : List EntryRow = lists.latest_first c.deref.result.now in
     let is : rows ≡ rows_of facts o = ap lists.latest_first c.deref.ensures.value ∙ said.rows in
     let es : List Entry = entries_in rows in
-    let P : List Share → Type 0 = λ shares. TakesAll g.K.RowSink.takes c.args.sink.now shares c.hand_on.new.sink in
+    let P : List Share → Type 0 = λ shares. TakesAll (TakesWithin g.K.RowSink.takes c.args.span) c.args.sink.now shares c.hand_on.new.sink in
     subst P
     (ap (λ (p : Opening). rows_of_steps (steps_after (installed p) es)) opening_is
     ∙ ap (λ (rs : List EntryRow). rows_of_steps (steps_after (installed o) (entries_in rs))) is)

@@ -4,16 +4,16 @@ use Rattle.interval_core.specs.declared.shares.Share.{Share}
 use Rattle.office_books.specs.Rows.{TakesAll}
 use Rattle.office_events.specs.declared.facts.Fact.{Fact}
 use Rattle.office_rules.specs.Intervals.{rows_of_opening}
+use Rattle.memory_books.specs.Tables.IntervalRows.{rows_at, TakesWithin}
 use Rattle.memory_books.specs.declared.tables.keys.Key.{Key}
 use Rattle.memory_books.specs.declared.tables.places.Kind.TheVariants.{RegisterOpenings}
-use Rattle.memory_books.specs.Tables.IntervalRows.{rows_at}
 use Rattle.memory_books.specs.Tables.Places.{has_key, places_of}
 use Rattle.memory_books.proofs.TablesLemmas.Found.{openings_found}
 use Rattle.memory_books.proofs.tables.tables.Tables.register_intervals.Goals as goal
 
 pub returns-clause-whole : goal.returns-clause-whole
 returns-clause-whole g c = λ known is lawful whole.
-    let P : List Share → Type 0 = λ rows. TakesAll g.K.RowSink.takes c.args.sink.now rows c.hand_on_all.new.sink in
+    let P : List Share → Type 0 = λ rows. TakesAll (TakesWithin g.K.RowSink.takes c.args.span) c.args.sink.now rows c.hand_on_all.new.sink in
     subst P
     (ap (λ (fs : List Fact). rows_at known fs c.all.result.now) is
     ∙ ap (rows_at known (reverse known))

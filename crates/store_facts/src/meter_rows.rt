@@ -1,0 +1,22 @@
+//! The installations at a register.
+ghost use Rattle.store_tables.specs.Answer.{FirstFirst};
+ghost use Rattle.store_tables.specs.Asking.{Asks, Shows, TellsRows};
+ghost use Rattle.store_tables.specs.Meters.Rows.{installed_columns, installed_place, installed_shown, is_at};
+ghost use Rattle.store_tables.specs.Meters.Trees.{installations};
+
+use sqlite::{Alter, Connection, Error, Row, params};
+
+/// The rows of the installations at a register, in order of place; `read_installation` reads each.
+pub fn register_meter_rows<S: Alter>(
+    conn: &mut Connection<S>,
+    register: &str,
+) -> Result<Vec<Row>, Error>
+    ensures asks { Asks S.Store conn.old conn.new }
+    ensures shows { TellsRows S.Store conn.old conn.new installations installed_columns result
+        (Shows (is_at register.now) (FirstFirst installed_place) installed_shown) }
+{
+    conn.query_all(
+        "SELECT place, meter, register, ceiling, ended, last_moment, last_raw, last_sf, total FROM installations WHERE register = ?1 ORDER BY place",
+        params![register],
+    )
+}
