@@ -12,3 +12,4 @@ pub mod Headline
 pub mod EventRun
 pub mod Stopping
 pub mod Refusing
+pub mod Parts

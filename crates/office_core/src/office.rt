@@ -16,6 +16,7 @@ ghost use Rattle.office_core.specs.Asking.{TellsRow, TellsDays, TellsRows};
 ghost use Rattle.office_core.specs.Events as events;
 ghost use Rattle.office_core.specs.Failing.{IsNotForWantOfDay};
 ghost use Rattle.office_core.specs.Leaving.{BooksStand};
+ghost use Rattle.office_core.specs.Parts.{ListsAccepted, entries_within, intervals_within, meters_named};
 ghost use Rattle.office_core.specs.Reopening.{HandsBackUnopened, LeavesOpening, Passed};
 ghost use Rattle.office_core.specs.Reopening.{asking_moment};
 ghost use Rattle.office_core.specs.Site.{TellsSite};
@@ -31,7 +32,7 @@ use crate::site::SiteRow;
 use crate::{questions, site};
 use interval_core::{DayTotal, Share};
 use office_booking::{Outgoing, Slot, carry_out, settle_event};
-use office_books::{Books, Repeat, RowSink};
+use office_books::{Books, MeterEntry, Repeat, RowSink, Span};
 use office_events::{Answer, Device, Event, Installation, Name, Note, PollRow, Refusal, Register};
 use office_rules::facts_are_lawful;
 use std::alloc::Global;
@@ -285,6 +286,57 @@ impl<B: Books> Office<B> {
             return Err(Refusal::Stopped);
         }
         questions::intervals(&mut self.books, meter, sink)
+    }
+
+    /// Hands on the energy of a meter by the quarter hours that are asked for, in mWh, in order of their starts.
+    pub fn intervals_within<K: RowSink<Share>>(
+        &mut self,
+        meter: &Option<Name>,
+        span: Span,
+        sink: &mut K,
+    ) -> Result<(), Refusal>
+        ensures rows { TellsRows K.takes B.ledger self.old self.new sink.old sink.new result
+            (λ facts. intervals_within facts meter.now span) }
+        ensures puts { TakesRows K.takes sink.old sink.new }
+        ensures asks { OnlyAsks B.ledger self.old self.new result }
+        ensures no_day { IfErr result IsNotForWantOfDay }
+    {
+        if self.stopped {
+            return Err(Refusal::Stopped);
+        }
+        questions::intervals_of_span(&mut self.books, meter, span, sink)
+    }
+
+    /// The installations at a register as they stand, ended ones too, in the order in which they were installed. `None` is a name
+    /// that no register can have.
+    pub fn meters(&mut self, register: &Option<Name>) -> Result<Vec<Installation>, Refusal>
+        ensures listed { ListsAccepted B.ledger self.old self.new result
+            (λ facts. meters_named facts register.now) }
+        ensures asks { OnlyAsks B.ledger self.old self.new result }
+        ensures no_day { IfErr result IsNotForWantOfDay }
+    {
+        if self.stopped {
+            return Err(Refusal::Stopped);
+        }
+        questions::meters(&mut self.books, register)
+    }
+
+    /// The entries of a meter from a place on, voided ones too, in their order: at most so many. The opening has the place 1.
+    pub fn entries(
+        &mut self,
+        meter: &Option<Name>,
+        from: u64,
+        most: u32,
+    ) -> Result<Vec<MeterEntry>, Refusal>
+        ensures listed { ListsAccepted B.ledger self.old self.new result
+            (λ facts. entries_within facts meter.now from most) }
+        ensures asks { OnlyAsks B.ledger self.old self.new result }
+        ensures no_day { IfErr result IsNotForWantOfDay }
+    {
+        if self.stopped {
+            return Err(Refusal::Stopped);
+        }
+        questions::entries(&mut self.books, meter, from, most)
     }
 
     /// Hands on the energy of a register by civil days of the books' zone, in mWh, in order, once all are added up. A

@@ -10,10 +10,11 @@ ghost use Rattle.office_books.specs.Rows.{TakesAll};
 ghost use Rattle.office_core.specs.Asking.{ListsDays, Asks, DaysIn, FoundIn, RowsIn, TakesRows};
 ghost use Rattle.office_core.specs.Asking.{answered, intervals_of};
 ghost use Rattle.office_core.specs.Failing.{IsNotForWantOfDay};
+ghost use Rattle.office_core.specs.Parts.{ListsIn, entries_within, intervals_within, meters_named};
 
 use crate::day_sink::DaySink;
 use interval_core::{DayTotal, Share};
-use office_books::{Books, BooksFault, Repeat, RowSink};
+use office_books::{Books, BooksFault, MeterEntry, Repeat, RowSink, Span};
 use office_events::{Device, Installation, Name, PollRow, Refusal, Register};
 use office_rules::registers_are_in_turn;
 use std::alloc::Global;
@@ -154,8 +155,65 @@ pub fn intervals<B: Books, K: RowSink<Share>>(
         return Err(Refusal::NotFound);
     };
     found(books.meter(name))?;
-    books.intervals(name, sink)?;
+    books.intervals(name, Span::All, sink)?;
     Ok(())
+}
+
+/// Hands on the energy of a meter by the quarter hours that are asked for, in order of their starts.
+pub fn intervals_of_span<B: Books, K: RowSink<Share>>(
+    books: &mut B,
+    meter: &Option<Name>,
+    span: Span,
+    sink: &mut K,
+) -> Result<(), Refusal>
+    ensures rows { RowsIn K.takes (B.ledger books.old) (B.ledger books.new) sink.old sink.new result
+        (λ known. intervals_within known meter.now span) }
+    ensures puts { TakesRows K.takes sink.old sink.new }
+    ensures asks { Asks (B.ledger books.old) (B.ledger books.new) result }
+    ensures no_day { IfErr result IsNotForWantOfDay }
+{
+    let Some(name) = meter else {
+        return Err(Refusal::NotFound);
+    };
+    found(books.meter(name))?;
+    books.intervals(name, span, sink)?;
+    Ok(())
+}
+
+/// The installations at a register as they stand, ended ones too, in the order in which they were installed.
+pub fn meters<B: Books>(
+    books: &mut B,
+    register: &Option<Name>,
+) -> Result<Vec<Installation>, Refusal>
+    ensures listed { ListsIn (B.ledger books.old) (B.ledger books.new) result
+        (λ known. meters_named known register.now) }
+    ensures asks { Asks (B.ledger books.old) (B.ledger books.new) result }
+    ensures no_day { IfErr result IsNotForWantOfDay }
+{
+    let Some(name) = register else {
+        return Err(Refusal::NotFound);
+    };
+    found(books.register(name))?;
+    Ok(books.meters(name)?)
+}
+
+/// The entries of a meter from a place on, voided ones too, in their order: at most so many. The opening has the place 1.
+pub fn entries<B: Books>(
+    books: &mut B,
+    meter: &Option<Name>,
+    from: u64,
+    most: u32,
+) -> Result<Vec<MeterEntry>, Refusal>
+    ensures listed { ListsIn (B.ledger books.old) (B.ledger books.new) result
+        (λ known. entries_within known meter.now from most) }
+    ensures asks { Asks (B.ledger books.old) (B.ledger books.new) result }
+    ensures no_day { IfErr result IsNotForWantOfDay }
+{
+    let Some(name) = meter else {
+        return Err(Refusal::NotFound);
+    };
+    found(books.meter(name))?;
+    Ok(books.entries(name, from, most)?)
 }
 
 /// Hands on all days, in their order.
@@ -179,7 +237,7 @@ fn days_of<B: Books>(
 {
     registers_are_in_turn();
     let mut days = DaySink::new(alloc, books.zone());
-    books.register_intervals(register, &mut days)?;
+    books.register_intervals(register, Span::All, &mut days)?;
     days.into_days()
 }
 

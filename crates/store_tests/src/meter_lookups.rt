@@ -8,6 +8,7 @@ use office_events::{EntryPlace, Installation};
 use sqlite::{Connection, MemStore};
 use std::alloc::Global;
 use std::test::Fail;
+use office_books::Span;
 use store_queries::{
     entry, installation, installation_count, intervals, meter, register_intervals,
 };
@@ -94,14 +95,14 @@ fn entries_are_found_with_what_was_before(rt: HostRuntime) -> Result<(), Fail> {
 fn of_m1(alloc: Global, conn: &mut Connection<MemStore>) -> Result<Seen, RowFault> {
     ready(conn)?;
     let mut seen = Seen::new(alloc);
-    intervals(conn, &name(b"m1")?, &mut seen)?;
+    intervals(conn, &name(b"m1")?, Span::All, &mut seen)?;
     Ok(seen)
 }
 
 fn of_main(alloc: Global, conn: &mut Connection<MemStore>) -> Result<Seen, RowFault> {
     ready(conn)?;
     let mut seen = Seen::new(alloc);
-    register_intervals(conn, &name(b"main")?, &mut seen)?;
+    register_intervals(conn, &name(b"main")?, Span::All, &mut seen)?;
     Ok(seen)
 }
 

@@ -1,6 +1,6 @@
 //! All look-ups of books.
 use interval_core::Share;
-use office_books::{Books, BooksFault, RowSink, StoreFault};
+use office_books::{Books, BooksFault, RowSink, Span, StoreFault};
 use office_events::Name;
 
 /// Takes rows, and forgets them.
@@ -47,10 +47,12 @@ fn ask_devices<B: Books>(books: &mut B, names: &AskedNames) -> bool {
 fn ask_meters<B: Books>(books: &mut B, names: &AskedNames) -> bool {
     look(books.meter(&names.m1))
         && look(books.installation(&names.main))
+        && look(books.meters(&names.main))
         && look(books.installation_count())
         && look(books.entry(&names.m1, 2))
-        && look(books.intervals(&names.m1, &mut NoRows))
-        && look(books.register_intervals(&names.main, &mut NoRows))
+        && look(books.entries(&names.m1, 1, 9))
+        && look(books.intervals(&names.m1, Span::All, &mut NoRows))
+        && look(books.register_intervals(&names.main, Span::All, &mut NoRows))
 }
 
 fn ask_polls<B: Books>(books: &mut B, names: &AskedNames) -> bool {

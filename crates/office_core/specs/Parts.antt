@@ -1,0 +1,63 @@
+-- Questions for a part of what there is: the quarter hours of a span, entries from a place on, the meters at a register.
+use Rattle.std.specs.Prelude.{◌≡◌, ◌⊎◌, ℕ, List, Option, Some, None, Result, Ok, Err}
+use Rattle.std.specs.Option.{option_map, option_and_then}
+use Rattle.std.specs.declared.alloc.Global.{Global}
+use Rattle.std.specs.declared.vec.Vec.{Vec}
+use Rattle.interval_core.specs.declared.shares.Share.{Share}
+use Rattle.office_events.specs.declared.facts.Fact.{Fact}
+use Rattle.office_events.specs.declared.questions.Installation.{Installation}
+use Rattle.office_events.specs.declared.refusals.Refusal.{Refusal}
+use Rattle.office_events.specs.declared.refusals.Refusal.TheVariants as refusal
+use Rattle.office_rules.specs.Facts.{opening_of, register_of}
+use Rattle.office_rules.specs.History.{facts_of}
+use Rattle.office_books.specs.declared.entries.MeterEntry.{MeterEntry}
+use Rattle.office_books.specs.declared.failures.Failures.{Failures}
+use Rattle.office_books.specs.declared.spans.Span.{Span}
+use Rattle.office_books.specs.Entries.{entries_at, first_from, installations_of}
+use Rattle.office_books.specs.Ledgers.{Ledger}
+use Rattle.office_books.specs.Spans.{rows_within}
+use Rattle.office_core.specs.Asking.{intervals_of}
+use Rattle.office_core.specs.declared.office.Office.{Office}
+use Rattle.office_core.specs.Failing.{IsOutside}
+use Rattle.office_core.specs.Standing.{After}
+use Rattle.office_core.specs.Taking.{failures_of}
+
+-- The rows of a meter whose quarter hours are asked for, where there is a meter of the name.
+abbrev pub intervals_within : List Fact → (meter : Option (List ℕ)) → Span → Option (List Share)
+intervals_within facts meter span = option_map (rows_within span) (intervals_of facts meter)
+
+-- Its entries from a place on, at most so many.
+abbrev pub entries_within : List Fact → (meter : Option (List ℕ)) → (from most : ℕ)
+    → Option (List MeterEntry)
+entries_within facts meter from most =
+    option_map (λ opening. first_from from most (entries_at facts (Some opening)))
+    (option_and_then (opening_of facts) meter)
+
+-- The installations at a register, where there is a register of the name.
+abbrev pub meters_at : List Fact → (register : List ℕ) → Option (List Installation)
+meters_at facts register =
+    option_map (λ row. installations_of facts register) (register_of facts register)
+
+abbrev pub meters_named : List Fact → (register : Option (List ℕ)) → Option (List Installation)
+meters_named facts register = option_and_then (meters_at facts) register
+
+-- The answer has these rows, and the books did not fail; where there is nothing of the name, that is told; or the books failed,
+-- or memory ran out there.
+abbrev pub IsListed : {T : Type 0} → Option (List T) → (before after : Failures)
+    → Result (Vec T Global) Refusal → Type 0
+IsListed rows before after (Ok listed) = (rows ≡ Some listed.items) × (after ≡ before)
+IsListed None before after (Err why) =
+    ((why ≡ refusal.NotFound) × (after ≡ before)) ⊎ IsOutside ⊥ before after why
+IsListed (Some rows) before after (Err why) = IsOutside ⊥ before after why
+
+-- So books answer of the facts that they hold, if no wrong answer of a store was taken as true,
+abbrev pub ListsIn : {T : Type 0} → (old new : Ledger) → Result (Vec T Global) Refusal
+    → (List Fact → Option (List T)) → Type 0
+ListsIn old new result rows = (known : List Fact) → old.holds known → new.is_clean
+    → IsListed (rows known) old.failures new.failures result
+
+-- and so does the office, of what it accepted.
+abbrev pub ListsAccepted : {B T : Type 0} → (B → Ledger) → (old new : Office B)
+    → Result (Vec T Global) Refusal → (List Fact → Option (List T)) → Type 0
+ListsAccepted ledger old new result rows = After ledger old new (λ past.
+    IsListed (rows (facts_of past)) (failures_of ledger old) (failures_of ledger new) result)
