@@ -1,4 +1,4 @@
-use Rattle.std.proofs.Common.{◌≡◌, ◌∙◌, List, Some, None, Bool, false, take, sym, ap, subst, IsTrue}
+use Rattle.std.proofs.Common.{◌≡◌, ◌∙◌, List, Some, Bool, false, take, refl, sym, ap, subst, IsTrue}
 use Rattle.std.specs.Option.{option_map}
 use Rattle.energy_core.specs.declared.entries.Entry.{Entry}
 use Rattle.meter_journal.specs.declared.lines.EntryRow.{EntryRow}
@@ -20,8 +20,8 @@ returns-then-not-are_numbered-clause-found c = λ facts o lawful there said.
     subst lists.AreNumbered (sym is) (rows_numbered (opened o) (journal_of facts o.meter)) in
     absurd (let bad : IsTrue false = c.if-not-are_numbered.ensures.if_so numbered in cc)
 
-pub returns-in_default-standing-clause-found : goal.returns-in_default-standing-clause-found
-returns-in_default-standing-clause-found c = λ facts o lawful there said.
+pub returns-in_default-installation_after-clause-found : goal.returns-in_default-installation_after-clause-found
+returns-in_default-installation_after-clause-found c = λ facts o lawful there said.
     let all = known c.journals_fit.ensures c.journals_are_kept.ensures c.installations_are_in_range.ensures facts o lawful there in
     let opening_is : c.args.self.now.row.opening ≡ o = ap (λ (row : Installation). row.opening) said.row in
     let items : c.deref-2.result.now ≡ c.args.self.now.rows.items = c.deref-2.ensures.value in
@@ -34,9 +34,8 @@ returns-in_default-standing-clause-found c = λ facts o lawful there said.
     let es : List Entry = entries_in (lists.latest_first c.first.result.now) in
     let account : HasAccount (installed o) es =
     subst (λ (rs : List EntryRow). HasAccount (installed o) (entries_in (lists.latest_first rs))) (sym before) kept.account in
-    absurd (let e : None ≡ Some (standing c.args.self.now.row.opening es c.args.self.now.row.ended) =
-    c.in_default-standing.ensures.found (subst HasNumbers (sym opening_is) all.numbers)
-    (subst (λ (p : Opening). HasAccount (installed p) es) (sym opening_is) account) in cc)
+    absurd (c.in_default-installation_after.ensures.none refl (subst HasNumbers (sym opening_is) all.numbers)
+    (subst (λ (p : Opening). HasAccount (installed p) es) (sym opening_is) account))
 
 pub returns-clause-found : goal.returns-clause-found
 returns-clause-found c = λ facts o lawful there said.
@@ -53,9 +52,8 @@ returns-clause-found c = λ facts o lawful there said.
     let es : List Entry = entries_in (lists.latest_first c.first.result.now) in
     let account : HasAccount (installed o) es =
     subst (λ (rs : List EntryRow). HasAccount (installed o) (entries_in (lists.latest_first rs))) (sym before) kept.account in
-    let stood : Some c.in-Some-standing.before ≡ Some (standing o (entries_in around.before) (is_ended facts o)) =
-    c.in-Some-standing.ensures.found (subst HasNumbers (sym opening_is) all.numbers)
-    (subst (λ (p : Opening). HasAccount (installed p) es) (sym opening_is) account)
+    let stood : Some c.in-Some-installation_after.before ≡ Some (standing o (entries_in around.before) (is_ended facts o)) =
+    ap (λ (row : Installation). Some row) c.in-Some-installation_after.ensures.stands
     ∙ ap (λ (p : Opening). Some (standing p es c.args.self.now.row.ended)) opening_is
     ∙ ap (λ (rs : List EntryRow). Some (standing o (entries_in (lists.latest_first rs)) c.args.self.now.row.ended)) before
     ∙ ap (λ (b : Bool). Some (standing o (entries_in around.before) b)) ended_is in
