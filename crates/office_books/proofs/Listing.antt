@@ -2,7 +2,7 @@
 use Rattle.std.proofs.Common.{◌≡◌, ℕ, zero, suc, ◌+◌, ◌<◌, ◌≤◌, Bool, true, false, List, [], ◌∷◌, ◌++◌, reverse, take, length, get_or, inl, inr, refl, sym, ap, ◌∙◌, arith, nat_le, append-nil}
 use Rattle.std.specs.List.{filter}
 use Rattle.std.proofs.lemmas.Bool.{cases_Bool, cond-true, cond-false}
-use Rattle.std.proofs.lemmas.List.{reverse-append, take_more}
+use Rattle.std.proofs.lemmas.List.{reverse-append, take_all, take_more}
 use Rattle.std.proofs.lemmas.List.Elements.{filter-append}
 use Rattle.meter_journal.specs.declared.lines.EntryRow.{EntryRow}
 use Rattle.meter_journal.specs.Lists.{latest_first}
@@ -12,13 +12,9 @@ use Rattle.office_books.specs.declared.entries.MeterEntry.{MeterEntry}
 use Rattle.office_books.specs.declared.entries.MeterEntry.TheVariants as entry
 use Rattle.office_books.specs.Entries.{place_of, scale_after, listed_rows, first_from}
 
-take_nil : {X : Type 0} (n : ℕ) → take {X = X} n [] ≡ []
-take_nil zero = refl
-take_nil (suc n) = refl
-
 take_push : {X : Type 0} (n : ℕ) (xs : List X) (x : X) → length (take n xs) < n → take n (xs ++ x ∷ []) ≡ take n xs ++ x ∷ []
 take_push zero xs x lt = absurd (omega (arith, lt))
-take_push (suc n) [] x lt = ap (λ l. x ∷ l) (take_nil n)
+take_push (suc n) [] x lt = ap (λ l. x ∷ l) (take_all n [] (omega arith))
 take_push (suc n) (y ∷ ys) x lt = ap (λ l. y ∷ l) (take_push n ys x (omega (arith, lt)))
 
 take_full : {X : Type 0} (n : ℕ) (xs : List X) (x : X) → n ≤ length (take n xs) → take n (xs ++ x ∷ []) ≡ take n xs
@@ -27,7 +23,7 @@ take_full (suc n) [] x le = absurd (omega (arith, le))
 take_full (suc n) (y ∷ ys) x le = ap (λ l. y ∷ l) (take_full n ys x (omega (arith, le)))
 
 pub none_listed : (from most : ℕ) → first_from from most [] ≡ []
-none_listed from most = take_nil most
+none_listed from most = take_all most [] (omega arith)
 
 module _ (from most : ℕ) (before : List MeterEntry) (e : MeterEntry) where
   abbrev asked : MeterEntry → Bool
