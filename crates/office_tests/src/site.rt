@@ -188,7 +188,7 @@ fn answered(rt: &impl Abort, office: &mut Tried) -> (Vec<SiteRow>, bool) {
     match office.site() {
         Ok(rows) => (rows, false),
         Err(why) => {
-            assert_eq!(rt; why, Refusal::Store(StoreCause::Refused));
+            assert!(rt; why == Refusal::Store(StoreCause::Refused));
             (office.site().ok().expect(rt, "rows"), true)
         }
     }
@@ -206,5 +206,5 @@ fn a_site_tells_that_the_books_refuse(rt: HostRuntime) {
         }
     }
     // The devices, the registers of two, and the meters of three.
-    assert_eq!(rt; refused, 6);
+    assert!(rt; refused == 6);
 }
