@@ -29,7 +29,7 @@ fn is_taken(alloc: Global, office: &mut Tried, line: &str) -> bool {
 }
 
 // An office to which these lines came. Its books refuse the call of this number; 0: none.
-fn built(rt: &impl Abort, alloc: Global, failing: u64) -> Tried {
+pub(crate) fn built(rt: &impl Abort, alloc: Global, failing: u64) -> Tried {
     let mut office = office_with(rt, alloc, failing, &[]);
     for line in LINES {
         assert!(rt; is_taken(alloc, &mut office, line), "{line}");
@@ -38,9 +38,9 @@ fn built(rt: &impl Abort, alloc: Global, failing: u64) -> Tried {
 }
 
 // A meter as it is told: its name, the moment, counter and scale of its last entry, its energy in mWh, whether it was closed.
-type Told<'a> = (&'a [u8], u64, u32, i16, u64, bool);
+pub(crate) type Told<'a> = (&'a [u8], u64, u32, i16, u64, bool);
 
-fn is_meter(row: &Installation, told: Told<'_>) -> bool {
+pub(crate) fn is_meter(row: &Installation, told: Told<'_>) -> bool {
     let (meter, at, raw, sf, total, ended) = told;
     Some(row.opening.meter) == Name::new(meter)
         && row.last == Last { at, raw, sf }
