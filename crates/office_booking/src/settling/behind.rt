@@ -19,7 +19,10 @@ fn with_fact(row: &Installation, fact: &Fact) -> Installation
     ensures with_it { result ≡ installation_with fact.now row.now }
 {
     match fact {
-        Fact::Entry(booked) if booked.meter.is(&row.opening.meter) => after_entry(row, &booked.entry),
+        Fact::Entry(booked) if booked.meter.is(&row.opening.meter) => after_entry(
+            row,
+            &booked.entry,
+        ),
         _ => *row,
     }
 }
