@@ -23,7 +23,7 @@ use Rattle.office_books.specs.Ledgers.{with_facts}
 use Rattle.kept_books.specs.declared.answers.Answers.{Answers}
 use Rattle.kept_books.specs.declared.known.Known.{Known}
 use Rattle.kept_books.specs.Answers.{answer_to, EachIs}
-use Rattle.kept_books.specs.Changes.{Changes, GoesOn, StaysKept}
+use Rattle.kept_books.specs.Changes.{Changes, EntryKeepsAnswers, StaysKept}
 use Rattle.kept_books.specs.Known.{AreTrue, IsLatest}
 use Rattle.kept_books.specs.declared.polls.Polls.{Polls}
 use Rattle.kept_books.specs.Polls.{PollsAreTrue, PollsChange}
@@ -60,7 +60,7 @@ other_void law v facts meter row apart is =
     (no_line (journal.Voided v.place) (same v.meter row.opening.meter) (ap (same v.meter) is.own ∙ apart)) refl is
 
 entry_comes : OtherMetersStay → EntriesMoveOn → InstallationsAreInRange → (b : BookedEntry) (facts : List Fact) (old new : Answers Installation)
-    → AreLawful (fact.Entry b ∷ facts) → GoesOn b old new → EachIs (IsLatest facts) old → EachIs (IsLatest (fact.Entry b ∷ facts)) new
+    → AreLawful (fact.Entry b ∷ facts) → EntryKeepsAnswers b old new → EachIs (IsLatest facts) old → EachIs (IsLatest (fact.Entry b ∷ facts)) new
 entry_comes stay move ranges b facts old new lawful goes are meter row there =
     by_name b.meter meter
     (λ e is.
