@@ -12,3 +12,6 @@ returns-in-Some-Site g c = c.reply_site.ensures (texts c.args.names.now)
 
 pub returns-in-Some-Intervals : goal.returns-in-Some-Intervals
 returns-in-Some-Intervals g c = c.reply_intervals.ensures (texts c.args.names.now) c.args.now.moment
+
+pub returns-in-Some-Energy : goal.returns-in-Some-Energy
+returns-in-Some-Energy g c = c.reply_energy.ensures (texts c.args.names.now) c.args.now.moment

@@ -1,0 +1,69 @@
+-- Days that a report took, and the report that was written of them.
+use Rattle.std.proofs.Common.{◌≡◌, ℕ, Bool, Option, List, [], ◌∷◌, ◌++◌, Result, Ok, Err, refl, sym, subst, ap, ◌∙◌, append-nil, append_assoc}
+use Rattle.std.specs.Prelude.{OnOk}
+use Rattle.std.specs.Io.KnownBytes.{Appends}
+use Rattle.energy_report.specs.Texts.{report_text}
+use Rattle.energy_report.specs.Writing.{GotUnless, HasTaken, IsFresh, TakesDay}
+use Rattle.energy_report.specs.declared.form.ReportForm.{ReportForm}
+use Rattle.energy_report.specs.declared.report_rows.ReportRows.{ReportRows}
+use Rattle.interval_core.specs.declared.totals.DayTotal.{DayTotal}
+use Rattle.interval_core.specs.declared.zone.Zone.{Zone}
+use Rattle.office_books.specs.Ledgers.{Ledger}
+use Rattle.office_books.specs.declared.failures.Failures.{Failures}
+use Rattle.office_books.specs.Rows.{TakesAll}
+use Rattle.office_core.specs.Asking.{HandsDays, TellsDays}
+use Rattle.office_core.specs.Standing.{books_in}
+use Rattle.office_core.specs.Taking.{failures_of}
+use Rattle.office_core.specs.declared.office.Office.{Office}
+use Rattle.office_events.specs.declared.refusals.Refusal.{Refusal}
+use Rattle.office_rules.specs.History.{History, facts_of}
+use Rattle.run_status.specs.RunHttp.RegisterReplies.{IsReport, PutsLast, TellsAccepted}
+
+-- days that were taken one by one were taken all
+taken_all : {W : Type 0} (contents : W → Option (List ℕ)) (days more : List DayTotal) (from at to : ReportRows W)
+    → HasTaken contents days from at → TakesAll (TakesDay contents) at more to → HasTaken contents (days ++ more) from to
+taken_all {W} contents days [] from at to has took =
+    let P : List DayTotal → Type 0 = λ those. HasTaken contents those from to in
+    let Q : ReportRows W → Type 0 = λ s. HasTaken contents days from s in
+    subst P (sym (append-nil days)) (subst Q (sym took) has)
+taken_all contents days (day ∷ more) from at to has took =
+    let P : List DayTotal → Type 0 = λ those. HasTaken contents those from to in
+    subst P (append_assoc days (day ∷ []) more)
+    (taken_all contents (days ++ day ∷ []) more from took.0 to (took.1.taken from days has) took.2)
+
+-- the report on them was written
+written : {W E : Type 0} (contents : W → Option (List ℕ)) (zone : Zone) (past : History) (register : Option (List ℕ)) (form : ReportForm)
+    (before after : Failures) (from to left : ReportRows W) (output : W) (answer told : Result (Unit {0}) Refusal)
+    → IsFresh contents form output from
+    → HandsDays (TakesDay contents) zone (facts_of past) register before after from to answer
+    → OnOk answer (PutsLast {E = E} contents (Ok told) to left)
+    → OnOk answer (IsReport zone past register form (Appends (contents output) (contents left.output.now)))
+written {W} contents zone past register form before after from to left output (Ok done) told fresh hands last =
+    let days = hands.whole.days in
+    let taken = taken_all contents [] days from from to fresh.taken hands.whole.took in
+    let P : Bool → Type 0 = λ failed. GotUnless failed (report_text from.form days) (contents from.output.now) (contents left.output.now) in
+    let got = subst P last.whole (last.finishes.finished from days taken hands.whole.few) in
+    (days, hands.whole.are, rw (sym fresh.form, sym fresh.output) got)
+written contents zone past register form before after from to left output (Err why) told fresh hands last = tt
+
+-- So the office is asked for them: what was written of the report is what holds the writer in the end.
+pub tells : {B W E : Type 0} (ledger : B → Ledger) (contents : W → Option (List ℕ)) (old new : Office B) (register : Option (List ℕ)) (form : ReportForm)
+    (from to left : ReportRows W) (output holds : W) (answer : Result (Unit {0}) Refusal) (result : Result (Result (Unit {0}) Refusal) E)
+    → IsFresh contents form output from → TellsDays (TakesDay contents) ledger old new from to answer register
+    → OnOk answer (PutsLast contents result to left) → holds ≡ left.output.now
+    → OnOk result (TellsAccepted ledger old new register form answer (Appends (contents output) (contents holds)))
+tells {E = E} ledger contents old new register form from to left output holds answer (Ok told) fresh days last end = λ past stands clean.
+    let zone = (ledger (books_in old)).zone in
+    let hands = days past stands clean in
+    record {
+      found = hands.answer;
+      report =
+          rw end (written {E = E} contents zone past register form (failures_of ledger old) (failures_of ledger new) from to left output answer told fresh hands last);
+    }
+tells ledger contents old new register form from to left output holds answer (Err fault) fresh days last end = tt
+
+-- the writer is the one that it was
+pub taken_by : {W : Type 0} (contents : W → Option (List ℕ)) (days : List DayTotal) (from to : ReportRows W)
+    → TakesAll (TakesDay contents) from days to → to.output.ghost_name ≡ from.output.ghost_name
+taken_by {W} contents [] from to took = ap (λ (rows : ReportRows W). rows.output.ghost_name) took
+taken_by contents (day ∷ more) from to took = taken_by contents more took.0 to took.2 ∙ took.1.output
