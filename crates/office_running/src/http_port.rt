@@ -19,7 +19,8 @@ use office_core::Office;
 use office_events::Name;
 use run_schedule::{MOST_PEERS, PEER_SECONDS, Peers, place_for};
 use run_status::{
-    PeerReply, RunRoute, StatusRoute, ask, reply_energy, reply_intervals, reply_site, reply_status, run_route,
+    PeerReply, RunRoute, StatusRoute, ask, reply_energy, reply_entries, reply_intervals,
+    reply_site, reply_status, run_route,
 };
 use std::alloc::{AllocError, Global};
 use std::io::ErrorKind;
@@ -248,6 +249,23 @@ impl Serving {
         }
     }
 
+    // The reply to the question for entries of a meter.
+    #[tactic(auto, using(crate::proofs::Going::goes_rows))]
+    fn reply_entries<B: Books>(
+        &self,
+        office: &mut Office<B>,
+        meter: &Option<Name>,
+        from: u64,
+    ) -> PeerReply
+        ensures { (names : List (List ℕ)) (at : ℕ) → Goes names at B.ledger office.old office.new }
+    {
+        let mut text = Vec::new(self.alloc);
+        match reply_entries(self.alloc, &mut text, office, meter, from) {
+            Ok(()) => PeerReply::Replied(text),
+            Err(_) => PeerReply::Failed,
+        }
+    }
+
     // The reply to the question for the energy of a register.
     #[tactic(auto, using(crate::proofs::Going::goes_energy))]
     fn reply_energy<B: Books>(
@@ -281,6 +299,7 @@ impl Serving {
             Some(RunRoute::Own(route)) => self.reply_status(route, voice),
             Some(RunRoute::Site) => self.reply_site(office, now.moment),
             Some(RunRoute::Intervals { meter, span }) => self.reply_intervals(office, &meter, span),
+            Some(RunRoute::Entries { meter, from }) => self.reply_entries(office, &meter, from),
             Some(RunRoute::Energy { register, form }) => self.reply_energy(office, &register, &form),
             None => {
                 if self.room.lacks(request) {
