@@ -151,12 +151,7 @@ pub fn intervals<B: Books, K: RowSink<Share>>(
     ensures asks { Asks (B.ledger books.old) (B.ledger books.new) result }
     ensures no_day { IfErr result IsNotForWantOfDay }
 {
-    let Some(name) = meter else {
-        return Err(Refusal::NotFound);
-    };
-    found(books.meter(name))?;
-    books.intervals(name, Span::All, sink)?;
-    Ok(())
+    intervals_of_span(books, meter, Span::All, sink)
 }
 
 /// Hands on the energy of a meter by the quarter hours that are asked for, in order of their starts.
@@ -190,11 +185,11 @@ pub fn meters<B: Books>(
     ensures asks { Asks (B.ledger books.old) (B.ledger books.new) result }
     ensures no_day { IfErr result IsNotForWantOfDay }
 {
-    let Some(name) = register else {
+    let Some(register) = register else {
         return Err(Refusal::NotFound);
     };
-    found(books.register(name))?;
-    Ok(books.meters(name)?)
+    found(books.register(register))?;
+    Ok(books.meters(register)?)
 }
 
 /// The entries of a meter from a place on, voided ones too, in their order: at most so many. The opening has the place 1.
@@ -209,11 +204,11 @@ pub fn entries<B: Books>(
     ensures asks { Asks (B.ledger books.old) (B.ledger books.new) result }
     ensures no_day { IfErr result IsNotForWantOfDay }
 {
-    let Some(name) = meter else {
+    let Some(meter) = meter else {
         return Err(Refusal::NotFound);
     };
-    found(books.meter(name))?;
-    Ok(books.entries(name, from, most)?)
+    found(books.meter(meter))?;
+    Ok(books.entries(meter, from, most)?)
 }
 
 /// Hands on all days, in their order.
