@@ -82,8 +82,13 @@ impl<S: Alter + Drop> Books for SqlBooks<S> {
         from: u64,
         most: u32,
     ) -> Result<Vec<MeterEntry>, BooksFault> {
-        let found =
-            store_queries::meter_entries(self.alloc, &mut self.connection, meter, from, most);
+        let found = store_queries::meter_entries(
+            self.alloc,
+            &mut self.connection,
+            meter,
+            from,
+            most,
+        );
         answered(&mut self.failures, found)
     }
 
