@@ -300,7 +300,9 @@ impl Serving {
             Some(RunRoute::Site) => self.reply_site(office, now.moment),
             Some(RunRoute::Intervals { meter, span }) => self.reply_intervals(office, &meter, span),
             Some(RunRoute::Entries { meter, from }) => self.reply_entries(office, &meter, from),
-            Some(RunRoute::Energy { register, form }) => self.reply_energy(office, &register, &form),
+            Some(RunRoute::Energy { register, form }) => {
+                self.reply_energy(office, &register, &form)
+            }
             None => {
                 if self.room.lacks(request) {
                     return self.reply_status(StatusRoute::Rejected(Status::Unavailable), voice);

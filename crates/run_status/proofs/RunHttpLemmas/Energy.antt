@@ -1,5 +1,5 @@
 -- Days that a report took, and the report that was written of them.
-use Rattle.std.proofs.Common.{◌≡◌, ℕ, Bool, Option, List, [], ◌∷◌, ◌++◌, Result, Ok, Err, refl, sym, subst, ap, ◌∙◌, append-nil, append_assoc}
+use Rattle.std.proofs.Common.{◌≡◌, ℕ, Bool, Option, Some, List, [], ◌∷◌, ◌++◌, Result, Ok, Err, IsErr, refl, sym, subst, ap, ◌∙◌, append-nil, append_assoc}
 use Rattle.std.specs.Prelude.{OnOk}
 use Rattle.std.specs.Io.KnownBytes.{Appends}
 use Rattle.energy_report.specs.Texts.{report_text}
@@ -17,7 +17,7 @@ use Rattle.office_core.specs.Taking.{failures_of}
 use Rattle.office_core.specs.declared.office.Office.{Office}
 use Rattle.office_events.specs.declared.refusals.Refusal.{Refusal}
 use Rattle.office_rules.specs.History.{History, facts_of}
-use Rattle.run_status.specs.RunHttp.RegisterReplies.{IsReport, PutsLast, TellsAccepted}
+use Rattle.run_status.specs.RunHttp.RegisterReplies.{AsksEnergy, IsReport, PutsLast, RepliesEnergy, TellsAccepted, with_energy_reply}
 
 -- days that were taken one by one were taken all
 taken_all : {W : Type 0} (contents : W → Option (List ℕ)) (days more : List DayTotal) (from at to : ReportRows W)
@@ -67,3 +67,46 @@ pub taken_by : {W : Type 0} (contents : W → Option (List ℕ)) (days : List Da
     → TakesAll (TakesDay contents) from days to → to.output.ghost_name ≡ from.output.ghost_name
 taken_by {W} contents [] from to took = ap (λ (rows : ReportRows W). rows.output.ghost_name) took
 taken_by contents (day ∷ more) from to took = taken_by contents more took.0 to took.2 ∙ took.1.output
+
+-- ---- the reply
+
+-- behind nothing there is the report alone
+alone : (zone : Zone) (past : History) (register : Option (List ℕ)) (form : ReportForm) (had holds : List ℕ) (answer : Result (Unit {0}) Refusal)
+    → had ≡ [] → OnOk answer (IsReport zone past register form (Appends (Some had) (Some holds)))
+    → OnOk answer (IsReport zone past register form (λ text. holds ≡ text))
+alone zone past register form had holds (Ok done) none (days, are, written) = (days, are, written ∙ ap (λ t. t ++ report_text form days) none)
+alone zone past register form had holds (Err why) none written = tt
+
+pub replied : {B E F : Type 0} (ledger : B → Ledger) (old new : Office B) (register : Option (List ℕ)) (form : ReportForm) (had holds from to : List ℕ)
+    (told : Result (Unit {0}) Refusal) (result : Result (Unit {0}) E)
+    → AsksEnergy ledger old new register form (Some had) (Some holds) {E = F} (Ok told) → had ≡ []
+    → OnOk result (to ≡ with_energy_reply told holds from) → RepliesEnergy ledger old new register form from to result
+replied ledger old new register form had holds from to told (Ok done) asked none puts = record {
+  answer = asked.answer;
+  report = holds;
+  asks = asked.asks;
+  tells = λ past stands clean.
+      let it = asked.tells past stands clean in
+      record { found = it.found; report = alone (ledger (books_in old)).zone past register form had holds asked.answer none it.report };
+  puts = puts ∙ ap (λ answer. with_energy_reply answer holds from) asked.gives;
+}
+replied ledger old new register form had holds from to told (Err why) asked none puts = record {
+  answer = asked.answer;
+  report = [];
+  asks = asked.asks;
+  tells = tt;
+  puts = tt;
+}
+
+-- there was no memory for it
+pub lacked : {B E F : Type 0} (ledger : B → Ledger) (old new : Office B) (register : Option (List ℕ)) (form : ReportForm) (had holds : Option (List ℕ))
+    (from to : List ℕ) (asked : Result (Result (Unit {0}) Refusal) F) (result : Result (Unit {0}) E)
+    → AsksEnergy ledger old new register form had holds asked → IsErr result → RepliesEnergy ledger old new register form from to result
+lacked ledger old new register form had holds from to asked (Ok done) asks fault = cc fault
+lacked ledger old new register form had holds from to asked (Err why) asks fault = record {
+  answer = asks.answer;
+  report = [];
+  asks = asks.asks;
+  tells = tt;
+  puts = tt;
+}

@@ -50,11 +50,7 @@ fn put_energy<B: Books, W: Write>(
 }
 
 // Puts the reply for a report, or for a refusal.
-fn put_told(
-    text: &mut Vec<u8>,
-    answer: &Result<(), Refusal>,
-    body: &[u8],
-) -> Result<(), AllocError>
+fn put_told(text: &mut Vec<u8>, answer: &Result<(), Refusal>, body: &[u8]) -> Result<(), AllocError>
     ensures { OnOk result (text.new.items
         ≡ with_energy_reply answer.now body.now text.old.items) }
 {

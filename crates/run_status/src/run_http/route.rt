@@ -38,9 +38,15 @@ pub enum RunRoute {
     /// The registers and their meters, which the office is asked for, as JSON.
     Site,
     /// The quarter hours of a meter, which the office is asked for, as text. `None` is a name that no meter can have.
-    Intervals { meter: Option<Name>, span: Span },
+    Intervals {
+        meter: Option<Name>,
+        span: Span,
+    },
     /// Its entries from a place on, voided ones too.
-    Entries { meter: Option<Name>, from: u64 },
+    Entries {
+        meter: Option<Name>,
+        from: u64,
+    },
     /// The energy of a register in the form of a report, which the office is asked for, as text. `None` is a name that no
     /// register can have.
     Energy {
