@@ -1,10 +1,10 @@
 //! Copies that hold an office alone, and whose tables a file has.
 use crate::commands::{KNOWN, are_reported, fill};
-use crate::files::{Connects, Files, path, remove};
+use crate::files::{Files, path, remove};
 use sqlite::{Alter, Connection, Error, Unknown};
 use std::fs;
 use std::test::Fail;
-use stored_office::{CopyFault, is_bare, is_office, whole_file, whole_files};
+use stored_office::{CopyFault, Databases, is_bare, is_office, whole_file, whole_files};
 
 fn copy_log(rt: &HostRuntime, from: &str, to: &str) -> Result<(), Fail> {
     let log = format!(in rt.alloc(); "{from}-wal")?;
@@ -36,26 +36,26 @@ fn make_other<S: Alter>(connection: &mut Connection<S>) -> Result<(), Error> {
 }
 
 /// Whether a database is bare before a table is made in it, and not after.
-fn is_bare_before<C: Connects>(connects: &C, path: &str) -> Result<bool, Fail> {
-    let mut connection = connects.make(path)?;
+fn is_bare_before<D: Databases>(databases: &D, path: &str) -> Result<bool, Fail> {
+    let mut connection = databases.make(path)?;
     let was_bare = is_bare(&connection);
     make_other(&mut connection)?;
     Ok(was_bare && !is_bare(&connection) && !is_office(&connection))
 }
 
-fn is_office_at<C: Connects>(connects: &C, path: &str) -> Result<bool, Fail> {
-    let connection = connects.open(path)?;
+fn is_office_at<D: Databases>(databases: &D, path: &str) -> Result<bool, Fail> {
+    let connection = databases.open(path)?;
     Ok(is_office(&connection))
 }
 
 /// Makes an office, and a copy of it that has no log. Why that isn't made whole, if it isn't.
-fn copy_alone<C: Connects>(
+fn copy_alone<D: Databases>(
     rt: &HostRuntime,
-    connects: &C,
+    databases: &D,
     from: &str,
     to: &str,
 ) -> Result<Option<CopyFault>, Fail> {
-    fill(rt, connects, from)?;
+    fill(rt, databases, from)?;
     copy_both(rt, from, to)?;
     let why = why_not_whole(rt, to);
     remove_log(rt, to)?;
@@ -63,15 +63,15 @@ fn copy_alone<C: Connects>(
 }
 
 /// Whether a copy of an office is one, without its log, and is reported as the office is.
-fn is_copied_alone<C: Connects>(
+fn is_copied_alone<D: Databases>(
     rt: &HostRuntime,
-    connects: &C,
+    databases: &D,
     from: &str,
     to: &str,
 ) -> Result<bool, Fail> {
-    let why = copy_alone(rt, connects, from, to)?;
-    let is_one = is_office_at(connects, to)?;
-    let reports = are_reported(rt, connects, to, &KNOWN)?;
+    let why = copy_alone(rt, databases, from, to)?;
+    let is_one = is_office_at(databases, to)?;
+    let reports = are_reported(rt, databases, to, &KNOWN)?;
     Ok(why.is_none() && is_one && reports)
 }
 

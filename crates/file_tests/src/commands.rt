@@ -1,6 +1,5 @@
 //! Commands over an office in a database that is closed and opened between, whatever makes the connections.
 use crate::day::{MONTH, REPORTED, book_day};
-use crate::files::Connects;
 use command_io::ExitStatus;
 use energy_report::{EnergyUnit, Period, ReportForm};
 use office_events::{Device, Register};
@@ -9,7 +8,7 @@ use office_store::{OpenFault, SqlBooks};
 use socket_link::FixedClock;
 use std::alloc::{AllocError, Global};
 use std::test::Fail;
-use stored_office::{Done, Task, carry_out_stored, create_stored};
+use stored_office::{Databases, Done, Task, carry_out_stored, create_stored};
 
 /// How a report ends, and what it prints.
 type Report = (Result<ExitStatus, OpenFault>, Vec<u8>);
@@ -37,29 +36,29 @@ static MADE: [(&str, Option<OpenFault>, bool); 3] = [
 ];
 
 /// Makes an office, and tells why it was not made.
-fn create<C: Connects>(
+fn create<D: Databases>(
     rt: &HostRuntime,
-    connects: &C,
+    databases: &D,
     path: &str,
     zone: &str,
 ) -> Result<Option<OpenFault>, Fail> {
-    Ok(create_stored(rt.alloc(), connects.make(path)?, zone).err())
+    Ok(create_stored(rt.alloc(), databases.make(path)?, zone).err())
 }
 
 /// Makes an office, and books the day in it.
-pub(crate) fn fill<C: Connects>(rt: &HostRuntime, connects: &C, path: &str) -> Result<(), Fail> {
-    if create(rt, connects, path, "UTC0")?.is_some() {
+pub(crate) fn fill<D: Databases>(rt: &HostRuntime, databases: &D, path: &str) -> Result<(), Fail> {
+    if create(rt, databases, path, "UTC0")?.is_some() {
         return Err(Fail::from("not made"));
     }
-    match SqlBooks::open(rt.alloc(), connects.open(path)?) {
+    match SqlBooks::open(rt.alloc(), databases.open(path)?) {
         Ok(books) => book_day(rt.alloc(), books),
         Err(_) => Err(Fail::from("no books")),
     }
 }
 
 /// Makes an office one of a version that isn't known.
-fn set_version<C: Connects>(connects: &C, path: &str) -> Result<(), Fail> {
-    let mut connection = connects.open(path)?;
+fn set_version<D: Databases>(databases: &D, path: &str) -> Result<(), Fail> {
+    let mut connection = databases.open(path)?;
     connection.execute_batch("UPDATE meta SET version = 9")?;
     Ok(())
 }
@@ -78,14 +77,14 @@ impl NamedFiles for OnlyCounters {
 }
 
 /// Carries a task out at a moment that ends with a status: how, and what it prints.
-fn carry_out<C: Connects>(
+fn carry_out<D: Databases>(
     rt: &HostRuntime,
-    connects: &C,
+    databases: &D,
     path: &str,
     task: Task<'_>,
     moment: u64,
 ) -> Result<Report, Fail> {
-    let connection = connects.open(path)?;
+    let connection = databases.open(path)?;
     let moments = [moment];
     let mut clock = FixedClock::new(&moments);
     let mut printed = Vec::new(rt.alloc());
@@ -109,14 +108,14 @@ fn carry_out<C: Connects>(
 }
 
 /// Reports a register at a moment.
-fn report<C: Connects>(
+fn report<D: Databases>(
     rt: &HostRuntime,
-    connects: &C,
+    databases: &D,
     path: &str,
     register: &str,
     moment: u64,
 ) -> Result<Report, Fail> {
-    carry_out(rt, connects, path, Task::Report { register }, moment)
+    carry_out(rt, databases, path, Task::Report { register }, moment)
 }
 
 /// A device, a register, and a meter at what it shows.
@@ -142,14 +141,14 @@ static ENTERED: [(bool, &[u8]); 4] = [
 ];
 
 /// Whether lines are entered once.
-pub(crate) fn is_entered_once<C: Connects>(
+pub(crate) fn is_entered_once<D: Databases>(
     rt: &HostRuntime,
-    connects: &C,
+    databases: &D,
     path: &str,
 ) -> Result<bool, Fail> {
-    let made = create(rt, connects, path, "UTC0")?;
+    let made = create(rt, databases, path, "UTC0")?;
     for (looks, text) in &ENTERED {
-        let (end, printed) = carry_out(rt, connects, path, entering(*looks), 1000)?;
+        let (end, printed) = carry_out(rt, databases, path, entering(*looks), 1000)?;
         if end != Ok(ExitStatus::Fine) || printed.as_slice() != *text {
             return Ok(false);
         }
@@ -158,14 +157,14 @@ pub(crate) fn is_entered_once<C: Connects>(
 }
 
 /// Whether each report comes as its row says.
-pub(crate) fn are_reported<C: Connects>(
+pub(crate) fn are_reported<D: Databases>(
     rt: &HostRuntime,
-    connects: &C,
+    databases: &D,
     path: &str,
     rows: &[Row],
 ) -> Result<bool, Fail> {
     for (register, moment, status, text) in rows {
-        let (end, printed) = report(rt, connects, path, register, *moment)?;
+        let (end, printed) = report(rt, databases, path, register, *moment)?;
         if end != Ok(*status) || printed.as_slice() != *text {
             return Ok(false);
         }
@@ -174,19 +173,19 @@ pub(crate) fn are_reported<C: Connects>(
 }
 
 /// Whether a database has no office, and nothing is printed of it.
-fn is_none<C: Connects>(rt: &HostRuntime, connects: &C, path: &str) -> Result<bool, Fail> {
-    let (end, printed) = report(rt, connects, path, "main", 5000)?;
+fn is_none<D: Databases>(rt: &HostRuntime, databases: &D, path: &str) -> Result<bool, Fail> {
+    let (end, printed) = report(rt, databases, path, "main", 5000)?;
     Ok(end == Err(OpenFault::NotOurs) && printed.is_empty())
 }
 
 /// Whether an office is made once, and for a zone alone.
-pub(crate) fn is_made_once<C: Connects>(
+pub(crate) fn is_made_once<D: Databases>(
     rt: &HostRuntime,
-    connects: &C,
+    databases: &D,
     path: &str,
 ) -> Result<bool, Fail> {
     for (zone, why, none) in &MADE {
-        if create(rt, connects, path, zone)? != *why || is_none(rt, connects, path)? != *none {
+        if create(rt, databases, path, zone)? != *why || is_none(rt, databases, path)? != *none {
             return Ok(false);
         }
     }
@@ -194,9 +193,9 @@ pub(crate) fn is_made_once<C: Connects>(
 }
 
 /// Whether it is reported by months in kWh.
-fn is_reported_by_months<C: Connects>(
+fn is_reported_by_months<D: Databases>(
     rt: &HostRuntime,
-    connects: &C,
+    databases: &D,
     path: &str,
 ) -> Result<bool, Fail> {
     let form = ReportForm {
@@ -208,31 +207,31 @@ fn is_reported_by_months<C: Connects>(
         register: "main",
         form: &form,
     };
-    let (end, printed) = carry_out(rt, connects, path, task, 5000)?;
+    let (end, printed) = carry_out(rt, databases, path, task, 5000)?;
     Ok(end == Ok(ExitStatus::Fine) && printed.as_slice() == MONTH)
 }
 
 /// Whether what was booked is reported.
-pub(crate) fn is_reported<C: Connects>(
+pub(crate) fn is_reported<D: Databases>(
     rt: &HostRuntime,
-    connects: &C,
+    databases: &D,
     path: &str,
 ) -> Result<bool, Fail> {
-    fill(rt, connects, path)?;
-    let by_days = are_reported(rt, connects, path, &KNOWN)?;
-    Ok(by_days && is_reported_by_months(rt, connects, path)?)
+    fill(rt, databases, path)?;
+    let by_days = are_reported(rt, databases, path, &KNOWN)?;
+    Ok(by_days && is_reported_by_months(rt, databases, path)?)
 }
 
 /// Whether a name that is no register's is refused, and an office of a version that isn't known is none.
-pub(crate) fn is_unknown<C: Connects>(
+pub(crate) fn is_unknown<D: Databases>(
     rt: &HostRuntime,
-    connects: &C,
+    databases: &D,
     path: &str,
 ) -> Result<bool, Fail> {
-    fill(rt, connects, path)?;
-    if !are_reported(rt, connects, path, &UNKNOWN)? {
+    fill(rt, databases, path)?;
+    if !are_reported(rt, databases, path, &UNKNOWN)? {
         return Ok(false);
     }
-    set_version(connects, path)?;
-    is_none(rt, connects, path)
+    set_version(databases, path)?;
+    is_none(rt, databases, path)
 }

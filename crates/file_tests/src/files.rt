@@ -1,28 +1,17 @@
-//! Connections to databases, whatever makes them; those to files of the system; and a file that no other test has.
-use sqlite::{Alter, Connection, FileFrom, FileStore, Unknown};
+//! Databases in files of the system, and a file that no other test has.
+use sqlite::{FileFrom, FileStore, Unknown};
 use std::hash::{BuildHasher, RandomState};
 use std::test::Fail;
 use std::{env, fs};
-use stored_office::{FileConnection, FileFault, make_file, open_file};
+use stored_office::{Databases, FileConnection, FileFault, make_file, open_file};
 
-/// Makes connections. What is tried over them names no file, since a function that holds a connection to one is dear to prove.
-pub(crate) trait Connects {
-    type Store: Alter + Drop;
-
-    /// Opens the database at a path, or makes an empty one where there is none.
-    fn make(&self, path: &str) -> Result<Connection<Self::Store>, FileFault>;
-
-    /// Opens the database at a path.
-    fn open(&self, path: &str) -> Result<Connection<Self::Store>, FileFault>;
-}
-
-/// Makes connections to files.
+/// The files of the system.
 #[derive(Clone, Copy)]
 pub(crate) struct Files<'r> {
     pub(crate) rt: &'r HostRuntime,
 }
 
-impl Connects for Files<'_> {
+impl Databases for Files<'_> {
     type Store = FileStore<FileFrom<Unknown>>;
 
     fn make(&self, path: &str) -> Result<FileConnection<Unknown>, FileFault> {

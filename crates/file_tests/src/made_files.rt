@@ -1,18 +1,18 @@
 //! Files that are made and opened.
-use crate::files::{Connects, Files, path, remove};
+use crate::files::{Files, path, remove};
 use sqlite::{Alter, Connection, Error};
 use std::fs;
 use std::test::Fail;
-use stored_office::FileFault;
+use stored_office::{Databases, FileFault};
 
 /// Why a database isn't opened, if it isn't.
-fn unopened<C: Connects>(connects: &C, path: &str) -> Option<FileFault> {
-    connects.open(path).err()
+fn unopened<D: Databases>(databases: &D, path: &str) -> Option<FileFault> {
+    databases.open(path).err()
 }
 
 /// Why a database isn't made, if it isn't.
-fn unmade<C: Connects>(connects: &C, path: &str) -> Option<FileFault> {
-    connects.make(path).err()
+fn unmade<D: Databases>(databases: &D, path: &str) -> Option<FileFault> {
+    databases.make(path).err()
 }
 
 /// Makes a table with one row, which is 7.
@@ -23,15 +23,15 @@ fn fill<S: Alter>(connection: &mut Connection<S>) -> Result<(), Error> {
 }
 
 /// Makes a database with that table, and tells why it isn't opened meanwhile.
-fn unopened_twice<C: Connects>(connects: &C, path: &str) -> Result<Option<FileFault>, Fail> {
-    let mut made = connects.make(path)?;
+fn unopened_twice<D: Databases>(databases: &D, path: &str) -> Result<Option<FileFault>, Fail> {
+    let mut made = databases.make(path)?;
     fill(&mut made)?;
-    Ok(unopened(connects, path))
+    Ok(unopened(databases, path))
 }
 
 /// The number of that row.
-fn kept<C: Connects>(connects: &C, path: &str) -> Result<i64, Fail> {
-    let mut found = connects.open(path)?;
+fn kept<D: Databases>(databases: &D, path: &str) -> Result<i64, Fail> {
+    let mut found = databases.open(path)?;
     Ok(found.query_row("SELECT n FROM kept", &[])?.get(0)?)
 }
 

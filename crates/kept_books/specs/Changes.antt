@@ -13,7 +13,7 @@ use Rattle.kept_books.specs.declared.known.Known.{Known}
 use Rattle.kept_books.specs.Answers.{answer_to, Forgets}
 
 -- An installation that is kept of the meter of an entry is one that was and went on by it; the others stay.
-pub record GoesOn (booked : BookedEntry) (old new : Answers Installation) : Type 0 where
+pub record EntryKeepsAnswers (booked : BookedEntry) (old new : Answers Installation) : Type 0 where
   pub own : (row : Installation) → answer_to new booked.meter ≡ Some row
       → (before : Installation) × (answer_to old booked.meter ≡ Some before)
       × (IsSound before → MayEnter before booked.entry
@@ -48,7 +48,7 @@ Changes (fact.Opening opening) old new =
     SameLists old new × SameRegisters old new
     × ((name : List ℕ) → answer_to new.standing name ≡ None)
 Changes (fact.Entry booked) old new =
-    SameLists old new × SameRegisters old new × GoesOn booked old.standing new.standing
+    SameLists old new × SameRegisters old new × EntryKeepsAnswers booked old.standing new.standing
 Changes (fact.Void voided) old new =
     SameLists old new × SameRegisters old new × Forgets voided.meter old.standing new.standing
 Changes (fact.Device device) old new = StaysKept old new

@@ -1,5 +1,5 @@
 //! Installations that go on by their entries.
-ghost use Rattle.kept_books.specs.Changes.{GoesOn};
+ghost use Rattle.kept_books.specs.Changes.{EntryKeepsAnswers};
 
 use crate::answers::Answers;
 use office_books::moved;
@@ -7,7 +7,7 @@ use office_events::{BookedEntry, Installation};
 
 /// The installation of the meter, if it is kept, goes on by an entry.
 pub(crate) fn go_on(rows: &mut Answers<Installation>, booked: &BookedEntry)
-    ensures { GoesOn booked.now rows.old rows.new }
+    ensures { EntryKeepsAnswers booked.now rows.old rows.new }
 {
     if let Some(row) = rows.take(&booked.meter) {
         let after = moved(&row, booked);

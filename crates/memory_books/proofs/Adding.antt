@@ -13,13 +13,13 @@ use Rattle.office_books.specs.Ledgers.{KeepsFacts, Books, with_facts}
 use Rattle.memory_books.specs.declared.list_books.ListBooks.{ListBooks}
 use Rattle.memory_books.specs.declared.figures.Figures.{Figures}
 use Rattle.memory_books.specs.Figures.{AreFigures}
-use Rattle.memory_books.specs.Listed.{AreListed, GoOn, HasOne, ledger_of}
+use Rattle.memory_books.specs.Listed.{AreListed, FiguresFollow, HasOne, ledger_of}
 use Rattle.memory_books.specs.Looking.{failures_in, told}
 
 behind : (known facts : List Fact) → reverse known ++ facts ≡ reverse (with_facts facts known)
 behind known facts = sym (reverse-append (reverse facts) known ∙ ap (λ (xs : List Fact). reverse known ++ xs) (reverse-reverse facts))
 
-listed_on : (old new : ListBooks) (known facts : List Fact) → new.facts.items ≡ old.facts.items ++ facts → new.tables ≡ old.tables → GoOn facts old new
+listed_on : (old new : ListBooks) (known facts : List Fact) → new.facts.items ≡ old.facts.items ++ facts → new.tables ≡ old.tables → FiguresFollow facts old new
     → AreListed old known → AreLawful (with_facts facts known) → AreListed new (with_facts facts known)
 listed_on old new known facts is tables figures listed lawful = record {
   lawful = lawful;
@@ -50,13 +50,13 @@ one_among books (known ∷ left) more (inl listed) = inl listed
 one_among books (known ∷ left) more (inr may) = inr (one_among books left more may)
 
 -- figures after no facts
-figures_after_none : (old new : ListBooks) (facts known : List Fact) → facts ≡ [] → GoOn facts old new → AreListed old known → AreFigures new.figures known
+figures_after_none : (old new : ListBooks) (facts known : List Fact) → facts ≡ [] → FiguresFollow facts old new → AreListed old known → AreFigures new.figures known
 figures_after_none old new facts known none figures listed =
     subst (λ (fs : List Fact). AreFigures new.figures (with_facts fs known)) none (figures known listed.facts listed.figures)
 
 -- the facts were added, and the tables came further
 pub added : (old mid new : ListBooks) (facts : List Fact) → mid.facts.items ≡ old.facts.items ++ facts → mid.zone ≡ old.zone → mid.tables ≡ old.tables
-    → GoOn facts old mid → KeepsFacts (ledger_of mid) (ledger_of new) → new.zone ≡ mid.zone → new.last_failure ≡ old.last_failure
+    → FiguresFollow facts old mid → KeepsFacts (ledger_of mid) (ledger_of new) → new.zone ≡ mid.zone → new.last_failure ≡ old.last_failure
     → Books (ledger_of old) (ledger_of new) facts (Ok tt)
 added old mid new facts is zone tables figures keeps still_zone none_failed = record {
   booked = λ known listed lawful. keeps.facts (with_facts facts known) (listed_on old mid known facts is tables figures listed lawful);

@@ -7,7 +7,6 @@ use Rattle.office_books.specs.declared.faults.BooksFault.{BooksFault}
 use Rattle.office_books.specs.Faults.{faults_after}
 use Rattle.office_books.specs.Ledgers.{Ledger, KeepsFacts, OnlyReads}
 use Rattle.office_books.proofs.Moving.{keeps_then}
-use Rattle.memory_books.specs.declared.tables.tables.Tables.{Tables}
 use Rattle.memory_books.specs.Tables.Whole.{HaveCome}
 use Rattle.memory_books.specs.declared.list_books.ListBooks.{ListBooks}
 use Rattle.memory_books.specs.declared.figures.Figures.{Figures}

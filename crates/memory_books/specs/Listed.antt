@@ -17,8 +17,8 @@ pub record AreListed (books : ListBooks) (known : List Fact) : Type 0 where
   pub figures : AreFigures books.figures known
 
 -- with these facts after the others, figures that were those of the list are so again
-abbrev pub GoOn : (facts : List Fact) → (old new : ListBooks) → Type 0
-GoOn facts old new = (known : List Fact) → old.facts.items ≡ reverse known
+abbrev pub FiguresFollow : (facts : List Fact) → (old new : ListBooks) → Type 0
+FiguresFollow facts old new = (known : List Fact) → old.facts.items ≡ reverse known
     → AreFigures old.figures known
     → AreFigures new.figures (with_facts facts known)
 

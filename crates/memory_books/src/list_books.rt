@@ -32,7 +32,7 @@ pub struct ListBooks {
 impl ListBooks {
     ghost use Rattle.office_books.specs.Faults.{no_failures};
     ghost use Rattle.office_books.specs.Ledgers.{KeepsFacts, OnlyReads};
-    ghost use Rattle.memory_books.specs.Listed.{ledger_of, GoOn};
+    ghost use Rattle.memory_books.specs.Listed.{ledger_of, FiguresFollow};
 
     /// Books that hold nothing yet.
     pub fn new(alloc: Global, zone: Zone) -> ListBooks
@@ -77,7 +77,7 @@ impl ListBooks {
     /// Adds facts after the others: all of them or, where memory is wanting, none.
     fn add(&mut self, facts: Vec<Fact>) -> Result<(), AllocError>
         ensures ok { OnOk result (self.new.facts.items ≡ self.old.facts.items ++ facts.items) }
-        ensures figures { OnOk result (GoOn facts.items self.old self.new) }
+        ensures figures { OnOk result (FiguresFollow facts.items self.old self.new) }
         ensures err { OnErr result (self.new.facts.items ≡ self.old.facts.items) }
         ensures same_figures { OnErr result (self.new.figures ≡ self.old.figures) }
         ensures zone { self.new.zone ≡ self.old.zone }

@@ -5,5 +5,5 @@ mod files;
 mod owners;
 
 pub use faults::FileFault;
-pub use files::{FileConnection, make_file, open_file};
+pub use files::{Databases, FileConnection, make_file, open_file};
 pub use owners::{is_bare, is_office};

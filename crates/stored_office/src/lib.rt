@@ -10,6 +10,6 @@ mod tasks;
 
 pub use backups::{CopyFault, whole_file, whole_files};
 pub use ends::{Ending, Failure, ending_of, say};
-pub use files::{FileConnection, FileFault, is_bare, is_office, make_file, open_file};
+pub use files::{Databases, FileConnection, FileFault, is_bare, is_office, make_file, open_file};
 pub use new_office::create_stored;
 pub use tasks::{Done, Task, carry_out_stored, ending_of_done};

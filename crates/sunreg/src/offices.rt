@@ -18,8 +18,8 @@ use std::fs::{self, Permissions};
 use std::io::{self, ErrorKind, IsTerminal, Printer, Write};
 use std::os::unix::fs::PermissionsExt;
 use stored_office::{
-    Done, Ending, Failure, FileFault, Task, carry_out_stored, create_stored, ending_of_done,
-    is_bare, is_office, make_file, open_file,
+    Databases, Done, Ending, Failure, FileFault, Task, carry_out_stored, create_stored,
+    ending_of_done, is_bare, is_office, make_file, open_file,
 };
 
 /// The host on which HTTP is answered.
@@ -27,18 +27,6 @@ pub(crate) const OWN_HOST: &str = "127.0.0.1";
 
 /// From how many bytes on a file takes a second or more to open.
 const LARGE: u64 = 16_000_000;
-
-// Where a database comes from. What holds a connection is proved over any of these, since over a connection to a file it
-// would cost minutes.
-pub(crate) trait Databases {
-    type Store: Alter + Drop;
-
-    // A connection to the database at a path, which is made where there is none.
-    fn make(&self, path: &str) -> Result<Connection<Self::Store>, FileFault>;
-
-    // A connection to a database that is there.
-    fn open(&self, path: &str) -> Result<Connection<Self::Store>, FileFault>;
-}
 
 /// The files of the system, and where the devices are of which counters are read.
 #[derive(Clone, Copy)]

@@ -21,14 +21,21 @@ module _ (known facts : List Fact) where
   one None = refl
   one (Some o) = refl
 
-  pub one_there : (places : List ℕ) (i d : ℕ) (row : Option Installation) → i < length places → row ≡ option_map (installation_of known) (opening_at facts (get_or places i d))
+  one_there : (places : List ℕ) (i d : ℕ) (row : Option Installation) → i < length places → row ≡ option_map (installation_of known) (opening_at facts (get_or places i d))
       → there (take (i + 1) places) ≡ there (take i places) ++ option_to_list row
   one_there places i d row lt is =
       ap there (take_more places i d lt)
       ∙ ap (map (installation_of known)) (filter_map-append (opening_at facts) (take i places) (get_or places i d ∷ []))
       ∙ map-append (installation_of known) (filter_map (opening_at facts) (take i places)) (filter_map (opening_at facts) (get_or places i d ∷ []))
-      ∙ ap (λ l. there (take i places) ++ l) (one (opening_at facts (get_or places i d)))
-      ∙ ap (λ o. there (take i places) ++ option_to_list o) (sym is)
+      ∙ ap (λ (rows : List Installation). there (take i places) ++ rows) (one (opening_at facts (get_or places i d)))
+      ∙ ap (λ (o : Option Installation). there (take i places) ++ option_to_list o) (sym is)
+
+  pub rows_more : (places : List ℕ) (i d : ℕ) (row : Option Installation) (rows more : List Installation) → i < length places
+      → rows ≡ map (installation_of known) (filter_map (opening_at facts) (take i places)) → row ≡ option_map (installation_of known) (opening_at facts (get_or places i d))
+      → more ≡ rows ++ option_to_list row
+      → more ≡ map (installation_of known) (filter_map (opening_at facts) (take (i + 1) places))
+  rows_more places i d row rows more lt so_far is came =
+      came ∙ ap (λ (before : List Installation). before ++ option_to_list row) so_far ∙ sym (one_there places i d row lt is)
 
   -- the meter of an opening that stands at a place of the facts
   pub meter_there : AreLawful known → facts ≡ reverse known → (place : ℕ) (o : Opening) → opening_at facts place ≡ Some o

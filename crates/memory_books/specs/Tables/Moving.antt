@@ -8,7 +8,6 @@ use Rattle.meter_journal.specs.Lists as lists
 use Rattle.office_events.specs.declared.facts.Opening.{Opening}
 use Rattle.office_events.specs.declared.facts.BookedEntry.{BookedEntry}
 use Rattle.office_events.specs.declared.facts.Fact.{Fact}
-use Rattle.office_events.specs.declared.questions.Installation.{Installation}
 use Rattle.office_rules.specs.Ranges.{IsSound}
 use Rattle.office_rules.specs.Laws.{IsRecorded}
 use Rattle.office_rules.specs.Steps.{moved_by}

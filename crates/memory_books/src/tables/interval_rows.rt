@@ -7,8 +7,7 @@ ghost use Rattle.interval_core.specs.Share.{shares_of};
 ghost use Rattle.meter_journal.specs.Books as books;
 ghost use Rattle.office_books.specs.Sound.{HasNumbers};
 ghost use Rattle.office_rules.specs.Meters as meters;
-ghost use Rattle.memory_books.specs.Tables.IntervalRows.{Passes, TakesRowsOf, TakesSome};
-ghost use Rattle.memory_books.specs.Tables.IntervalRows.{TakesWithin};
+ghost use Rattle.memory_books.specs.Tables.IntervalRows.{Passes, TakesRowsOf, TakesSome, TakesWithin};
 
 use energy_core::{
     MAX_INTERVALS, MAX_RANGE, MAX_TOTAL, MIN_RANGE, Ranged, Step, Terms, accounts_are_sound, enter,
@@ -31,7 +30,8 @@ fn put_within<K: RowSink<Share>>(span: Span, row: Share, sink: &mut K)
 /// Takes one more share after the row that waits, and hands that on where it is done.
 fn hand_share<K: RowSink<Share>>(waits: &mut Option<Share>, share: Share, span: Span, sink: &mut K)
     requires { ForSome waits.old (λ row. row.mwh + share.mwh < 2 ^ 64) }
-    ensures passes { Passes (TakesWithin K.takes span) sink.old sink.new waits.old waits.new (share ∷ []) }
+    ensures passes { Passes (TakesWithin K.takes span) sink.old sink.new waits.old waits.new
+        (share ∷ []) }
     ensures energy { energy_of (option_to_list waits.new)
         ≤ energy_of (option_to_list waits.old) + share.mwh }
 {
@@ -45,7 +45,8 @@ fn hand_step<K: RowSink<Share>>(waits: &mut Option<Share>, step: &Step, span: Sp
     requires forward { step.now.from < step.now.till }
     requires intervals { intervals_touched step.now.from step.now.till ≤ MAX_INTERVALS }
     requires energy { energy_of (option_to_list waits.old) + step.now.mwh ≤ MAX_TOTAL }
-    ensures passes { Passes (TakesWithin K.takes span) sink.old sink.new waits.old waits.new (shares_of step.now) }
+    ensures passes { Passes (TakesWithin K.takes span) sink.old sink.new waits.old waits.new
+        (shares_of step.now) }
     ensures energy { energy_of (option_to_list waits.new)
         ≤ energy_of (option_to_list waits.old) + step.now.mwh }
 {

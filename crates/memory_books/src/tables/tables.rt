@@ -226,10 +226,8 @@ impl Tables {
         ensures { WhereWhole self.now facts.now (λ known.
             result ≡ option_map (installation_of known) (spots.opening_at facts.now place)) }
     {
-        match opening_at(facts, place) {
-            Some(opening) => self.meter(&opening.meter),
-            None => None,
-        }
+        let opening = opening_at(facts, place)?;
+        self.meter(&opening.meter)
     }
 
     /// The installations that were opened at these places.
@@ -239,8 +237,8 @@ impl Tables {
         facts: &[Fact],
         places: &[usize],
     ) -> Result<Vec<Installation>, AllocError>
-        ensures { WhereWhole self.now facts.now (λ known. IfOk result (λ v.
-            v.items ≡ map (installation_of known) (filter_map (spots.opening_at facts.now) places.now))) }
+        ensures { WhereWhole self.now facts.now (λ known. IfOk result (λ v. v.items
+            ≡ map (installation_of known) (filter_map (spots.opening_at facts.now) places.now))) }
     {
         let mut rows = Vec::new(alloc);
         for place in places {
@@ -267,7 +265,8 @@ impl Tables {
     /// Hands on the energy of a meter by the quarter hours that are asked for, in order of their starts. This takes no memory.
     pub fn intervals<K: RowSink<Share>>(&self, meter: &Name, span: Span, sink: &mut K)
         ensures whole { (known : List Fact) → AreLawful known → AreWhole self.now known
-            → TakesAll (TakesWithin K.takes span) sink.old (rows_of_meter known meter.now) sink.new }
+            → TakesAll (TakesWithin K.takes span) sink.old (rows_of_meter known meter.now)
+            sink.new }
         ensures some { TakesSome (TakesWithin K.takes span) sink.old sink.new }
     {
         self.meters.table.hand_on(meter, span, sink);
@@ -276,7 +275,8 @@ impl Tables {
     /// Hands on the energy of the installation that was opened at a place of the facts, if one was.
     fn hand_on_at<K: RowSink<Share>>(&self, facts: &[Fact], place: usize, span: Span, sink: &mut K)
         ensures whole { WhereWhole self.now facts.now (λ known.
-            TakesAll (TakesWithin K.takes span) sink.old (rows_at known facts.now (place ∷ [])) sink.new) }
+            TakesAll (TakesWithin K.takes span) sink.old (rows_at known facts.now (place ∷ []))
+            sink.new) }
         ensures some { TakesSome (TakesWithin K.takes span) sink.old sink.new }
     {
         match opening_at(facts, place) {
@@ -294,7 +294,8 @@ impl Tables {
         sink: &mut K,
     )
         ensures whole { WhereWhole self.now facts.now (λ known.
-            TakesAll (TakesWithin K.takes span) sink.old (rows_at known facts.now places.now) sink.new) }
+            TakesAll (TakesWithin K.takes span) sink.old (rows_at known facts.now places.now)
+            sink.new) }
         ensures some { TakesSome (TakesWithin K.takes span) sink.old sink.new }
     {
         for place in places {
@@ -302,7 +303,8 @@ impl Tables {
         }
     }
 
-    /// Hands on the energy of a register by the quarter hours that are asked for, installation after installation. This takes no memory.
+    /// Hands on the energy of a register by the quarter hours that are asked for, installation after installation. This takes
+    /// no memory.
     pub fn register_intervals<K: RowSink<Share>>(
         &self,
         facts: &[Fact],
@@ -311,7 +313,8 @@ impl Tables {
         sink: &mut K,
     )
         ensures whole { WhereWhole self.now facts.now (λ known.
-            TakesAll (TakesWithin K.takes span) sink.old (rows_of_register known register.now) sink.new) }
+            TakesAll (TakesWithin K.takes span) sink.old (rows_of_register known register.now)
+            sink.new) }
         ensures some { TakesSome (TakesWithin K.takes span) sink.old sink.new }
     {
         self.hand_on_all(facts, self.openings.table.all(named(register)), span, sink);

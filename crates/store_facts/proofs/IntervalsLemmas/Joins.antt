@@ -1,10 +1,10 @@
 -- What the queries find.
-use Rattle.std.proofs.Common.{◌≡◌, ◌<◌, ◌≤◌, ◌<ℤ◌, ◌⊎◌, ◌&&◌, nat_le, nat_lt, le-leb, lt-leb, lt-ltb, le-ltb, Some, inl, inr, pos, ℕ, List, [], ◌∷◌, ◌++◌, map, filter, flat_map, Bool, true, false, bytes_eq, if◌then◌else◌, Ordering, Less, Equal, Greater, is_gt, refl, sym, ap, ap₂, subst, ◌∙◌, arith, IsPermutation}
+use Rattle.std.proofs.Common.{◌≡◌, ◌<◌, ◌≤◌, ◌<ℤ◌, ◌⊎◌, ◌&&◌, nat_le, nat_lt, le-leb, lt-ltb, le-ltb, Some, inl, inr, pos, ℕ, List, [], ◌∷◌, ◌++◌, map, filter, flat_map, Bool, true, false, bytes_eq, if◌then◌else◌, Ordering, Less, Equal, Greater, is_gt, refl, sym, ap, ap₂, subst, ◌∙◌, arith, IsPermutation}
 use Rattle.std.specs.List.{AllByRecursion, list_all}
 use Rattle.std.specs.Ordering.{ordering_then, int_cmp, is_ge, is_lt, MatchOrdering}
 use Rattle.std.specs.Cmp.{int_ranks}
 use Rattle.std.proofs.lemmas.Int.{ints}
-use Rattle.std.proofs.lemmas.Bool.{cases_Bool}
+use Rattle.std.proofs.lemmas.Bool.{cases_Bool, lt-leb}
 use Rattle.std.proofs.lemmas.List.{map-append}
 use Rattle.std.proofs.lemmas.List.Elements.{filter-append, All-from_recursion, recursion_from_All}
 use Rattle.std.proofs.lemmas.List.Sorted.{All-permutation, IsPermutation-refl, IsPermutation-sym, IsPermutation-trans, IsPermutation-map}

@@ -8,11 +8,23 @@ ghost use Rattle.sqlite.specs.Files.{file_state, IsOpened};
 ghost use Rattle.stored_office.specs.Files.Blank.{HasNoSumsIfBlank};
 
 use crate::files::faults::{FileFault, fault_of};
-use sqlite::{Connection, FileFrom, FileStore, Start};
+use sqlite::{Alter, Connection, FileFrom, FileStore, Start};
 use std::fs;
 
 /// A connection to a file, which held what `S` says.
 pub type FileConnection<S> = Connection<FileStore<FileFrom<S>>>;
+
+/// Where databases come from. What holds a connection is proved over any of these, since over a connection to a file it would cost
+/// minutes.
+pub trait Databases {
+    type Store: Alter + Drop;
+
+    /// A connection to the database at a path, which is made where there is none.
+    fn make(&self, path: &str) -> Result<Connection<Self::Store>, FileFault>;
+
+    /// A connection to a database that is there.
+    fn open(&self, path: &str) -> Result<Connection<Self::Store>, FileFault>;
+}
 
 /// Opens the database in a file, or makes an empty one where there is no such file.
 pub fn make_file<S: Start>(

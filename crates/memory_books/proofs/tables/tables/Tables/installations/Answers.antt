@@ -1,4 +1,4 @@
-use Rattle.std.proofs.Common.{◌≡◌, ◌∙◌, List, map, reverse, ap}
+use Rattle.std.proofs.Common.{◌∙◌, List, map, reverse, ap}
 use Rattle.std.specs.List.{filter_map}
 use Rattle.office_events.specs.declared.facts.Fact.{Fact}
 use Rattle.office_rules.specs.Meters.{installation_of}
