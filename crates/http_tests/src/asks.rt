@@ -13,11 +13,11 @@ fn own(route: StatusRoute) -> Option<RunRoute> {
 #[test]
 fn a_run_has_routes_of_its_own(rt: HostRuntime) {
     let status = own(StatusRoute::Status);
-    assert_eq!(rt; run_route(&[], b"GET /status HTTP/1.1\r\n\r\n"), status);
+    assert!(rt; run_route(&[], b"GET /status HTTP/1.1\r\n\r\n") == status);
     let metrics = b"GET /metrics HTTP/1.0\r\nHost: a\r\n\r\n";
-    assert_eq!(rt; run_route(&["a"], metrics), own(StatusRoute::Metrics));
+    assert!(rt; run_route(&["a"], metrics) == own(StatusRoute::Metrics));
     let site = Some(RunRoute::Site);
-    assert_eq!(rt; run_route(&[], b"GET /site HTTP/1.1\r\n\r\n"), site);
+    assert!(rt; run_route(&[], b"GET /site HTTP/1.1\r\n\r\n") == site);
     let others: [&[u8]; 10] = [
         b"GET /page HTTP/1.1\r\n\r\n",
         b"GET /sites HTTP/1.1\r\n\r\n",
@@ -31,7 +31,7 @@ fn a_run_has_routes_of_its_own(rt: HostRuntime) {
         b"",
     ];
     for other in others {
-        assert_eq!(rt; run_route(&[], other), None);
+        assert!(rt; run_route(&[], other) == None);
     }
 }
 
@@ -44,7 +44,7 @@ fn the_page_has_four_targets(rt: HostRuntime) {
         (b"GET /icon.svg HTTP/1.1\r\n\r\n", PagePart::Icon),
     ];
     for (request, part) in parts {
-        assert_eq!(rt; run_route(&[], request), own(StatusRoute::Page(part)));
+        assert!(rt; run_route(&[], request) == own(StatusRoute::Page(part)));
     }
 }
 
@@ -53,11 +53,11 @@ fn the_page_has_four_targets(rt: HostRuntime) {
 fn a_run_rejects_by_itself(rt: HostRuntime) {
     let method = own(StatusRoute::Rejected(Status::MethodNotAllowed));
     for request in &WRONG_METHODS {
-        assert_eq!(rt; run_route(&[], request), method);
+        assert!(rt; run_route(&[], request) == method);
     }
     let foreign = own(StatusRoute::Rejected(Status::Misdirected));
     for request in &MISDIRECTED {
-        assert_eq!(rt; run_route(&[], request), foreign);
+        assert!(rt; run_route(&[], request) == foreign);
     }
 }
 
@@ -83,7 +83,7 @@ fn a_rejection_is_a_fault(rt: HostRuntime) -> Result<(), Fail> {
     let mut text = Vec::new(rt.alloc());
     let route = StatusRoute::Rejected(Status::MethodNotAllowed);
     reply_status(rt.alloc(), &mut text, route, &Counts::new(), &[], &[])?;
-    assert_eq!(rt; text.as_slice(), REJECTION);
+    assert!(rt; text.as_slice() == REJECTION);
     Ok(())
 }
 
@@ -101,7 +101,7 @@ fn the_status_has_a_head(rt: HostRuntime) -> Result<(), Fail> {
         &[],
         &[],
     )?;
-    assert_eq!(rt; text.len(), 91 + 267);
+    assert!(rt; text.len() == 91 + 267);
     assert!(rt; text.starts_with(HEAD));
     Ok(())
 }
@@ -117,7 +117,7 @@ fn a_part_of_the_page_has_headers_for_a_browser(rt: HostRuntime) -> Result<(), F
         "HTTP/1.1 200 OK\r\nContent-Type: text/javascript; charset=utf-8\r\nContent-Length: {size}\r\nConnection: close\r\nContent-Security-Policy: default-src 'self'\r\nX-Content-Type-Options: nosniff\r\nCache-Control: no-cache\r\n\r\n"
     )?;
     assert!(rt; text.starts_with(head.as_bytes()));
-    assert_eq!(rt; text.get(head.len()..), Some(body));
+    assert!(rt; text.get(head.len()..) == Some(body));
     Ok(())
 }
 

@@ -55,13 +55,13 @@ static MALFORMED: [&[u8]; 22] = [
 #[test]
 fn numbers_are_those_of_an_i64(rt: HostRuntime) {
     for (bytes, raw) in &READ {
-        assert_eq!(rt; closing(rt.alloc(), bytes), Ok(*raw));
+        assert!(rt; closing(rt.alloc(), bytes) == Ok(*raw));
     }
     for bytes in &MALFORMED {
-        assert_eq!(rt; closing(rt.alloc(), bytes), Err(BodyFault::Malformed));
+        assert!(rt; closing(rt.alloc(), bytes) == Err(BodyFault::Malformed));
     }
     let negative = b"{\"raw\":-9223372036854775808,\"rolls\":0}";
-    assert_eq!(rt; closing(rt.alloc(), negative), Err(BodyFault::Negative));
+    assert!(rt; closing(rt.alloc(), negative) == Err(BodyFault::Negative));
 }
 
 static REGISTER: &[u8] = b"{\"name\":\"main\",\"device\":\"inv\",\"function\":3,\"address\":40";
@@ -91,7 +91,7 @@ static SCALES: [(&[u8], Result<Scale, BodyFault>); 7] = [
 #[test]
 fn a_register_has_one_scale(rt: HostRuntime) {
     for (more, want) in &SCALES {
-        assert_eq!(rt; scale(rt.alloc(), more), *want);
+        assert!(rt; scale(rt.alloc(), more) == *want);
     }
 }
 
@@ -107,7 +107,7 @@ fn commands_of_devices_and_meters_have_their_members(rt: HostRuntime) -> Result<
         timeout: 5,
         window: 2,
     };
-    assert_eq!(rt; device_in(&body), Ok(device));
+    assert!(rt; device_in(&body) == Ok(device));
     let install = InstallBody {
         meter: "m1",
         raw: 7,
@@ -115,13 +115,13 @@ fn commands_of_devices_and_meters_have_their_members(rt: HostRuntime) -> Result<
         ceiling: 100,
         range: None,
     };
-    assert_eq!(rt; install_in(&body), Ok(install));
+    assert!(rt; install_in(&body) == Ok(install));
     let exchange = ExchangeBody {
         last: 9,
         rolls: 1,
         install,
     };
-    assert_eq!(rt; exchange_in(&body), Ok(exchange));
+    assert!(rt; exchange_in(&body) == Ok(exchange));
     Ok(())
 }
 
@@ -132,20 +132,20 @@ fn commands_of_counters_have_their_members(rt: HostRuntime) -> Result<(), Fail> 
         before: 3,
         after: 4,
     };
-    assert_eq!(rt; reset_in(&body), Ok(reset));
+    assert!(rt; reset_in(&body) == Ok(reset));
     let rescale = RescaleBody {
         before: 3,
         after: 4,
         sf: -1,
     };
-    assert_eq!(rt; rescale_in(&body), Ok(rescale));
+    assert!(rt; rescale_in(&body) == Ok(rescale));
     assert_eq!(rt; void_in(&body), Ok(VoidBody { place: 6 }));
     let manual = ManualBody {
         raw: 7,
         rolls: 1,
         at: None,
     };
-    assert_eq!(rt; manual_in(&body), Ok(manual));
+    assert!(rt; manual_in(&body) == Ok(manual));
     assert_eq!(rt; close_in(&body), Ok(CloseBody { raw: 7, rolls: 1 }));
     Ok(())
 }
@@ -171,7 +171,7 @@ static MOMENTS: [(&[u8], Result<Option<u64>, BodyFault>); 3] = [
 #[test]
 fn what_may_lack_may_stand(rt: HostRuntime) {
     for (bytes, want) in &MOMENTS {
-        assert_eq!(rt; moment(rt.alloc(), bytes), *want);
+        assert!(rt; moment(rt.alloc(), bytes) == *want);
     }
 }
 

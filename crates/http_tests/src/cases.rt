@@ -70,9 +70,9 @@ pub(crate) fn has_reply(
     case: &Case<'_>,
     served: &Served,
 ) -> Result<(), AllocError> {
-    assert_eq!(rt; served.handled, Ok(()));
+    assert!(rt; served.handled == Ok(()));
     let want = reply(alloc, case.status, case.body)?;
-    assert_eq!(rt; served.given.as_slice(), want.as_bytes());
+    assert!(rt; served.given.as_slice() == want.as_bytes());
     Ok(())
 }
 

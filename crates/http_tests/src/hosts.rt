@@ -108,7 +108,7 @@ fn who_may_not_ask_is_turned_away(rt: HostRuntime) -> Result<(), Fail> {
 fn a_link_that_fails_is_told(rt: HostRuntime) {
     let mut output = [0; 400];
     let mut link = MemoryLink::new(b"", &mut output, 400, Some(1));
-    assert_eq!(rt; turn_away(&mut link), Err(HandleFault::Write));
+    assert!(rt; turn_away(&mut link) == Err(HandleFault::Write));
     let mut office_link = MemoryLink::new(b"GET", &mut [], 400, None);
     assert!(rt; turn_away(&mut office_link).is_err());
 }

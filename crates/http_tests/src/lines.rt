@@ -27,7 +27,7 @@ fn intervals_are_told(rt: HostRuntime) {
     }
     put_end(2, &mut writer);
     assert!(rt; writer.finish().is_ok());
-    assert_eq!(rt; link.given(), INTERVALS);
+    assert!(rt; link.given() == INTERVALS);
 }
 
 static DAYS: &[u8] =
@@ -51,5 +51,5 @@ fn days_are_told(rt: HostRuntime) {
     }
     put_end(10, &mut writer);
     assert!(rt; writer.finish().is_ok());
-    assert_eq!(rt; link.given(), DAYS);
+    assert!(rt; link.given() == DAYS);
 }

@@ -102,9 +102,9 @@ fn an_end_inside_a_request_is_short(rt: HostRuntime) -> Result<(), Fail> {
     let router = router(rt.alloc())?;
     for end in 0..WHOLE {
         let failure = failure_of(rt.alloc(), &router, end, None)?;
-        assert_eq!(rt; failure.fault, Some(TakeFault::Short));
-        assert_eq!(rt; failure.held, end);
-        assert_eq!(rt; failure.failures, 0);
+        assert!(rt; failure.fault == Some(TakeFault::Short));
+        assert!(rt; failure.held == end);
+        assert!(rt; failure.failures == 0);
     }
     Ok(())
 }
@@ -114,9 +114,9 @@ fn each_take_may_fail(rt: HostRuntime) -> Result<(), Fail> {
     let router = router(rt.alloc())?;
     for call in 1..10 {
         let failure = failure_of(rt.alloc(), &router, WHOLE, Some(call))?;
-        assert_eq!(rt; failure.fault, Some(TakeFault::Read));
-        assert_eq!(rt; failure.failures, 1);
-        assert_eq!(rt; failure.takes, call);
+        assert!(rt; failure.fault == Some(TakeFault::Read));
+        assert!(rt; failure.failures == 1);
+        assert!(rt; failure.takes == call);
     }
     Ok(())
 }

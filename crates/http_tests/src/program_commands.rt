@@ -33,8 +33,8 @@ fn a_report_is_refused(rt: HostRuntime) -> Result<(), Fail> {
         let mut clock = FixedClock::new(&moments);
         let mut printed = Vec::new(rt.alloc());
         let done = report_books(rt.alloc(), books, "none", &mut clock, &mut printed);
-        assert_eq!(rt; done.end, ExitStatus::Refused);
-        assert_eq!(rt; printed.as_slice(), *text);
+        assert!(rt; done.end == ExitStatus::Refused);
+        assert!(rt; printed.as_slice() == *text);
     }
     Ok(())
 }
@@ -50,8 +50,8 @@ fn a_report_needs_no_clock(rt: HostRuntime) -> Result<(), Fail> {
         let mut clock = FixedClock::new(&moments);
         let mut printed = Vec::new(rt.alloc());
         let done = report_books(rt.alloc(), books, "main", &mut clock, &mut printed);
-        assert_eq!(rt; done.end, ExitStatus::Fine);
-        assert_eq!(rt; printed.as_slice(), REPORTED);
+        assert!(rt; done.end == ExitStatus::Fine);
+        assert!(rt; printed.as_slice() == REPORTED);
     }
     Ok(())
 }
@@ -92,8 +92,8 @@ fn serving_ends_by_its_first_fault(rt: HostRuntime) -> Result<(), Fail> {
     ];
     for (moment, port, end, text) in cases {
         let (ended, printed) = serve(&rt, moment, port)?;
-        assert_eq!(rt; ended, end);
-        assert_eq!(rt; printed.as_slice(), text);
+        assert!(rt; ended == end);
+        assert!(rt; printed.as_slice() == text);
     }
     Ok(())
 }
@@ -134,8 +134,8 @@ fn a_round_ends_by_its_first_fault(rt: HostRuntime) -> Result<(), Fail> {
     ];
     for (moment, port, end, text) in cases {
         let (ended, printed) = poll(&rt, moment, port)?;
-        assert_eq!(rt; ended, end);
-        assert_eq!(rt; printed.as_slice(), text);
+        assert!(rt; ended == end);
+        assert!(rt; printed.as_slice() == text);
     }
     Ok(())
 }

@@ -58,8 +58,8 @@ fn replies_have_their_headers(rt: HostRuntime) {
     writer.put(b"end 0\n");
     assert!(rt; writer.finish().is_ok());
     let len = JSON.len();
-    assert_eq!(rt; link.given().get(..len), Some(JSON));
-    assert_eq!(rt; link.given().get(len..), Some(TEXT));
+    assert!(rt; link.given().get(..len) == Some(JSON));
+    assert!(rt; link.given().get(len..) == Some(TEXT));
 }
 
 #[test]
@@ -70,7 +70,7 @@ fn each_give_may_fail(rt: HostRuntime) {
         let mut writer = ReplyWriter::new(&mut link);
         put_json(Status::NotFound, b"{\"refused\":1}", &mut writer);
         assert!(rt; writer.finish().is_err());
-        assert_eq!(rt; link.failures(), 1);
+        assert!(rt; link.failures() == 1);
         assert!(rt; JSON.starts_with(link.given()));
     }
 }
@@ -86,6 +86,6 @@ fn nothing_is_given_after_a_failed_give(rt: HostRuntime) {
         writer.put(&BLOCK);
     }
     assert!(rt; writer.finish().is_err());
-    assert_eq!(rt; link.given().len(), 100);
-    assert_eq!(rt; link.failures(), 1);
+    assert!(rt; link.given().len() == 100);
+    assert!(rt; link.failures() == 1);
 }

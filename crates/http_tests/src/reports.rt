@@ -21,8 +21,8 @@ fn reports(
 ) {
     let mut printed = Vec::new(alloc);
     let ended = report_days(office, &Name::new(register), &mut printed);
-    assert_eq!(rt; ended, status);
-    assert_eq!(rt; printed.as_slice(), text);
+    assert!(rt; ended == status);
+    assert!(rt; printed.as_slice() == text);
 }
 
 static DAY: &[u8] = b"1970-01-01   2                   200000\nend 1\n";
@@ -70,7 +70,7 @@ fn a_write_that_fails_is_told(rt: HostRuntime) -> Result<(), Fail> {
     for (room, register) in &NARROW {
         let mut narrow = Narrow { room: *room };
         let status = report_days(&mut office, &Name::new(register), &mut narrow);
-        assert_eq!(rt; status.number(), 3);
+        assert!(rt; status.number() == 3);
     }
     Ok(())
 }

@@ -29,7 +29,7 @@ fn are_answered(
     let router = router(alloc)?;
     for (text, status) in cases {
         let head = [front, text, back].concat(alloc)?;
-        assert_eq!(rt; status_of(&router, &head), *status);
+        assert!(rt; status_of(&router, &head) == *status);
     }
     Ok(())
 }
@@ -197,7 +197,7 @@ static NAMED: [(&[u8], Route, Option<&str>); 3] = [
 fn a_parameter_is_the_name(rt: HostRuntime) -> Result<(), Fail> {
     let router = router(rt.alloc())?;
     for (head, route, name) in &NAMED {
-        assert_eq!(rt; route_at(&router, head), Some((*route, *name)));
+        assert!(rt; route_at(&router, head) == Some((*route, *name)));
     }
     Ok(())
 }

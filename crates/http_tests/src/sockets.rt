@@ -64,14 +64,14 @@ fn a_link_fails_once_its_time_is_over(rt: HostRuntime) {
     let mut link = DeadlineLink::new(&mut inner, &mut clock, 10);
     assert!(rt; works_once(&mut link));
     assert!(rt; fails_twice(&mut link));
-    assert_eq!(rt; inner.given(), b"you".as_slice());
+    assert!(rt; inner.given() == b"you".as_slice());
 }
 
 #[test]
 fn a_list_of_moments_ends_with_its_last(rt: HostRuntime) {
     let mut clock = FixedClock::new(&[5, 3]);
-    assert_eq!(rt; [clock.now(), clock.now(), clock.now()], [5, 3, 3]);
-    assert_eq!(rt; FixedClock::new(&[]).now(), 0);
+    assert!(rt; [clock.now(), clock.now(), clock.now()] == [5, 3, 3]);
+    assert!(rt; FixedClock::new(&[]).now() == 0);
 }
 
 // Past the first second of 2020.

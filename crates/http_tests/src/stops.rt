@@ -32,11 +32,11 @@ fn a_text_that_is_cut_has_no_end(rt: HostRuntime) -> Result<(), Fail> {
     let mut cuts = 0u8;
     for failing in 1..20 {
         if let Some(given) = cut(rt.alloc(), failing)? {
-            assert_eq!(rt; given.as_slice(), ROWS);
+            assert!(rt; given.as_slice() == ROWS);
             cuts = cuts.saturating_add(1);
         }
     }
-    assert_eq!(rt; cuts, 1);
+    assert!(rt; cuts == 1);
     Ok(())
 }
 

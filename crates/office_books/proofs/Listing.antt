@@ -1,5 +1,5 @@
 -- Entries that are listed one by one.
-use Rattle.std.proofs.Common.{◌≡◌, ℕ, zero, suc, ◌+◌, ◌<◌, ◌≤◌, Bool, true, false, List, [], ◌∷◌, ◌++◌, reverse, take, length, get_or, inl, inr, refl, sym, ap, ◌∙◌, arith, nat_le, append-nil}
+use Rattle.std.proofs.Common.{◌≡◌, ℕ, zero, suc, ◌+◌, ◌<◌, ◌≤◌, Bool, true, false, List, [], ◌∷◌, ◌++◌, reverse, take, length, get_or, inl, inr, refl, ap, ◌∙◌, arith, nat_le, append-nil}
 use Rattle.std.specs.List.{filter}
 use Rattle.std.proofs.lemmas.Bool.{cases_Bool, cond-true, cond-false}
 use Rattle.std.proofs.lemmas.List.{reverse-append, take_all, take_more}

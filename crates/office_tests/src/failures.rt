@@ -240,7 +240,7 @@ fn told(rt: &impl Abort, alloc: Global, office: &mut Tried, line: &Line) -> Opti
         }
         printed = print_one(rt, alloc, office, line);
     }
-    assert_eq!(rt; str::from_utf8(&printed), Ok(line.printed));
+    assert!(rt; str::from_utf8(&printed) == Ok(line.printed));
     None
 }
 
@@ -274,7 +274,7 @@ fn each_call_of_the_books_may_fail(rt: HostRuntime) {
             assert!(rt; failing as usize > LINES.len(), "{failing} calls");
             return;
         }
-        assert_eq!(rt; faults, 1);
+        assert!(rt; faults == 1);
     }
     panic!(rt; "a call fails each time");
 }

@@ -170,14 +170,13 @@ fn books_that_keep_answers(rt: HostRuntime) {
     let beneath = empty_books(rt.alloc()).expect(&rt, "books");
     let mut books = KeptBooks::new(rt.alloc(), beneath);
     for (place, step) in STEPS.iter().enumerate() {
-        assert_eq!(rt;
-            told(rt.alloc(), &mut books, *step),
-            Ok(true),
+        assert!(rt;
+            told(rt.alloc(), &mut books, *step) == Ok(true),
             "step {place}"
         );
     }
     let mut beneath = books.into_books();
-    assert_eq!(rt; told(rt.alloc(), &mut beneath, STEPS[24]), Ok(true));
+    assert!(rt; told(rt.alloc(), &mut beneath, STEPS[24]) == Ok(true));
 }
 
 // Each step succeeds, or is tried again.
@@ -188,9 +187,8 @@ fn play(rt: &impl Abort, alloc: Global, failing: u64) -> KeptBooks<FailingBooks>
         match told(alloc, &mut books, *step) {
             Ok(found) => assert!(rt; found, "step {place}"),
             Err(_) => {
-                assert_eq!(rt;
-                    told(alloc, &mut books, *step),
-                    Ok(true),
+                assert!(rt;
+                    told(alloc, &mut books, *step) == Ok(true),
                     "step {place} again"
                 );
             }
@@ -205,10 +203,10 @@ fn kept_answers_outlive_failures(rt: HostRuntime) {
     for failing in 1..1000 {
         let books = play(&rt, rt.alloc(), failing);
         if books.faults() == 0 {
-            assert_eq!(rt; failing, CALLS + 1);
+            assert!(rt; failing == CALLS + 1);
             return;
         }
-        assert_eq!(rt; books.faults(), 1);
+        assert!(rt; books.faults() == 1);
     }
     panic!(rt; "a call fails each time");
 }

@@ -41,6 +41,8 @@ mod observer;
 #[cfg(test)]
 mod offices;
 #[cfg(test)]
+mod parts;
+#[cfg(test)]
 mod peers;
 #[cfg(test)]
 mod planned_lists;

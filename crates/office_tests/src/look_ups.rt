@@ -221,5 +221,5 @@ fn books_are_asked_no_more_than_it_takes(rt: HostRuntime) {
 fn a_repeat_is_looked_up_once(rt: HostRuntime) {
     let (at, event) = request(rt.alloc(), KEPT).expect(&rt, "a request");
     let answer = after(&rt, rt.alloc(), 1).feed(at, &event);
-    assert_eq!(rt; answer, Ok(Answer::Again(CommandKind::Manual)));
+    assert!(rt; answer == Ok(Answer::Again(CommandKind::Manual)));
 }

@@ -41,7 +41,7 @@ pub(crate) fn opened(rt: &impl Abort, alloc: Global, books: FailingBooks, moment
         Ok(office) => return office,
         Err(refused) => refused,
     };
-    assert_eq!(rt; why, Refusal::Store(StoreCause::Refused));
+    assert!(rt; why == Refusal::Store(StoreCause::Refused));
     Office::open(alloc, books, moment)
         .ok()
         .expect(rt, "an office that is opened again")

@@ -21,10 +21,10 @@ fn full() -> Peers {
 fn places_are_given_in_order(rt: HostRuntime) {
     let mut peers = Peers::new();
     for place in 0..64 {
-        assert_eq!(rt; peers.admit(100, 10), at(place));
+        assert!(rt; peers.admit(100, 10) == at(place));
     }
     peers.end(7);
-    assert_eq!(rt; peers.admit(101, 10), at(7));
+    assert!(rt; peers.admit(101, 10) == at(7));
 }
 
 #[test]
@@ -43,9 +43,9 @@ fn none_makes_room_where_all_have_asked(rt: HostRuntime) {
     for place in 0..64 {
         peers.ask(place);
     }
-    assert_eq!(rt; peers.admit(64, 10), None);
+    assert!(rt; peers.admit(64, 10) == None);
     peers.end(63);
-    assert_eq!(rt; peers.admit(64, 10), at(63));
+    assert!(rt; peers.admit(64, 10) == at(63));
 }
 
 #[test]

@@ -31,13 +31,13 @@ const CAUSES: [(StoreCause, u8); 3] = [
 #[test]
 fn numbers_of_refusals(rt: HostRuntime) {
     for (refusal, number) in REFUSALS {
-        assert_eq!(rt; refusal.number(), number);
+        assert!(rt; refusal.number() == number);
     }
 }
 
 #[test]
 fn numbers_of_store_causes(rt: HostRuntime) {
     for (cause, number) in CAUSES {
-        assert_eq!(rt; cause.number(), number);
+        assert!(rt; cause.number() == number);
     }
 }

@@ -57,7 +57,7 @@ fn left_after(rt: &impl Abort, alloc: Global) -> Vec<Ends> {
             return left;
         }
         if ended.done.is_err() {
-            assert_eq!(rt; ended.done, REFUSED);
+            assert!(rt; ended.done == REFUSED);
             assert!(rt; ended.polls == NONE || ended.polls == ended.again);
             if left.last() != Some(&ended.again) {
                 assert!(rt; left.push(ended.again).is_ok());
@@ -81,5 +81,5 @@ static LEFT: [Ends; 4] = [
 #[test]
 fn failing_books_break_the_round_off(rt: HostRuntime) {
     let left = left_after(&rt, rt.alloc());
-    assert_eq!(rt; left.as_slice(), LEFT.as_slice());
+    assert!(rt; left.as_slice() == LEFT.as_slice());
 }

@@ -25,7 +25,7 @@ fn an_unknown_device_is_refused(rt: HostRuntime) {
             &mut clock,
             &mut output,
         );
-        assert_eq!(rt; done, Err(RoundFault::Refused(Refusal::NotFound)));
+        assert!(rt; done == Err(RoundFault::Refused(Refusal::NotFound)));
     }
 }
 
@@ -83,8 +83,8 @@ fn each_call_of_the_link_may_fail(rt: HostRuntime) {
     let input = replies(rt.alloc()).expect(&rt, "replies");
     for (number, (wanted, polls)) in (1..).zip(calls) {
         let (done, ended) = fail_at(&rt, rt.alloc(), &input, number);
-        assert_eq!(rt; done.done, wanted, "call {number}");
-        assert_eq!(rt; ended, polls);
+        assert!(rt; done.done == wanted, "call {number}");
+        assert!(rt; ended == polls);
     }
 }
 
@@ -94,7 +94,7 @@ fn a_give_that_takes_nothing_is_the_links(rt: HostRuntime) {
     let mut link = MemoryLink::new(&[], &mut [], 260, None);
     let done = round(rt.alloc(), &mut office, &mut link, &[1000]);
     done.same(&rt, Err(RoundFault::Link), SET_BACK);
-    assert_eq!(rt; link.failures(), 1);
+    assert!(rt; link.failures() == 1);
 }
 
 // How the polls end of a round whose writer has so much room, which is too little.
@@ -112,7 +112,7 @@ fn print_into(rt: &impl Abort, alloc: Global, input: &[u8], room: usize) -> Ends
         &mut clock,
         &mut output,
     );
-    assert_eq!(rt; done, Err(RoundFault::Output));
+    assert!(rt; done == Err(RoundFault::Output));
     ends(&mut office)
 }
 
@@ -127,7 +127,7 @@ fn each_line_may_fail(rt: HostRuntime) {
     ];
     for (room, polls) in polls {
         let ended = print_into(&rt, rt.alloc(), &input, room);
-        assert_eq!(rt; ended, polls, "room for {room}");
+        assert!(rt; ended == polls, "room for {room}");
     }
 }
 
@@ -136,7 +136,7 @@ fn a_round_has_so_many_takes(rt: HostRuntime) {
     let mut office = listed(&rt, rt.alloc());
     let mut link = IdleLink::new();
     let done = round(rt.alloc(), &mut office, &mut link, &[1000]);
-    assert_eq!(rt; done.done, Err(RoundFault::TurnsUsed));
-    assert_eq!(rt; link.takes(), 100_000);
-    assert_eq!(rt; ends(&mut office), [LOST, None, None]);
+    assert!(rt; done.done == Err(RoundFault::TurnsUsed));
+    assert!(rt; link.takes() == 100_000);
+    assert!(rt; ends(&mut office) == [LOST, None, None]);
 }

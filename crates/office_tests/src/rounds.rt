@@ -37,8 +37,8 @@ pub(crate) struct Done {
 impl Done {
     /// Holds the round to how it is to end, and to what it is to print.
     pub(crate) fn same(&self, rt: &impl Abort, done: Result<(), RoundFault>, printed: &str) {
-        assert_eq!(rt; self.done, done);
-        assert_eq!(rt; str::from_utf8(&self.printed), Ok(printed));
+        assert!(rt; self.done == done);
+        assert!(rt; str::from_utf8(&self.printed) == Ok(printed));
     }
 }
 
@@ -122,7 +122,7 @@ fn each_read_of_the_plan_is_answered(rt: HostRuntime) {
     let mut link = MemoryLink::new(&input, &mut given, 259, None);
     let done = round(rt.alloc(), &mut office, &mut link, &[1000, 1001]);
     done.same(&rt, Ok(()), BOTH_ANSWERED);
-    assert_eq!(rt; link.given(), FRAMES);
+    assert!(rt; link.given() == FRAMES);
 }
 
 #[test]
@@ -132,9 +132,9 @@ fn replies_come_byte_by_byte(rt: HostRuntime) {
     let mut given = [0; 24];
     let mut link = MemoryLink::new(&input, &mut given, 1, None);
     let done = round(rt.alloc(), &mut office, &mut link, &[1000]);
-    assert_eq!(rt; done.done, Ok(()));
-    assert_eq!(rt; link.given(), FRAMES);
-    assert_eq!(rt; ends(&mut office), [ANSWERED, ANSWERED, None]);
+    assert!(rt; done.done == Ok(()));
+    assert!(rt; link.given() == FRAMES);
+    assert!(rt; ends(&mut office) == [ANSWERED, ANSWERED, None]);
 }
 
 #[test]
@@ -145,7 +145,7 @@ fn an_end_of_the_link_is_the_devices(rt: HostRuntime) {
     let done = round(rt.alloc(), &mut office, &mut link, &[1000]);
     done.same(&rt, Ok(()), GONE);
     let lost = Outcome::Lost(LostCause::Gone);
-    assert_eq!(rt; ends(&mut office), [ended(lost), None, None]);
+    assert!(rt; ends(&mut office) == [ended(lost), None, None]);
 }
 
 #[test]

@@ -14,14 +14,14 @@ fn a_device_is_due_at_multiples(rt: HostRuntime) {
     ];
     for (every, now, due) in cases {
         if 0 < every && every < 100_000 && now < 2_000_000_000 {
-            assert_eq!(rt; next_due(every, now), due);
+            assert!(rt; next_due(every, now) == due);
         }
     }
 }
 
 #[test]
 fn what_is_late_is_not_made_up_for(rt: HostRuntime) {
-    assert_eq!(rt; next_due(60, 187), 240);
+    assert!(rt; next_due(60, 187) == 240);
 }
 
 #[test]
@@ -29,16 +29,16 @@ fn pauses_grow(rt: HostRuntime) {
     let mut pause = 0;
     for longer in [1, 2, 4, 8, 16, 32, 60, 60] {
         pause = next_pause(pause);
-        assert_eq!(rt; pause, longer);
+        assert!(rt; pause == longer);
     }
-    assert_eq!(rt; retry_at(100, 8, 120), 108);
-    assert_eq!(rt; retry_at(100, 32, 120), 120);
+    assert!(rt; retry_at(100, 8, 120) == 108);
+    assert!(rt; retry_at(100, 32, 120) == 120);
 }
 
 #[test]
 fn a_round_lasts_a_minute_at_least(rt: HostRuntime) {
-    assert_eq!(rt; round_until(10, 1000), 1060);
-    assert_eq!(rt; round_until(900, 1000), 1900);
+    assert!(rt; round_until(10, 1000) == 1060);
+    assert!(rt; round_until(900, 1000) == 1900);
 }
 
 // The clock is set back by 40 seconds, and catches up.
@@ -54,9 +54,9 @@ fn a_clock_that_is_set_back_is_told_once(rt: HostRuntime) {
     ];
     for (now, moment, told) in cases {
         let reading = steady_clock.read(now);
-        assert_eq!(rt; reading.moment, moment);
-        assert_eq!(rt; reading.set_back, told);
-        assert_eq!(rt; reading.ahead_from, None);
+        assert!(rt; reading.moment == moment);
+        assert!(rt; reading.set_back == told);
+        assert!(rt; reading.ahead_from == None);
     }
 }
 
@@ -72,7 +72,7 @@ fn a_clock_that_goes_ahead_is_told(rt: HostRuntime) {
         (4722, Some(1122)),
     ];
     for (now, ahead_from) in cases {
-        assert_eq!(rt; steady_clock.read(now).ahead_from, ahead_from);
+        assert!(rt; steady_clock.read(now).ahead_from == ahead_from);
     }
 }
 
@@ -87,12 +87,12 @@ fn a_device_is_tried_again(rt: HostRuntime) {
             timing.begin(now);
             assert!(rt; timing.is_over(now + 5));
             timing.fail(60, now);
-            assert_eq!(rt; timing.at, again);
+            assert!(rt; timing.at == again);
         }
     }
     timing.stand(60, 129);
-    assert_eq!(rt; timing.phase, Phase::Polling);
+    assert!(rt; timing.phase == Phase::Polling);
     assert!(rt; timing.is_over(189));
     timing.rest(60, 130);
-    assert_eq!(rt; timing.at, 180);
+    assert!(rt; timing.at == 180);
 }

@@ -66,7 +66,7 @@ const STATUS: &str =
 fn the_status_is_json(rt: HostRuntime) {
     let mut text = Vec::new(rt.alloc());
     assert!(rt; put_status(&mut text, &counts(), &devices(), &[]).is_ok());
-    assert_eq!(rt; str::from_utf8(&text), Ok(STATUS));
+    assert!(rt; str::from_utf8(&text) == Ok(STATUS));
 }
 
 const METRICS: &str = "# HELP sunreg_polls_total Polls that ended, by outcome.
@@ -105,7 +105,7 @@ sunreg_last_reading_timestamp_seconds{device=\"inv\"} 1700000000
 fn the_metrics_are_in_text_format(rt: HostRuntime) {
     let mut text = Vec::new(rt.alloc());
     assert!(rt; put_metrics(&mut text, &counts(), &devices()).is_ok());
-    assert_eq!(rt; str::from_utf8(&text), Ok(METRICS));
+    assert!(rt; str::from_utf8(&text) == Ok(METRICS));
 }
 
 #[test]
@@ -179,5 +179,5 @@ fn what_devices_lack_is_said(rt: HostRuntime) {
             assert!(rt; put_lack(&mut text, lack).is_ok());
         }
     }
-    assert_eq!(rt; str::from_utf8(&text), Ok(SENTENCES));
+    assert!(rt; str::from_utf8(&text) == Ok(SENTENCES));
 }

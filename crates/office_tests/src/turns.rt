@@ -75,7 +75,7 @@ static TURNS: [(&[Moment], &str); 6] = [
 fn turns_feed_what_rounds_wish(rt: HostRuntime) {
     for (moments, text) in TURNS {
         let bench = seen(&rt, rt.alloc(), moments);
-        assert_eq!(rt; bench.observer.text.as_str(), text);
+        assert!(rt; bench.observer.text.as_str() == text);
     }
 }
 
@@ -88,8 +88,8 @@ static TO_ITS_END: [Moment; 3] = [
 #[test]
 fn a_device_is_polled_to_its_end(rt: HostRuntime) {
     let bench = seen(&rt, rt.alloc(), &TO_ITS_END);
-    assert_eq!(rt; bench.observer.text.as_str(), "0C 0S 0Ba 0S 0Ba 0G ");
-    assert_eq!(rt; bench.observer.frames, 24);
+    assert!(rt; bench.observer.text.as_str() == "0C 0S 0Ba 0S 0Ba 0G ");
+    assert!(rt; bench.observer.frames == 24);
 }
 
 static COME_AGAIN: [Moment; 3] = [
@@ -107,7 +107,7 @@ fn stage(bench: &Bench<Seen>, place: usize) -> Option<Stage> {
 #[test]
 fn a_device_that_came_again_waits(rt: HostRuntime) {
     let bench = seen(&rt, rt.alloc(), &COME_AGAIN);
-    assert_eq!(rt; stage(&bench, 0), Some(Stage::Waiting));
-    assert_eq!(rt; stage(&bench, 1), Some(Stage::Off));
-    assert_eq!(rt; stage(&bench, 2), None);
+    assert!(rt; stage(&bench, 0) == Some(Stage::Waiting));
+    assert!(rt; stage(&bench, 1) == Some(Stage::Off));
+    assert!(rt; stage(&bench, 2) == None);
 }

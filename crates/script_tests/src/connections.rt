@@ -105,8 +105,8 @@ fn a_trick_is_played_on_a_link(rt: HostRuntime) -> Result<(), Fail> {
     let mut output = [0; 64];
     let mut link = MemoryLink::new(READ, &mut output, 260, None);
     let tricks = [(1, Trick::Cut(4))];
-    assert_eq!(rt; answer_one(&mut link, &mut bank, &tricks), Ok(1));
-    assert_eq!(rt; link.given(), &NINE[..4]);
+    assert!(rt; answer_one(&mut link, &mut bank, &tricks) == Ok(1));
+    assert!(rt; link.given() == &NINE[..4]);
     Ok(())
 }
 
@@ -116,6 +116,6 @@ fn a_link_that_fails_is_told(rt: HostRuntime) -> Result<(), Fail> {
     let mut output = [0; 64];
     let mut link = MemoryLink::new(READ, &mut output, 260, Some(1));
     let answered = answer_one(&mut link, &mut bank, &[]);
-    assert_eq!(rt; answered, Err(ServeFault::Read));
+    assert!(rt; answered == Err(ServeFault::Read));
     Ok(())
 }

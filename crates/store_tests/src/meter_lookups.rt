@@ -4,13 +4,13 @@ use crate::new_books::ready;
 use crate::shares::{BOTH, FIRST, Seen, are};
 use crate::two_meters::{last, next_standing, row, standing, two_meters};
 use meter_journal::{EntryKind, EntryRow};
+use office_books::{MeterEntry, Span};
 use office_events::{EntryPlace, Installation};
 use sqlite::{Connection, MemStore};
 use std::alloc::Global;
 use std::test::Fail;
-use office_books::Span;
 use store_queries::{
-    entry, installation, installation_count, intervals, meter, register_intervals,
+    entries, entry, installation, installation_count, intervals, meter, meters, register_intervals,
 };
 use store_tables::RowFault;
 
@@ -54,6 +54,34 @@ fn the_latest_meter_of_a_register_is_found(rt: HostRuntime) -> Result<(), Fail> 
     Ok(())
 }
 
+fn meters_at(
+    alloc: Global,
+    conn: &mut Connection<MemStore>,
+    register: &[u8],
+) -> Result<Vec<Installation>, RowFault> {
+    ready(conn)?;
+    meters(alloc, conn, &name(register)?)
+}
+
+fn are_both(rows: &[Installation]) -> bool {
+    match rows {
+        [first, second] => {
+            Some(*first) == standing(last(2800, 5300), 300_000) && Some(*second) == next_standing()
+        }
+        _ => false,
+    }
+}
+
+#[test]
+fn a_register_has_its_meters_in_order(rt: HostRuntime) -> Result<(), Fail> {
+    let mut conn = two_meters(rt.alloc())?;
+    let both = meters_at(rt.alloc(), &mut conn, b"main")?;
+    assert!(rt; are_both(&both));
+    let none = meters_at(rt.alloc(), &mut conn, b"roof")?;
+    assert!(rt; none.is_empty());
+    Ok(())
+}
+
 /// An entry of m1 that stands after this moment and energy, and before its closing.
 fn before_closing(before: (u64, u32, u64), row: EntryRow) -> Option<EntryPlace> {
     let (at, raw, total) = before;
@@ -91,26 +119,135 @@ fn entries_are_found_with_what_was_before(rt: HostRuntime) -> Result<(), Fail> {
     Ok(())
 }
 
-/// The quarter hours of m1, and those of its register.
-fn of_m1(alloc: Global, conn: &mut Connection<MemStore>) -> Result<Seen, RowFault> {
+/// How many entries of m1 there are from a place on, at most so many, and the place of the first.
+fn listed(
+    alloc: Global,
+    conn: &mut Connection<MemStore>,
+    from: u64,
+    most: u32,
+) -> Result<(usize, u64), RowFault> {
+    ready(conn)?;
+    let listed = entries(alloc, conn, &name(b"m1")?, from, most)?;
+    Ok((listed.len(), listed.first().map_or(0, MeterEntry::place)))
+}
+
+#[test]
+fn entries_are_listed_from_a_place_on(rt: HostRuntime) -> Result<(), Fail> {
+    let mut conn = two_meters(rt.alloc())?;
+    let asked = [
+        (0, 9, (4, 1)),
+        (2, 9, (3, 2)),
+        (2, 1, (1, 2)),
+        (4, 9, (1, 4)),
+        (5, 9, (0, 0)),
+    ];
+    for (from, most, found) in asked {
+        assert!(rt;
+            listed(rt.alloc(), &mut conn, from, most) == Ok(found),
+            "{from} {most}"
+        );
+    }
+    Ok(())
+}
+
+fn entries_of_m1(
+    alloc: Global,
+    conn: &mut Connection<MemStore>,
+) -> Result<Vec<MeterEntry>, RowFault> {
+    ready(conn)?;
+    entries(alloc, conn, &name(b"m1")?, 1, 3)
+}
+
+#[test]
+fn entries_are_listed_with_their_rows(rt: HostRuntime) -> Result<(), Fail> {
+    let mut conn = two_meters(rt.alloc())?;
+    let second = row(2, EntryKind::Reading, last(1900, 5200), true);
+    let third = row(3, EntryKind::Reading, last(2000, 5250), false);
+    let wanted = [
+        MeterEntry::Opening(last(1000, 5000)),
+        MeterEntry::Later { row: second, sf: 0 },
+        MeterEntry::Later { row: third, sf: 0 },
+    ];
+    let listed = entries_of_m1(rt.alloc(), &mut conn)?;
+    assert!(rt; listed.as_slice() == wanted.as_slice());
+    Ok(())
+}
+
+/// The quarter hours of m1 that are asked for, and those of its register.
+fn of_m1(alloc: Global, conn: &mut Connection<MemStore>, span: Span) -> Result<Seen, RowFault> {
     ready(conn)?;
     let mut seen = Seen::new(alloc);
-    intervals(conn, &name(b"m1")?, Span::All, &mut seen)?;
+    intervals(conn, &name(b"m1")?, span, &mut seen)?;
     Ok(seen)
 }
 
-fn of_main(alloc: Global, conn: &mut Connection<MemStore>) -> Result<Seen, RowFault> {
+fn of_main(alloc: Global, conn: &mut Connection<MemStore>, span: Span) -> Result<Seen, RowFault> {
     ready(conn)?;
     let mut seen = Seen::new(alloc);
-    register_intervals(conn, &name(b"main")?, Span::All, &mut seen)?;
+    register_intervals(conn, &name(b"main")?, span, &mut seen)?;
     Ok(seen)
 }
 
 #[test]
 fn quarter_hours_are_handed_on(rt: HostRuntime) -> Result<(), Fail> {
     let mut conn = two_meters(rt.alloc())?;
-    assert!(rt; are(&of_m1(rt.alloc(), &mut conn), &FIRST));
-    assert!(rt; are(&of_main(rt.alloc(), &mut conn), &BOTH));
+    assert!(rt; are(&of_m1(rt.alloc(), &mut conn, Span::All), &FIRST));
+    assert!(rt; are(&of_main(rt.alloc(), &mut conn, Span::All), &BOTH));
+    Ok(())
+}
+
+/// Quarter hours that are asked for, and which of m1 and of its register they are.
+struct Part {
+    from: u64,
+    till: u64,
+    of_m1: &'static [(u64, u64)],
+    of_main: &'static [(u64, u64)],
+}
+
+static PARTS: [Part; 5] = [
+    Part {
+        from: 0,
+        till: u64::MAX,
+        of_m1: &FIRST,
+        of_main: &BOTH,
+    },
+    Part {
+        from: 1800,
+        till: 2700,
+        of_m1: &[(1800, 111_111)],
+        of_main: &[(1800, 111_111)],
+    },
+    Part {
+        from: 1801,
+        till: 2701,
+        of_m1: &[(2700, 11_112)],
+        of_main: &[(2700, 11_112), (2700, 40_000)],
+    },
+    Part {
+        from: 3600,
+        till: u64::MAX,
+        of_m1: &[],
+        of_main: &[(3600, 5000)],
+    },
+    Part {
+        from: u64::MAX,
+        till: 900,
+        of_m1: &[],
+        of_main: &[],
+    },
+];
+
+#[test]
+fn quarter_hours_of_a_span_are_handed_on(rt: HostRuntime) -> Result<(), Fail> {
+    let mut conn = two_meters(rt.alloc())?;
+    for part in &PARTS {
+        let span = Span::Between {
+            from: part.from,
+            till: part.till,
+        };
+        assert!(rt; are(&of_m1(rt.alloc(), &mut conn, span), part.of_m1));
+        assert!(rt; are(&of_main(rt.alloc(), &mut conn, span), part.of_main));
+    }
     Ok(())
 }
 

@@ -1,4 +1,4 @@
-use Rattle.std.proofs.Common.{rules, ◌≡◌, ◌++◌, ◌∷◌, ◌+◌, ◌<◌, List, [], ℕ, reverse, take, length, get_or, to_z, of_z, sym, ap, ◌∙◌}
+use Rattle.std.proofs.Common.{rules, ◌≡◌, ◌++◌, ◌∷◌, ◌<◌, List, [], ℕ, reverse, take, length, get_or, to_z, of_z, sym, ap, ◌∙◌}
 use mir.Syntax.{w16}
 use Rattle.energy_core.specs.declared.entries.Last.{Last}
 use Rattle.meter_journal.specs.Lists.{latest_first}
@@ -22,12 +22,13 @@ loop-row-preserved c =
     let i : ℕ = c.loop-row.row-index in
     let lt : i < length rows = c.loop-row-test.true in
     let before : List MeterEntry = reverse (listed_rows c.args.opening.now (latest_first (take i rows))) in
-    let scale : c.scale_with-scale.result ≡ scale_after c.args.opening.now (get_or rows i _ ∷ latest_first (take i rows)) =
+    let row : EntryRow = get_or rows i _ in
+    let scale : c.scale_with-scale.result ≡ scale_after c.args.opening.now (row ∷ latest_first (take i rows)) =
     c.scale_with-scale.ensures c.args.opening.now (latest_first (take i rows)) c.loop-row.invariant.scale in
     let kept : to_z w16 (of_z w16 c.scale_with-scale.result) ≡ c.scale_with-scale.result = search rules in
     record {
       listed = c.in_ok-list-2.ensures before c.loop-row.invariant.listed
-          ∙ ap (λ sf. first_from c.args.from c.args.most (before ++ entry.Later (get_or rows i _) sf ∷ [])) (kept ∙ scale)
+          ∙ ap (λ sf. first_from c.args.from c.args.most (before ++ entry.Later row sf ∷ [])) (kept ∙ scale)
           ∙ sym (ap (first_from c.args.from c.args.most) (next_listed c.args.opening.now rows i _ lt));
       scale = kept ∙ (scale ∙ sym (ap (scale_after c.args.opening.now) (turned_rows rows i _ lt)));
     }
