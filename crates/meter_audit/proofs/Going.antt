@@ -147,9 +147,9 @@ none_left : (rows : List Share) → drop (settled_in rows) rows ≡ [] → rows 
 none_left [] h = refl
 none_left (row ∷ rows) h =
     absurd (omega (
-    arith,
-    length-drop (settled_in (row ∷ rows)) (row ∷ rows),
-    ap (λ (rs : List Share). length rs) h,
+      arith,
+      length-drop (settled_in (row ∷ rows)) (row ∷ rows),
+      ap (λ (rs : List Share). length rs) h,
     ))
 
 -- those that were dropped are done with
