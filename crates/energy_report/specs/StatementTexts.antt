@@ -67,7 +67,8 @@ count_members tally =
 
 abbrev pub object : EnergyUnit → MeterStatement → List ℕ
 object unit row =
-    codes "{\"meter\":\"" ++ row.meter ++ codes "\"," ++ stand_members unit (codes "first") row.entries.first
+    codes "{\"meter\":\"" ++ row.meter ++ codes "\","
+    ++ stand_members unit (codes "first") row.entries.first
     ++ stand_members unit (codes "last") row.entries.last
     ++ codes "\"energy_" ++ unit_word unit ++ codes "\":\"" ++ energy_text unit row.mwh
     ++ codes "\"" ++ count_members row.entries ++ codes "}"

@@ -88,7 +88,8 @@ tally_of zone range entries = record {
 -- The energy of the rows whose quarter hours start in the range, as a number of 128 bits holds it.
 abbrev pub energy_within : Zone → DayRange → List Share → ℕ
 energy_within zone range rows =
-    min (sum_by (λ row. row.mwh) (filter (λ row. has_moment zone range row.start) rows)) (2 ^ 128 - 1)
+    min (sum_by (λ row. row.mwh) (filter (λ row. has_moment zone range row.start) rows))
+    (2 ^ 128 - 1)
 
 -- What a counter was worth, in mWh. No counter has another scale.
 abbrev pub worth_of : Last → ℕ
