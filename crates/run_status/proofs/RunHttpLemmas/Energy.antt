@@ -32,19 +32,19 @@ taken_all contents days (day ∷ more) from at to has took =
     (taken_all contents (days ++ day ∷ []) more from took.0 to (took.1.taken from days has) took.2)
 
 -- the report on them was written
-written : {W E : Type 0} (contents : W → Option (List ℕ)) (zone : Zone) (past : History) (register : Option (List ℕ)) (form : ReportForm)
+written : {W : Type 0} (E : Type 0) (contents : W → Option (List ℕ)) (zone : Zone) (past : History) (register : Option (List ℕ)) (form : ReportForm)
     (before after : Failures) (from to left : ReportRows W) (output : W) (answer told : Result (Unit {0}) Refusal)
     → IsFresh contents form output from
     → HandsDays (TakesDay contents) zone (facts_of past) register before after from to answer
     → OnOk answer (PutsLast {E = E} contents (Ok told) to left)
     → OnOk answer (IsReport zone past register form (Appends (contents output) (contents left.output.now)))
-written {W} contents zone past register form before after from to left output (Ok done) told fresh hands last =
+written {W} E contents zone past register form before after from to left output (Ok done) told fresh hands last =
     let days = hands.whole.days in
     let taken = taken_all contents [] days from from to fresh.taken hands.whole.took in
     let P : Bool → Type 0 = λ failed. GotUnless failed (report_text from.form days) (contents from.output.now) (contents left.output.now) in
     let got = subst P last.whole (last.finishes.finished from days taken hands.whole.few) in
     (days, hands.whole.are, rw (sym fresh.form, sym fresh.output) got)
-written contents zone past register form before after from to left output (Err why) told fresh hands last = tt
+written E contents zone past register form before after from to left output (Err why) told fresh hands last = tt
 
 -- So the office is asked for them: what was written of the report is what holds the writer in the end.
 pub tells : {B W E : Type 0} (ledger : B → Ledger) (contents : W → Option (List ℕ)) (old new : Office B) (register : Option (List ℕ)) (form : ReportForm)
@@ -58,7 +58,7 @@ tells {E = E} ledger contents old new register form from to left output holds an
     record {
       found = hands.answer;
       report =
-          rw end (written {E = E} contents zone past register form (failures_of ledger old) (failures_of ledger new) from to left output answer told fresh hands last);
+          rw end (written E contents zone past register form (failures_of ledger old) (failures_of ledger new) from to left output answer told fresh hands last);
     }
 tells ledger contents old new register form from to left output holds answer (Err fault) fresh days last end = tt
 
@@ -74,8 +74,8 @@ taken_by contents (day ∷ more) from to took = taken_by contents more took.0 to
 alone : (zone : Zone) (past : History) (register : Option (List ℕ)) (form : ReportForm) (had holds : List ℕ) (answer : Result (Unit {0}) Refusal)
     → had ≡ [] → OnOk answer (IsReport zone past register form (Appends (Some had) (Some holds)))
     → OnOk answer (IsReport zone past register form (λ text. holds ≡ text))
-alone zone past register form had holds (Ok done) none (days, are, written) = (days, are, written ∙ ap (λ t. t ++ report_text form days) none)
-alone zone past register form had holds (Err why) none written = tt
+alone zone past register form had holds (Ok done) none (days, are, text) = (days, are, text ∙ ap (λ t. t ++ report_text form days) none)
+alone zone past register form had holds (Err why) none text = tt
 
 pub replied : {B E F : Type 0} (ledger : B → Ledger) (old new : Office B) (register : Option (List ℕ)) (form : ReportForm) (had holds from to : List ℕ)
     (told : Result (Unit {0}) Refusal) (result : Result (Unit {0}) E)

@@ -7,8 +7,10 @@ pub returns-then-is_backward : goal.returns-then-is_backward
 returns-then-is_backward c =
     let backward : is_backward (targets.from_till c.in-Some.first c.in-Some-day_of.last) ≡ true = search rules in
     inr
-    (inr
-    (targets.from_till c.in-Some.first c.in-Some-day_of.last, c.in-Some.first, c.in-Some-day_of.last, c.in-Some.ensures, c.in-Some-day_of.ensures, refl, backward))
+    (inr (
+      targets.from_till c.in-Some.first c.in-Some-day_of.last,
+      (c.in-Some.first, c.in-Some-day_of.last, c.in-Some.ensures, c.in-Some-day_of.ensures, refl, backward),
+    ))
 
 pub returns : goal.returns
 returns c =
