@@ -2,9 +2,8 @@
 use crate::cases::reply;
 use crate::meter_rows::{route_of, text_reply};
 use crate::office::{polled, unmetered};
-use energy_report::{DayRange, EnergyUnit, Format, Period, ReportForm};
+use energy_report::{DayRange, EnergyUnit, Format, Period, ReportForm, read_day};
 use http_request::Status;
-use interval_core::Day;
 use memory_books::ListBooks;
 use office_core::Office;
 use office_events::Name;
@@ -54,16 +53,17 @@ fn days_and_months_are_told(rt: HostRuntime) -> Result<(), Fail> {
     Ok(())
 }
 
+static NOWHERE: [&str; 3] = [
+    "/registers/none/months",
+    "/registers//months",
+    "/registers/1main/days/1970-01-01/1970-01-02",
+];
+
 #[test]
 fn no_energy_is_told_of_a_register_that_is_none(rt: HostRuntime) -> Result<(), Fail> {
     let mut office = unmetered(rt.alloc())?;
     let expected = reply(rt.alloc(), "404 Not Found", "{\"refused\":1}")?;
-    let targets = [
-        "/registers/none/months",
-        "/registers//months",
-        "/registers/1main/days/1970-01-01/1970-01-02",
-    ];
-    for target in targets {
+    for target in NOWHERE {
         let text = energy(rt.alloc(), &mut office, target)?;
         assert_eq!(rt; text.as_slice(), expected.as_bytes());
     }
@@ -97,16 +97,13 @@ static ELSEWHERE: [&str; 7] = [
 
 #[test]
 fn a_target_may_ask_for_energy(rt: HostRuntime) -> Result<(), Fail> {
-    let (Ok(from), Ok(till)) = (Day::new(2026, 11, 1), Day::new(2026, 12, 1)) else {
-        return Err(Fail::from("no days"));
-    };
+    let from = read_day("2026-11-01");
+    let till = read_day("2026-12-01");
+    assert_eq!(rt; from.is_some() && till.is_some(), true);
     let asked = RunRoute::Energy {
         register: Name::new(b"main"),
         form: ReportForm {
-            range: DayRange {
-                from: Some(from),
-                till: Some(till),
-            },
+            range: DayRange { from, till },
             period: Period::Day,
             unit: EnergyUnit::MilliwattHours,
             format: Format::Text,

@@ -1,6 +1,6 @@
 -- The steps of a run, and its turns.
 use Rattle.std.proofs.Common.{◌≡◌, ◌⊎◌, inl, inr, ℕ, true, false, Bool, List, [], ◌∷◌, ◌++◌, Option, Some, None, Result, refl, sym, ap, ◌∙◌, subst, append_assoc}
-use Rattle.std.specs.Prelude.{max, position, slice_get, if◌then◌else◌}
+use Rattle.std.specs.Prelude.{max, position, slice_get}
 use Rattle.energy_report.specs.declared.form.ReportForm.{ReportForm}
 use Rattle.office_events.specs.declared.answers.Answer.{Answer}
 use Rattle.office_events.specs.declared.events.Event.{Event}
