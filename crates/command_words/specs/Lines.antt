@@ -21,6 +21,7 @@ pub record Form : Type 0 where
   pub period : Option Period
   pub unit : Option EnergyUnit
   pub format : Option Format
+  pub statement : Bool
 
 -- a command with the values of its options
 pub data Line : Type 0 where
@@ -48,6 +49,7 @@ seen_form form = record {
   period = form.period;
   unit = form.unit;
   format = form.format;
+  statement = form.statement;
 }
 
 abbrev pub seen : CommandLine → Line
@@ -113,14 +115,26 @@ round_in rows =
     given (text_at (codes "device") rows) (λ device.
     given (port_in rows) (λ port. Some (Round db device (host_in rows) port))))
 
+-- a statement has no periods
+abbrev pub unless_by : (statement : Bool) → Option Period → Form → Option Form
+unless_by statement period form = if statement && is_some period then None else Some form
+
 abbrev pub form_in : List Row → Option Form
 form_in rows =
     let from = text_at (codes "from") rows in
     let till = text_at (codes "till") rows in
+    let statement = is_set (codes "statement") rows in
     given (if_some period_of (text_at (codes "by") rows)) (λ period.
     given (if_some unit_of (text_at (codes "unit") rows)) (λ unit.
     given (if_some format_of (text_at (codes "format") rows)) (λ format.
-    Some (record { from = from; till = till; period = period; unit = unit; format = format }))))
+    unless_by statement period (record {
+      from = from;
+      till = till;
+      period = period;
+      unit = unit;
+      format = format;
+      statement = statement;
+    }))))
 
 abbrev pub report_in : List Row → Option Line
 report_in rows =

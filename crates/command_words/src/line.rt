@@ -3,7 +3,7 @@ use crate::values::Device;
 use energy_report::{EnergyUnit, Format, Period};
 
 /// In which form a report is asked for, as far as it is: from which day until which, as they stand in the words, by which
-/// periods, in which unit and format.
+/// periods or as a statement of the meters, in which unit and format.
 #[derive(Clone, Copy, Debug, PartialEq, Eq)]
 pub struct FormWords<'a> {
     pub from: Option<&'a str>,
@@ -11,6 +11,8 @@ pub struct FormWords<'a> {
     pub period: Option<Period>,
     pub unit: Option<EnergyUnit>,
     pub format: Option<Format>,
+    /// What a bill is checked by, a row for each meter. It has no periods.
+    pub statement: bool,
 }
 
 /// A command with the values of its options, which are texts as they stand in the words, numbers in their ranges, and
@@ -52,7 +54,7 @@ pub enum CommandLine<'a> {
         host: &'a str,
         port: u16,
     },
-    /// The energy of a register by days, or in the form that is asked for.
+    /// The energy of a register by days, or in the form that is asked for; or the statement of its meters.
     Report {
         db: &'a str,
         register: &'a str,

@@ -62,12 +62,20 @@ fn form<'a>(found: &ArgMatches<'a>) -> Result<FormWords<'a>, ValueFault<'a>>
     let period = period_if(found)?;
     let unit = unit_if(found)?;
     let format = format_if(found)?;
+    let statement = is_set(found, "statement");
+    if statement && period.is_some() {
+        return Err(ValueFault::Both {
+            one: "statement",
+            other: "by",
+        });
+    }
     Ok(FormWords {
         from: text_if(found, "from"),
         till: text_if(found, "till"),
         period,
         unit,
         format,
+        statement,
     })
 }
 

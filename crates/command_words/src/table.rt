@@ -276,6 +276,11 @@ const REPORT: CommandText<'static> = CommandText {
             },
             help: "How rows are written: text, csv or json; text where it is left out",
         },
+        OptionText {
+            name: "statement",
+            value: Value::Absent,
+            help: "A row for each meter instead, which a bill is checked by",
+        },
     ],
 };
 

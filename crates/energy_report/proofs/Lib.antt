@@ -11,3 +11,7 @@ pub mod DayLemmas
 pub mod ShownLemmas
 pub mod RowLinesLemmas
 pub mod Examples
+pub mod TallyLemmas
+pub mod EnergyLemmas
+pub mod StatementLemmas
+mod StatementExamples

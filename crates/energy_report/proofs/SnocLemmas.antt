@@ -99,7 +99,7 @@ few form days =
 
 -- ---- sums that stay at the greatest number
 
-capped : (most a b : ℕ) → min (min a most + b) most ≡ min (a + b) most
+pub capped : (most a b : ℕ) → min (min a most + b) most ≡ min (a + b) most
 capped most a b = elim (cases_lt a most) [
   | inl less ↦ ap (λ n. min (n + b) most) (min-eq_left (let le : a ≤ most = omega (arith, less) in le))
   | inr more ↦ ap (λ n. min (n + b) most) (min-eq_right more) ∙ min-eq_right (omega arith) ∙ sym (min-eq_right (omega (arith, more)))

@@ -6,4 +6,7 @@ pub mod Rows
 pub mod Texts
 pub mod Writing
 pub mod RowLines
+pub mod Statements
+pub mod Energies
+pub mod StatementTexts
 pub mod Laws

@@ -1,9 +1,12 @@
 -- Which civil days a range has.
-use Rattle.std.specs.Prelude.{Bool, true, false, not, ◌&&◌, Option, Some, None, List, filter}
+use Rattle.std.specs.Prelude.{ℕ, ℤ, nat_le, Bool, true, false, not, ◌&&◌, Option, Some, None, List, filter}
 use Rattle.std.specs.Ordering.{int_cmp, is_le, is_lt}
 use Rattle.jiff_core.specs.declared.civil.date.Date.{Date}
 use Rattle.jiff.specs.Words.{epoch_day}
+use Rattle.interval_core.specs.Zone.{day_at}
+use Rattle.interval_core.specs.declared.limits.TheConstants.{LAST_MOMENT}
 use Rattle.interval_core.specs.declared.totals.DayTotal.{DayTotal}
+use Rattle.interval_core.specs.declared.zone.Zone.{Zone}
 use Rattle.energy_report.specs.declared.range.DayRange.{DayRange}
 
 -- A range that begins so has begun by the day: that day is the first one that it has.
@@ -33,3 +36,21 @@ is_backward range = ends_before range.from range.till
 -- The days of a list that a range has, in their order.
 abbrev pub days_in : DayRange → List DayTotal → List DayTotal
 days_in range days = filter (λ total. is_in range total.day) days
+
+-- ---- moments
+
+-- The same of a day that is counted from 1970-01-01.
+abbrev pub begins_by_number : (from : Option Date) → ℤ → Bool
+begins_by_number None day = true
+begins_by_number (Some from) day = is_le (int_cmp (epoch_day from) day)
+
+abbrev pub ends_after_number : (till : Option Date) → ℤ → Bool
+ends_after_number None day = true
+ends_after_number (Some till) day = is_lt (int_cmp day (epoch_day till))
+
+abbrev pub has_day : DayRange → ℤ → Bool
+has_day range day = begins_by_number range.from day && ends_after_number range.till day
+
+-- A range has the moments of its days, by the clocks of a zone. One past the last moment has no day.
+abbrev pub has_moment : Zone → DayRange → (moment : ℕ) → Bool
+has_moment zone range moment = nat_le moment LAST_MOMENT && has_day range (day_at zone moment)

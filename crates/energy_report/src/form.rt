@@ -43,6 +43,14 @@ pub struct ReportForm {
     pub format: Format,
 }
 
+/// Which days a statement is of, and how it is written.
+#[derive(Clone, Copy, Debug, PartialEq, Eq)]
+pub struct StatementForm {
+    pub range: DayRange,
+    pub unit: EnergyUnit,
+    pub format: Format,
+}
+
 impl ReportForm {
     /// All days, a line a day, in mWh.
     pub fn plain() -> ReportForm

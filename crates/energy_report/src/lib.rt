@@ -1,8 +1,10 @@
 //! What the rows of an energy report are, for a range of civil days and by periods, and how they are written.
 #![tactic(auto)]
 
+mod energy_within;
 mod form;
 mod laws;
+mod meter_statement;
 mod range;
 mod report_rows;
 mod row;
@@ -10,14 +12,20 @@ mod row_lines;
 mod row_text;
 mod spelled_day;
 mod spelled_range;
+mod statement_text;
+mod tallies;
 
-pub use form::{EnergyUnit, Format, Period, ReportForm};
+pub use energy_within::EnergyWithin;
+pub use form::{EnergyUnit, Format, Period, ReportForm, StatementForm};
 pub use laws::{
     plain_reports_are_lists_of_days, ranges_add_up, rows_add_up, rows_are_shown, rows_are_whole,
 };
+pub use meter_statement::{MeterStatement, was_there};
 pub use range::DayRange;
 pub use report_rows::ReportRows;
 pub use row::Row;
 pub use row_lines::RowLines;
 pub use spelled_day::read_day;
 pub use spelled_range::{RangeFault, read_range};
+pub use statement_text::write_statement;
+pub use tallies::EntryTally;

@@ -1,8 +1,8 @@
 //! Ranges of civil days.
 ghost use Rattle.std.specs.Prelude.{◌≡◌};
-ghost use Rattle.energy_report.specs.Ranges.{all_days, begins_by, ends_after, is_backward, is_in};
+ghost use Rattle.energy_report.specs.Ranges.{all_days, begins_by, ends_after, has_moment, is_backward, is_in};
 
-use interval_core::Day;
+use interval_core::{Day, LAST_MOMENT, Zone, day_of};
 
 /// The civil days from one on until another, which is none of them. Without the one or the other there is no bound there.
 #[derive(Clone, Copy, Debug, PartialEq, Eq)]
@@ -27,6 +27,20 @@ impl DayRange {
         ensures { result ≡ is_in self.now day }
     {
         begins_by_day(self.from, day) && ends_after_day(self.till, day)
+    }
+
+    /// Whether the range has the day of a moment, in seconds since 1970-01-01 UTC, by the clocks of a zone. No moment past
+    /// `LAST_MOMENT` has a day.
+    pub fn has_moment(&self, zone: &Zone, moment: u64) -> bool
+        ensures { result ≡ has_moment zone.now self.now moment }
+    {
+        if LAST_MOMENT < moment {
+            return false;
+        }
+        match day_of(zone, moment) {
+            Ok(day) => self.has(day),
+            Err(_) => false,
+        }
     }
 
     /// Whether it ends before it begins. Such a range has no day, as one that ends on the day on which it begins.

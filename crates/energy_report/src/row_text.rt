@@ -10,7 +10,7 @@ use interval_core::Day;
 use script_text::{Line, Text, day_of_month, month_of, push_part, push_year};
 
 // The text of an energy, which has at most 46 characters.
-type Energy = Text<48>;
+pub(crate) type Energy = Text<48>;
 
 /// A row, and before it what stands before the first one or between two.
 pub(crate) fn row_piece(form: &ReportForm, is_first: bool, row: &Row) -> Line
@@ -134,7 +134,7 @@ fn period_word(period: Period) -> &'static [u8]
     }
 }
 
-fn unit_word(unit: EnergyUnit) -> &'static [u8]
+pub(crate) fn unit_word(unit: EnergyUnit) -> &'static [u8]
     ensures word { result.now ≡ text.unit_word unit }
     ensures size { length result.now ≡ 3 }
 {
@@ -175,7 +175,7 @@ fn push_period(line: &mut Line, period: Period, day: Day)
 
 // ---- energy
 
-fn energy(unit: EnergyUnit, mwh: u128) -> Energy
+pub(crate) fn energy(unit: EnergyUnit, mwh: u128) -> Energy
     ensures bytes { result ≡ text.energy_text unit mwh }
     ensures size { length result ≤ 46 }
 {

@@ -98,6 +98,22 @@ fn a_voided_row_gives_none(rt: HostRuntime) -> Result<(), Fail> {
 }
 
 #[test]
+fn a_voided_row_is_looked_at_behind_one_that_stands(rt: HostRuntime) {
+    let fast = TableRow {
+        raw: 50_000,
+        is_voided: true,
+        ..FIRST
+    };
+    assert!(rt; refused(fast) == Some(RowFault::Held(Cause::TooFast)));
+    let before = TableRow {
+        is_voided: true,
+        ..FIRST
+    };
+    let behind = TableRow { place: 3, ..fast };
+    assert!(rt; check_rows(&HOUSE, &[before, behind]).is_ok());
+}
+
+#[test]
 fn a_refused_row_is_passed_over(rt: HostRuntime) -> Result<(), Fail> {
     let mut progress = start(rt.alloc(), &HOUSE);
     let fault = take_row(&HOUSE, &mut progress, &SECOND)?;

@@ -44,8 +44,12 @@ share start mwh = record { start = start; mwh = mwh }
 abbrev last : (at raw : ℕ) → ℤ → Last
 last at raw sf = record { at = at; raw = raw; sf = sf }
 
-abbrev check : (place : ℕ) → Last → (total : ℕ) → Bool → Check
-check place l total ended = record { place = place; last = l; total = total; is_ended = ended }
+abbrev check_as : (place : ℕ) → Last → (total : ℕ) → (ended stands : Bool) → Check
+check_as place l total ended stands =
+    record { place = place; last = l; total = total; is_ended = ended; stands = stands }
+
+abbrev check : (place : ℕ) → Last → (total : ℕ) → (ended : Bool) → Check
+check place l total ended = check_as place l total ended true
 
 -- 200 Wh later
 abbrev first : TableRow
@@ -69,7 +73,15 @@ fine_tables : AreFine house (record {
 unfolding unit_of
 fine_tables = record {
   rows = row 2 kind.Reading (entry.Step 1900 5200 0) true ∷ [];
-  fit = (record { place = refl; unended = refl; entry = record { step = 200000; accepted = refl } }, tt);
+  fit = (
+    record {
+      place = refl;
+      unended = refl;
+      entry = record { step = 200000; accepted = refl };
+      voided_behind = λ off. absurd (let f : true ≡ false = off in cc);
+    },
+    tt,
+  );
   are = refl;
 }
 
@@ -77,8 +89,18 @@ fine_tables = record {
 abbrev voided_first : TableRow
 voided_first = told 2 row_kind.Reading 1900 5200 0 0 (pos 0) true
 
-behind_voided : passed house (begun house) voided_first ≡ Ok (check 2 (last 1000 5000 (pos 0)) 0 false, None)
+behind_voided : passed house (begun house) voided_first ≡ Ok (check_as 2 (last 1000 5000 (pos 0)) 0 false false, None)
+unfolding unit_of
 behind_voided = refl
+
+-- directly behind a row that stands it is looked at as if it stood, behind another that was voided it isn't
+voided_too_fast : passed house (begun house) (told 2 row_kind.Reading 1900 50000 0 0 (pos 0) true) ≡ Err (fault.Held cause.TooFast)
+unfolding unit_of
+voided_too_fast = refl
+
+voided_behind_a_voided : passed house (check_as 2 (last 1000 5000 (pos 0)) 0 false false) (told 3 row_kind.Reading 1900 50000 0 0 (pos 0) true)
+    ≡ Ok (check_as 3 (last 1000 5000 (pos 0)) 0 false false, None)
+voided_behind_a_voided = refl
 
 -- a closing, and what can't come behind it
 closed : passed house (begun house) (told 2 row_kind.Closing 1900 5200 0 0 (pos 0) false)

@@ -1,6 +1,7 @@
 -- One more row, and the interval rows that it gives.
-use Rattle.std.proofs.Common.{◌≡◌, ℕ, zero, suc, drop, ◌+◌, ◌≤◌, ◌==◌, true, false, if◌then◌else◌, List, [], ◌∷◌, ◌++◌, Option, Some, None, Result, Ok, refl, sym, ap, subst, ◌∙◌, inl, inr, arith}
+use Rattle.std.proofs.Common.{◌≡◌, ℕ, zero, suc, take, drop, length, ◌+◌, ◌≤◌, ◌==◌, true, false, if◌then◌else◌, List, [], ◌∷◌, ◌++◌, Option, Some, None, Result, Ok, refl, sym, ap, subst, ◌∙◌, inl, inr, arith, append_assoc, append-nil, length-drop}
 use Rattle.std.proofs.lemmas.Bool.{cases_Bool, cond-true, cond-false}
+use Rattle.std.proofs.lemmas.List.{take-append-drop}
 use Rattle.std.proofs.lemmas.List.Sums.{sum_by-cons}
 use Rattle.std.proofs.lemmas.Option.{same_Some}
 use Rattle.energy_core.specs.declared.entries.Last.{Last}
@@ -25,7 +26,7 @@ use Rattle.meter_audit.specs.declared.rows.TableRow.{TableRow}
 use Rattle.meter_audit.specs.Rows.{scale_after, table_row}
 use Rattle.meter_audit.specs.Passing.{IsSoundCheck, passed}
 use Rattle.meter_audit.specs.Laws.{PassedRowsFit, HasTaken, IsTaken}
-use Rattle.meter_audit.specs.Going.{HasGone, IsSoundProgress}
+use Rattle.meter_audit.specs.Going.{HasGone, IsSoundProgress, settled_in, DropsDone}
 
 -- shares are joined to the last row
 pub joins_last : (done : List Share) (row : Share) (rows shares : List Share)
@@ -140,3 +141,33 @@ left_is_sound n meter old new same left sound = record {
   check = subst (λ (check : Check). IsSoundCheck meter check) (sym same) sound.check;
   within = omega (arith, sound.within, less_left n old.wanted.items, ap energy_of left, ap (λ (check : Check). check.total) same);
 }
+
+-- where rows are dropped but the last, one is left if there was one
+none_left : (rows : List Share) → drop (settled_in rows) rows ≡ [] → rows ≡ []
+none_left [] h = refl
+none_left (row ∷ rows) h =
+    absurd (omega (
+      arith,
+      length-drop (settled_in (row ∷ rows)) (row ∷ rows),
+      ap (λ (rs : List Share). length rs) h,
+    ))
+
+-- those that were dropped are done with
+pub drops_done : (old new : Progress) → new.check ≡ old.check
+    → new.wanted.items ≡ drop (settled_in old.wanted.items) old.wanted.items → DropsDone old new
+drops_done old new same left meter told done gone =
+    let rows : List Share = old.wanted.items in
+    let n : ℕ = settled_in rows in
+    record {
+      rows = gone.rows;
+      taken = subst (λ (check : Check). HasTaken meter gone.rows check) (sym same) gone.taken;
+      told_is = gone.told_is;
+      intervals = ap (λ (rs : List Share). (done ++ take n rows) ++ rs) left
+          ∙ append_assoc done (take n rows) (drop n rows)
+          ∙ ap (λ (rs : List Share). done ++ rs) (take-append-drop n rows)
+          ∙ gone.intervals;
+      begun = λ none.
+          let empty : rows ≡ [] = none_left rows (sym left ∙ none) in
+          ap (λ (rs : List Share). done ++ take (settled_in rs) rs) empty
+          ∙ append-nil done ∙ gone.begun empty;
+    }

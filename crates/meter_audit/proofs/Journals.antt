@@ -1,5 +1,6 @@
 -- The rows of every lawful journal fit.
-use Rattle.std.proofs.Common.{◌≡◌, ℕ, ◌≤◌, ◌==◌, Bool, true, false, nat_lt, if◌then◌else◌, List, [], ◌∷◌, Some, None, refl, sym, ap, subst, ◌∙◌, inl, inr, arith}
+use Rattle.std.proofs.Common.{◌≡◌, ℕ, ◌<◌, ◌≤◌, ◌==◌, Bool, true, false, nat_lt, if◌then◌else◌, List, [], ◌∷◌, Option, Some, None, refl, sym, ap, subst, ◌∙◌, inl, inr, arith}
+use Rattle.std.specs.Option.{option_or}
 use Rattle.std.proofs.lemmas.Bool.{cases_Bool, cond-true, cond-false}
 use Rattle.std.proofs.lemmas.Option.{same_Some}
 use Rattle.energy_core.specs.declared.entries.Last.{Last}
@@ -12,15 +13,16 @@ use Rattle.meter_journal.specs.declared.lines.EntryKind.{EntryKind}
 use Rattle.meter_journal.specs.declared.lines.EntryKind.TheVariants as kind
 use Rattle.meter_journal.specs.declared.lines.EntryRow.{EntryRow}
 use Rattle.meter_journal.specs.Books.{IsWellInstalled, last_after}
-use Rattle.meter_journal.specs.Fitting.{reading_at, IsAcceptedAs, EntryFits, is_free, VoidFits, AreFitting}
-use Rattle.meter_journal.specs.Journal.{Entered, Held, Voided, Journal, Around, is_read, is_closing, is_ended as journal_ended, entries_in, rows_of, rolled, struck, with_void, passed, row_at}
+use Rattle.meter_journal.specs.Fitting.{reading_at, IsAcceptedAs, EntryFits, IsNextPlausible, is_free, VoidFits, AreFitting}
+use Rattle.meter_journal.specs.Journal.{Entered, Held, Voided, Journal, Around, is_read, is_closing, is_ended as journal_ended, entries_in, rows_of, rolled, struck, with_void, if_standing, passed, row_at}
 use Rattle.meter_journal.specs.Lists.{AreNumbered}
 use Rattle.meter_journal.specs.Standing.{AllStillFit}
 use Rattle.meter_journal.proofs.AsEntered.{AreRowsOf, rows_are_entered, rows_stand}
 use Rattle.meter_journal.proofs.Chains.{last_moment}
-use Rattle.meter_journal.proofs.Keeping.{all_three, entries_standing, entries_struck, follow_rest, above, by_read, unrolled, mapped_some, rows_are_sound}
-use Rattle.meter_journal.proofs.StillFitting.{rolls_of, terms_after}
-use Rattle.meter_audit.specs.Fitting.{is_ended, WasReading, VoidedFits, MayCome, AllFit}
+use Rattle.meter_journal.proofs.Keeping.{Leaves, all_three, entries_standing, entries_struck, follow_rest, above, by_read, unrolled, mapped_some, leaves, rows_are_sound}
+use Rattle.meter_journal.proofs.StillFitting.{NextFits, rolls_of, terms_after, rolled_fits}
+use Rattle.meter_journal.proofs.Voiding.{Lower}
+use Rattle.meter_audit.specs.Fitting.{is_ended, last_stands, WasReading, VoidedFits, MayCome, AllFit}
 use Rattle.meter_audit.specs.Laws.{RowsOfJournalsFit}
 
 -- ---- a closing ends a journal and its rows alike
@@ -223,6 +225,129 @@ all_voided_fit meter (Voided place ∷ lines) well h =
     let sound = rows_are_sound meter lines well.raw h.1 in
     voided_still meter place rows a fits.there may.0 may.1 sound.account.follow sound.still (all_voided_fit meter lines well h.1)
 
+-- ---- rows that were voided directly behind one that stands
+
+-- each of these may follow what still stands
+abbrev AllBehindFit : Installed → List EntryRow → Type 0
+AllBehindFit meter [] = Unit {0}
+AllBehindFit meter (row ∷ rows) =
+    (row.stands ≡ false → last_stands rows ≡ true → EntryFits meter (entries_in rows) row.kind row.entry)
+    × AllBehindFit meter rows
+
+voided_is_read : (range : ℕ) (l : Last) (k : EntryKind) (e : Entry) → VoidedFits range l k e → is_read k e ≡ true
+voided_is_read range l kind.Reading (entry.Step at raw rolls) h = refl
+voided_is_read range l kind.Reading (entry.Change at before new sf) h = absurd h
+voided_is_read range l kind.Manual e h = absurd h
+voided_is_read range l kind.Closing e h = absurd h
+voided_is_read range l kind.Reset e h = absurd h
+voided_is_read range l kind.Rescale e h = absurd h
+
+-- an accepted reading is one with no more energy before it too
+accepted_lower : (meter : Installed) (es es' : List Entry) (at raw rolls : ℕ) → Lower meter es es' → IsAcceptedAs meter es at raw rolls
+    → IsAcceptedAs meter es' at raw rolls
+accepted_lower meter es es' at raw rolls low h =
+    let same : (if nat_lt raw (last_after meter es').raw then 1 else 0) ≡ rolls =
+    ap (λ (l : Last). if nat_lt raw l.raw then 1 else 0) low.last ∙ sym (rolls_of meter es at raw rolls h) in
+    subst (IsAcceptedAs meter es' at raw) same
+    (rolled_fits meter es es' 0 kind.Reading (entry.Step at raw rolls) true low (λ _. h) refl)
+
+fits_lower : (meter : Installed) (es es' : List Entry) (k : EntryKind) (e : Entry) → is_read k e ≡ true → Lower meter es es'
+    → EntryFits meter es k e → EntryFits meter es' k e
+fits_lower meter es es' =
+    by_read (λ k e. Lower meter es es' → EntryFits meter es k e → EntryFits meter es' k e)
+    (λ at raw rolls low h. accepted_lower meter es es' at raw rolls low h)
+
+next_some : (n : Option EntryRow) (row : EntryRow) → row.stands ≡ true → (next : EntryRow) × (option_or n (if_standing row) ≡ Some next)
+next_some None row on = (row, cond-true _ _ _ on)
+next_some (Some next) row on = (next, refl)
+
+lower_with_next : (meter : Installed) (place : ℕ) (rows : List EntryRow) (a : Around) (n : Option EntryRow) (next : EntryRow)
+    → n ≡ Some next → Leaves meter place rows a n → Lower meter (entries_in rows) (entries_in (with_void meter.opening place rows))
+lower_with_next meter place rows a None next is h = absurd (cc)
+lower_with_next meter place rows a (Some n) next is h = h
+
+-- where the last row still stands, it stood, and no more energy is before it
+last_still : (meter : Installed) (place : ℕ) (rows : List EntryRow) (a : Around) → row_at place rows ≡ Some a
+    → Leaves meter place rows a a.next → last_stands (with_void meter.opening place rows) ≡ true
+    → (last_stands rows ≡ true) × Lower meter (entries_in rows) (entries_in (with_void meter.opening place rows))
+last_still meter place [] a there left on = absurd (cc)
+last_still meter place (row ∷ rows) a there left on =
+    elim (cases_Bool (row.place == place)) [
+      | inl at ↦
+          let made : with_void meter.opening place (row ∷ rows) ≡ struck row ∷ rows = cond-true _ _ _ at in
+          absurd (let f : false ≡ true = sym (ap last_stands made) ∙ on in cc)
+      | inr off ↦
+          let found = mapped_some (passed row) (row_at place rows) a (sym (cond-false _ _ _ off) ∙ there) in
+          let rest : List EntryRow = with_void meter.opening place rows in
+          let l : Last = last_after meter (entries_in rest) in
+          let stood : row.stands ≡ true =
+          sym (stands_rolled row.kind l row.place row.entry row.stands) ∙ sym (ap last_stands (above meter.opening place row rows off)) ∙ on in
+          let next = next_some found.0.next row stood in
+          let is : a.next ≡ Some next.0 = sym (ap (λ (x : Around). x.next) found.2) ∙ next.1 in
+          (stood, lower_with_next meter place (row ∷ rows) a a.next next.0 is left)
+    ]
+
+next_below : (meter : Installed) (es : List Entry) (n m : Option EntryRow) → NextFits meter es (option_or n m) → NextFits meter es n
+next_below meter es None m h = tt
+next_below meter es (Some n) m h = h
+
+behind_still : (meter : Installed) (place : ℕ) (rows : List EntryRow) (a : Around) → meter.opening.raw < meter.range
+    → row_at place rows ≡ Some a → a.row.stands ≡ true → is_read a.row.kind a.row.entry ≡ true
+    → NextFits meter (entries_in a.before) a.next → AllFollow meter.range meter.opening (entries_in rows)
+    → AllStillFit meter rows → AllVoidedFit meter rows → AllBehindFit meter rows → AllBehindFit meter (with_void meter.opening place rows)
+behind_still meter place [] a below there stands read fits follow still voided h = absurd (cc)
+behind_still meter place (row ∷ rows) a below there stands read fits follow still voided h =
+    let rest : List EntryRow = with_void meter.opening place rows in
+    let l : Last = last_after meter (entries_in rest) in
+    elim (cases_Bool (row.place == place)) [
+      | inl at ↦
+          let made : with_void meter.opening place (row ∷ rows) ≡ struck row ∷ rows = cond-true _ _ _ at in
+          let is : (let x : Around = record { before = rows; row = row; next = None } in x) ≡ a = same_Some _ _ (sym (cond-true _ _ _ at) ∙ there) in
+          let row_stands : row.stands ≡ true = ap (λ (x : Around). x.row.stands) is ∙ stands in
+          subst (AllBehindFit meter) (sym made) (λ off on. still.0 row_stands, h.1)
+      | inr off ↦
+          let found = mapped_some (passed row) (row_at place rows) a (sym (cond-false _ _ _ off) ∙ there) in
+          let x : Around = found.0 in
+          let is : passed row x ≡ a = found.2 in
+          let read_x : is_read x.row.kind x.row.entry ≡ true = ap (λ (y : Around). is_read y.row.kind y.row.entry) is ∙ read in
+          let stands_x : x.row.stands ≡ true = ap (λ (y : Around). y.row.stands) is ∙ stands in
+          let fits_x : NextFits meter (entries_in x.before) x.next =
+          next_below meter (entries_in x.before) x.next (if_standing row)
+          (subst (λ (y : Around). NextFits meter (entries_in y.before) y.next) (sym is) fits) in
+          let follow_below = follows_below meter row rows follow in
+          let left = leaves meter place rows x below found.1 stands_x read_x fits_x follow_below still.1 in
+          let there_below : AllBehindFit meter rest =
+          behind_still meter place rows x below found.1 stands_x read_x fits_x follow_below still.1 voided.1 h.1 in
+          let here : (rolled l row).stands ≡ false → last_stands rest ≡ true → EntryFits meter (entries_in rest) (rolled l row).kind (rolled l row).entry =
+          λ not_on on.
+          let off_row : row.stands ≡ false = sym (stands_rolled row.kind l row.place row.entry row.stands) ∙ not_on in
+          let last = last_still meter place rows x found.1 left.0 on in
+          let was_read : is_read row.kind row.entry ≡ true =
+          voided_is_read meter.range (last_after meter (entries_in rows)) row.kind row.entry (voided.0 off_row) in
+          subst (λ (r : EntryRow). EntryFits meter (entries_in rest) r.kind r.entry) (sym (unrolled l row off_row))
+          (fits_lower meter (entries_in rows) (entries_in rest) row.kind row.entry was_read last.1 (h.0 off_row last.0)) in
+          subst (AllBehindFit meter) (sym (above meter.opening place row rows off)) (here, there_below)
+    ]
+
+next_where_free : (meter : Installed) (es : List Entry) (next : Option EntryRow) → is_free next ≡ true → IsNextPlausible meter es next
+    → NextFits meter es next
+next_where_free meter es None free h = tt
+next_where_free meter es (Some next) free h = (free, h)
+
+all_behind_fit : (meter : Installed) (lines : Journal) → IsWellInstalled meter → AreFitting meter lines → AllBehindFit meter (rows_of meter.opening lines)
+all_behind_fit meter [] well h = tt
+all_behind_fit meter (Entered k e ∷ lines) well h =
+    (λ off. absurd (let f : true ≡ false = off in cc), all_behind_fit meter lines well h.1)
+all_behind_fit meter (Held reading cause ∷ lines) well h = all_behind_fit meter lines well h.1
+all_behind_fit meter (Voided place ∷ lines) well h =
+    let rows : List EntryRow = rows_of meter.opening lines in
+    let fits : VoidFits meter rows place = h.0 in
+    let a : Around = fits.around in
+    let may = all_three a.row.stands (is_read a.row.kind a.row.entry) (is_free a.next) fits.voidable in
+    let sound = rows_are_sound meter lines well.raw h.1 in
+    behind_still meter place rows a well.raw fits.there may.0 may.1 (next_where_free meter (entries_in a.before) a.next may.2 fits.next)
+    sound.account.follow sound.still (all_voided_fit meter lines well h.1) (all_behind_fit meter lines well h.1)
+
 -- ---- all of it
 
 may_come : (meter : Installed) (es : List Entry) (stands : Bool) (k : EntryKind) (e : Entry) → (stands ≡ true → EntryFits meter es k e)
@@ -230,15 +355,17 @@ may_come : (meter : Installed) (es : List Entry) (stands : Bool) (k : EntryKind)
 may_come meter es true k e on off = on refl
 may_come meter es false k e on off = off refl
 
-all_fit : (meter : Installed) (rows : List EntryRow) → AreNumbered rows → AllUnended rows → AllStillFit meter rows → AllVoidedFit meter rows → AllFit meter rows
-all_fit meter [] numbers unended still voided = tt
-all_fit meter (row ∷ rows) numbers unended still voided = (
+all_fit : (meter : Installed) (rows : List EntryRow) → AreNumbered rows → AllUnended rows → AllStillFit meter rows → AllVoidedFit meter rows
+    → AllBehindFit meter rows → AllFit meter rows
+all_fit meter [] numbers unended still voided behind = tt
+all_fit meter (row ∷ rows) numbers unended still voided behind = (
   record {
     place = numbers.0;
     unended = unended.0;
     entry = may_come meter (entries_in rows) row.stands row.kind row.entry still.0 voided.0;
+    voided_behind = behind.0;
   },
-  all_fit meter rows numbers.1 unended.1 still.1 voided.1,
+  all_fit meter rows numbers.1 unended.1 still.1 voided.1 behind.1,
 )
 
 pub rows_of_journals_fit : RowsOfJournalsFit
@@ -246,4 +373,4 @@ rows_of_journals_fit meter lines well h =
     let rows : List EntryRow = rows_of meter.opening lines in
     all_fit meter rows (rows_stand meter lines well h).places
     (all_unended meter lines lines rows h (rows_are_entered meter lines h).rows)
-    (rows_are_sound meter lines well.raw h).still (all_voided_fit meter lines well h)
+    (rows_are_sound meter lines well.raw h).still (all_voided_fit meter lines well h) (all_behind_fit meter lines well h)

@@ -29,7 +29,7 @@ use Rattle.meter_audit.specs.declared.rows.RowKind.TheVariants as row_kind
 use Rattle.meter_audit.specs.declared.rows.TableRow.{TableRow}
 use Rattle.meter_audit.specs.Rows.{kind_as, scale_after, table_row}
 use Rattle.meter_audit.specs.Fitting.{is_ended, WasReading, VoidedFits, MayCome, RowFits, AllFit}
-use Rattle.meter_audit.specs.Passing.{kind_in, entry_in, has_unused, is_off_scale, shape_by, shape_of, fault_by, reading_fault, voided_fault, unless, behind, stood, voided, passed_by, passed}
+use Rattle.meter_audit.specs.Passing.{kind_in, entry_in, has_unused, is_off_scale, shape_by, shape_of, fault_by, reading_fault, stood_fault, voided_fault, unless, behind, stood, voided, passed_by, passed}
 use Rattle.meter_audit.specs.Laws.{check_after, IsTaken, PassedRowsFit}
 use Rattle.meter_audit.proofs.Alone.{fitting_account}
 
@@ -204,14 +204,21 @@ record IsBehind (check : Check) (k : EntryKind) (told : TableRow) (answer : Resu
   last : Last
   gone : Step
   answered : answer ≡ Ok (last, gone)
-  next_is : next ≡ record { place = told.place; last = last; total = check.total + gone.mwh; is_ended = is_closing k }
+  next_is : next
+      ≡ record { place = told.place; last = last; total = check.total + gone.mwh; is_ended = is_closing k; stands = true }
   step_is : step ≡ Some gone
 
 booked_behind : (check : Check) (k : EntryKind) (told : TableRow) (answer : Result (Last × Step) TermFault) (next : Check) (step : Option Step)
     → behind check k told answer ≡ Ok (next, step) → IsBehind check k told answer next step
 booked_behind check k told (Err f) next step h = absurd (cc)
 booked_behind check k told (Ok (last, gone)) next step h =
-    let made : Check = record { place = told.place; last = last; total = check.total + gone.mwh; is_ended = is_closing k } in
+    let made : Check = record {
+      place = told.place;
+      last = last;
+      total = check.total + gone.mwh;
+      is_ended = is_closing k;
+      stands = true;
+    } in
     let pair : (let p : Check × Option Step = (made, Some gone) in p) ≡ (next, step) = same_Ok _ _ h in
     record {
       last = last;
@@ -235,17 +242,29 @@ stood_fits meter rows told kind.Reset next step scale none booked =
     (record { next = next; step = step; entered = booked }, same_scale told.sf (last_after meter (entries_in rows)).sf scale)
 stood_fits meter rows told kind.Rescale next step scale none booked = record { next = next; step = step; entered = booked }
 
+-- a reading without a fault may follow these
+was_accepted : (meter : Installed) (rows : List EntryRow) (told : TableRow) (k : EntryKind) → is_reading k ≡ true
+    → reading_fault meter (check_after meter rows) k told ≡ None → EntryFits meter (entries_in rows) k (entry_in k told)
+was_accepted meter rows told kind.Reading is none =
+    let v = accepted_by told.rolls _ none in record { step = v.0; accepted = v.1 }
+was_accepted meter rows told kind.Manual is none = absurd (cc)
+was_accepted meter rows told kind.Closing is none = absurd (cc)
+was_accepted meter rows told kind.Reset is none = absurd (cc)
+was_accepted meter rows told kind.Rescale is none = absurd (cc)
+
 -- ---- where the check stands behind it
 
-abbrev check_with : (place : ℕ) → Last → (total : ℕ) → Bool → Check
-check_with place last total ended = record { place = place; last = last; total = total; is_ended = ended }
+abbrev check_with : (place : ℕ) → Last → (total : ℕ) → (ended stands : Bool) → Check
+check_with place last total ended stands =
+    record { place = place; last = last; total = total; is_ended = ended; stands = stands }
 
-same_check : (place place' : ℕ) (last last' : Last) (total total' : ℕ) (ended ended' : Bool)
-    → place ≡ place' → last ≡ last' → total ≡ total' → ended ≡ ended'
-    → check_with place last total ended ≡ check_with place' last' total' ended'
-same_check place place' last last' total total' ended ended' hp hl ht he =
-    ap (λ x. check_with x last total ended) hp ∙ ap (λ x. check_with place' x total ended) hl
-    ∙ ap (λ x. check_with place' last' x ended) ht ∙ ap (λ x. check_with place' last' total' x) he
+same_check : (place place' : ℕ) (last last' : Last) (total total' : ℕ) (ended ended' stands stands' : Bool)
+    → place ≡ place' → last ≡ last' → total ≡ total' → ended ≡ ended' → stands ≡ stands'
+    → check_with place last total ended stands ≡ check_with place' last' total' ended' stands'
+same_check place place' last last' total total' ended ended' stands stands' hp hl ht he hs =
+    ap (λ x. check_with x last total ended stands) hp ∙ ap (λ x. check_with place' x total ended stands) hl
+    ∙ ap (λ x. check_with place' last' x ended stands) ht ∙ ap (λ x. check_with place' last' total' x stands) he
+    ∙ ap (λ x. check_with place' last' total' ended' x) hs
 
 ended_by : (b c : Bool) → c ≡ false → b ≡ (if b then true else c)
 ended_by true c h = refl
@@ -267,6 +286,7 @@ stood_taken meter rows told k next step well fit shape stands h =
       place = omega (arith, shape.place);
       unended = shape.unended;
       entry = subst (λ b. MayCome meter es b k e) (sym on) fits;
+      voided_behind = λ off. absurd (let f : true ≡ false = sym on ∙ off in cc);
     } in
     let all : AllFit meter (row ∷ rows) = (row_fits, fit) in
     let is : entries_in (row ∷ rows) ≡ e ∷ es = entries_standing row rows on in
@@ -284,23 +304,24 @@ stood_taken meter rows told k next step well fit shape stands h =
       taken = record {
         fit = all;
         check_is = gone.next_is
-            ∙ same_check told.place (length (row ∷ rows) + 1) gone.last _ (check.total + gone.gone.mwh) _ (is_closing k) _
-            (omega (arith, shape.place)) last total (ended_by (is_closing k) (is_ended rows) shape.unended);
+            ∙ same_check told.place (length (row ∷ rows) + 1) gone.last _ (check.total + gone.gone.mwh) _ (is_closing k) _ true _
+            (omega (arith, shape.place)) last total (ended_by (is_closing k) (is_ended rows) shape.unended) (sym on);
       };
       step_is = gone.step_is ∙ ap Some booked.step_is ∙ sym (cond-true _ _ _ on);
     }
 
 voided_taken : (meter : Installed) (rows : List EntryRow) (told : TableRow) (k : EntryKind) (next : Check) (step : Option Step)
     → AllFit meter rows → IsShaped (check_after meter rows) told k → told.is_voided ≡ true
-    → voided meter (check_after meter rows) told ≡ Ok (next, step) → IsTaken meter rows told next step
+    → voided meter (check_after meter rows) k told ≡ Ok (next, step) → IsTaken meter rows told next step
 voided_taken meter rows told k next step fit shape v h =
     let check : Check = check_after meter rows in
     let es : List Entry = entries_in rows in
     let e : Entry = entry_in k told in
     let row : EntryRow = row_in k told in
     let free = no_fault (voided_fault meter check told) _ (next, step) h in
-    let pair : (let p : Check × Option Step = (check_with told.place check.last check.total check.is_ended, None) in p) ≡ (next, step) =
-    same_Ok _ _ free.1 in
+    let stood = no_fault (stood_fault meter check k told) _ (next, step) free.1 in
+    let pair : (let p : Check × Option Step = (check_with told.place check.last check.total check.is_ended false, None) in p) ≡ (next, step) =
+    same_Ok _ _ stood.1 in
     let read : is_reading k ≡ true = voided_read told.is_voided k v shape.voidable in
     let was : VoidedFits meter.range check.last k e =
     read_kind (λ k. VoidedFits meter.range check.last k (entry_in k told)) (was_reading meter check told free.0) k read in
@@ -309,6 +330,7 @@ voided_taken meter rows told k next step fit shape v h =
       place = omega (arith, shape.place);
       unended = shape.unended;
       entry = subst (λ b. MayCome meter es b k e) (sym off) was;
+      voided_behind = λ _ on. was_accepted meter rows told k read (sym (cond-true _ _ _ on) ∙ stood.0);
     } in
     let is : entries_in (row ∷ rows) ≡ es = entries_struck row rows off in
     let more : is_closing k ≡ false = read_kind (λ k. is_closing k ≡ false) refl k read in
@@ -321,8 +343,9 @@ voided_taken meter rows told k next step fit shape v h =
       taken = record {
         fit = (row_fits, fit);
         check_is = sym (ap (λ (p : Check × Option Step). p.0) pair)
-            ∙ same_check told.place (length (row ∷ rows) + 1) check.last _ check.total _ check.is_ended _
-            (omega (arith, shape.place)) (sym (ap (last_after meter) is)) (sym (ap (total_after meter) is)) (sym (cond-false _ _ _ more));
+            ∙ same_check told.place (length (row ∷ rows) + 1) check.last _ check.total _ check.is_ended _ false _
+            (omega (arith, shape.place)) (sym (ap (last_after meter) is)) (sym (ap (total_after meter) is))
+            (sym (cond-false _ _ _ more)) (sym off);
       };
       step_is = sym (ap (λ (p : Check × Option Step). p.1) pair) ∙ sym (cond-false _ _ _ off);
     }

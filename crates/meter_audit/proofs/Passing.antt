@@ -1,7 +1,7 @@
 -- What the table has for a row that fits passes.
-use Rattle.std.proofs.Common.{◌≡◌, ◌≢◌, ℕ, ℤ, ◌+◌, ◌<◌, ◌≤◌, ◌==◌, nat_lt, nat_le, Bool, true, false, not, ◌&&◌, List, ◌∷◌, length, Option, Some, None, Result, Ok, IsOk, refl, sym, ap, subst, ◌∙◌, arith, eq-eqb}
+use Rattle.std.proofs.Common.{◌≡◌, ◌≢◌, ℕ, ℤ, ◌+◌, ◌<◌, ◌≤◌, ◌==◌, nat_lt, nat_le, Bool, true, false, not, ◌&&◌, List, ◌∷◌, length, Option, Some, None, Result, Ok, IsOk, refl, sym, ap, subst, ◌∙◌, inl, inr, arith, eq-eqb}
 use Rattle.std.specs.Ordering.{int_eq}
-use Rattle.std.proofs.lemmas.Bool.{cond-true, cond-false}
+use Rattle.std.proofs.lemmas.Bool.{cases_Bool, cond-true, cond-false}
 use Rattle.std.proofs.lemmas.Bool.Decides.{nat_tests, Decides-int_eq}
 use Rattle.energy_core.specs.declared.entries.Last.{Last}
 use Rattle.energy_core.specs.declared.entries.Step.{Step}
@@ -15,15 +15,15 @@ use Rattle.meter_journal.specs.declared.lines.EntryKind.{EntryKind}
 use Rattle.meter_journal.specs.declared.lines.EntryKind.TheVariants as kind
 use Rattle.meter_journal.specs.declared.lines.EntryRow.{EntryRow}
 use Rattle.meter_journal.specs.Books.{IsWellInstalled, last_after}
-use Rattle.meter_journal.specs.Fitting.{reading_at}
+use Rattle.meter_journal.specs.Fitting.{reading_at, IsAcceptedAs, EntryFits}
 use Rattle.meter_journal.specs.Journal.{is_reading, entries_in}
 use Rattle.meter_journal.proofs.Keeping.{last_under}
 use Rattle.meter_audit.specs.declared.checks.Check.{Check}
 use Rattle.meter_audit.specs.declared.faults.RowFault.{RowFault}
 use Rattle.meter_audit.specs.declared.rows.TableRow.{TableRow}
 use Rattle.meter_audit.specs.Rows.{kind_as, scale_after, table_row}
-use Rattle.meter_audit.specs.Fitting.{is_ended, WasReading, MayCome, AllFit}
-use Rattle.meter_audit.specs.Passing.{kind_in, entry_in, has_unused, is_off_scale, shape_by, shape_of, fault_by, terms_of, reading_fault, voided_fault, unless, behind, passed_by, passed}
+use Rattle.meter_audit.specs.Fitting.{is_ended, last_stands, WasReading, MayCome, AllFit}
+use Rattle.meter_audit.specs.Passing.{kind_in, entry_in, has_unused, is_off_scale, shape_by, shape_of, fault_by, terms_of, reading_fault, stood_fault, voided_fault, unless, behind, passed_by, passed}
 use Rattle.meter_audit.specs.Laws.{check_after, FittingRowsPass}
 use Rattle.meter_audit.proofs.Alone.{fitting_account}
 
@@ -61,11 +61,14 @@ passes_standing meter check told k next step shape stands none booked =
 
 pub passes_voided : (meter : Installed) (check : Check) (told : TableRow) (k : EntryKind)
     → shape_of check told ≡ Ok k → told.is_voided ≡ true → voided_fault meter check told ≡ None
-    → IsOk (passed meter check told)
-passes_voided meter check told k shape v none =
-    let next : Check = record check { place = told.place } in
+    → stood_fault meter check k told ≡ None → IsOk (passed meter check told)
+passes_voided meter check told k shape v none stood =
+    let next : Check = record check { place = told.place; stands = false } in
     let answer : Result (Check × Option Step) RowFault = Ok (next, None) in
-    subst IsOk (sym (ap (passed_by meter check told) shape ∙ cond-true _ _ _ v ∙ ap (λ o. unless o answer) none)) refl
+    subst IsOk (sym (
+    ap (passed_by meter check told) shape ∙ cond-true _ _ _ v
+    ∙ ap (λ o. unless o (unless (stood_fault meter check k told) answer)) none ∙ ap (λ o. unless o answer) stood
+    )) refl
 
 zero_not : (n : ℕ) → n ≢ 0 → (n == 0) ≡ false
 zero_not n h = grind (arith, nat_tests)
@@ -85,6 +88,18 @@ no_voided_fault meter check told h =
 no_reading_fault : (rolls step : ℕ) → fault_by rolls (verdict.Accepted rolls step) ≡ None
 no_reading_fault rolls step = cond-true _ _ _ (eq-eqb rolls rolls refl)
 
+-- directly behind a row that stands it was accepted after what stands
+no_stood_fault : (meter : Installed) (rows : List EntryRow) (told : TableRow)
+    → (last_stands rows ≡ true → IsAcceptedAs meter (entries_in rows) told.moment told.raw told.rolls)
+    → stood_fault meter (check_after meter rows) kind.Reading told ≡ None
+no_stood_fault meter rows told h =
+    elim (cases_Bool (last_stands rows)) [
+      | inl on ↦
+          let was : IsAcceptedAs meter (entries_in rows) told.moment told.raw told.rolls = h on in
+          cond-true _ _ _ on ∙ ap (fault_by told.rolls) was.accepted ∙ no_reading_fault told.rolls was.step
+      | inr off ↦ cond-false _ _ _ off
+    ]
+
 -- ---- by its kind
 
 abbrev row_with : (place : ℕ) → EntryKind → Entry → Bool → EntryRow
@@ -96,8 +111,9 @@ told_after meter rows row = table_row (scale_after meter (row ∷ rows)) row
 
 passes : (meter : Installed) (rows : List EntryRow) (place : ℕ) (stands : Bool) (k : EntryKind) (e : Entry) → IsWellInstalled meter → AllFit meter rows
     → place ≡ length rows + 2 → is_ended rows ≡ false → MayCome meter (entries_in rows) stands k e
+    → (stands ≡ false → last_stands rows ≡ true → EntryFits meter (entries_in rows) k e)
     → IsOk (passed meter (check_after meter rows) (told_after meter rows (row_with place k e stands)))
-passes meter rows place true kind.Reading (entry.Step at raw rolls) well fit at_place unended h =
+passes meter rows place true kind.Reading (entry.Step at raw rolls) well fit at_place unended h was =
     let check : Check = check_after meter rows in
     let l : Last = last_after meter (entries_in rows) in
     let told : TableRow = told_after meter rows (row_with place kind.Reading (entry.Step at raw rolls) true) in
@@ -106,48 +122,49 @@ passes meter rows place true kind.Reading (entry.Step at raw rolls) well fit at_
     (shape_is check told kind.Reading (omega (arith, at_place)) refl unended refl refl (differs l.sf l.sf refl))
     refl (ap (fault_by rolls) h.accepted ∙ no_reading_fault rolls h.step)
     (accepted_is_entered meter.range (terms_of meter check) l (reading_at l at raw) rolls h.step under h.accepted)
-passes meter rows place true kind.Manual (entry.Step at raw rolls) well fit at_place unended h =
+passes meter rows place true kind.Manual (entry.Step at raw rolls) well fit at_place unended h was =
     let check : Check = check_after meter rows in
     let l : Last = last_after meter (entries_in rows) in
     let told : TableRow = told_after meter rows (row_with place kind.Manual (entry.Step at raw rolls) true) in
     passes_standing meter check told kind.Manual h.next h.step
     (shape_is check told kind.Manual (omega (arith, at_place)) refl unended refl refl (differs l.sf l.sf refl)) refl refl h.entered
-passes meter rows place true kind.Closing (entry.Step at raw rolls) well fit at_place unended h =
+passes meter rows place true kind.Closing (entry.Step at raw rolls) well fit at_place unended h was =
     let check : Check = check_after meter rows in
     let l : Last = last_after meter (entries_in rows) in
     let told : TableRow = told_after meter rows (row_with place kind.Closing (entry.Step at raw rolls) true) in
     passes_standing meter check told kind.Closing h.next h.step
     (shape_is check told kind.Closing (omega (arith, at_place)) refl unended refl refl (differs l.sf l.sf refl)) refl refl h.entered
-passes meter rows place true kind.Reset (entry.Change at before new sf) well fit at_place unended h =
+passes meter rows place true kind.Reset (entry.Change at before new sf) well fit at_place unended h was =
     let check : Check = check_after meter rows in
     let l : Last = last_after meter (entries_in rows) in
     let told : TableRow = told_after meter rows (row_with place kind.Reset (entry.Change at before new sf) true) in
     passes_standing meter check told kind.Reset h.0.next h.0.step
     (shape_is check told kind.Reset (omega (arith, at_place)) refl unended refl refl (differs sf l.sf h.1)) refl refl h.0.entered
-passes meter rows place true kind.Rescale (entry.Change at before new sf) well fit at_place unended h =
+passes meter rows place true kind.Rescale (entry.Change at before new sf) well fit at_place unended h was =
     let check : Check = check_after meter rows in
     let told : TableRow = told_after meter rows (row_with place kind.Rescale (entry.Change at before new sf) true) in
     passes_standing meter check told kind.Rescale h.next h.step
     (shape_is check told kind.Rescale (omega (arith, at_place)) refl unended refl refl refl) refl refl h.entered
-passes meter rows place true kind.Reading (entry.Change at before new sf) well fit at_place unended h = absurd h
-passes meter rows place true kind.Manual (entry.Change at before new sf) well fit at_place unended h = absurd h
-passes meter rows place true kind.Closing (entry.Change at before new sf) well fit at_place unended h = absurd h
-passes meter rows place true kind.Reset (entry.Step at raw rolls) well fit at_place unended h = absurd h
-passes meter rows place true kind.Rescale (entry.Step at raw rolls) well fit at_place unended h = absurd h
-passes meter rows place false kind.Reading (entry.Step at raw rolls) well fit at_place unended h =
+passes meter rows place true kind.Reading (entry.Change at before new sf) well fit at_place unended h was = absurd h
+passes meter rows place true kind.Manual (entry.Change at before new sf) well fit at_place unended h was = absurd h
+passes meter rows place true kind.Closing (entry.Change at before new sf) well fit at_place unended h was = absurd h
+passes meter rows place true kind.Reset (entry.Step at raw rolls) well fit at_place unended h was = absurd h
+passes meter rows place true kind.Rescale (entry.Step at raw rolls) well fit at_place unended h was = absurd h
+passes meter rows place false kind.Reading (entry.Step at raw rolls) well fit at_place unended h was =
     let check : Check = check_after meter rows in
     let l : Last = last_after meter (entries_in rows) in
     let told : TableRow = told_after meter rows (row_with place kind.Reading (entry.Step at raw rolls) false) in
     passes_voided meter check told kind.Reading
     (shape_is check told kind.Reading (omega (arith, at_place)) refl unended refl refl (differs l.sf l.sf refl)) refl
-    (no_voided_fault meter check told h)
-passes meter rows place false kind.Reading (entry.Change at before new sf) well fit at_place unended h = absurd h
-passes meter rows place false kind.Manual e well fit at_place unended h = absurd h
-passes meter rows place false kind.Closing e well fit at_place unended h = absurd h
-passes meter rows place false kind.Reset e well fit at_place unended h = absurd h
-passes meter rows place false kind.Rescale e well fit at_place unended h = absurd h
+    (no_voided_fault meter check told h) (no_stood_fault meter rows told (λ on. was refl on))
+passes meter rows place false kind.Reading (entry.Change at before new sf) well fit at_place unended h was = absurd h
+passes meter rows place false kind.Manual e well fit at_place unended h was = absurd h
+passes meter rows place false kind.Closing e well fit at_place unended h was = absurd h
+passes meter rows place false kind.Reset e well fit at_place unended h was = absurd h
+passes meter rows place false kind.Rescale e well fit at_place unended h was = absurd h
 
 pub fitting_rows_pass : FittingRowsPass
 fitting_rows_pass meter rows check row well taken fits =
     subst (λ (c : Check). IsOk (passed meter c (told_after meter rows row))) (sym taken.check_is)
-    (passes meter rows row.place row.stands row.kind row.entry well taken.fit fits.place fits.unended fits.entry)
+    (passes meter rows row.place row.stands row.kind row.entry well taken.fit fits.place fits.unended fits.entry
+    fits.voided_behind)

@@ -21,7 +21,7 @@ is_ended [] = false
 is_ended (row ∷ rows) = if is_closing row.kind then true else is_ended rows
 
 -- A reading that was voided showed something that the counter can show, after the last entry that stands. What stood
--- when it was accepted isn't known; its rollovers are those from there.
+-- when it was accepted isn't known, unless the row before it stands; its rollovers are those from there.
 pub record WasReading (range : ℕ) (last : Last) (at raw rolls : ℕ) : Type 0 where
   pub accumulated : raw ≢ 0
   pub below : raw < range
@@ -37,11 +37,19 @@ abbrev pub MayCome : Installed → List Entry → (stands : Bool) → EntryKind 
 MayCome meter es true k e = EntryFits meter es k e
 MayCome meter es false k e = VoidedFits meter.range (last_after meter es) k e
 
--- A row may come after these: it has the next place, and the meter has not ended.
+-- the last of these rows stands, or is the opening
+abbrev pub last_stands : List EntryRow → Bool
+last_stands [] = true
+last_stands (row ∷ rows) = row.stands
+
+-- A row may come after these: it has the next place, and the meter has not ended. A reading that was voided directly
+-- behind a row that stands may follow what still stands by the journal's own rule too.
 pub record RowFits (meter : Installed) (rows : List EntryRow) (row : EntryRow) : Type 0 where
   pub place : row.place ≡ length rows + 2
   pub unended : is_ended rows ≡ false
   pub entry : MayCome meter (entries_in rows) row.stands row.kind row.entry
+  pub voided_behind : row.stands ≡ false → last_stands rows ≡ true
+      → EntryFits meter (entries_in rows) row.kind row.entry
 
 -- Each row may come after those before it.
 abbrev pub AllFit : Installed → List EntryRow → Type 0

@@ -1,5 +1,5 @@
 -- A check of a meter under way.
-use Rattle.std.specs.Prelude.{◌≡◌, ◌↔◌, ◌≤◌, List, [], ◌∷◌, ◌++◌, Option, Some, None, Err}
+use Rattle.std.specs.Prelude.{◌≡◌, ◌↔◌, ℕ, ◌-◌, ◌≤◌, List, [], ◌∷◌, ◌++◌, length, take, Option, Some, None, Err}
 use Rattle.interval_core.specs.declared.shares.Share.{Share}
 use Rattle.interval_core.specs.Account.{energy_of}
 use Rattle.meter_journal.specs.declared.lines.Installed.{Installed}
@@ -37,6 +37,16 @@ abbrev pub GoesOn : Installed → Progress → TableRow → Progress → Option 
 GoesOn meter old row new None = (told : List TableRow) (done : List Share)
     → HasGone meter told done old → HasGone meter (row ∷ told) done new
 GoesOn meter old row new (Some fault) = passed meter old.check row ≡ Err fault
+
+-- how many interval rows no later entry adds to: all but the last
+abbrev pub settled_in : List Share → ℕ
+settled_in rows = length rows - 1
+
+-- A check from which those were dropped went over the same rows, and they are done with too.
+abbrev pub DropsDone : (old new : Progress) → Type 0
+DropsDone old new = (meter : Installed) (told : List TableRow) (done : List Share)
+    → HasGone meter told done old
+    → HasGone meter told (done ++ take (settled_in old.wanted.items) old.wanted.items) new
 
 -- What the other tables tell agrees with the check: the intervals that were done with and those that are still wanted, where
 -- the counter stands, the energy, and whether the meter has ended.

@@ -13,7 +13,7 @@ use Rattle.meter_audit.specs.declared.checks.Check.{Check}
 use Rattle.meter_audit.specs.declared.lists.RefusedRow.{RefusedRow}
 use Rattle.meter_audit.specs.declared.rows.TableRow.{TableRow}
 use Rattle.meter_audit.specs.Rows.{scale_after, table_row, later_rows}
-use Rattle.meter_audit.specs.Fitting.{RowFits, AllFit, Tables, tables_of, AreFine, is_ended}
+use Rattle.meter_audit.specs.Fitting.{RowFits, AllFit, Tables, tables_of, AreFine, is_ended, last_stands}
 use Rattle.meter_audit.specs.Passing.{passed}
 
 -- The rows of every lawful journal fit, those that were voided too.
@@ -62,6 +62,7 @@ check_after meter rows = record {
   last = last_after meter (entries_in rows);
   total = total_after meter (entries_in rows);
   is_ended = is_ended rows;
+  stands = last_stands rows;
 }
 
 -- All these rows fit, and the check stands behind them.

@@ -43,7 +43,13 @@ pub record IsSoundCheck (meter : Installed) (check : Check) : Type 0 where
 
 -- behind the opening
 abbrev pub begun : Installed → Check
-begun meter = record { place = 1; last = meter.opening; total = 0; is_ended = false }
+begun meter = record {
+  place = 1;
+  last = meter.opening;
+  total = 0;
+  is_ended = false;
+  stands = true;
+}
 
 -- the kind of the entry; an opening is none
 abbrev pub kind_in : RowKind → Option EntryKind
@@ -108,6 +114,10 @@ reading_fault meter check k row =
     (reading_at check.last row.moment row.raw))
     else None
 
+-- Directly behind a row that stands, one that was voided is as one that stands.
+abbrev pub stood_fault : Installed → Check → EntryKind → TableRow → Option RowFault
+stood_fault meter check k row = if check.stands then reading_fault meter check k row else None
+
 -- One that was voided showed something that the counter can show, later than what stands.
 abbrev pub voided_fault : Installed → Check → TableRow → Option RowFault
 voided_fault meter check row =
@@ -136,6 +146,7 @@ behind check k row (Ok (last, step)) = Ok (
     last = last;
     total = check.total + step.mwh;
     is_ended = is_closing k;
+    stands = true;
   },
   Some step,
 )
@@ -146,15 +157,18 @@ stood meter check k row =
     (behind check k row (entered meter.range check.total check.last (entry_in k row)))
 
 -- behind a row that was voided; there is no step to it
-abbrev pub voided : Installed → Check → TableRow → Result (Check × Option Step) RowFault
-voided meter check row =
-    unless (voided_fault meter check row) (Ok (record check { place = row.place }, None))
+abbrev pub voided : Installed → Check → EntryKind → TableRow
+    → Result (Check × Option Step) RowFault
+voided meter check k row =
+    unless (voided_fault meter check row)
+    (unless (stood_fault meter check k row)
+    (Ok (record check { place = row.place; stands = false }, None)))
 
 abbrev pub passed_by : Installed → Check → TableRow → Result EntryKind RowFault
     → Result (Check × Option Step) RowFault
 passed_by meter check row (Err f) = Err f
 passed_by meter check row (Ok k) =
-    if row.is_voided then voided meter check row else stood meter check k row
+    if row.is_voided then voided meter check k row else stood meter check k row
 
 -- Where the check stands behind a row, and the step to it, if it stands.
 abbrev pub passed : Installed → Check → TableRow → Result (Check × Option Step) RowFault

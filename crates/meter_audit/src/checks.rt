@@ -11,13 +11,14 @@ use energy_core::{Cause, Last, Ranged, Reading, Step, Terms, Verdict, enter, jud
 use meter_journal::{EntryKind, Installed};
 
 /// Where a check stands behind a row: the place of the row, where the counter stands after the entries that stand, their
-/// energy in mWh, and whether the meter was closed.
+/// energy in mWh, whether the meter was closed, and whether the row itself stands.
 #[derive(Clone, Copy, Debug, PartialEq, Eq)]
 pub struct Check {
     pub place: u64,
     pub last: Last,
     pub total: u64,
     pub is_ended: bool,
+    pub stands: bool,
 }
 
 /// A check behind the opening.
@@ -31,6 +32,7 @@ pub fn begin(meter: &Installed) -> Check
         last: meter.opening,
         total: 0,
         is_ended: false,
+        stands: true,
     }
 }
 
@@ -123,7 +125,25 @@ fn reading_fault(
     }
 }
 
-/// What is wrong with a reading that was voided.
+/// What is wrong with a reading that was voided directly behind a row that stands.
+fn stood_fault(
+    meter: &Installed,
+    check: &Check,
+    kind: EntryKind,
+    row: &TableRow,
+) -> Option<RowFault>
+    requires meter { passing.MayBeChecked meter.now }
+    requires sound { passing.IsSoundCheck meter.now check.now }
+    ensures { result ≡ passing.stood_fault meter.now check.now kind row.now }
+{
+    if check.stands {
+        reading_fault(meter, check, kind, row)
+    } else {
+        None
+    }
+}
+
+/// What is wrong with a reading that was voided, wherever it stood.
 fn voided_fault(meter: &Installed, check: &Check, row: &TableRow) -> Option<RowFault>
     ensures { result ≡ passing.voided_fault meter.now check.now row.now }
 {
@@ -174,6 +194,7 @@ fn stand(
                 last,
                 total: check.total + step.mwh,
                 is_ended: kind.is_closing(),
+                stands: true,
             };
             Ok((next, Some(step)))
         }
@@ -200,16 +221,18 @@ pub fn pass(
     if !row.is_voided {
         return stand(meter, check, kind, row);
     }
-    match voided_fault(meter, check, row) {
-        Some(fault) => Err(fault),
-        None => {
-            let next = Check {
-                place: row.place,
-                last: check.last,
-                total: check.total,
-                is_ended: check.is_ended,
-            };
-            Ok((next, None))
-        }
+    if let Some(fault) = voided_fault(meter, check, row) {
+        return Err(fault);
     }
+    if let Some(fault) = stood_fault(meter, check, kind, row) {
+        return Err(fault);
+    }
+    let next = Check {
+        place: row.place,
+        last: check.last,
+        total: check.total,
+        is_ended: check.is_ended,
+        stands: false,
+    };
+    Ok((next, None))
 }

@@ -1,9 +1,9 @@
 //! A check of a meter under way: of its rows, and of the interval rows that they give.
-ghost use Rattle.std.specs.Prelude.{◌≡◌, ◌<◌, ◌^◌, ◌++◌, ◌-◌, [], take, drop, length};
+ghost use Rattle.std.specs.Prelude.{◌≡◌, ◌<◌, ◌^◌, [], drop};
 ghost use Rattle.std.specs.Prelude.{IfOk, OnOk};
 ghost use Rattle.meter_journal.specs.declared.lines.Installed.{Installed as TheMeter};
 ghost use Rattle.meter_audit.specs.Passing.{MayBeChecked};
-ghost use Rattle.meter_audit.specs.Going.{IsSoundProgress, HasGone, GoesOn};
+ghost use Rattle.meter_audit.specs.Going.{IsSoundProgress, HasGone, GoesOn, DropsDone, settled_in};
 
 use crate::checks::{Check, begin, pass};
 use crate::faults::RowFault;
@@ -65,7 +65,8 @@ pub fn take_row(
 
 // Leaves the last of some interval rows.
 fn leave_last(wanted: &mut Vec<Share>)
-    ensures { let done = length wanted.old.items - 1 in wanted.new.items ≡ drop done wanted.old.items }
+    ensures { let done = settled_in wanted.old.items in
+        wanted.new.items ≡ drop done wanted.old.items }
 {
     let count = wanted.len();
     if count > 1 {
@@ -80,8 +81,9 @@ pub fn drop_done(progress: &mut Progress)
     ensures sound { (meter : TheMeter) → IsSoundProgress meter progress.old
         → IsSoundProgress meter progress.new }
     ensures check { progress.new.check ≡ progress.old.check }
-    ensures last { let done = length progress.old.wanted.items - 1 in
+    ensures last { let done = settled_in progress.old.wanted.items in
         progress.new.wanted.items ≡ drop done progress.old.wanted.items }
+    ensures goes_on { DropsDone progress.old progress.new }
 {
     leave_last(&mut progress.wanted);
 }

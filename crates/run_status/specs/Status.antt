@@ -3,3 +3,4 @@ pub mod LackingText
 pub mod StatusText
 pub mod MetricsText
 pub mod SiteText
+pub mod MeterLines

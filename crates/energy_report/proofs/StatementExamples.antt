@@ -1,0 +1,118 @@
+-- Worked examples of statements, computed from the definitions.
+use Rattle.std.proofs.Common.{◌≡◌, ℕ, ℤ, true, false, List, [], ◌∷◌, Some, None, refl}
+use Rattle.std.specs.Prelude.{pos, negsuc, codes}
+use Rattle.std.specs.Fmt.{digits}
+use Rattle.energy_core.specs.Value.{unit_of}
+use Rattle.energy_core.specs.declared.entries.Entry.TheVariants as step
+use Rattle.energy_core.specs.declared.entries.Last.{Last}
+use Rattle.interval_core.specs.declared.zone.Zone.{Zone}
+use Rattle.meter_journal.specs.declared.lines.EntryKind.{EntryKind}
+use Rattle.meter_journal.specs.declared.lines.EntryKind.TheVariants as kind
+use Rattle.office_books.specs.declared.entries.MeterEntry.{MeterEntry}
+use Rattle.office_books.specs.declared.entries.MeterEntry.TheVariants as entry
+use Rattle.energy_report.specs.declared.form.EnergyUnit.{EnergyUnit}
+use Rattle.energy_report.specs.declared.form.EnergyUnit.TheVariants.{KilowattHours, MilliwattHours}
+use Rattle.energy_report.specs.declared.form.Format.{Format}
+use Rattle.energy_report.specs.declared.form.Format.TheVariants.{Text, Csv, Json}
+use Rattle.energy_report.specs.declared.form.StatementForm.{StatementForm}
+use Rattle.energy_report.specs.declared.meter_statement.MeterStatement.{MeterStatement}
+use Rattle.energy_report.specs.declared.tallies.EntryTally.{EntryTally}
+use Rattle.energy_report.specs.Ranges.{all_days}
+use Rattle.energy_report.specs.Statements.{energy_within, tally_of, worth_of}
+use Rattle.energy_report.specs.StatementTexts.{statement_text}
+
+-- ---- A meter that counts Wh: it was installed at 0, read at 5, a number by hand was voided, it was reset from 7 to 0, and read by hand at 2
+
+abbrev opened : MeterEntry
+opened = entry.Opening (record { at = 1000; raw = 0; sf = pos 0 })
+
+abbrev at_place : (place : ℕ) → EntryKind → (moment raw : ℕ) → MeterEntry
+at_place place k moment raw = entry.Later (record { place = place; kind = k; entry = step.Step moment raw 0; stands = true }) (pos 0)
+
+abbrev voided : MeterEntry
+voided = entry.Later (record { place = 3; kind = kind.Manual; entry = step.Step 3000 6 0; stands = false }) (pos 0)
+
+abbrev reset : MeterEntry
+reset = entry.Later (record { place = 4; kind = kind.Reset; entry = step.Change 4000 7 0 (pos 0); stands = true }) (pos 0)
+
+abbrev entries : List MeterEntry
+entries = opened ∷ at_place 2 kind.Reading 2000 5 ∷ voided ∷ reset ∷ at_place 5 kind.Manual 5000 2 ∷ []
+
+abbrev tally : EntryTally
+tally = record {
+  first = Some (record { at = 1000; raw = 0; sf = pos 0 });
+  last = Some (record { at = 5000; raw = 2; sf = pos 0 });
+  by_hand = 1;
+  resets = 1;
+  rescales = 0;
+  voids = 1;
+}
+
+all_entries : (zone : Zone) → tally_of zone all_days entries ≡ tally
+all_entries zone = refl
+
+-- after a reset the counter stands where it was set
+set_anew : (zone : Zone) → (tally_of zone all_days (opened ∷ reset ∷ [])).last ≡ Some (record { at = 4000; raw = 0; sf = pos 0 })
+set_anew zone = refl
+
+-- an entry past the last moment is in no range
+past_the_last_moment : (zone : Zone) → tally_of zone all_days (at_place 2 kind.Manual 4102444801 5 ∷ [])
+    ≡ record { first = None; last = None; by_hand = 0; resets = 0; rescales = 0; voids = 0 }
+past_the_last_moment zone = refl
+
+-- 5 Wh, and then 2 Wh up to the reset, and 2 Wh after it
+all_rows : (zone : Zone) → energy_within zone all_days (record { start = 900; mwh = 5000 } ∷ record { start = 1800; mwh = 2000 } ∷ record { start = 4500; mwh = 2000 } ∷ []) ≡ 9000
+all_rows zone = refl
+
+-- ---- worths: 5 counts of 1 Wh, of 1 mWh and of 1 kWh, and of a scale that no counter has
+
+abbrev stood : ℤ → Last
+stood sf = record { at = 0; raw = 5; sf = sf }
+
+five_wh : worth_of (stood (pos 0)) ≡ 5000
+unfolding unit_of
+five_wh = refl
+
+five_mwh : worth_of (stood (negsuc 2)) ≡ 5
+unfolding unit_of
+five_mwh = refl
+
+five_kwh : worth_of (stood (pos 3)) ≡ 5000000
+unfolding unit_of
+five_kwh = refl
+
+no_such_scale : worth_of (stood (pos 4)) ≡ 0
+no_such_scale = refl
+
+-- ---- texts: a meter with entries in the range, and one without
+
+abbrev m1 : MeterStatement
+m1 = record { meter = codes "m1"; entries = tally; mwh = 9000 }
+
+abbrev m2 : MeterStatement
+m2 = record {
+  meter = codes "m2";
+  entries = record { first = None; last = None; by_hand = 0; resets = 0; rescales = 0; voids = 0 };
+  mwh = 0;
+}
+
+abbrev form : EnergyUnit → Format → StatementForm
+form unit format = record { range = all_days; unit = unit; format = format }
+
+as_text : statement_text (form MilliwattHours Text) (m1 ∷ m2 ∷ [])
+    ≡ codes "m1 1000 0 5000 2000 9000 1 1 0 1\nm2 - - - - 0 0 0 0 0\nend 2\n"
+unfolding digits unit_of
+as_text = refl
+
+as_table : statement_text (form KilowattHours Csv) (m1 ∷ m2 ∷ [])
+    ≡ codes "meter,first,first_kwh,last,last_kwh,energy_kwh,by_hand,resets,rescales,voids\r\nm1,1000,0.000000,5000,0.002000,0.009000,1,1,0,1\r\nm2,,,,,0.000000,0,0,0,0\r\n"
+unfolding digits unit_of
+as_table = refl
+
+as_objects : statement_text (form MilliwattHours Json) (m1 ∷ m2 ∷ [])
+    ≡ codes "[{\"meter\":\"m1\",\"first\":1000,\"first_mwh\":\"0\",\"last\":5000,\"last_mwh\":\"2000\",\"energy_mwh\":\"9000\",\"by_hand\":1,\"resets\":1,\"rescales\":0,\"voids\":1},\n{\"meter\":\"m2\",\"first\":null,\"first_mwh\":null,\"last\":null,\"last_mwh\":null,\"energy_mwh\":\"0\",\"by_hand\":0,\"resets\":0,\"rescales\":0,\"voids\":0}]\n"
+unfolding digits unit_of
+as_objects = refl
+
+no_meter : statement_text (form MilliwattHours Json) [] ≡ codes "[]\n"
+no_meter = refl

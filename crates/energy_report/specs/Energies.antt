@@ -1,0 +1,20 @@
+-- Interval rows that are added up as they come.
+use Rattle.std.specs.Prelude.{◌≡◌, ◌+◌, ◌-◌, ◌^◌, min, if◌then◌else◌}
+use Rattle.interval_core.specs.declared.shares.Share.{Share}
+use Rattle.interval_core.specs.declared.zone.Zone.{Zone}
+use Rattle.energy_report.specs.declared.energy_within.EnergyWithin.{EnergyWithin}
+use Rattle.energy_report.specs.declared.range.DayRange.{DayRange}
+use Rattle.energy_report.specs.Ranges.{has_moment}
+
+-- no rows yet
+pub record IsFresh (zone : Zone) (range : DayRange) (new : EnergyWithin) : Type 0 where
+  pub zone_is : new.zone ≡ zone
+  pub range_is : new.range ≡ range
+  pub none : new.mwh ≡ 0
+
+-- A row that the range has is added up, as far as a number of 128 bits goes.
+pub record AddsShare (old : EnergyWithin) (row : Share) (new : EnergyWithin) : Type 0 where
+  pub zone : new.zone ≡ old.zone
+  pub range : new.range ≡ old.range
+  pub mwh : new.mwh ≡ min (old.mwh
+      + (if has_moment old.zone old.range row.start then row.mwh else 0)) (2 ^ 128 - 1)

@@ -1,0 +1,112 @@
+-- The text of a statement: a row for each meter, in one of three formats, energies in one of two units. Moments are seconds since
+-- 1970-01-01 UTC.
+use Rattle.std.specs.Prelude.{ℕ, Bool, true, false, ◌++◌, List, [], length, codes, Option, Some, None}
+use Rattle.std.specs.List.{join_by}
+use Rattle.std.specs.Fmt.{decimal}
+use Rattle.energy_core.specs.declared.entries.Last.{Last}
+use Rattle.energy_report.specs.declared.form.EnergyUnit.{EnergyUnit}
+use Rattle.energy_report.specs.declared.form.Format.{Format}
+use Rattle.energy_report.specs.declared.form.Format.TheVariants.{Text, Csv, Json}
+use Rattle.energy_report.specs.declared.form.StatementForm.{StatementForm}
+use Rattle.energy_report.specs.declared.meter_statement.MeterStatement.{MeterStatement}
+use Rattle.energy_report.specs.declared.tallies.EntryTally.{EntryTally}
+use Rattle.energy_report.specs.Statements.{worth_of}
+use Rattle.energy_report.specs.Texts.{ending_by, energy_text, separator_by, unit_word}
+
+-- ---- where a counter stood: its moment and its worth
+
+-- what stands there where no entry stands in the range
+abbrev pub nothing : Format → List ℕ
+nothing Text = codes "-"
+nothing Csv = []
+nothing Json = codes "null"
+
+abbrev pub quote : Format → List ℕ
+quote Text = []
+quote Csv = []
+quote Json = codes "\""
+
+abbrev pub moment_text : Format → Option Last → List ℕ
+moment_text format None = nothing format
+moment_text format (Some stand) = decimal stand.at
+
+abbrev pub worth_text : Format → EnergyUnit → Option Last → List ℕ
+worth_text format unit None = nothing format
+worth_text format unit (Some stand) =
+    quote format ++ energy_text unit (worth_of stand) ++ quote format
+
+-- ---- fields with a mark before each but the first: a line of text, or a record of a table
+
+abbrev pub stand_fields : StatementForm → (mark : List ℕ) → Option Last → List ℕ
+stand_fields form mark stand =
+    mark ++ moment_text form.format stand ++ mark ++ worth_text form.format form.unit stand
+
+abbrev pub count_fields : (mark : List ℕ) → EntryTally → List ℕ
+count_fields mark tally =
+    mark ++ decimal tally.by_hand ++ mark ++ decimal tally.resets ++ mark
+    ++ decimal tally.rescales ++ mark ++ decimal tally.voids
+
+abbrev pub fields : StatementForm → (mark : List ℕ) → MeterStatement → List ℕ
+fields form mark row =
+    row.meter ++ stand_fields form mark row.entries.first
+    ++ stand_fields form mark row.entries.last
+    ++ mark ++ energy_text form.unit row.mwh ++ count_fields mark row.entries
+
+-- ---- an object
+
+abbrev pub stand_members : EnergyUnit → (word : List ℕ) → Option Last → List ℕ
+stand_members unit word stand =
+    codes "\"" ++ word ++ codes "\":" ++ moment_text Json stand ++ codes ",\"" ++ word ++ codes "_"
+    ++ unit_word unit ++ codes "\":" ++ worth_text Json unit stand ++ codes ","
+
+abbrev pub count_members : EntryTally → List ℕ
+count_members tally =
+    codes ",\"by_hand\":" ++ decimal tally.by_hand ++ codes ",\"resets\":" ++ decimal tally.resets
+    ++ codes ",\"rescales\":" ++ decimal tally.rescales ++ codes ",\"voids\":"
+    ++ decimal tally.voids
+
+abbrev pub object : EnergyUnit → MeterStatement → List ℕ
+object unit row =
+    codes "{\"meter\":\"" ++ row.meter ++ codes "\","
+    ++ stand_members unit (codes "first") row.entries.first
+    ++ stand_members unit (codes "last") row.entries.last
+    ++ codes "\"energy_" ++ unit_word unit ++ codes "\":\"" ++ energy_text unit row.mwh
+    ++ codes "\"" ++ count_members row.entries ++ codes "}"
+
+-- ---- rows, and what stands around them
+
+abbrev pub row_by : Format → StatementForm → MeterStatement → List ℕ
+row_by Text form row = fields form (codes " ") row ++ codes "\n"
+row_by Csv form row = fields form (codes ",") row ++ codes "\r\n"
+row_by Json form row = object form.unit row
+
+abbrev pub row_text : StatementForm → MeterStatement → List ℕ
+row_text form row = row_by form.format form row
+
+abbrev pub csv_header : EnergyUnit → List ℕ
+csv_header unit =
+    codes "meter,first,first_" ++ unit_word unit ++ codes ",last,last_" ++ unit_word unit
+    ++ codes ",energy_" ++ unit_word unit ++ codes ",by_hand,resets,rescales,voids\r\n"
+
+abbrev pub opening_by : Format → EnergyUnit → List ℕ
+opening_by Text unit = []
+opening_by Csv unit = csv_header unit
+opening_by Json unit = codes "["
+
+abbrev pub opening : StatementForm → List ℕ
+opening form = opening_by form.format form.unit
+
+abbrev pub separator : StatementForm → List ℕ
+separator form = separator_by form.format
+
+-- what comes before a row
+abbrev pub lead : (is_first : Bool) → StatementForm → List ℕ
+lead true form = []
+lead false form = separator form
+
+-- the text of the rows, after what comes before them
+abbrev pub begun_text : StatementForm → List MeterStatement → List ℕ
+begun_text form rows = opening form ++ join_by (row_text form) (separator form) rows
+
+abbrev pub statement_text : StatementForm → List MeterStatement → List ℕ
+statement_text form rows = begun_text form rows ++ ending_by form.format (length rows)

@@ -1,0 +1,106 @@
+-- What a statement tells of a meter: where its counter stood at its first and last entry in a range of days, the corrections
+-- that were made in it, and its energy.
+use Rattle.std.specs.Prelude.{ℕ, ℤ, int_lt, ◌-◌, ◌^◌, min, Bool, true, false, not, ◌&&◌, ◌||◌, List, filter, reverse, sum_by, None, if◌then◌else◌}
+use Rattle.std.specs.List.{count_by, find}
+use Rattle.std.specs.Option.{option_map}
+use Rattle.energy_core.specs.declared.entries.Entry.{Entry}
+use Rattle.energy_core.specs.declared.entries.Entry.TheVariants as step
+use Rattle.energy_core.specs.declared.entries.Last.{Last}
+use Rattle.energy_core.specs.declared.limits.TheConstants.{MAX_SCALE, MIN_SCALE}
+use Rattle.energy_core.specs.Value.{value_of}
+use Rattle.interval_core.specs.declared.shares.Share.{Share}
+use Rattle.interval_core.specs.declared.zone.Zone.{Zone}
+use Rattle.meter_journal.specs.declared.lines.EntryKind.{EntryKind}
+use Rattle.meter_journal.specs.declared.lines.EntryKind.TheVariants as kind
+use Rattle.office_books.specs.declared.entries.MeterEntry.{MeterEntry}
+use Rattle.office_books.specs.declared.entries.MeterEntry.TheVariants as entry
+use Rattle.office_events.specs.declared.questions.Installation.{Installation}
+use Rattle.energy_report.specs.declared.range.DayRange.{DayRange}
+use Rattle.energy_report.specs.declared.tallies.EntryTally.{EntryTally}
+use Rattle.energy_report.specs.Ranges.{has_moment}
+use Rattle.energy_report.specs.RowLines.{counted}
+
+-- ---- an entry
+
+-- where the counter stood after it, at the scale after it
+abbrev pub stand_after : Entry → (sf : ℤ) → Last
+stand_after (step.Step at raw rolls) sf = record { at = at; raw = raw; sf = sf }
+stand_after (step.Change at before after set) sf = record { at = at; raw = after; sf = sf }
+
+abbrev pub stand_of : MeterEntry → Last
+stand_of (entry.Opening last) = last
+stand_of (entry.Later row sf) = stand_after row.entry sf
+
+-- no void names it
+abbrev pub stands : MeterEntry → Bool
+stands (entry.Opening last) = true
+stands (entry.Later row sf) = row.stands
+
+abbrev pub is_manual : EntryKind → Bool
+is_manual kind.Manual = true
+is_manual _ = false
+
+abbrev pub is_reset : EntryKind → Bool
+is_reset kind.Reset = true
+is_reset _ = false
+
+abbrev pub is_rescale : EntryKind → Bool
+is_rescale kind.Rescale = true
+is_rescale _ = false
+
+-- it is of such a kind; an opening is of none
+abbrev pub has_kind : (EntryKind → Bool) → MeterEntry → Bool
+has_kind is (entry.Opening last) = false
+has_kind is (entry.Later row sf) = is row.kind
+
+-- ---- entries in a range
+
+abbrev pub is_within : Zone → DayRange → MeterEntry → Bool
+is_within zone range e = has_moment zone range (stand_of e).at
+
+abbrev pub stands_within : Zone → DayRange → MeterEntry → Bool
+stands_within zone range e = is_within zone range e && stands e
+
+abbrev pub is_corrected : Zone → DayRange → (EntryKind → Bool) → MeterEntry → Bool
+is_corrected zone range is e = stands_within zone range e && has_kind is e
+
+abbrev pub is_voided : Zone → DayRange → MeterEntry → Bool
+is_voided zone range e = is_within zone range e && not (stands e)
+
+-- how many there are; the count stays at the greatest number of 64 bits
+abbrev pub count_of : (MeterEntry → Bool) → List MeterEntry → ℕ
+count_of does entries = counted (count_by does entries)
+
+-- What the entries of a meter come to, in their order: where the counter stood at the first and at the last that stands, and how
+-- many corrections stand. Entries that were voided are counted by their own moments.
+abbrev pub tally_of : Zone → DayRange → List MeterEntry → EntryTally
+tally_of zone range entries = record {
+  first = option_map stand_of (find (stands_within zone range) entries);
+  last = option_map stand_of (find (stands_within zone range) (reverse entries));
+  by_hand = count_of (is_corrected zone range is_manual) entries;
+  resets = count_of (is_corrected zone range is_reset) entries;
+  rescales = count_of (is_corrected zone range is_rescale) entries;
+  voids = count_of (is_voided zone range) entries;
+}
+
+-- ---- energy
+
+-- The energy of the rows whose quarter hours start in the range, as a number of 128 bits holds it.
+abbrev pub energy_within : Zone → DayRange → List Share → ℕ
+energy_within zone range rows =
+    min (sum_by (λ row. row.mwh) (filter (λ row. has_moment zone range row.start) rows))
+    (2 ^ 128 - 1)
+
+-- What a counter was worth, in mWh. No counter has another scale.
+abbrev pub worth_of : Last → ℕ
+worth_of last =
+    if int_lt last.sf MIN_SCALE || int_lt MAX_SCALE last.sf then 0 else value_of last
+
+-- ---- meters
+
+-- A meter was there on a day of the range, by the clocks of the zone: it was installed before the range ends, and was not ended
+-- before it begins.
+abbrev pub was_there : Zone → DayRange → Installation → Bool
+was_there zone range row =
+    has_moment zone (record { from = None; till = range.till }) row.opening.at
+    && (not row.ended || has_moment zone (record { from = range.from; till = None }) row.last.at)

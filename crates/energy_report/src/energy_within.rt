@@ -1,0 +1,55 @@
+//! The energy of interval rows in a range.
+ghost use Rattle.std.specs.Prelude.{◌≡◌, if◌then◌else◌};
+
+use crate::range::DayRange;
+use interval_core::{Share, Zone};
+use office_books::RowSink;
+
+/// Adds up the energy of the interval rows whose quarter hours start in a range, by the clocks of a zone. A sum stays at the
+/// greatest number.
+#[derive(Drop)]
+pub struct EnergyWithin {
+    zone: Zone,
+    range: DayRange,
+    mwh: u128,
+}
+
+impl EnergyWithin {
+    ghost use Rattle.energy_report.specs.Energies.{IsFresh};
+
+    /// No rows yet.
+    pub fn new(zone: Zone, range: DayRange) -> EnergyWithin
+        ensures { IsFresh zone range result }
+    {
+        EnergyWithin {
+            zone,
+            range,
+            mwh: 0,
+        }
+    }
+
+    /// The energy, in mWh.
+    pub fn mwh(&self) -> u128
+        ensures { result ≡ self.now.mwh }
+    {
+        self.mwh
+    }
+}
+
+impl RowSink<Share> for EnergyWithin {
+    ghost use Rattle.energy_report.specs.Energies.{AddsShare};
+
+    ghost takes = { AddsShare };
+
+    fn put(&mut self, row: Share) {
+        let is_within = self.range.has_moment(&self.zone, row.start);
+        let mwh = energy_if(is_within, row.mwh);
+        self.mwh = self.mwh.saturating_add(u128::from(mwh));
+    }
+}
+
+fn energy_if(is_within: bool, mwh: u64) -> u64
+    ensures { result ≡ if is_within then mwh else 0 }
+{
+    if is_within { mwh } else { 0 }
+}

@@ -1,0 +1,170 @@
+//! What the entries of a meter in a range come to.
+ghost use Rattle.std.specs.Prelude.{◌≡◌, ◌+◌, ◌&&◌, ◌++◌, ◌∷◌, [], List, Some, None, if◌then◌else◌};
+ghost use Rattle.std.specs.Option.{option_or};
+ghost use Rattle.office_books.specs.declared.entries.MeterEntry.{MeterEntry as Listed};
+ghost use Rattle.energy_report.specs.RowLines.{counted};
+ghost use Rattle.energy_report.specs.Statements as statements;
+ghost use Rattle.energy_report.specs.Statements.{tally_of};
+
+use crate::range::DayRange;
+use energy_core::{Entry, Last};
+use interval_core::Zone;
+use meter_journal::EntryKind;
+use office_books::MeterEntry;
+
+/// Where a counter stood at its first and its last entry in a range of days, and how many corrections were made in it. A count
+/// stays at the greatest number.
+#[derive(Clone, Copy, Debug, PartialEq, Eq)]
+pub struct EntryTally {
+    /// The first entry that stands, and the last: the counter after it.
+    pub first: Option<Last>,
+    pub last: Option<Last>,
+    /// Numbers that someone read and handed in, and that stand.
+    pub by_hand: u64,
+    /// Resets and rescalings that stand.
+    pub resets: u64,
+    pub rescales: u64,
+    /// Entries that were voided, by their own moments.
+    pub voids: u64,
+}
+
+impl EntryTally {
+    /// No entries yet.
+    pub fn new() -> EntryTally
+        ensures none { (zone : Zone) (range : DayRange) → result ≡ tally_of zone range [] }
+    {
+        EntryTally {
+            first: None,
+            last: None,
+            by_hand: 0,
+            resets: 0,
+            rescales: 0,
+            voids: 0,
+        }
+    }
+
+    /// Takes the next entries of the meter, in their order.
+    pub fn take_all(&mut self, zone: &Zone, range: &DayRange, entries: &[MeterEntry])
+        ensures { (before : List Listed) → self.old ≡ tally_of zone.now range.now before
+            → self.new ≡ tally_of zone.now range.now (before ++ entries.now) }
+    {
+        for entry in entries {
+            self.take(zone, range, entry);
+        }
+    }
+
+    // Takes the next entry.
+    fn take(&mut self, zone: &Zone, range: &DayRange, entry: &MeterEntry)
+        ensures { (before : List Listed) → self.old ≡ tally_of zone.now range.now before
+            → self.new ≡ tally_of zone.now range.now (before ++ entry.now ∷ []) }
+    {
+        let stand = stand_of(entry);
+        let is_within = range.has_moment(zone, stand.at);
+        let counts = both(is_within, stands(entry));
+        *self = EntryTally {
+            first: earlier(self.first, counts, stand),
+            last: later(self.last, counts, stand),
+            by_hand: tallied(self.by_hand, both(counts, is_by_hand(entry))),
+            resets: tallied(self.resets, both(counts, is_reset(entry))),
+            rescales: tallied(self.rescales, both(counts, is_rescale(entry))),
+            voids: tallied(self.voids, both(is_within, !stands(entry))),
+        };
+    }
+}
+
+// ---- an entry
+
+// Where the counter stood after it.
+fn stand_of(entry: &MeterEntry) -> Last
+    ensures { result ≡ statements.stand_of entry.now }
+{
+    match entry {
+        MeterEntry::Opening(last) => *last,
+        MeterEntry::Later { row, sf } => match row.entry {
+            Entry::Step { at, raw, .. } => Last { at, raw, sf: *sf },
+            Entry::Change { at, after, .. } => Last {
+                at,
+                raw: after,
+                sf: *sf,
+            },
+        },
+    }
+}
+
+fn stands(entry: &MeterEntry) -> bool
+    ensures { result ≡ statements.stands entry.now }
+{
+    match entry {
+        MeterEntry::Opening(_) => true,
+        MeterEntry::Later { row, .. } => row.stands,
+    }
+}
+
+fn is_by_hand(entry: &MeterEntry) -> bool
+    ensures { result ≡ statements.has_kind statements.is_manual entry.now }
+{
+    match entry {
+        MeterEntry::Opening(_) => false,
+        MeterEntry::Later { row, .. } => match row.kind {
+            EntryKind::Manual => true,
+            EntryKind::Reading | EntryKind::Closing | EntryKind::Reset | EntryKind::Rescale => {
+                false
+            }
+        },
+    }
+}
+
+fn is_reset(entry: &MeterEntry) -> bool
+    ensures { result ≡ statements.has_kind statements.is_reset entry.now }
+{
+    match entry {
+        MeterEntry::Opening(_) => false,
+        MeterEntry::Later { row, .. } => match row.kind {
+            EntryKind::Reset => true,
+            EntryKind::Reading | EntryKind::Manual | EntryKind::Closing | EntryKind::Rescale => {
+                false
+            }
+        },
+    }
+}
+
+fn is_rescale(entry: &MeterEntry) -> bool
+    ensures { result ≡ statements.has_kind statements.is_rescale entry.now }
+{
+    match entry {
+        MeterEntry::Opening(_) => false,
+        MeterEntry::Later { row, .. } => match row.kind {
+            EntryKind::Rescale => true,
+            EntryKind::Reading | EntryKind::Manual | EntryKind::Closing | EntryKind::Reset => false,
+        },
+    }
+}
+
+// ---- one entry more
+
+fn both(one: bool, other: bool) -> bool
+    ensures { result ≡ one && other }
+{
+    one && other
+}
+
+fn earlier(first: Option<Last>, counts: bool, stand: Last) -> Option<Last>
+    ensures { result ≡ option_or first (if counts then Some stand else None) }
+{
+    match first {
+        Some(_) => first,
+        None => { if counts { Some(stand) } else { None } }
+    }
+}
+
+fn later(last: Option<Last>, counts: bool, stand: Last) -> Option<Last>
+    ensures { result ≡ if counts then Some stand else last }
+{
+    if counts { Some(stand) } else { last }
+}
+
+fn tallied(count: u64, counts: bool) -> u64
+    ensures { result ≡ counted (count + (if counts then 1 else 0)) }
+{
+    count.saturating_add(u64::from(counts))
+}
