@@ -424,6 +424,27 @@ same("what is no place", ask("/meters/mlib/entries/all"), (400, '{"fault":400}')
 same("entries of what is no meter", ask("/meters/none/entries/1"), (404, '{"refused":1}'))
 same("entries by another method", ask("/meters/mlib/entries/1", 905, "{}")[0], 405)
 
+# The energy of a register by days of a range and by months, as a report prints it. A quarter hour may end between two requests.
+for _ in range(3):
+    days = ask("/registers/rlib/days")[1]
+    ranged = ask("/registers/rlib/days/0000-01-01/9999-12-31")
+    status, text = ask("/registers/rlib/months")
+    if ask("/registers/rlib/days")[1] == days:
+        break
+lines = [line.split() for line in days.splitlines()[:-1]]
+rows = [line.split() for line in text.splitlines()[:-1]]
+first = lines[0][0]
+same("all days", ranged, (200, days))
+same("no day before the first", ask(f"/registers/rlib/days/0000-01-01/{first}"), (200, "end 0\n"))
+same("nor in a range from it till itself", ask(f"/registers/rlib/days/{first}/{first}"), (200, "end 0\n"))
+same("its months", (status, [row[0] for row in rows]), (200, sorted({line[0][:7] for line in lines})))
+same("have the energy of its days", sum(int(row[2]) for row in rows), sum(int(line[2]) for line in lines))
+same("as many as it tells", text.splitlines()[-1], f"end {len(rows)}")
+same("a range the wrong way round", ask("/registers/rlib/days/2026-12-01/2026-11-01"), (400, '{"fault":400}'))
+same("what is no day", ask("/registers/rlib/days/2026-02-29/2026-03-01"), (400, '{"fault":400}'))
+same("months of what is no register", ask("/registers/none/months"), (404, '{"refused":1}'))
+same("months by another method", ask("/registers/rlib/months", 906, "{}")[0], 405)
+
 # The page is its files, of which a browser is told what they are.
 for path, kind, name in [
     ("/", "text/html; charset=utf-8", "page.html"),

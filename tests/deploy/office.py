@@ -69,6 +69,10 @@ class Handler(http.server.BaseHTTPRequestHandler):
             self.answer(200, "text/plain", "1900 200000\nend 1\n", has_length=False)
         elif "/intervals/" in self.path:
             self.answer(200, "text/plain", "900 177777\nend 1\n")
+        elif "/days/" in self.path:
+            self.answer(200, "text/plain", "1970-01-01   2                   200000\nend 1\n")
+        elif self.path.endswith("/months"):
+            self.answer(200, "text/plain", "1970-01    2                   200000\nend 1\n")
         elif "/entries/" in self.path:
             self.answer(200, "text/plain", "1 opening 1000 5000 0 0 0 stands\nend 1\n")
         elif self.path.startswith("/polls/"):

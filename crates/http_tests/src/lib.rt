@@ -46,6 +46,8 @@ mod openings;
 #[cfg(test)]
 mod program_commands;
 #[cfg(test)]
+mod register_energy;
+#[cfg(test)]
 mod replies;
 #[cfg(test)]
 mod report_forms;

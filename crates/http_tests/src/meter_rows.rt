@@ -10,8 +10,8 @@ use run_status::{RunRoute, StatusRoute, put_entries, reply_entries, reply_interv
 use std::alloc::{AllocError, Global};
 use std::test::Fail;
 
-// The bytes of a reply of text whose size is told.
-fn text_reply(alloc: Global, body: &str) -> Result<String, AllocError> {
+/// The bytes of a reply of text whose size is told.
+pub(crate) fn text_reply(alloc: Global, body: &str) -> Result<String, AllocError> {
     let size = body.len();
     format!(in alloc;
         "HTTP/1.1 200 OK\r\nContent-Type: text/plain\r\nContent-Length: {size}\r\nConnection: close\r\n\r\n{body}"
@@ -149,8 +149,8 @@ fn each_kind_of_entry_has_its_line(rt: HostRuntime) -> Result<(), Fail> {
     Ok(())
 }
 
-// The route of a target.
-fn route_of(alloc: Global, target: &str) -> Result<Option<RunRoute>, AllocError> {
+/// The route of a target.
+pub(crate) fn route_of(alloc: Global, target: &str) -> Result<Option<RunRoute>, AllocError> {
     let request = format!(in alloc; "GET {target} HTTP/1.1\r\n\r\n")?;
     Ok(run_route(&[], request.as_bytes()))
 }

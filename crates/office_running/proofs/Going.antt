@@ -1,6 +1,7 @@
 -- The steps of a run, and its turns.
 use Rattle.std.proofs.Common.{◌≡◌, ◌⊎◌, inl, inr, ℕ, true, false, Bool, List, [], ◌∷◌, ◌++◌, Option, Some, None, Result, refl, sym, ap, ◌∙◌, subst, append_assoc}
 use Rattle.std.specs.Prelude.{max, position, slice_get, if◌then◌else◌}
+use Rattle.energy_report.specs.declared.form.ReportForm.{ReportForm}
 use Rattle.office_events.specs.declared.answers.Answer.{Answer}
 use Rattle.office_events.specs.declared.events.Event.{Event}
 use Rattle.office_events.specs.declared.facts.Fact.{Fact}
@@ -38,13 +39,11 @@ use Rattle.run_status.specs.RunHttp.Answer as asking
 use Rattle.run_status.specs.declared.run_http.answer.PeerReply.{PeerReply}
 use Rattle.run_status.specs.declared.run_http.answer.PeerReply.TheVariants.{Open, Replied, Failed}
 use Rattle.http_request.specs.Hosts.{may_ask_in}
-use Rattle.http_request.specs.declared.status.Status.TheVariants.{Misdirected}
-use Rattle.run_status.specs.RunHttp.StatusRoute.{IsFor, route_in}
+use Rattle.http_request.specs.declared.head.head.HeadState.{HeadState}
+use Rattle.run_status.specs.RunHttp.RegisterReplies.{RepliesEnergy}
+use Rattle.run_status.specs.RunHttp.StatusRoute.{IsFor, IsRunRoute}
 use Rattle.run_status.specs.RunHttp.MeterReplies.{RepliesRows}
 use Rattle.run_status.specs.RunHttp.SiteReply.{RepliesSite}
-use Rattle.run_status.specs.declared.run_http.route.RunRoute.{RunRoute}
-use Rattle.run_status.specs.declared.run_http.route.RunRoute.TheVariants.{Own}
-use Rattle.run_status.specs.declared.run_http.route.StatusRoute.TheVariants.{Rejected}
 use Rattle.office_running.specs.Runs.{AreAt, BooksRun, Goes, IsOfRound, RunsOn, Step, Fed, Asks, TakesTurn, TakesTurns, history_behind, latest_of, steps_of, with_step}
 
 -- ---- At one moment
@@ -196,9 +195,9 @@ goes_fed names ledger at e answer old new feeds ends is = record {
 
 -- ---- A request of a peer
 
-may_of : (may : Bool) (route : Option RunRoute) → None ≡ (if may then route else Some (Own (Rejected Misdirected))) → may ≡ true
-may_of true route is = refl
-may_of false route is = cc is
+may_of : (may : Bool) (bytes : List ℕ) (head_state : HeadState) → IsRunRoute may bytes head_state None → may ≡ true
+may_of true bytes head_state is = refl
+may_of false bytes head_state is = cc is
 
 -- what is left to the office may ask
 pub may_ask_of : (names : List (List ℕ)) (request : List ℕ) → IsFor names request None → (left read : List ℕ) → request ≡ read ++ left → MayAsk names read
@@ -207,7 +206,7 @@ may_ask_of names request for left read is = record {
   same = inr (record { rest = left; is = is });
   head_state = for.head_state;
   finds = for.looks;
-  may = may_of (may_ask_in names request for.head_state) (route_in request for.head_state) for.asks;
+  may = may_of (may_ask_in names request for.head_state) request for.head_state for.asks;
 }
 
 asked_once : {B : Type 0} (names : List (List ℕ)) (ledger : B → Ledger) (at : ℕ) (old new : Office B) (request : List ℕ) (asked : PeerReply)
@@ -243,6 +242,14 @@ goes_looked names ledger at old new from to result replies = record {
 pub goes_rows : {B T E : Type 0} (names : List (List ℕ)) (ledger : B → Ledger) (at : ℕ) (old new : Office B) (says : List Fact → Option (List T))
     (text : List T → List ℕ) (from to : List ℕ) (result : Result (Unit {0}) E) → RepliesRows ledger old new says text from to result → Goes names at ledger old new
 goes_rows names ledger at old new says text from to result replies = record {
+  stands = λ past stands clean. record { steps = []; each = tt; stands = replies.asks.stands past stands };
+  clean = replies.asks.clean;
+  zone = replies.asks.zone;
+}
+
+pub goes_energy : {B E : Type 0} (names : List (List ℕ)) (ledger : B → Ledger) (at : ℕ) (old new : Office B) (register : Option (List ℕ)) (form : ReportForm)
+    (from to : List ℕ) (result : Result (Unit {0}) E) → RepliesEnergy ledger old new register form from to result → Goes names at ledger old new
+goes_energy names ledger at old new register form from to result replies = record {
   stands = λ past stands clean. record { steps = []; each = tt; stands = replies.asks.stands past stands };
   clean = replies.asks.clean;
   zone = replies.asks.zone;

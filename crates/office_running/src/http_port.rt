@@ -9,6 +9,7 @@ use crate::kept_room::KeptRoom;
 use crate::peers::Peer;
 use crate::settings::Settings;
 use crate::voice::Voice;
+use energy_report::ReportForm;
 use http_request::{Route, Status, router};
 use matchit::Router;
 use mio::net::{TcpListener, TcpStream};
@@ -18,8 +19,8 @@ use office_core::Office;
 use office_events::Name;
 use run_schedule::{MOST_PEERS, PEER_SECONDS, Peers, place_for};
 use run_status::{
-    PeerReply, RunRoute, StatusRoute, ask, reply_entries, reply_intervals, reply_site,
-    reply_status, run_route,
+    PeerReply, RunRoute, StatusRoute, ask, reply_energy, reply_entries, reply_intervals,
+    reply_site, reply_status, run_route,
 };
 use std::alloc::{AllocError, Global};
 use std::io::ErrorKind;
@@ -265,6 +266,23 @@ impl Serving {
         }
     }
 
+    // The reply to the question for the energy of a register.
+    #[tactic(auto, using(crate::proofs::Going::goes_energy))]
+    fn reply_energy<B: Books>(
+        &self,
+        office: &mut Office<B>,
+        register: &Option<Name>,
+        form: &ReportForm,
+    ) -> PeerReply
+        ensures { (names : List (List ℕ)) (at : ℕ) → Goes names at B.ledger office.old office.new }
+    {
+        let mut text = Vec::new(self.alloc);
+        match reply_energy(self.alloc, &mut text, office, register, form) {
+            Ok(()) => PeerReply::Replied(text),
+            Err(_) => PeerReply::Failed,
+        }
+    }
+
     // What comes of what a peer has asked. Who asks is tested before all else, and then whether what is kept has room.
     #[tactic(auto, using(crate::proofs::Going::goes_none, crate::proofs::Going::goes_both))]
     fn reply<B: Books>(
@@ -282,6 +300,9 @@ impl Serving {
             Some(RunRoute::Site) => self.reply_site(office, now.moment),
             Some(RunRoute::Intervals { meter, span }) => self.reply_intervals(office, &meter, span),
             Some(RunRoute::Entries { meter, from }) => self.reply_entries(office, &meter, from),
+            Some(RunRoute::Energy { register, form }) => {
+                self.reply_energy(office, &register, &form)
+            }
             None => {
                 if self.room.lacks(request) {
                     return self.reply_status(StatusRoute::Rejected(Status::Unavailable), voice);

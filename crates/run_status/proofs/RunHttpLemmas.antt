@@ -1,2 +1,4 @@
 pub mod Handed
 pub mod Rows
+pub mod Spelled
+pub mod Energy

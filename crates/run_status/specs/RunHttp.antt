@@ -3,3 +3,5 @@ pub mod MeterTargets
 pub mod Answer
 pub mod SiteReply
 pub mod MeterReplies
+pub mod RegisterTargets
+pub mod RegisterReplies

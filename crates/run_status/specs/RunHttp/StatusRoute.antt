@@ -1,6 +1,6 @@
 -- The routes of a run itself, and the replies to those that ask nothing of the office: two by what was counted, the page, and
 -- faults.
-use Rattle.std.specs.Prelude.{◌≡◌, ℕ, if◌then◌else◌, Option, Some, None, List, [], ◌++◌, length, codes, decimal}
+use Rattle.std.specs.Prelude.{◌≡◌, ℕ, Bool, true, false, if◌then◌else◌, Option, Some, None, List, [], ◌++◌, length, codes, decimal}
 use Rattle.std.specs.Option.{option_map}
 use Rattle.std.specs.Str.{bytes_eq}
 use Rattle.httparse.specs.Spans.{span_bytes}
@@ -13,6 +13,7 @@ use Rattle.http_request.specs.declared.status.Status.{Status as HttpStatus}
 use Rattle.http_request.specs.declared.status.Status.TheVariants.{Fine, MethodNotAllowed, Misdirected}
 use Rattle.http_answer.specs.Sending.Bodies.{fault_text}
 use Rattle.run_status.specs.RunHttp.MeterTargets.{meter_target}
+use Rattle.run_status.specs.RunHttp.RegisterTargets.{IsRegisterTarget}
 use Rattle.run_status.specs.Status.StatusText.{with_status}
 use Rattle.run_status.specs.Status.MetricsText.{with_metrics}
 use Rattle.run_status.specs.declared.advice.lacks.DeviceLack.{DeviceLack}
@@ -38,8 +39,16 @@ abbrev pub or_meter : (target : List ℕ) → Option RunRoute → Option RunRout
 or_meter target None = meter_target target
 or_meter target (Some route) = Some route
 
-abbrev pub target_named : (target : List ℕ) → Option RunRoute
-target_named target = or_meter target (path_named target)
+abbrev pub plain_target : (target : List ℕ) → Option RunRoute
+plain_target target = or_meter target (path_named target)
+
+-- or the energy of a register
+abbrev pub IsElse : (target : List ℕ) → Option RunRoute → Option RunRoute → Type 0
+IsElse target None route = IsRegisterTarget target route
+IsElse target (Some plain) route = route ≡ Some plain
+
+abbrev pub IsTarget : (target : List ℕ) → Option RunRoute → Type 0
+IsTarget target route = IsElse target (plain_target target) route
 
 -- each is asked by GET alone
 abbrev pub route_by : (method : List ℕ) → Option RunRoute → Option RunRoute
@@ -47,27 +56,28 @@ route_by method None = None
 route_by method (Some route) =
     if bytes_eq method (codes "GET") then Some route else Some (Own (Rejected MethodNotAllowed))
 
-abbrev pub route_named : (method target : List ℕ) → Option RunRoute
-route_named method target = route_by method (target_named target)
+abbrev pub IsRouteNamed : (method target : List ℕ) → Option RunRoute → Type 0
+IsRouteNamed method target route =
+    (asked : Option RunRoute) × IsTarget target asked × (route ≡ route_by method asked)
 
 -- what a head asks for: nothing before it is whole, or past its limits
-abbrev pub route_in : List ℕ → HeadState → Option RunRoute
-route_in bytes Open = None
-route_in bytes TooLarge = None
-route_in bytes NoHead = None
-route_in bytes (Whole at) = route_named (span_bytes bytes at.method) (span_bytes bytes at.target)
+abbrev pub IsRouteIn : List ℕ → HeadState → Option RunRoute → Type 0
+IsRouteIn bytes Open route = route ≡ None
+IsRouteIn bytes TooLarge route = route ≡ None
+IsRouteIn bytes NoHead route = route ≡ None
+IsRouteIn bytes (Whole at) route =
+    IsRouteNamed (span_bytes bytes at.method) (span_bytes bytes at.target) route
 
 -- Who asks is tested before that, by the names that were given.
-abbrev pub run_route_in : (names : List (List ℕ)) → List ℕ → HeadState → Option RunRoute
-run_route_in names bytes head_state =
-    if may_ask_in names bytes head_state then route_in bytes head_state
-    else Some (Own (Rejected Misdirected))
+abbrev pub IsRunRoute : (may : Bool) → List ℕ → HeadState → Option RunRoute → Type 0
+IsRunRoute true bytes head_state route = IsRouteIn bytes head_state route
+IsRunRoute false bytes head_state route = route ≡ Some (Own (Rejected Misdirected))
 
 -- a look at the bytes finds a head that asks for it
 pub record IsFor (names : List (List ℕ)) (bytes : List ℕ) (route : Option RunRoute) : Type 0 where
   pub head_state : HeadState
   pub looks : Looks bytes head_state
-  pub asks : route ≡ run_route_in names bytes head_state
+  pub asks : IsRunRoute (may_ask_in names bytes head_state) bytes head_state route
 
 -- the status and the headers of each reply
 abbrev pub with_start : HttpStatus → (kind body : List ℕ) → List ℕ → List ℕ

@@ -7,15 +7,15 @@ use http_request::{Status, digits};
 use office_books::Span;
 use office_events::Name;
 
-// What follows a word that a text begins with.
-fn after<'t>(word: &[u8], text: &'t [u8]) -> Option<&'t [u8]>
+/// What follows a word that a text begins with.
+pub(crate) fn after<'t>(word: &[u8], text: &'t [u8]) -> Option<&'t [u8]>
     ensures { option_map (λ rest. rest.now) result ≡ targets.after word.now text.now }
 {
     text.strip_prefix(word)
 }
 
-// Where the first slash of a text stands.
-fn slash_in(text: &[u8]) -> Option<usize>
+/// Where the first slash of a text stands.
+pub(crate) fn slash_in(text: &[u8]) -> Option<usize>
     ensures { result ≡ targets.slash_in text.now }
 {
     text.iter().position(|byte| *byte == b'/')

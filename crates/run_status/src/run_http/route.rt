@@ -1,5 +1,5 @@
-//! The routes of a run itself: two that tell what was counted, one that tells what there is, rows of a meter, the page, and who
-//! may not ask.
+//! The routes of a run itself: two that tell what was counted, one that tells what there is, rows of a meter, the energy of a
+//! register, the page, and who may not ask.
 ghost use Rattle.std.specs.Prelude.{◌≡◌, IfOk, OnOk};
 ghost use Rattle.http_request.specs.Head.Heads.{Looks};
 ghost use Rattle.http_answer.specs.Sending.Bodies.{fault_text};
@@ -8,7 +8,9 @@ ghost use Rattle.run_status.specs.RunHttp.StatusRoute as texts;
 
 use crate::advice::DeviceLack;
 use crate::run_http::meter_targets::meter_target;
+use crate::run_http::register_targets::register_target;
 use crate::status::{Counts, DeviceState, put, put_metrics, put_number, put_status, put_word};
+use energy_report::ReportForm;
 use http_request::{HeadState, Status, may_ask, parse_head};
 use office_books::Span;
 use office_events::Name;
@@ -36,9 +38,21 @@ pub enum RunRoute {
     /// The registers and their meters, which the office is asked for, as JSON.
     Site,
     /// The quarter hours of a meter, which the office is asked for, as text. `None` is a name that no meter can have.
-    Intervals { meter: Option<Name>, span: Span },
+    Intervals {
+        meter: Option<Name>,
+        span: Span,
+    },
     /// Its entries from a place on, voided ones too.
-    Entries { meter: Option<Name>, from: u64 },
+    Entries {
+        meter: Option<Name>,
+        from: u64,
+    },
+    /// The energy of a register in the form of a report, which the office is asked for, as text. `None` is a name that no
+    /// register can have.
+    Energy {
+        register: Option<Name>,
+        form: ReportForm,
+    },
 }
 
 // The route of a path.
@@ -56,9 +70,9 @@ fn path_named(target: &[u8]) -> Option<RunRoute>
     }
 }
 
-// The route of a target.
-fn target_named(target: &[u8]) -> Option<RunRoute>
-    ensures { result ≡ texts.target_named target.now }
+// The route of a path, or of rows of a meter.
+fn plain_target(target: &[u8]) -> Option<RunRoute>
+    ensures { result ≡ texts.plain_target target.now }
 {
     match path_named(target) {
         None => meter_target(target),
@@ -66,9 +80,19 @@ fn target_named(target: &[u8]) -> Option<RunRoute>
     }
 }
 
+// The route of a target.
+fn target_named(target: &[u8]) -> Option<RunRoute>
+    ensures { texts.IsTarget target.now result }
+{
+    match plain_target(target) {
+        None => register_target(target),
+        Some(route) => Some(route),
+    }
+}
+
 // The route of a method and a target.
 fn route_named(method: &[u8], target: &[u8]) -> Option<RunRoute>
-    ensures { result ≡ texts.route_named method.now target.now }
+    ensures { texts.IsRouteNamed method.now target.now result }
 {
     match target_named(target) {
         None => None,
@@ -85,7 +109,7 @@ fn route_named(method: &[u8], target: &[u8]) -> Option<RunRoute>
 // The route of a head that is whole and within its limits.
 fn route_in(request: &[u8], head_state: &HeadState) -> Option<RunRoute>
     requires { Looks request.now head_state.now }
-    ensures { result ≡ texts.route_in request.now head_state.now }
+    ensures { texts.IsRouteIn request.now head_state.now result }
 {
     match head_state {
         HeadState::Whole(head) => route_named(head.method.of(request), head.target.of(request)),

@@ -15,3 +15,6 @@ returns-in-Some-Intervals g c = c.reply_intervals.ensures (texts c.args.names.no
 
 pub returns-in-Some-Entries : goal.returns-in-Some-Entries
 returns-in-Some-Entries g c = c.reply_entries.ensures (texts c.args.names.now) c.args.now.moment
+
+pub returns-in-Some-Energy : goal.returns-in-Some-Energy
+returns-in-Some-Energy g c = c.reply_energy.ensures (texts c.args.names.now) c.args.now.moment
