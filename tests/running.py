@@ -404,6 +404,15 @@ same("a meter is told as it is alone", meters["mdead"], {"device": "dead"} | {na
 same("what the servers of others show", [(meters[it]["last"], meters[it]["total"]) for it in ["mlib", "mpy"]], [(5007, "7000"), (6000, "1000000")])
 same("and by no other method", ask("/site", 902, "{}")[0], 405)
 
+# Quarter hours of a span: the first of a meter whose energy came all by its first reading.
+rows = ask("/meters/mlib/intervals")[1].splitlines(keepends=True)
+start = int(rows[0].split()[0])
+same("a quarter hour", ask(f"/meters/mlib/intervals/{start}/{start + 1}"), (200, rows[0] + "end 1\n"))
+same("none before it", ask(f"/meters/mlib/intervals/0/{start}"), (200, "end 0\n"))
+same("what is no span", ask("/meters/mlib/intervals/0/now"), (400, '{"fault":400}'))
+same("what is no meter", ask("/meters/none/intervals/0/1"), (404, '{"refused":1}'))
+same("a span by another method", ask("/meters/mlib/intervals/0/1", 904, "{}")[0], 405)
+
 # The page is its files, of which a browser is told what they are.
 for path, kind, name in [
     ("/", "text/html; charset=utf-8", "page.html"),

@@ -34,6 +34,8 @@ mod lines;
 #[cfg(test)]
 mod links;
 #[cfg(test)]
+mod meter_rows;
+#[cfg(test)]
 mod narrow;
 #[cfg(test)]
 mod office;

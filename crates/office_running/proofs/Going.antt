@@ -3,6 +3,7 @@ use Rattle.std.proofs.Common.{◌≡◌, ◌⊎◌, inl, inr, ℕ, true, false, 
 use Rattle.std.specs.Prelude.{max, position, slice_get, if◌then◌else◌}
 use Rattle.office_events.specs.declared.answers.Answer.{Answer}
 use Rattle.office_events.specs.declared.events.Event.{Event}
+use Rattle.office_events.specs.declared.facts.Fact.{Fact}
 use Rattle.office_events.specs.declared.refusals.Refusal.{Refusal}
 use Rattle.office_rules.specs.History.{History, Opened}
 use Rattle.office_rules.specs.Refusals.{with_answer}
@@ -39,6 +40,7 @@ use Rattle.run_status.specs.declared.run_http.answer.PeerReply.TheVariants.{Open
 use Rattle.http_request.specs.Hosts.{may_ask_in}
 use Rattle.http_request.specs.declared.status.Status.TheVariants.{Misdirected}
 use Rattle.run_status.specs.RunHttp.StatusRoute.{IsFor, route_in}
+use Rattle.run_status.specs.RunHttp.MeterReplies.{RepliesRows}
 use Rattle.run_status.specs.RunHttp.SiteReply.{RepliesSite}
 use Rattle.run_status.specs.declared.run_http.route.RunRoute.{RunRoute}
 use Rattle.run_status.specs.declared.run_http.route.RunRoute.TheVariants.{Own}
@@ -233,6 +235,14 @@ goes_asked names ledger at old new request asked may asks lasts = record {
 pub goes_looked : {B E : Type 0} (names : List (List ℕ)) (ledger : B → Ledger) (at : ℕ) (old new : Office B) (from to : List ℕ) (result : Result (Unit {0}) E)
     → RepliesSite ledger at old new from to result → Goes names at ledger old new
 goes_looked names ledger at old new from to result replies = record {
+  stands = λ past stands clean. record { steps = []; each = tt; stands = replies.asks.stands past stands };
+  clean = replies.asks.clean;
+  zone = replies.asks.zone;
+}
+
+pub goes_rows : {B T E : Type 0} (names : List (List ℕ)) (ledger : B → Ledger) (at : ℕ) (old new : Office B) (says : List Fact → Option (List T))
+    (text : List T → List ℕ) (from to : List ℕ) (result : Result (Unit {0}) E) → RepliesRows ledger old new says text from to result → Goes names at ledger old new
+goes_rows names ledger at old new says text from to result replies = record {
   stands = λ past stands clean. record { steps = []; each = tt; stands = replies.asks.stands past stands };
   clean = replies.asks.clean;
   zone = replies.asks.zone;

@@ -13,10 +13,13 @@ use http_request::{Route, Status, router};
 use matchit::Router;
 use mio::net::{TcpListener, TcpStream};
 use mio::{Interest, Registry, Token};
-use office_books::Books;
+use office_books::{Books, Span};
 use office_core::Office;
+use office_events::Name;
 use run_schedule::{MOST_PEERS, PEER_SECONDS, Peers, place_for};
-use run_status::{PeerReply, RunRoute, StatusRoute, ask, reply_site, reply_status, run_route};
+use run_status::{
+    PeerReply, RunRoute, StatusRoute, ask, reply_intervals, reply_site, reply_status, run_route,
+};
 use std::alloc::{AllocError, Global};
 use std::io::ErrorKind;
 use std::mem;
@@ -227,6 +230,23 @@ impl Serving {
         }
     }
 
+    // The reply to the question for quarter hours of a meter.
+    #[tactic(auto, using(crate::proofs::Going::goes_rows))]
+    fn reply_intervals<B: Books>(
+        &self,
+        office: &mut Office<B>,
+        meter: &Option<Name>,
+        span: Span,
+    ) -> PeerReply
+        ensures { (names : List (List ℕ)) (at : ℕ) → Goes names at B.ledger office.old office.new }
+    {
+        let mut text = Vec::new(self.alloc);
+        match reply_intervals(self.alloc, &mut text, office, meter, span) {
+            Ok(()) => PeerReply::Replied(text),
+            Err(_) => PeerReply::Failed,
+        }
+    }
+
     // What comes of what a peer has asked. Who asks is tested before all else, and then whether what is kept has room.
     #[tactic(auto, using(crate::proofs::Going::goes_none, crate::proofs::Going::goes_both))]
     fn reply<B: Books>(
@@ -242,6 +262,7 @@ impl Serving {
         match run_route(names, request) {
             Some(RunRoute::Own(route)) => self.reply_status(route, voice),
             Some(RunRoute::Site) => self.reply_site(office, now.moment),
+            Some(RunRoute::Intervals { meter, span }) => self.reply_intervals(office, &meter, span),
             None => {
                 if self.room.lacks(request) {
                     return self.reply_status(StatusRoute::Rejected(Status::Unavailable), voice);

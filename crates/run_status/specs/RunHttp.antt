@@ -1,3 +1,5 @@
 pub mod StatusRoute
+pub mod MeterTargets
 pub mod Answer
 pub mod SiteReply
+pub mod MeterReplies

@@ -2,12 +2,14 @@
 
 mod counts;
 mod lacking;
+mod meter_lines;
 mod metrics;
 mod pieces;
 mod site;
 mod status;
 
 pub use counts::Counts;
+pub use meter_lines::put_shares;
 pub use metrics::put_metrics;
 pub use pieces::{put, put_number, put_word};
 pub use site::put_site;

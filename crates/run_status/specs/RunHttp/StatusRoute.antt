@@ -1,5 +1,5 @@
 -- The routes of a run itself, and the replies to those that ask nothing of the office: two by what was counted, the page, and
--- who may not ask.
+-- faults.
 use Rattle.std.specs.Prelude.{◌≡◌, ℕ, if◌then◌else◌, Option, Some, None, List, [], ◌++◌, length, codes, decimal}
 use Rattle.std.specs.Option.{option_map}
 use Rattle.std.specs.Str.{bytes_eq}
@@ -12,6 +12,7 @@ use Rattle.http_request.specs.declared.head.head.HeadState.TheVariants.{Open, To
 use Rattle.http_request.specs.declared.status.Status.{Status as HttpStatus}
 use Rattle.http_request.specs.declared.status.Status.TheVariants.{Fine, MethodNotAllowed, Misdirected}
 use Rattle.http_answer.specs.Sending.Bodies.{fault_text}
+use Rattle.run_status.specs.RunHttp.MeterTargets.{meter_target}
 use Rattle.run_status.specs.Status.StatusText.{with_status}
 use Rattle.run_status.specs.Status.MetricsText.{with_metrics}
 use Rattle.run_status.specs.declared.advice.lacks.DeviceLack.{DeviceLack}
@@ -32,6 +33,14 @@ path_named target =
     else if bytes_eq target (codes "/site") then Some Site
     else option_map (λ part. Own (Page part)) (part_of target)
 
+-- or rows of a meter
+abbrev pub or_meter : (target : List ℕ) → Option RunRoute → Option RunRoute
+or_meter target None = meter_target target
+or_meter target (Some route) = Some route
+
+abbrev pub target_named : (target : List ℕ) → Option RunRoute
+target_named target = or_meter target (path_named target)
+
 -- each is asked by GET alone
 abbrev pub route_by : (method : List ℕ) → Option RunRoute → Option RunRoute
 route_by method None = None
@@ -39,7 +48,7 @@ route_by method (Some route) =
     if bytes_eq method (codes "GET") then Some route else Some (Own (Rejected MethodNotAllowed))
 
 abbrev pub route_named : (method target : List ℕ) → Option RunRoute
-route_named method target = route_by method (path_named target)
+route_named method target = route_by method (target_named target)
 
 -- what a head asks for: nothing before it is whole, or past its limits
 abbrev pub route_in : List ℕ → HeadState → Option RunRoute

@@ -1,4 +1,5 @@
-//! The routes of a run itself: two that tell what was counted, one that tells what there is, the page, and who may not ask.
+//! The routes of a run itself: two that tell what was counted, one that tells what there is, rows of a meter, the page, and who
+//! may not ask.
 ghost use Rattle.std.specs.Prelude.{◌≡◌, IfOk, OnOk};
 ghost use Rattle.http_request.specs.Head.Heads.{Looks};
 ghost use Rattle.http_answer.specs.Sending.Bodies.{fault_text};
@@ -6,8 +7,11 @@ ghost use Rattle.http_request.specs.Hosts as hosts;
 ghost use Rattle.run_status.specs.RunHttp.StatusRoute as texts;
 
 use crate::advice::DeviceLack;
+use crate::run_http::meter_targets::meter_target;
 use crate::status::{Counts, DeviceState, put, put_metrics, put_number, put_status, put_word};
 use http_request::{HeadState, Status, may_ask, parse_head};
+use office_books::Span;
+use office_events::Name;
 use std::alloc::{AllocError, Global};
 use web_page::{PagePart, part_of};
 
@@ -20,7 +24,7 @@ pub enum StatusRoute {
     Metrics,
     /// A part of the page.
     Page(PagePart),
-    /// A fault: who may not ask, or another method than GET.
+    /// A fault: who may not ask, another method than GET, or a target with a part that is malformed.
     Rejected(Status),
 }
 
@@ -31,9 +35,11 @@ pub enum RunRoute {
     Own(StatusRoute),
     /// The registers and their meters, which the office is asked for, as JSON.
     Site,
+    /// The quarter hours of a meter, which the office is asked for, as text. `None` is a name that no meter can have.
+    Intervals { meter: Option<Name>, span: Span },
 }
 
-// The route of a target.
+// The route of a path.
 fn path_named(target: &[u8]) -> Option<RunRoute>
     ensures { result ≡ texts.path_named target.now }
 {
@@ -48,11 +54,21 @@ fn path_named(target: &[u8]) -> Option<RunRoute>
     }
 }
 
+// The route of a target.
+fn target_named(target: &[u8]) -> Option<RunRoute>
+    ensures { result ≡ texts.target_named target.now }
+{
+    match path_named(target) {
+        None => meter_target(target),
+        Some(route) => Some(route),
+    }
+}
+
 // The route of a method and a target.
 fn route_named(method: &[u8], target: &[u8]) -> Option<RunRoute>
     ensures { result ≡ texts.route_named method.now target.now }
 {
-    match path_named(target) {
+    match target_named(target) {
         None => None,
         Some(route) => {
             if method == b"GET".as_slice() {

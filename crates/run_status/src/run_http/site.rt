@@ -11,8 +11,8 @@ use office_core::{Office, SiteRow};
 use office_events::Refusal;
 use std::alloc::{AllocError, Global};
 
-// Puts the reply for a refusal.
-fn put_refusal(text: &mut Vec<u8>, why: Refusal) -> Result<(), AllocError>
+/// Puts the reply for a refusal.
+pub(crate) fn put_refusal(text: &mut Vec<u8>, why: Refusal) -> Result<(), AllocError>
     ensures { OnOk result (text.new.items ≡ with_refusal why text.old.items) }
 {
     let body = refused_body(why.number());

@@ -9,3 +9,6 @@ returns-else-lacks g c =
 
 pub returns-in-Some-Site : goal.returns-in-Some-Site
 returns-in-Some-Site g c = c.reply_site.ensures (texts c.args.names.now)
+
+pub returns-in-Some-Intervals : goal.returns-in-Some-Intervals
+returns-in-Some-Intervals g c = c.reply_intervals.ensures (texts c.args.names.now) c.args.now.moment

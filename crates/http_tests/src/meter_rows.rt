@@ -1,0 +1,111 @@
+//! What a peer is replied who asks for rows of a meter.
+use crate::cases::reply;
+use crate::office::polled;
+use http_request::Status;
+use office_books::Span;
+use office_events::Name;
+use run_status::{RunRoute, StatusRoute, reply_intervals, run_route};
+use std::alloc::{AllocError, Global};
+use std::test::Fail;
+
+// The bytes of a reply of text whose size is told.
+fn text_reply(alloc: Global, body: &str) -> Result<String, AllocError> {
+    let size = body.len();
+    format!(in alloc;
+        "HTTP/1.1 200 OK\r\nContent-Type: text/plain\r\nContent-Length: {size}\r\nConnection: close\r\n\r\n{body}"
+    )
+}
+
+// What is replied of a meter's quarter hours: its counter has gone on from moment 1000 to 1900.
+fn intervals(alloc: Global, meter: &[u8], from: u64, till: u64) -> Result<Vec<u8>, Fail> {
+    let mut office = polled(alloc)?;
+    let mut text = Vec::new(alloc);
+    let span = Span::Between { from, till };
+    reply_intervals(alloc, &mut text, &mut office, &Name::new(meter), span)?;
+    Ok(text)
+}
+
+static SPANS: [(u64, u64, &str); 6] = [
+    (0, 5000, "900 177777\n1800 22223\nend 2\n"),
+    (900, 1801, "900 177777\n1800 22223\nend 2\n"),
+    (900, 1800, "900 177777\nend 1\n"),
+    (901, 1801, "1800 22223\nend 1\n"),
+    (1801, 5000, "end 0\n"),
+    (1801, 900, "end 0\n"),
+];
+
+// A quarter hour is told that begins at the first moment of a span, and none that begins at its last.
+#[test]
+fn quarter_hours_of_a_span_are_told(rt: HostRuntime) -> Result<(), Fail> {
+    for (from, till, lines) in SPANS {
+        let text = intervals(rt.alloc(), b"m1", from, till)?;
+        let expected = text_reply(rt.alloc(), lines)?;
+        assert_eq!(rt; text.as_slice(), expected.as_bytes());
+    }
+    Ok(())
+}
+
+#[test]
+fn no_quarter_hours_are_told_of_a_meter_that_is_none(rt: HostRuntime) -> Result<(), Fail> {
+    let expected = reply(rt.alloc(), "404 Not Found", "{\"refused\":1}")?;
+    let names: [&[u8]; 3] = [b"m2", b"", b"1m"];
+    for name in names {
+        let text = intervals(rt.alloc(), name, 0, 5000)?;
+        assert_eq!(rt; text.as_slice(), expected.as_bytes());
+    }
+    Ok(())
+}
+
+// The route of a target.
+fn route_of(alloc: Global, target: &str) -> Result<Option<RunRoute>, AllocError> {
+    let request = format!(in alloc; "GET {target} HTTP/1.1\r\n\r\n")?;
+    Ok(run_route(&[], request.as_bytes()))
+}
+
+static SPANLESS: [&str; 7] = [
+    "/meters/m1/intervals//",
+    "/meters/m1/intervals/900/",
+    "/meters/m1/intervals/900/x",
+    "/meters/m1/intervals/-1/900",
+    "/meters/m1/intervals/900/1800/",
+    "/meters/m1/intervals/900/1800?",
+    "/meters/m1/intervals/0/10000000000000000000",
+];
+
+static ELSEWHERE: [&str; 5] = [
+    "/meters/m1",
+    "/meters/m1/intervals",
+    "/meters/m1/intervals/900",
+    "/meters/m1/interval/900/1800",
+    "/registers/m1/intervals/900/1800",
+];
+
+#[test]
+fn a_target_may_ask_for_a_span(rt: HostRuntime) -> Result<(), Fail> {
+    let span = Span::Between {
+        from: 900,
+        till: 9_999_999_999_999_999_999,
+    };
+    let asked = RunRoute::Intervals {
+        meter: Name::new(b"m1"),
+        span,
+    };
+    let target = "/meters/m1/intervals/0900/9999999999999999999";
+    assert_eq!(rt; route_of(rt.alloc(), target)?, Some(asked));
+    let nobody = RunRoute::Intervals { meter: None, span };
+    let target = "/meters/1/intervals/900/9999999999999999999";
+    assert_eq!(rt; route_of(rt.alloc(), target)?, Some(nobody));
+    Ok(())
+}
+
+#[test]
+fn a_target_may_be_malformed(rt: HostRuntime) -> Result<(), Fail> {
+    let malformed = RunRoute::Own(StatusRoute::Rejected(Status::BadRequest));
+    for target in SPANLESS {
+        assert_eq!(rt; route_of(rt.alloc(), target)?, Some(malformed));
+    }
+    for target in ELSEWHERE {
+        assert_eq!(rt; route_of(rt.alloc(), target)?, None);
+    }
+    Ok(())
+}

@@ -1,0 +1,71 @@
+//! What a peer is replied who asks for rows of a meter.
+ghost use Rattle.std.specs.Prelude.{◌≡◌, OnOk};
+ghost use Rattle.interval_core.specs.Lines.{intervals_text};
+ghost use Rattle.office_core.specs.Parts.{intervals_within};
+ghost use Rattle.run_status.specs.RunHttp.MeterReplies.{AsksRows, RepliesRows, with_rows_reply};
+
+use crate::run_http::kept_rows::KeptRows;
+use crate::run_http::route::put_reply;
+use crate::run_http::site::put_refusal;
+use crate::status::put_shares;
+use http_request::Status;
+use interval_core::Share;
+use office_books::{Books, Span};
+use office_core::Office;
+use office_events::{Name, Refusal};
+use std::alloc::{AllocError, Global};
+
+// Asks the office for the quarter hours of a meter.
+fn ask_intervals<B: Books>(
+    alloc: Global,
+    office: &mut Office<B>,
+    meter: &Option<Name>,
+    span: Span,
+) -> Result<Result<Vec<Share>, Refusal>, AllocError>
+    ensures { AsksRows B.ledger office.old office.new
+        (λ facts. intervals_within facts meter.now span) result }
+{
+    let mut kept = KeptRows::new(alloc);
+    let answer = office.intervals_within(meter, span, &mut kept);
+    let rows = kept.into_rows()?;
+    match answer {
+        Ok(()) => Ok(Ok(rows)),
+        Err(why) => Ok(Err(why)),
+    }
+}
+
+// Puts the reply for quarter hours that the office told of.
+fn put_intervals(
+    alloc: Global,
+    text: &mut Vec<u8>,
+    answer: &Result<Vec<Share>, Refusal>,
+) -> Result<(), AllocError>
+    ensures { OnOk result (text.new.items
+        ≡ with_rows_reply intervals_text answer.now text.old.items) }
+{
+    match answer {
+        Ok(rows) => {
+            let mut body = Vec::new(alloc);
+            put_shares(&mut body, rows)?;
+            put_reply(text, Status::Fine, b"text/plain", &body)
+        }
+        Err(why) => put_refusal(text, *why),
+    }
+}
+
+/// Asks the office for the quarter hours of a meter, and puts the reply at the end of a text. Want of memory leaves a part
+/// of it.
+pub fn reply_intervals<B: Books>(
+    alloc: Global,
+    text: &mut Vec<u8>,
+    office: &mut Office<B>,
+    meter: &Option<Name>,
+    span: Span,
+) -> Result<(), AllocError>
+    ensures { RepliesRows B.ledger office.old office.new
+        (λ facts. intervals_within facts meter.now span) intervals_text
+        text.old.items text.new.items result }
+{
+    let answer = ask_intervals(alloc, office, meter, span)?;
+    put_intervals(alloc, text, &answer)
+}
