@@ -1,2 +1,3 @@
 pub mod MonitorLemmas
 pub mod RunHttpLemmas
+pub mod StatusLemmas

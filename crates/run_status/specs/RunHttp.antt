@@ -2,4 +2,5 @@ pub mod StatusRoute
 pub mod MeterTargets
 pub mod Answer
 pub mod SiteReply
+pub mod MetricsReply
 pub mod MeterReplies

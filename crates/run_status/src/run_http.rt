@@ -5,12 +5,14 @@ mod answer;
 mod kept_rows;
 mod meter_replies;
 mod meter_targets;
+mod metrics;
 mod reply_link;
 mod route;
 mod site;
 
 pub use answer::{PeerReply, ask};
 pub use meter_replies::reply_intervals;
+pub use metrics::reply_metrics;
 pub use reply_link::ReplyLink;
 pub use route::{RunRoute, StatusRoute, reply_status, run_route};
 pub use site::reply_site;
