@@ -420,6 +420,17 @@ same("what is no span", ask("/meters/mlib/intervals/0/now"), (400, '{"fault":400
 same("what is no meter", ask("/meters/none/intervals/0/1"), (404, '{"refused":1}'))
 same("a span by another method", ask("/meters/mlib/intervals/0/1", 904, "{}")[0], 405)
 
+# Entries from a place on.
+status, text = ask("/meters/mlib/entries/1")
+lines = text.splitlines()
+holds("its opening and a reading", status == 200 and re.fullmatch(r"1 opening \d+ 5000 0 0 0 stands\n2 reading \d+ 5007 0 0 0 stands", "\n".join(lines[:2])), text)
+same("as many as it tells", lines[-1], f"end {len(lines) - 1}")
+same("the second is the first from its place on", ask("/meters/mlib/entries/2")[1].splitlines()[0], lines[1])
+same("none behind the last", ask("/meters/mlib/entries/1000000"), (200, "end 0\n"))
+same("what is no place", ask("/meters/mlib/entries/all"), (400, '{"fault":400}'))
+same("entries of what is no meter", ask("/meters/none/entries/1"), (404, '{"refused":1}'))
+same("entries by another method", ask("/meters/mlib/entries/1", 905, "{}")[0], 405)
+
 # The page is its files, of which a browser is told what they are.
 for path, kind, name in [
     ("/", "text/html; charset=utf-8", "page.html"),

@@ -1,10 +1,12 @@
 //! What a peer is replied who asks for rows of a meter.
 use crate::cases::reply;
 use crate::office::polled;
+use energy_core::{Entry, Last};
 use http_request::Status;
-use office_books::Span;
+use meter_journal::{EntryKind, EntryRow};
+use office_books::{MeterEntry, Span};
 use office_events::Name;
-use run_status::{RunRoute, StatusRoute, reply_intervals, run_route};
+use run_status::{RunRoute, StatusRoute, put_entries, reply_entries, reply_intervals, run_route};
 use std::alloc::{AllocError, Global};
 use std::test::Fail;
 
@@ -56,13 +58,107 @@ fn no_quarter_hours_are_told_of_a_meter_that_is_none(rt: HostRuntime) -> Result<
     Ok(())
 }
 
+// What is replied of a meter's entries from a place on.
+fn entries(alloc: Global, meter: &[u8], from: u64) -> Result<Vec<u8>, Fail> {
+    let mut office = polled(alloc)?;
+    let mut text = Vec::new(alloc);
+    reply_entries(alloc, &mut text, &mut office, &Name::new(meter), from)?;
+    Ok(text)
+}
+
+static PLACES: [(u64, &str); 5] = [
+    (
+        0,
+        "1 opening 1000 5000 0 0 0 stands\n2 reading 1900 5200 0 0 0 stands\nend 2\n",
+    ),
+    (
+        1,
+        "1 opening 1000 5000 0 0 0 stands\n2 reading 1900 5200 0 0 0 stands\nend 2\n",
+    ),
+    (2, "2 reading 1900 5200 0 0 0 stands\nend 1\n"),
+    (3, "end 0\n"),
+    (u64::MAX, "end 0\n"),
+];
+
+#[test]
+fn entries_from_a_place_on_are_told(rt: HostRuntime) -> Result<(), Fail> {
+    for (from, lines) in PLACES {
+        let text = entries(rt.alloc(), b"m1", from)?;
+        let expected = text_reply(rt.alloc(), lines)?;
+        assert_eq!(rt; text.as_slice(), expected.as_bytes());
+    }
+    Ok(())
+}
+
+#[test]
+fn no_entries_are_told_of_a_meter_that_is_none(rt: HostRuntime) -> Result<(), Fail> {
+    let text = entries(rt.alloc(), b"m2", 1)?;
+    let expected = reply(rt.alloc(), "404 Not Found", "{\"refused\":1}")?;
+    assert_eq!(rt; text.as_slice(), expected.as_bytes());
+    Ok(())
+}
+
+static KINDS: &str =
+    "1 opening 7 4294967295 0 0 -3 stands\n2 manual 18446744073709551615 4294967295 255 0 3 void\n3 rescale 9 5 0 6 -1 stands\n4 reset 10 6 0 0 -1 stands\n5 closing 11 2 1 0 -1 stands\nend 5\n";
+
+// An entry at a place, of a kind, behind which the scale is that.
+fn later(place: u64, kind: EntryKind, entry: Entry, sf: i16) -> MeterEntry {
+    MeterEntry::Later {
+        row: EntryRow {
+            place,
+            kind,
+            entry,
+            stands: kind != EntryKind::Manual,
+        },
+        sf,
+    }
+}
+
+// A counter that went on, over so many full turns.
+fn step(at: u64, raw: u32, rolls: u8) -> Entry {
+    Entry::Step { at, raw, rolls }
+}
+
+// A counter that was set.
+fn change(at: u64, before: u32, after: u32) -> Entry {
+    Entry::Change {
+        at,
+        before,
+        after,
+        sf: -1,
+    }
+}
+
+#[test]
+fn each_kind_of_entry_has_its_line(rt: HostRuntime) -> Result<(), Fail> {
+    let opening = Last {
+        at: 7,
+        raw: u32::MAX,
+        sf: -3,
+    };
+    let entries = [
+        MeterEntry::Opening(opening),
+        later(2, EntryKind::Manual, step(u64::MAX, u32::MAX, 255), 3),
+        later(3, EntryKind::Rescale, change(9, 5, 6), -1),
+        later(4, EntryKind::Reset, change(10, 6, 0), -1),
+        later(5, EntryKind::Closing, step(11, 2, 1), -1),
+    ];
+    let mut text = Vec::new(rt.alloc());
+    put_entries(&mut text, &entries)?;
+    assert_eq!(rt; text.as_slice(), KINDS.as_bytes());
+    Ok(())
+}
+
 // The route of a target.
 fn route_of(alloc: Global, target: &str) -> Result<Option<RunRoute>, AllocError> {
     let request = format!(in alloc; "GET {target} HTTP/1.1\r\n\r\n")?;
     Ok(run_route(&[], request.as_bytes()))
 }
 
-static SPANLESS: [&str; 7] = [
+static NUMBERLESS: [&str; 10] = [
+    "/meters/m1/entries/",
+    "/meters/m1/entries/all",
+    "/meters/m1/entries/1/2",
     "/meters/m1/intervals//",
     "/meters/m1/intervals/900/",
     "/meters/m1/intervals/900/x",
@@ -72,7 +168,8 @@ static SPANLESS: [&str; 7] = [
     "/meters/m1/intervals/0/10000000000000000000",
 ];
 
-static ELSEWHERE: [&str; 5] = [
+static ELSEWHERE: [&str; 6] = [
+    "/meters/m1/entries",
     "/meters/m1",
     "/meters/m1/intervals",
     "/meters/m1/intervals/900",
@@ -99,9 +196,19 @@ fn a_target_may_ask_for_a_span(rt: HostRuntime) -> Result<(), Fail> {
 }
 
 #[test]
+fn a_target_may_ask_for_entries(rt: HostRuntime) -> Result<(), Fail> {
+    let asked = RunRoute::Entries {
+        meter: Name::new(b"m1"),
+        from: 12,
+    };
+    assert_eq!(rt; route_of(rt.alloc(), "/meters/m1/entries/12")?, Some(asked));
+    Ok(())
+}
+
+#[test]
 fn a_target_may_be_malformed(rt: HostRuntime) -> Result<(), Fail> {
     let malformed = RunRoute::Own(StatusRoute::Rejected(Status::BadRequest));
-    for target in SPANLESS {
+    for target in NUMBERLESS {
         assert_eq!(rt; route_of(rt.alloc(), target)?, Some(malformed));
     }
     for target in ELSEWHERE {

@@ -18,8 +18,8 @@ use office_core::Office;
 use office_events::Name;
 use run_schedule::{MOST_PEERS, PEER_SECONDS, Peers, place_for};
 use run_status::{
-    PeerReply, RunRoute, StatusRoute, ask, reply_intervals, reply_metrics, reply_site, reply_status,
-    run_route,
+    PeerReply, RunRoute, StatusRoute, ask, reply_entries, reply_intervals, reply_metrics,
+    reply_site, reply_status, run_route,
 };
 use std::alloc::{AllocError, Global};
 use std::io::ErrorKind;
@@ -267,6 +267,23 @@ impl Serving {
         }
     }
 
+    // The reply to the question for entries of a meter.
+    #[tactic(auto, using(crate::proofs::Going::goes_rows))]
+    fn reply_entries<B: Books>(
+        &self,
+        office: &mut Office<B>,
+        meter: &Option<Name>,
+        from: u64,
+    ) -> PeerReply
+        ensures { (names : List (List ℕ)) (at : ℕ) → Goes names at B.ledger office.old office.new }
+    {
+        let mut text = Vec::new(self.alloc);
+        match reply_entries(self.alloc, &mut text, office, meter, from) {
+            Ok(()) => PeerReply::Replied(text),
+            Err(_) => PeerReply::Failed,
+        }
+    }
+
     // What comes of what a peer has asked. Who asks is tested before all else, and then whether what is kept has room.
     #[tactic(auto, using(crate::proofs::Going::goes_none, crate::proofs::Going::goes_both))]
     fn reply<B: Books>(
@@ -284,6 +301,7 @@ impl Serving {
             Some(RunRoute::Metrics) => self.reply_metrics(office, voice),
             Some(RunRoute::Site) => self.reply_site(office, now.moment),
             Some(RunRoute::Intervals { meter, span }) => self.reply_intervals(office, &meter, span),
+            Some(RunRoute::Entries { meter, from }) => self.reply_entries(office, &meter, from),
             None => {
                 if self.room.lacks(request) {
                     return self.reply_status(StatusRoute::Rejected(Status::Unavailable), voice);

@@ -4,3 +4,4 @@ pub mod StatusText
 pub mod EnergyLines
 pub mod MetricsText
 pub mod SiteText
+pub mod MeterLines

@@ -11,7 +11,7 @@ mod route;
 mod site;
 
 pub use answer::{PeerReply, ask};
-pub use meter_replies::reply_intervals;
+pub use meter_replies::{MOST_ENTRIES, reply_entries, reply_intervals};
 pub use metrics::reply_metrics;
 pub use reply_link::ReplyLink;
 pub use route::{RunRoute, StatusRoute, reply_status, run_route};

@@ -10,7 +10,7 @@ mod site;
 mod status;
 
 pub use counts::Counts;
-pub use meter_lines::put_shares;
+pub use meter_lines::{put_entries, put_shares};
 pub use metrics::put_metrics;
 pub use pieces::{put, put_number, put_word};
 pub use site::put_site;

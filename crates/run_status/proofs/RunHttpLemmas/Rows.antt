@@ -1,5 +1,5 @@
 -- Rows that were kept as they were handed on, and what the office answers that was asked for them.
-use Rattle.std.proofs.Common.{◌≡◌, ◌⊎◌, inl, inr, true, List, [], ◌∷◌, ◌++◌, Option, Some, None, Result, Ok, Err, append-nil, append_assoc, refl, sym, ap, ◌∙◌}
+use Rattle.std.proofs.Common.{◌≡◌, ◌⊎◌, inl, inr, true, List, [], ◌∷◌, ◌++◌, Option, Some, None, Result, Ok, Err, IsErr, append-nil, append_assoc, refl, sym, ap, ◌∙◌}
 use Rattle.std.specs.declared.alloc.Global.{Global}
 use Rattle.std.specs.declared.vec.Vec.{Vec}
 use Rattle.interval_core.specs.declared.shares.Share.{Share}
@@ -21,32 +21,33 @@ use Rattle.run_status.specs.declared.run_http.kept_rows.KeptRows.{KeptRows}
 -- where there was memory for all, all are kept behind those before them
 all_kept : (old new : KeptRows) (rows : List Share) → TakesAll KeepsRow old rows new → new.is_whole ≡ true
     → (old.is_whole ≡ true) × (new.rows.items ≡ old.rows.items ++ rows)
-all_kept old new [] is whole =
-    (sym (ap (λ (kept : KeptRows). kept.is_whole) is) ∙ whole,
-    ap (λ (kept : KeptRows). kept.rows.items) is ∙ sym (append-nil old.rows.items))
+all_kept old new [] is whole = (
+  sym (ap (λ (kept : KeptRows). kept.is_whole) is) ∙ whole,
+  ap (λ (kept : KeptRows). kept.rows.items) is ∙ sym (append-nil old.rows.items),
+)
 all_kept old new (row ∷ rows) (next, first, rest) whole =
     let later = all_kept next new rows rest whole in
     let one = first later.0 in
     (one.0, later.1 ∙ ap (λ t. t ++ rows) one.1 ∙ append_assoc old.rows.items (row ∷ []) rows)
 
 -- the answer, with the rows that were kept
-pub with_rows : Vec Share Global → Result (Unit {0}) Refusal → Result (Vec Share Global) Refusal
+abbrev pub with_rows : Vec Share Global → Result (Unit {0}) Refusal → Result (Vec Share Global) Refusal
 with_rows rows (Ok x) = Ok rows
 with_rows rows (Err why) = Err why
 
 found : (there : Option (Unit {0})) (before after : Failures) (x : Unit {0}) → IsRowFound there before after (Ok x)
     → (Ok x ≡ or_not_found there) × (after ≡ before)
 found there before after x (inl is) = is
-found there before after x (inr failed) = absurd failed
+found there before after x (inr fault) = absurd fault
 
 missing : (before after : Failures) (why : Refusal) → IsRowFound {T = Unit {0}} None before after (Err why)
     → ((why ≡ refusal.NotFound) × (after ≡ before)) ⊎ IsOutside ⊥ before after why
 missing before after why (inl is) = inl (cc is.0, is.1)
-missing before after why (inr failed) = inr failed
+missing before after why (inr fault) = inr fault
 
-failed : (before after : Failures) (why : Refusal) → IsRowFound (Some tt) before after (Err why) → IsOutside ⊥ before after why
+failed : (before after : Failures) (why : Refusal) → IsRowFound {T = Unit {0}} (Some tt) before after (Err why) → IsOutside ⊥ before after why
 failed before after why (inl is) = cc is.0
-failed before after why (inr failed) = failed
+failed before after why (inr fault) = fault
 
 listed : (rows : Option (List Share)) (before after : Failures) (from to : KeptRows) (kept : Vec Share Global) (answer : Result (Unit {0}) Refusal)
     → HandsRows KeepsRow rows before after from to answer → from.rows.items ≡ [] → to.is_whole ≡ true → kept ≡ to.rows
@@ -98,8 +99,10 @@ asked ledger old new says from to kept answer tells asks none whole is = record 
 
 -- there was no memory for them
 pub lacked : {B E : Type 0} (ledger : B → Ledger) (old new : Office B) (says : List Fact → Option (List Share)) (kept : Vec Share Global)
-    (answer : Result (Unit {0}) Refusal) (fault : E) → OnlyAsks ledger old new answer → AsksRows ledger old new says (Err fault)
-lacked ledger old new says kept answer fault asks = record {
+    (answer : Result (Unit {0}) Refusal) (result : Result (Result (Vec Share Global) Refusal) E) → OnlyAsks ledger old new answer → IsErr result
+    → AsksRows ledger old new says result
+lacked ledger old new says kept answer (Ok told) asks fault = cc fault
+lacked ledger old new says kept answer (Err why) asks fault = record {
   answer = with_rows kept answer;
   asks = asks_with ledger old new kept answer asks;
   gives = tt;

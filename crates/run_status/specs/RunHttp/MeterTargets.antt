@@ -1,5 +1,5 @@
 -- What a target asks of the rows of a meter: `/meters/NAME/intervals/FROM/TILL` the quarter hours that start at FROM or later,
--- and before TILL.
+-- and before TILL, and `/meters/NAME/entries/PLACE` the entries from PLACE on.
 use Rattle.std.specs.Prelude.{ℕ, ◌+◌, ◌==◌, List, length, take, drop, position, bytes_eq, if◌then◌else◌, Option, Some, None, codes}
 use Rattle.http_request.specs.Values.{digits_in}
 use Rattle.http_request.specs.declared.status.Status.TheVariants.{BadRequest}
@@ -7,7 +7,7 @@ use Rattle.office_events.specs.Names.{named}
 use Rattle.office_books.specs.declared.spans.Span.{Span}
 use Rattle.office_books.specs.declared.spans.Span.TheVariants.{Between}
 use Rattle.run_status.specs.declared.run_http.route.RunRoute.{RunRoute}
-use Rattle.run_status.specs.declared.run_http.route.RunRoute.TheVariants.{Own, Intervals}
+use Rattle.run_status.specs.declared.run_http.route.RunRoute.TheVariants.{Own, Intervals, Entries}
 use Rattle.run_status.specs.declared.run_http.route.StatusRoute.TheVariants.{Rejected}
 
 -- what follows a word that a text begins with
@@ -41,13 +41,21 @@ intervals_cut name text (Some at) =
 abbrev pub intervals_in : (name text : List ℕ) → Option RunRoute
 intervals_in name text = intervals_cut name text (slash_in text)
 
+-- so is what is no place
+abbrev pub entries_asked : (name : List ℕ) → (place : Option ℕ) → RunRoute
+entries_asked name None = Own (Rejected BadRequest)
+entries_asked name (Some place) = Entries (named name) place
+
 -- what follows the name and a slash
-abbrev pub rows_asked : (name : List ℕ) → (intervals : Option (List ℕ)) → Option RunRoute
-rows_asked name None = None
-rows_asked name (Some text) = intervals_in name text
+abbrev pub rows_asked : (name : List ℕ) → (intervals entries : Option (List ℕ))
+    → Option RunRoute
+rows_asked name None None = None
+rows_asked name None (Some text) = Some (entries_asked name (digits_in text))
+rows_asked name (Some text) entries = intervals_in name text
 
 abbrev pub rows_in : (name text : List ℕ) → Option RunRoute
-rows_in name text = rows_asked name (after (codes "intervals/") text)
+rows_in name text =
+    rows_asked name (after (codes "intervals/") text) (after (codes "entries/") text)
 
 abbrev pub meter_cut : (text : List ℕ) → Option ℕ → Option RunRoute
 meter_cut text None = None

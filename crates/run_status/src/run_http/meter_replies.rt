@@ -1,19 +1,23 @@
 //! What a peer is replied who asks for rows of a meter.
 ghost use Rattle.std.specs.Prelude.{◌≡◌, OnOk};
 ghost use Rattle.interval_core.specs.Lines.{intervals_text};
-ghost use Rattle.office_core.specs.Parts.{intervals_within};
+ghost use Rattle.office_core.specs.Parts.{entries_within, intervals_within};
 ghost use Rattle.run_status.specs.RunHttp.MeterReplies.{AsksRows, RepliesRows, with_rows_reply};
+ghost use Rattle.run_status.specs.Status.MeterLines.{entries_text};
 
 use crate::run_http::kept_rows::KeptRows;
 use crate::run_http::route::put_reply;
 use crate::run_http::site::put_refusal;
-use crate::status::put_shares;
+use crate::status::{put_entries, put_shares};
 use http_request::Status;
 use interval_core::Share;
-use office_books::{Books, Span};
+use office_books::{Books, MeterEntry, Span};
 use office_core::Office;
 use office_events::{Name, Refusal};
 use std::alloc::{AllocError, Global};
+
+/// The most entries that a reply tells.
+pub const MOST_ENTRIES: u32 = 4096;
 
 // Asks the office for the quarter hours of a meter.
 fn ask_intervals<B: Books>(
@@ -35,7 +39,7 @@ fn ask_intervals<B: Books>(
 }
 
 // Puts the reply for quarter hours that the office told of.
-fn put_intervals(
+fn put_intervals_told(
     alloc: Global,
     text: &mut Vec<u8>,
     answer: &Result<Vec<Share>, Refusal>,
@@ -67,5 +71,41 @@ pub fn reply_intervals<B: Books>(
         text.old.items text.new.items result }
 {
     let answer = ask_intervals(alloc, office, meter, span)?;
-    put_intervals(alloc, text, &answer)
+    put_intervals_told(alloc, text, &answer)
+}
+
+// Puts the reply for entries that the office told of.
+fn put_entries_told(
+    alloc: Global,
+    text: &mut Vec<u8>,
+    answer: &Result<Vec<MeterEntry>, Refusal>,
+) -> Result<(), AllocError>
+    ensures { OnOk result (text.new.items
+        ≡ with_rows_reply entries_text answer.now text.old.items) }
+{
+    match answer {
+        Ok(entries) => {
+            let mut body = Vec::new(alloc);
+            put_entries(&mut body, entries)?;
+            put_reply(text, Status::Fine, b"text/plain", &body)
+        }
+        Err(why) => put_refusal(text, *why),
+    }
+}
+
+/// Asks the office for the entries of a meter from a place on, at most 4,096, and puts the reply at the end of a text. Want of
+/// memory leaves a part of it.
+pub fn reply_entries<B: Books>(
+    alloc: Global,
+    text: &mut Vec<u8>,
+    office: &mut Office<B>,
+    meter: &Option<Name>,
+    from: u64,
+) -> Result<(), AllocError>
+    ensures { RepliesRows B.ledger office.old office.new
+        (λ facts. entries_within facts meter.now from MOST_ENTRIES) entries_text
+        text.old.items text.new.items result }
+{
+    let answer = office.entries(meter, from, MOST_ENTRIES);
+    put_entries_told(alloc, text, &answer)
 }

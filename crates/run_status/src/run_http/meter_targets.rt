@@ -48,10 +48,20 @@ fn intervals_in(name: &[u8], text: &[u8]) -> Option<RunRoute>
     ensures { result ≡ targets.intervals_in name.now text.now }
 {
     let at = slash_in(text)?;
-    Some(intervals_asked(
-        name,
-        span_of(&text[..at], &text[at + 1..]),
-    ))
+    Some(intervals_asked(name, span_of(&text[..at], &text[at + 1..])))
+}
+
+// The entries from a place on, where it is one.
+fn entries_asked(name: &[u8], place: Option<u64>) -> RunRoute
+    ensures { result ≡ targets.entries_asked name.now place }
+{
+    match place {
+        Some(from) => RunRoute::Entries {
+            meter: Name::new(name),
+            from,
+        },
+        None => RunRoute::Own(StatusRoute::Rejected(Status::BadRequest)),
+    }
 }
 
 // What asks for rows of a meter, by what follows its name.
@@ -60,7 +70,10 @@ fn rows_in(name: &[u8], text: &[u8]) -> Option<RunRoute>
 {
     match after(b"intervals/", text) {
         Some(text) => intervals_in(name, text),
-        None => None,
+        None => match after(b"entries/", text) {
+            Some(text) => Some(entries_asked(name, digits(text))),
+            None => None,
+        },
     }
 }
 

@@ -37,6 +37,8 @@ pub enum RunRoute {
     Site,
     /// The quarter hours of a meter, which the office is asked for, as text. `None` is a name that no meter can have.
     Intervals { meter: Option<Name>, span: Span },
+    /// Its entries from a place on, voided ones too.
+    Entries { meter: Option<Name>, from: u64 },
 }
 
 // The route of a path.

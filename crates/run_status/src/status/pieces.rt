@@ -1,5 +1,6 @@
 //! Pieces of a text.
 ghost use Rattle.std.specs.Prelude.{◌≡◌, ◌++◌, OnOk, decimal};
+ghost use Rattle.std.specs.Fmt.{signed_decimal};
 
 use itoa::Buffer;
 use std::alloc::AllocError;
@@ -26,4 +27,12 @@ pub fn put_word(text: &mut Vec<u8>, before: &[u8], word: &[u8]) -> Result<(), Al
 {
     put(text, before)?;
     put(text, word)
+}
+
+/// Puts a scale exponent, which may be negative, after what introduces it.
+pub fn put_scale(text: &mut Vec<u8>, before: &[u8], sf: i16) -> Result<(), AllocError>
+    ensures { OnOk result (text.new.items ≡ text.old.items ++ before.now ++ signed_decimal sf) }
+{
+    let mut buffer = Buffer::new();
+    put_word(text, before, buffer.format(sf).as_bytes())
 }

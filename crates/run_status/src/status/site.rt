@@ -1,22 +1,12 @@
 //! `/site`: the registers and their meters, as JSON.
 ghost use Rattle.std.specs.Prelude.{◌≡◌, ◌++◌, OnOk};
-ghost use Rattle.std.specs.Fmt.{signed_decimal};
 ghost use Rattle.http_answer.specs.Rows.{bool_text};
 ghost use Rattle.run_status.specs.Status.SiteText as json;
 
-use crate::status::pieces::{put, put_number, put_word};
-use itoa::Buffer;
+use crate::status::pieces::{put, put_number, put_scale, put_word};
 use office_core::SiteRow;
 use office_events::Installation;
 use std::alloc::AllocError;
-
-// Puts a scale exponent, which may be negative, after what introduces it.
-fn put_scale(text: &mut Vec<u8>, before: &[u8], sf: i16) -> Result<(), AllocError>
-    ensures { OnOk result (text.new.items ≡ text.old.items ++ before.now ++ signed_decimal sf) }
-{
-    let mut buffer = Buffer::new();
-    put_word(text, before, buffer.format(sf).as_bytes())
-}
 
 // Puts a word of JSON.
 fn put_bool(text: &mut Vec<u8>, before: &[u8], value: bool) -> Result<(), AllocError>

@@ -1,0 +1,51 @@
+-- The entries of a meter as lines, and then how many there are.
+use Rattle.std.specs.Prelude.{ℕ, ℤ, Bool, true, false, List, ◌++◌, length, flat_map, codes, decimal}
+use Rattle.std.specs.Fmt.{signed_decimal}
+use Rattle.energy_core.specs.declared.entries.Entry.{Entry}
+use Rattle.energy_core.specs.declared.entries.Entry.TheVariants.{Step, Change}
+use Rattle.energy_core.specs.declared.entries.Last.{Last}
+use Rattle.interval_core.specs.Lines.{end_line}
+use Rattle.meter_journal.specs.declared.lines.EntryKind.{EntryKind}
+use Rattle.meter_journal.specs.declared.lines.EntryKind.TheVariants.{Reading, Manual, Closing, Reset, Rescale}
+use Rattle.meter_journal.specs.declared.lines.EntryRow.{EntryRow}
+use Rattle.office_books.specs.declared.entries.MeterEntry.{MeterEntry}
+use Rattle.office_books.specs.declared.entries.MeterEntry.TheVariants.{Opening, Later}
+
+-- where an entry comes from
+abbrev pub kind_word : EntryKind → List ℕ
+kind_word Reading = codes " reading "
+kind_word Manual = codes " manual "
+kind_word Closing = codes " closing "
+kind_word Reset = codes " reset "
+kind_word Rescale = codes " rescale "
+
+-- the moment, what the counter showed, how often it turned over since the entry before, and what it was set to; 0 where an
+-- entry of its kind has none
+abbrev pub numbers_text : Entry → List ℕ
+numbers_text (Step at raw rolls) =
+    decimal at ++ codes " " ++ decimal raw ++ codes " " ++ decimal rolls ++ codes " 0"
+numbers_text (Change at before after sf) =
+    decimal at ++ codes " " ++ decimal before ++ codes " 0 " ++ decimal after
+
+abbrev pub standing_word : Bool → List ℕ
+standing_word true = codes " stands\n"
+standing_word false = codes " void\n"
+
+-- PLACE KIND MOMENT RAW ROLLS AFTER SF, and whether the entry stands; SF is the scale factor after it
+abbrev pub later_line : EntryRow → (sf : ℤ) → List ℕ
+later_line row sf =
+    decimal row.place ++ kind_word row.kind ++ numbers_text row.entry ++ codes " "
+    ++ signed_decimal sf ++ standing_word row.stands
+
+-- the opening has the place 1, and always stands
+abbrev pub opening_line : Last → List ℕ
+opening_line last =
+    codes "1 opening " ++ decimal last.at ++ codes " " ++ decimal last.raw ++ codes " 0 0 "
+    ++ signed_decimal last.sf ++ codes " stands\n"
+
+abbrev pub entry_line : MeterEntry → List ℕ
+entry_line (Opening last) = opening_line last
+entry_line (Later row sf) = later_line row sf
+
+abbrev pub entries_text : List MeterEntry → List ℕ
+entries_text entries = flat_map entry_line entries ++ end_line (length entries)
