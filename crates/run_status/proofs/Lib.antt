@@ -1,3 +1,2 @@
 pub mod MonitorLemmas
 pub mod RunHttpLemmas
-pub mod StatusLemmas

@@ -1,4 +1,5 @@
--- The energy of the meters that are open, in Prometheus's text format, version 0.0.4.
+-- The energy of the meters that are open, in Prometheus's text format, version 0.0.4. Each definition from `with_label` on gives a
+-- text with something at its end.
 use Rattle.std.specs.Prelude.{ℕ, ◌==◌, negsuc, List, [], ◌∷◌, ◌++◌, Option, Some, None, codes, decimal, if◌then◌else◌}
 use Rattle.std.specs.List.{flat_map}
 use Rattle.sun_points.specs.Decimal.{magnitude_text}
@@ -16,52 +17,50 @@ label_byte byte =
 abbrev pub label_text : List ℕ → List ℕ
 label_text value = flat_map label_byte value
 
--- which meter a value is of
-abbrev pub labels_text : SiteRow → Installation → List ℕ
-labels_text row meter =
-    codes "{meter=\"" ++ label_text meter.opening.meter
-    ++ codes "\",register=\"" ++ label_text row.register.name
-    ++ codes "\",device=\"" ++ label_text row.register.device ++ codes "\"}"
+abbrev pub with_label : List ℕ → (before value : List ℕ) → List ℕ
+with_label text before value = text ++ before ++ label_text value
+
+-- of which meter a value is, after what introduces that
+abbrev pub with_labels : List ℕ → (before : List ℕ) → SiteRow → Installation → List ℕ
+with_labels text before row meter =
+    with_label (with_label (with_label text before meter.opening.meter)
+    (codes "\",register=\"") row.register.name)
+    (codes "\",device=\"") row.register.device
 
 -- its whole energy: mWh, so Wh with three decimals
-abbrev pub energy_line : SiteRow → Installation → List ℕ
-energy_line row meter =
-    codes "sunreg_energy_watthours_total" ++ labels_text row meter
-    ++ codes " " ++ magnitude_text meter.total (negsuc 2) ++ codes "\n"
+abbrev pub with_energy : List ℕ → SiteRow → Installation → List ℕ
+with_energy text row meter =
+    with_labels text (codes "\nsunreg_energy_watthours_total{meter=\"") row meter
+    ++ codes "\"} " ++ magnitude_text meter.total (negsuc 2)
 
 -- the moment of its last entry that stands
-abbrev pub entry_line : SiteRow → Installation → List ℕ
-entry_line row meter =
-    codes "sunreg_last_entry_timestamp_seconds" ++ labels_text row meter
-    ++ codes " " ++ decimal meter.last.at ++ codes "\n"
+abbrev pub with_entry : List ℕ → SiteRow → Installation → List ℕ
+with_entry text row meter =
+    with_labels text (codes "\nsunreg_last_entry_timestamp_seconds{meter=\"") row meter
+    ++ codes "\"} " ++ decimal meter.last.at
 
 -- A register without a meter has no line, and neither has one whose meter was closed.
-abbrev pub line_in : (line : SiteRow → Installation → List ℕ) → SiteRow → Option Installation
-    → List ℕ
-line_in line row None = []
-line_in line row (Some meter) = if meter.ended then [] else line row meter
+abbrev pub with_energy_of : List ℕ → SiteRow → Option Installation → List ℕ
+with_energy_of text row None = text
+with_energy_of text row (Some meter) = if meter.ended then text else with_energy text row meter
 
-abbrev pub energy_of : SiteRow → List ℕ
-energy_of row = line_in energy_line row row.meter
+abbrev pub with_entry_of : List ℕ → SiteRow → Option Installation → List ℕ
+with_entry_of text row None = text
+with_entry_of text row (Some meter) = if meter.ended then text else with_entry text row meter
 
-abbrev pub entry_of : SiteRow → List ℕ
-entry_of row = line_in entry_line row row.meter
+abbrev pub with_energies : List ℕ → List SiteRow → List ℕ
+with_energies text [] = text
+with_energies text (row ∷ rows) = with_energies (with_energy_of text row row.meter) rows
 
-abbrev pub energy_lines : List SiteRow → List ℕ
-energy_lines rows = flat_map energy_of rows
+abbrev pub with_entries : List ℕ → List SiteRow → List ℕ
+with_entries text [] = text
+with_entries text (row ∷ rows) = with_entries (with_entry_of text row row.meter) rows
 
-abbrev pub entry_lines : List SiteRow → List ℕ
-entry_lines rows = flat_map entry_of rows
-
-abbrev pub energies_text : List SiteRow → List ℕ
-energies_text rows =
-    codes "# HELP sunreg_energy_watthours_total Energy of a meter that is open.\n# TYPE sunreg_energy_watthours_total counter\n"
-    ++ energy_lines rows
-
-abbrev pub entries_text : List SiteRow → List ℕ
-entries_text rows =
-    codes "# HELP sunreg_last_entry_timestamp_seconds Moment of the last entry of a meter.\n# TYPE sunreg_last_entry_timestamp_seconds gauge\n"
-    ++ entry_lines rows
-
-abbrev pub meters_text : List SiteRow → List ℕ
-meters_text rows = energies_text rows ++ entries_text rows
+abbrev pub with_meters : List ℕ → List SiteRow → List ℕ
+with_meters text rows =
+    with_entries
+    (with_energies
+    (text ++ codes "# HELP sunreg_energy_watthours_total Energy of a meter that is open.\n# TYPE sunreg_energy_watthours_total counter") rows
+    ++ codes "\n# HELP sunreg_last_entry_timestamp_seconds Moment of the last entry of a meter.\n# TYPE sunreg_last_entry_timestamp_seconds gauge")
+    rows
+    ++ codes "\n"

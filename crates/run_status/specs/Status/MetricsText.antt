@@ -3,7 +3,7 @@ use Rattle.std.specs.Prelude.{ℕ, Bool, true, false, List, [], ◌∷◌, ◌++
 use Rattle.run_status.specs.declared.status.counts.Counts.{Counts}
 use Rattle.run_status.specs.declared.status.status.DeviceState.{DeviceState}
 use Rattle.office_core.specs.declared.site.SiteRow.{SiteRow}
-use Rattle.run_status.specs.Status.EnergyLines.{meters_text}
+use Rattle.run_status.specs.Status.EnergyLines.{with_meters}
 use Rattle.run_status.specs.Status.StatusText.{with_name}
 
 abbrev pub with_outcomes : List ℕ → Counts → List ℕ
@@ -72,6 +72,7 @@ with_devices text devices =
 
 abbrev pub with_metrics : List ℕ → Counts → List DeviceState → List SiteRow → List ℕ
 with_metrics text counts devices rows =
-    with_devices (with_causes (with_readings (with_outcomes text counts) counts) counts.held)
-    devices
-    ++ meters_text rows
+    with_meters
+    (with_devices (with_causes (with_readings (with_outcomes text counts) counts) counts.held)
+    devices)
+    rows

@@ -1,7 +1,6 @@
 //! The energy of the meters that are open, in Prometheus's text format.
 ghost use Rattle.std.specs.Prelude.{◌≡◌, ℕ, ◌%◌, ◌++◌, negsuc, false, OnOk};
 ghost use Rattle.std.specs.Fmt.{digit_glyph};
-ghost use Rattle.std.specs.List.{flat_map};
 ghost use Rattle.sun_points.specs.Decimal.{low_digits, magnitude_text};
 ghost use Rattle.run_status.specs.Status.EnergyLines as energy;
 
@@ -25,7 +24,7 @@ fn put_label_byte(text: &mut Vec<u8>, byte: u8) -> Result<(), AllocError>
 // Puts what introduces a label, and its value.
 fn put_label(text: &mut Vec<u8>, before: &[u8], value: &Name) -> Result<(), AllocError>
     ensures { OnOk result (text.new.items
-        ≡ text.old.items ++ before.now ++ energy.label_text value.now) }
+        ≡ energy.with_label text.old.items before.now value.now) }
 {
     put(text, before)?;
     for &byte in value.as_bytes() {
@@ -34,21 +33,19 @@ fn put_label(text: &mut Vec<u8>, before: &[u8], value: &Name) -> Result<(), Allo
     Ok(())
 }
 
-// Puts a family of values, and of which meter one is.
+// Puts of which meter a value is, after what introduces that.
 fn put_labels(
     text: &mut Vec<u8>,
-    family: &[u8],
+    before: &[u8],
     row: &SiteRow,
     meter: &Installation,
 ) -> Result<(), AllocError>
     ensures { OnOk result (text.new.items
-        ≡ text.old.items ++ family.now ++ energy.labels_text row.now meter.now) }
+        ≡ energy.with_labels text.old.items before.now row.now meter.now) }
 {
-    put(text, family)?;
-    put_label(text, b"{meter=\"", &meter.opening.meter)?;
+    put_label(text, before, &meter.opening.meter)?;
     put_label(text, b"\",register=\"", &row.register.name)?;
-    put_label(text, b"\",device=\"", &row.register.device)?;
-    put(text, b"\"}")
+    put_label(text, b"\",device=\"", &row.register.device)
 }
 
 // The last digit of a number.
@@ -82,26 +79,34 @@ fn put_thousandth(text: &mut Vec<u8>, before: &[u8], number: u64) -> Result<(), 
 // Puts the energy of a meter.
 fn put_energy(text: &mut Vec<u8>, row: &SiteRow, meter: &Installation) -> Result<(), AllocError>
     ensures { OnOk result (text.new.items
-        ≡ text.old.items ++ energy.energy_line row.now meter.now) }
+        ≡ energy.with_energy text.old.items row.now meter.now) }
 {
-    put_labels(text, b"sunreg_energy_watthours_total", row, meter)?;
-    put_thousandth(text, b" ", meter.total)?;
-    put(text, b"\n")
+    put_labels(
+        text,
+        b"\nsunreg_energy_watthours_total{meter=\"",
+        row,
+        meter,
+    )?;
+    put_thousandth(text, b"\"} ", meter.total)
 }
 
 // Puts the moment of the last entry of a meter.
 fn put_entry(text: &mut Vec<u8>, row: &SiteRow, meter: &Installation) -> Result<(), AllocError>
-    ensures { OnOk result (text.new.items
-        ≡ text.old.items ++ energy.entry_line row.now meter.now) }
+    ensures { OnOk result (text.new.items ≡ energy.with_entry text.old.items row.now meter.now) }
 {
-    put_labels(text, b"sunreg_last_entry_timestamp_seconds", row, meter)?;
-    put_number(text, b" ", meter.last.at)?;
-    put(text, b"\n")
+    put_labels(
+        text,
+        b"\nsunreg_last_entry_timestamp_seconds{meter=\"",
+        row,
+        meter,
+    )?;
+    put_number(text, b"\"} ", meter.last.at)
 }
 
 // Puts the energy of the meter of a register, where one is open.
 fn put_energy_of(text: &mut Vec<u8>, row: &SiteRow) -> Result<(), AllocError>
-    ensures { OnOk result (text.new.items ≡ text.old.items ++ energy.energy_of row.now) }
+    ensures { OnOk result (text.new.items
+        ≡ energy.with_energy_of text.old.items row.now row.now.meter) }
 {
     match &row.meter {
         Some(meter) if !meter.ended => put_energy(text, row, meter),
@@ -111,7 +116,8 @@ fn put_energy_of(text: &mut Vec<u8>, row: &SiteRow) -> Result<(), AllocError>
 
 // Puts the moment of the last entry of the meter of a register, where one is open.
 fn put_entry_of(text: &mut Vec<u8>, row: &SiteRow) -> Result<(), AllocError>
-    ensures { OnOk result (text.new.items ≡ text.old.items ++ energy.entry_of row.now) }
+    ensures { OnOk result (text.new.items
+        ≡ energy.with_entry_of text.old.items row.now row.now.meter) }
 {
     match &row.meter {
         Some(meter) if !meter.ended => put_entry(text, row, meter),
@@ -119,8 +125,8 @@ fn put_entry_of(text: &mut Vec<u8>, row: &SiteRow) -> Result<(), AllocError>
     }
 }
 
-fn put_energy_lines(text: &mut Vec<u8>, rows: &[SiteRow]) -> Result<(), AllocError>
-    ensures { OnOk result (text.new.items ≡ text.old.items ++ energy.energy_lines rows.now) }
+fn put_energies(text: &mut Vec<u8>, rows: &[SiteRow]) -> Result<(), AllocError>
+    ensures { OnOk result (text.new.items ≡ energy.with_energies text.old.items rows.now) }
 {
     for row in rows {
         put_energy_of(text, row)?;
@@ -128,8 +134,8 @@ fn put_energy_lines(text: &mut Vec<u8>, rows: &[SiteRow]) -> Result<(), AllocErr
     Ok(())
 }
 
-fn put_entry_lines(text: &mut Vec<u8>, rows: &[SiteRow]) -> Result<(), AllocError>
-    ensures { OnOk result (text.new.items ≡ text.old.items ++ energy.entry_lines rows.now) }
+fn put_entries(text: &mut Vec<u8>, rows: &[SiteRow]) -> Result<(), AllocError>
+    ensures { OnOk result (text.new.items ≡ energy.with_entries text.old.items rows.now) }
 {
     for row in rows {
         put_entry_of(text, row)?;
@@ -137,31 +143,20 @@ fn put_entry_lines(text: &mut Vec<u8>, rows: &[SiteRow]) -> Result<(), AllocErro
     Ok(())
 }
 
-fn put_energies(text: &mut Vec<u8>, rows: &[SiteRow]) -> Result<(), AllocError>
-    ensures { OnOk result (text.new.items ≡ text.old.items ++ energy.energies_text rows.now) }
-{
-    put(
-        text,
-        b"# HELP sunreg_energy_watthours_total Energy of a meter that is open.\n# TYPE sunreg_energy_watthours_total counter\n",
-    )?;
-    put_energy_lines(text, rows)
-}
-
-fn put_entries(text: &mut Vec<u8>, rows: &[SiteRow]) -> Result<(), AllocError>
-    ensures { OnOk result (text.new.items ≡ text.old.items ++ energy.entries_text rows.now) }
-{
-    put(
-        text,
-        b"# HELP sunreg_last_entry_timestamp_seconds Moment of the last entry of a meter.\n# TYPE sunreg_last_entry_timestamp_seconds gauge\n",
-    )?;
-    put_entry_lines(text, rows)
-}
-
 /// Puts the energy of the meters that are open, and the moment of the last entry of each, at the end of a text. Want of memory
 /// leaves a part of it.
 pub(crate) fn put_meters(text: &mut Vec<u8>, rows: &[SiteRow]) -> Result<(), AllocError>
-    ensures { OnOk result (text.new.items ≡ text.old.items ++ energy.meters_text rows.now) }
+    ensures { OnOk result (text.new.items ≡ energy.with_meters text.old.items rows.now) }
 {
+    put(
+        text,
+        b"# HELP sunreg_energy_watthours_total Energy of a meter that is open.\n# TYPE sunreg_energy_watthours_total counter",
+    )?;
     put_energies(text, rows)?;
-    put_entries(text, rows)
+    put(
+        text,
+        b"\n# HELP sunreg_last_entry_timestamp_seconds Moment of the last entry of a meter.\n# TYPE sunreg_last_entry_timestamp_seconds gauge",
+    )?;
+    put_entries(text, rows)?;
+    put(text, b"\n")
 }
