@@ -3,8 +3,6 @@ use Rattle.std.proofs.Common.{◌≡◌, List, [], ◌∷◌, true, false, refl,
 use Rattle.std.proofs.lemmas.List.Elements.{Contains-append_left, Contains-push}
 use Rattle.office_events.specs.declared.facts.Fact.{Fact}
 use Rattle.office_books.specs.declared.faults.BooksFault.{BooksFault}
-use Rattle.office_books.specs.declared.faults.BooksFault.TheVariants.{Store}
-use Rattle.office_books.specs.declared.faults.StoreFault.TheVariants.{Refused}
 use Rattle.office_books.specs.declared.failures.Failures.{Failures}
 use Rattle.office_books.specs.Faults.{faults_after}
 use Rattle.office_books.specs.Ledgers.{Ledger, KeepsFacts, Books, with_facts}

@@ -1,10 +1,10 @@
 -- Polls that are known to wait, and one more fact.
-use Rattle.std.proofs.Common.{◌≡◌, ◌⊎◌, inl, inr, ℕ, ◌+◌, ◌<◌, ◌≤◌, ◌==◌, Bool, true, false, cond, List, [], ◌∷◌, length, is_some, Option, Some, None, refl, sym, ap, subst, ◌∙◌, Result, Ok, Err, OnOk, OnErr, arith}
+use Rattle.std.proofs.Common.{◌≡◌, ◌⊎◌, inl, inr, ℕ, ◌<◌, ◌≤◌, ◌==◌, true, false, List, [], ◌∷◌, length, is_some, Option, Some, None, refl, sym, ap, subst, ◌∙◌, Result, Ok, Err, OnOk, OnErr, arith}
 use Rattle.std.specs.BTreeMap.{BTreeMap, get, Updates, IsUnchanged, is_at}
 use Rattle.std.specs.Map.{lookup}
 use Rattle.std.specs.List.{find}
 use Rattle.std.specs.Option.{option_map}
-use Rattle.std.specs.Ordering.{nat_cmp, is_eq}
+use Rattle.std.specs.Ordering.{nat_cmp}
 use Rattle.std.specs.Cmp.{unsigned_tied}
 use Rattle.std.proofs.lemmas.Bool.{cases_Bool, cond-true, cond-false, eqb-true, ne_eqb}
 use Rattle.std.proofs.lemmas.Bool.Decides.{nat_tests}
@@ -18,7 +18,7 @@ use Rattle.office_rules.specs.PollEndings.{AreNumbered}
 use Rattle.office_rules.specs.Lawful.{AreLawful, PollFits, EndFits}
 use Rattle.office_rules.specs.Readings.{poll_row, poll_row_of}
 use Rattle.kept_books.specs.declared.polls.Polls.{Polls}
-use Rattle.kept_books.specs.Polls.{waiting_at, waits, PollsAreTrue, MayWait, WaitsNoMore, GoesUp, PollsChange}
+use Rattle.kept_books.specs.Polls.{waiting_at, waits, PollsAreTrue, PollsChange}
 use Rattle.kept_books.proofs.Answering.{none_and_some, some_one}
 
 -- polls are numbered from 1 on

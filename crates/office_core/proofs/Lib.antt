@@ -2,6 +2,9 @@ pub mod Left
 pub mod Taken
 pub mod Reopened
 pub mod Summing
+pub mod Parts
+pub mod Around
+pub mod Ranged
 pub mod Runs
 pub mod Stops
 pub mod AddingUp

@@ -1,12 +1,14 @@
 -- Rows that a sink adds up to days, one after the other.
-use Rattle.std.proofs.Common.{◌≡◌, ℕ, ◌+◌, ◌≤◌, ◌<◌, List, [], ◌∷◌, ◌++◌, length, get_or, Option, Some, None, inr, refl, sym, ap, subst, ◌∙◌, arith, append_assoc, length-append}
+use Rattle.std.proofs.Common.{◌≡◌, ℕ, ◌+◌, ◌≤◌, ◌<◌, Bool, not, List, [], ◌∷◌, ◌++◌, length, get_or, Option, Some, None, inr, refl, sym, ap, subst, ◌∙◌, arith, append_assoc, length-append}
 use Rattle.std.specs.Prelude.{MatchOption, MatchResult, Result, Ok, Err, map, unwrap_or}
 use Rattle.std.specs.declared.alloc.Global.{Global}
 use Rattle.std.specs.declared.vec.Vec.{Vec}
 use Rattle.std.proofs.Math.ListN.{get_or-append}
 use Rattle.std.proofs.Math.Seq.{get_or-append_seam}
 use Rattle.std.proofs.lemmas.List.{append-nil}
-use Rattle.std.proofs.lemmas.List.Elements.{All-map, All-contains}
+use Rattle.std.proofs.lemmas.List.Elements.{All-filter, All-map, All-contains}
+use Rattle.std.proofs.lemmas.List.Filters.{sum_by-filter_both}
+use Rattle.std.proofs.lemmas.List.Kept.{IsNonDecreasingBy-filter}
 use Rattle.std.proofs.lemmas.List.Sums.{sum_by-append}
 use Rattle.interval_core.specs.Account.{energy_of, starts_of}
 use Rattle.interval_core.specs.Days.{AreAccounts, account_of}
@@ -17,10 +19,14 @@ use Rattle.interval_core.specs.declared.shares.Share.{Share}
 use Rattle.interval_core.specs.declared.zone.Zone.{Zone}
 use Rattle.interval_core.specs.declared.totals.DayTotal.{DayTotal}
 use Rattle.office_events.specs.declared.refusals.Refusal.{Refusal}
+use Rattle.office_rules.specs.Facts.{moment_limit}
 use Rattle.office_rules.specs.Intervals.{rows_of_register}
 use Rattle.office_rules.specs.Registers.{CanBeFolded, RegistersAreInTurn}
+use Rattle.office_books.specs.declared.spans.Span.{Span}
+use Rattle.office_books.specs.declared.spans.Span.TheVariants.{All, Between}
 use Rattle.office_books.specs.Ledgers.{Ledger, OnlyReads}
 use Rattle.office_books.specs.Rows.{TakesAll, HandsOn}
+use Rattle.office_books.specs.Spans.{is_within, rows_within}
 use Rattle.office_core.specs.declared.day_sink.DaySink.{DaySink}
 use Rattle.office_core.specs.Asking.{ListsDays}
 use Rattle.office_core.specs.DaySums.{MayFollow, UnlessFailed, HasAdded, AddsRow, TakesShare, EndsAs}
@@ -99,12 +105,25 @@ days_by (Some fault.Memory) old new zone rows fold (Err why) same added ends =
     subst (IsOutside (Unit {0}) old.failures new.failures) (sym ends) (inr (tt, same))
 days_by (Some fault.Zone) old new zone rows fold (Err why) same added ends = absurd added
 
-pub adds_up : (old new : Ledger) (fresh after : DaySink) (register : List ℕ) (done : Unit {0}) (result : Result (Vec DayTotal Global) Refusal)
+-- days can be made of those that are asked for
+folds_within : (span : Span) (rows : List Share) → CanBeFolded rows → CanBeFolded (rows_within span rows)
+folds_within All rows folds = folds
+folds_within (Between from till) rows folds =
+    let asked : Share → Bool = λ row. is_within (Between from till) row.start in
+    let both = sum_by-filter_both asked (λ row. not (asked row)) (λ row. refl) (λ (row : Share). row.mwh) rows in
+    record {
+      never_fall = IsNonDecreasingBy-filter (λ row. row.start) asked rows folds.never_fall;
+      moments = All-filter asked (λ row. row.start ≤ moment_limit) rows folds.moments;
+      energy = omega (arith, folds.energy, both);
+    }
+
+pub adds_up : (old new : Ledger) (fresh after : DaySink) (register : List ℕ) (span : Span) (done : Unit {0}) (result : Result (Vec DayTotal Global) Refusal)
     → RegistersAreInTurn → fresh.zone ≡ old.zone → fresh.fault ≡ None → HasTaken fresh.zone [] fresh.fold
-    → HandsOn TakesShare old new fresh after (Ok done) (λ known. rows_of_register known register) → OnlyReads old new (Ok done)
-    → EndsAs after.fault after.fold.accounts result → ListsDays old new register result
-adds_up old new fresh after register done result in_turn zone works empty hands reads ends = λ known lawful holds clean.
-    let rows = rows_of_register known register in
-    let up = added_up fresh after rows (in_turn known register lawful) works empty (hands.whole known holds clean) in
+    → HandsOn TakesShare old new fresh after (Ok done) (λ known. rows_within span (rows_of_register known register)) → OnlyReads old new (Ok done)
+    → EndsAs after.fault after.fold.accounts result → ListsDays old new register span result
+adds_up old new fresh after register span done result in_turn zone works empty hands reads ends = λ known lawful holds clean.
+    let rows = rows_within span (rows_of_register known register) in
+    let folds = folds_within span (rows_of_register known register) (in_turn known register lawful) in
+    let up = added_up fresh after rows folds works empty (hands.whole known holds clean) in
     let P : Zone → Type 0 = λ z. UnlessFailed after.fault (HasTaken z rows after.fold) in
     days_by after.fault old new old.zone rows after.fold result reads.goes.faults (subst P (up.0 ∙ zone) up.1) ends

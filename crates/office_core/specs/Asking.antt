@@ -3,7 +3,7 @@ use Rattle.std.specs.Prelude.{◌≡◌, ◌⊎◌, ◌↔◌, ℕ, ◌<◌, ◌
 use Rattle.std.specs.Option.{option_map, option_and_then}
 use Rattle.std.specs.declared.alloc.Global.{Global}
 use Rattle.std.specs.declared.vec.Vec.{Vec}
-use Rattle.interval_core.specs.Days.{DayAccount, account_of}
+use Rattle.interval_core.specs.Days.{DayAccount, AreAccounts, account_of}
 use Rattle.interval_core.specs.declared.shares.Share.{Share}
 use Rattle.interval_core.specs.declared.totals.DayTotal.{DayTotal}
 use Rattle.interval_core.specs.declared.zone.Zone.{Zone}
@@ -14,13 +14,15 @@ use Rattle.office_events.specs.declared.refusals.StoreCause.{StoreCause}
 use Rattle.office_events.specs.declared.refusals.StoreCause.TheVariants as store
 use Rattle.office_rules.specs.Facts.{opening_of, register_of}
 use Rattle.office_rules.specs.History.{History, facts_of}
-use Rattle.office_rules.specs.Intervals.{rows_of_opening, AreDaysOf}
+use Rattle.office_rules.specs.Intervals.{rows_of_opening, rows_of_register, AreDaysOf}
 use Rattle.office_rules.specs.Lawful.{AreLawful}
 use Rattle.office_books.specs.declared.faults.BooksFault.{BooksFault}
 use Rattle.office_books.specs.declared.failures.Failures.{Failures}
+use Rattle.office_books.specs.declared.spans.Span.{Span}
 use Rattle.office_books.specs.Faults.{as_refusal}
 use Rattle.office_books.specs.Ledgers.{Ledger, KeepsFacts}
 use Rattle.office_books.specs.Rows.{TakesAll, TakesFirst}
+use Rattle.office_books.specs.Spans.{rows_within}
 use Rattle.office_core.specs.declared.office.Office.{Office}
 use Rattle.office_core.specs.Failing.{FailsOutside, IsNotStopped, IsOutside, MemoryLacked, StoreFailed}
 use Rattle.office_core.specs.Standing.{Stands, After, books_in, is_stopped, notes_in, outgoing_in}
@@ -112,13 +114,14 @@ DaysIn takes old new from to result register =
     (known : List Fact) → AreLawful known → old.holds known → new.is_clean
     → HandsDays takes old.zone known register old.failures new.failures from to result
 
--- the days of a register, as a list, where the facts are lawful; or it failed outside
-abbrev pub ListsDays : (old new : Ledger) → (register : List ℕ)
+-- the days of those rows of a register that are asked for, as a list, where the facts are lawful; or it failed outside
+abbrev pub ListsDays : (old new : Ledger) → (register : List ℕ) → Span
     → Result (Vec DayTotal Global) Refusal → Type 0
-ListsDays old new register result =
+ListsDays old new register span result =
     (known : List Fact) → AreLawful known → old.holds known → new.is_clean
     → MatchResult result
-    (λ days. AreDaysOf old.zone known register (map account_of days.items)
+    (λ days. AreAccounts old.zone (rows_within span (rows_of_register known register))
+    (map account_of days.items)
     × (new.failures ≡ old.failures))
     (IsOutside (Unit {0}) old.failures new.failures)
 

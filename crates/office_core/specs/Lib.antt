@@ -13,3 +13,4 @@ pub mod EventRun
 pub mod Stopping
 pub mod Refusing
 pub mod Parts
+pub mod DayRange

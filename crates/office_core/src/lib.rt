@@ -1,6 +1,7 @@
 //! The office: it takes events, polls devices, and books what their meters tell.
 #![tactic(auto)]
 
+mod day_range;
 mod day_sink;
 mod decisions;
 mod event_run;

@@ -13,6 +13,7 @@ ghost use Rattle.office_booking.specs.Sessions.Ranges.{AsksInRange};
 ghost use Rattle.office_books.specs.Repeats.{repeat_of};
 ghost use Rattle.office_core.specs.Asking.{OnlyAsks, TakesRows, intervals_of};
 ghost use Rattle.office_core.specs.Asking.{TellsRow, TellsDays, TellsRows};
+ghost use Rattle.office_core.specs.DayRange.{TellsDaysBetween};
 ghost use Rattle.office_core.specs.Events as events;
 ghost use Rattle.office_core.specs.Failing.{IsNotForWantOfDay};
 ghost use Rattle.office_core.specs.Leaving.{BooksStand};
@@ -30,7 +31,7 @@ use crate::decisions::{asks_planned, decide, is_command, stops};
 use crate::reopened_office::reopen;
 use crate::site::SiteRow;
 use crate::{questions, site};
-use interval_core::{DayTotal, Share};
+use interval_core::{Day, DayTotal, Share};
 use office_booking::{Outgoing, Slot, carry_out, settle_event};
 use office_books::{Books, MeterEntry, Repeat, RowSink, Span};
 use office_events::{Answer, Device, Event, Installation, Name, Note, PollRow, Refusal, Register};
@@ -356,6 +357,27 @@ impl<B: Books> Office<B> {
         }
         facts_are_lawful();
         questions::days(self.alloc, &mut self.books, register, sink)
+    }
+
+    /// Of the days of a register those from one on and before another, handed on as all of them are. Only the quarter hours of
+    /// these days, and of two days more at each end, are read.
+    pub fn days_within<K: RowSink<DayTotal>>(
+        &mut self,
+        register: &Option<Name>,
+        from: Day,
+        till: Day,
+        sink: &mut K,
+    ) -> Result<(), Refusal>
+        ensures days { TellsDaysBetween K.takes B.ledger self.old self.new sink.old sink.new result
+            register.now from till }
+        ensures puts { TakesRows K.takes sink.old sink.new }
+        ensures asks { OnlyAsks B.ledger self.old self.new result }
+    {
+        if self.stopped {
+            return Err(Refusal::Stopped);
+        }
+        facts_are_lawful();
+        questions::days_within(self.alloc, &mut self.books, register, from, till, sink)
     }
 
     /// Each register of each device with the latest meter at it, if any ever was: the devices, and the registers of each, in

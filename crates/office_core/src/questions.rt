@@ -9,11 +9,13 @@ ghost use Rattle.office_books.specs.Repeats.{repeat_of};
 ghost use Rattle.office_books.specs.Rows.{TakesAll};
 ghost use Rattle.office_core.specs.Asking.{ListsDays, Asks, DaysIn, FoundIn, RowsIn, TakesRows};
 ghost use Rattle.office_core.specs.Asking.{answered, intervals_of};
+ghost use Rattle.office_core.specs.DayRange.{DaysBetweenIn, ListsDaysBetween};
 ghost use Rattle.office_core.specs.Failing.{IsNotForWantOfDay};
 ghost use Rattle.office_core.specs.Parts.{ListsIn, entries_within, intervals_within, meters_named};
 
+use crate::day_range::{keep_between, span_around};
 use crate::day_sink::DaySink;
-use interval_core::{DayTotal, Share};
+use interval_core::{Day, DayTotal, Share, accounts_are_one};
 use office_books::{Books, BooksFault, MeterEntry, Repeat, RowSink, Span};
 use office_events::{Device, Installation, Name, PollRow, Refusal, Register};
 use office_rules::registers_are_in_turn;
@@ -151,12 +153,7 @@ pub fn intervals<B: Books, K: RowSink<Share>>(
     ensures asks { Asks (B.ledger books.old) (B.ledger books.new) result }
     ensures no_day { IfErr result IsNotForWantOfDay }
 {
-    let Some(name) = meter else {
-        return Err(Refusal::NotFound);
-    };
-    found(books.meter(name))?;
-    books.intervals(name, Span::All, sink)?;
-    Ok(())
+    intervals_of_span(books, meter, Span::All, sink)
 }
 
 /// Hands on the energy of a meter by the quarter hours that are asked for, in order of their starts.
@@ -190,11 +187,11 @@ pub fn meters<B: Books>(
     ensures asks { Asks (B.ledger books.old) (B.ledger books.new) result }
     ensures no_day { IfErr result IsNotForWantOfDay }
 {
-    let Some(name) = register else {
+    let Some(register) = register else {
         return Err(Refusal::NotFound);
     };
-    found(books.register(name))?;
-    Ok(books.meters(name)?)
+    found(books.register(register))?;
+    Ok(books.meters(register)?)
 }
 
 /// The entries of a meter from a place on, voided ones too, in their order: at most so many. The opening has the place 1.
@@ -209,11 +206,11 @@ pub fn entries<B: Books>(
     ensures asks { Asks (B.ledger books.old) (B.ledger books.new) result }
     ensures no_day { IfErr result IsNotForWantOfDay }
 {
-    let Some(name) = meter else {
+    let Some(meter) = meter else {
         return Err(Refusal::NotFound);
     };
-    found(books.meter(name))?;
-    Ok(books.entries(name, from, most)?)
+    found(books.meter(meter))?;
+    Ok(books.entries(meter, from, most)?)
 }
 
 /// Hands on all days, in their order.
@@ -226,18 +223,19 @@ fn hand_on<K: RowSink<DayTotal>>(days: &[DayTotal], sink: &mut K)
     }
 }
 
-/// The days of a register that is recorded.
+/// The days of a register that is recorded, by those of its quarter hours that are asked for.
 fn days_of<B: Books>(
     alloc: Global,
     books: &mut B,
     register: &Name,
+    span: Span,
 ) -> Result<Vec<DayTotal>, Refusal>
-    ensures days { ListsDays (B.ledger books.old) (B.ledger books.new) register.now result }
+    ensures days { ListsDays (B.ledger books.old) (B.ledger books.new) register.now span result }
     ensures asks { Asks (B.ledger books.old) (B.ledger books.new) result }
 {
     registers_are_in_turn();
     let mut days = DaySink::new(alloc, books.zone());
-    books.register_intervals(register, Span::All, &mut days)?;
+    books.register_intervals(register, span, &mut days)?;
     days.into_days()
 }
 
@@ -257,7 +255,48 @@ pub fn days<B: Books, K: RowSink<DayTotal>>(
         return Err(Refusal::NotFound);
     };
     found(books.register(name))?;
-    let days = days_of(alloc, books, name)?;
+    let days = days_of(alloc, books, name, Span::All)?;
     hand_on(&days, sink);
+    Ok(())
+}
+
+/// Of the days of a register that is recorded those from one on and before another.
+fn days_between<B: Books>(
+    alloc: Global,
+    books: &mut B,
+    register: &Name,
+    from: Day,
+    till: Day,
+) -> Result<Vec<DayTotal>, Refusal>
+    ensures days { ListsDaysBetween (B.ledger books.old) (B.ledger books.new) register.now from till
+        result }
+    ensures asks { Asks (B.ledger books.old) (B.ledger books.new) result }
+{
+    accounts_are_one();
+    let mut days = days_of(alloc, books, register, span_around(from, till))?;
+    keep_between(&mut days, from, till);
+    Ok(days)
+}
+
+/// Hands on the energy of a register by the civil days of the books' zone from one on and before another, in order.
+pub fn days_within<B: Books, K: RowSink<DayTotal>>(
+    alloc: Global,
+    books: &mut B,
+    register: &Option<Name>,
+    from: Day,
+    till: Day,
+    sink: &mut K,
+) -> Result<(), Refusal>
+    ensures days { DaysBetweenIn K.takes (B.ledger books.old) (B.ledger books.new) sink.old sink.new
+        result register.now from till }
+    ensures puts { TakesRows K.takes sink.old sink.new }
+    ensures asks { Asks (B.ledger books.old) (B.ledger books.new) result }
+{
+    let Some(named) = register else {
+        return Err(Refusal::NotFound);
+    };
+    found(books.register(named))?;
+    let asked = days_between(alloc, books, named, from, till)?;
+    hand_on(&asked, sink);
     Ok(())
 }

@@ -62,7 +62,7 @@ impl<S: Alter + Drop> Books for SqlBooks<S> {
     }
 
     fn meters(&mut self, register: &Name) -> Result<Vec<Installation>, BooksFault> {
-        let found = store_queries::meters(self.alloc, &mut self.connection, register);
+        let found = store_queries::meters_at(self.alloc, &mut self.connection, register);
         answered(&mut self.failures, found)
     }
 
@@ -82,7 +82,13 @@ impl<S: Alter + Drop> Books for SqlBooks<S> {
         from: u64,
         most: u32,
     ) -> Result<Vec<MeterEntry>, BooksFault> {
-        let found = store_queries::entries(self.alloc, &mut self.connection, meter, from, most);
+        let found = store_queries::meter_entries(
+            self.alloc,
+            &mut self.connection,
+            meter,
+            from,
+            most,
+        );
         answered(&mut self.failures, found)
     }
 

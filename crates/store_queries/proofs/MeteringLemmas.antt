@@ -8,3 +8,5 @@ pub mod Shapes
 pub mod Journals
 pub mod Entering
 pub mod Marked
+pub mod RegisterMeters
+pub mod Listing

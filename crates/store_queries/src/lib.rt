@@ -8,6 +8,6 @@ pub use finding::{
     devices, latest, list, pending, poll, poll_count, register, register_count, registers, repeat,
 };
 pub use metering::{
-    entries, entry, installation, installation_count, intervals, journal_rows, meter, meters,
-    register_intervals, tally,
+    entry, installation, installation_count, intervals, journal_rows, meter, meter_entries,
+    meters_at, register_intervals, tally,
 };

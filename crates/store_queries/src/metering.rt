@@ -12,8 +12,8 @@ mod streams;
 
 pub use entries::entry;
 pub use journal::journal_rows;
-pub use listing::entries;
+pub use listing::meter_entries;
 pub use meters::{installation, installation_count, meter};
 pub use places::tally;
-pub use register_meters::meters;
+pub use register_meters::meters_at;
 pub use streams::{intervals, register_intervals};

@@ -10,7 +10,8 @@ use sqlite::{Connection, MemStore};
 use std::alloc::Global;
 use std::test::Fail;
 use store_queries::{
-    entries, entry, installation, installation_count, intervals, meter, meters, register_intervals,
+    entry, installation, installation_count, intervals, meter, meter_entries, meters_at,
+    register_intervals,
 };
 use store_tables::RowFault;
 
@@ -54,13 +55,13 @@ fn the_latest_meter_of_a_register_is_found(rt: HostRuntime) -> Result<(), Fail> 
     Ok(())
 }
 
-fn meters_at(
+fn meters_of(
     alloc: Global,
     conn: &mut Connection<MemStore>,
     register: &[u8],
 ) -> Result<Vec<Installation>, RowFault> {
     ready(conn)?;
-    meters(alloc, conn, &name(register)?)
+    meters_at(alloc, conn, &name(register)?)
 }
 
 fn are_both(rows: &[Installation]) -> bool {
@@ -75,9 +76,9 @@ fn are_both(rows: &[Installation]) -> bool {
 #[test]
 fn a_register_has_its_meters_in_order(rt: HostRuntime) -> Result<(), Fail> {
     let mut conn = two_meters(rt.alloc())?;
-    let both = meters_at(rt.alloc(), &mut conn, b"main")?;
+    let both = meters_of(rt.alloc(), &mut conn, b"main")?;
     assert!(rt; are_both(&both));
-    let none = meters_at(rt.alloc(), &mut conn, b"roof")?;
+    let none = meters_of(rt.alloc(), &mut conn, b"roof")?;
     assert!(rt; none.is_empty());
     Ok(())
 }
@@ -127,7 +128,7 @@ fn listed(
     most: u32,
 ) -> Result<(usize, u64), RowFault> {
     ready(conn)?;
-    let listed = entries(alloc, conn, &name(b"m1")?, from, most)?;
+    let listed = meter_entries(alloc, conn, &name(b"m1")?, from, most)?;
     Ok((listed.len(), listed.first().map_or(0, MeterEntry::place)))
 }
 
@@ -155,7 +156,7 @@ fn entries_of_m1(
     conn: &mut Connection<MemStore>,
 ) -> Result<Vec<MeterEntry>, RowFault> {
     ready(conn)?;
-    entries(alloc, conn, &name(b"m1")?, 1, 3)
+    meter_entries(alloc, conn, &name(b"m1")?, 1, 3)
 }
 
 #[test]

@@ -21,7 +21,7 @@ use Rattle.office_rules.specs.Sessions.{Slot}
 use Rattle.office_rules.specs.History.{corrected_at}
 use Rattle.office_rules.specs.Refusals.{asks_unknown, asks_taken, asks_bad_scale, asks_bad_field, asks_busy, asks_faulty, asks_unvoidable, has_no_meter, installation_limit, is_closed, is_crowded, is_start, makes_fault, reasons, voided_place, is_held_for, verdict_at}
 use Rattle.office_core.specs.declared.refusing.arrivals.Arrival.{Arrival}
-use Rattle.office_core.specs.Refusing.Entries.{has_fault, is_faulty, speaks_of_entry, entry_refusal}
+use Rattle.office_core.specs.Refusing.Entries.{entry_has_fault, is_faulty, speaks_of_entry, entry_refusal}
 use Rattle.office_core.specs.Refusing.Reasons.{speaks_against, refusal_under}
 
 -- two tests that agree find the same
@@ -43,13 +43,13 @@ open_found : (facts : List Fact) (register : Option (List ℕ))
 open_found facts None = refl
 open_found facts (Some name) = refl
 
-faulty_if : (at : ℕ) (c : Command) (row : Installation) (e : Entry) (why : TermFault) (ended : Bool) → makes_fault at why c (Some row) ≡ has_fault row e why
+faulty_if : (at : ℕ) (c : Command) (row : Installation) (e : Entry) (why : TermFault) (ended : Bool) → makes_fault at why c (Some row) ≡ entry_has_fault row e why
     → makes_fault at why c (cond ended None (Some row)) ≡ is_faulty (cond ended None (Some row)) e why
 faulty_if at c row e why true same = refl
 faulty_if at c row e why false same = same
 
 faulty_at : (facts : List Fact) (at : ℕ) (c : Command) (row : Installation) (e : Entry) (why : TermFault)
-    → Some row ≡ option_and_then (installation_at facts) (corrected_at c) → makes_fault at why c (Some row) ≡ has_fault row e why
+    → Some row ≡ option_and_then (installation_at facts) (corrected_at c) → makes_fault at why c (Some row) ≡ entry_has_fault row e why
     → is_faulty (if_open row) e why ≡ asks_faulty facts at why c
 faulty_at facts at c row e why is same =
     sym (ap (makes_fault at why c) (open_found facts (corrected_at c) ∙ ap (option_and_then if_open) (sym is)) ∙ faulty_if at c row e why row.ended same)
@@ -65,7 +65,7 @@ pub record Corrects (slots : List Slot) (facts : List Fact) (at : ℕ) (c : Comm
   pub voidable : asks_unvoidable facts c ≡ false
   pub place : voided_place facts c ≡ None
   pub start : is_start c ≡ false
-  pub faults : (why : TermFault) → makes_fault at why c (Some row) ≡ has_fault row e why
+  pub faults : (why : TermFault) → makes_fault at why c (Some row) ≡ entry_has_fault row e why
 
 corrects_for : (slots : List Slot) (facts : List Fact) (arrival : Arrival) (c : Command) (row : Installation) (e : Entry) (off_scale off_limits : Bool)
     → Some row ≡ option_and_then (installation_at facts) (corrected_at c) → Corrects slots facts arrival.moment c row e off_scale off_limits

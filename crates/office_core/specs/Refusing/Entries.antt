@@ -16,12 +16,12 @@ use Rattle.office_core.specs.declared.refusing.arrivals.Arrival.{Arrival}
 use Rattle.office_core.specs.Refusing.Asking.{IsOfEvent}
 
 -- the entry has a fault at an installation, and at one that is open
-abbrev pub has_fault : Installation → Entry → TermFault → Bool
-has_fault row e why = entering.refuses row.opening.range row.total row.last e why
+abbrev pub entry_has_fault : Installation → Entry → TermFault → Bool
+entry_has_fault row e why = entering.refuses row.opening.range row.total row.last e why
 
 abbrev pub is_faulty : Option Installation → Entry → TermFault → Bool
 is_faulty None e why = false
-is_faulty (Some row) e why = has_fault row e why
+is_faulty (Some row) e why = entry_has_fault row e why
 
 -- Whether an entry that comes so is refused for a reason.
 abbrev pub speaks_of_entry : Arrival → (off_scale off_limits : Bool) → Installation → Entry

@@ -4,10 +4,10 @@ ghost use Rattle.energy_core.specs.Account.{moment_of, reached};
 ghost use Rattle.energy_core.specs.declared.admission.TermFault.TheVariants as fault;
 ghost use Rattle.office_rules.specs.Ranges.{IsSound};
 ghost use Rattle.office_core.specs.Refusing.Given.{entry_of};
-ghost use Rattle.office_core.specs.Refusing.Entries.{has_fault};
+ghost use Rattle.office_core.specs.Refusing.Entries.{entry_has_fault};
 
 use crate::refusing::given::GivenEntry;
-use energy_core::{MAX_INTERVALS, MAX_RANGE, MAX_TOTAL, energy_up_to};
+use energy_core::{INTERVAL_SECONDS, MAX_INTERVALS, MAX_RANGE, MAX_TOTAL, energy_up_to};
 use office_events::Installation;
 
 /// When an entry was made.
@@ -36,30 +36,30 @@ fn reach(range: u64, given: &GivenEntry) -> u128
 /// Whether the counter would have gone back.
 pub fn goes_back(row: &Installation, given: &GivenEntry) -> bool
     requires { IsSound row.now }
-    ensures { result ≡ has_fault row.now (entry_of given.now) fault.NegativeStep }
+    ensures { result ≡ entry_has_fault row.now (entry_of given.now) fault.NegativeStep }
 {
     reach(row.opening.range, given) < u128::from(row.last.raw)
 }
 
 /// Whether the last entry is as late, or later.
 pub fn is_not_later(row: &Installation, given: &GivenEntry) -> bool
-    ensures { result ≡ has_fault row.now (entry_of given.now) fault.NotLater }
+    ensures { result ≡ entry_has_fault row.now (entry_of given.now) fault.NotLater }
 {
     moment(given) <= row.last.at
 }
 
 /// Whether more intervals lie between than a step may touch.
 pub fn is_long(row: &Installation, given: &GivenEntry) -> bool
-    ensures { result ≡ has_fault row.now (entry_of given.now) fault.SpanTooLong }
+    ensures { result ≡ entry_has_fault row.now (entry_of given.now) fault.SpanTooLong }
 {
-    let last = moment(given).saturating_sub(1) / 900;
-    MAX_INTERVALS < last.saturating_sub(row.last.at / 900) + 1
+    let last = moment(given).saturating_sub(1) / INTERVAL_SECONDS;
+    MAX_INTERVALS < last.saturating_sub(row.last.at / INTERVAL_SECONDS) + 1
 }
 
 /// Whether the whole energy would pass its limit.
 pub fn is_full(row: &Installation, given: &GivenEntry) -> bool
     requires { IsSound row.now }
-    ensures { result ≡ has_fault row.now (entry_of given.now) fault.TotalFull }
+    ensures { result ≡ entry_has_fault row.now (entry_of given.now) fault.TotalFull }
 {
     let energy = energy_up_to(&row.last, reach(row.opening.range, given));
     u128::from(MAX_TOTAL) < u128::from(row.total) + energy
@@ -67,7 +67,7 @@ pub fn is_full(row: &Installation, given: &GivenEntry) -> bool
 
 /// Whether an entry tells a number that the counter can't show.
 pub fn is_not_shown(row: &Installation, given: &GivenEntry) -> bool
-    ensures { result ≡ has_fault row.now (entry_of given.now) fault.NotBelowRange }
+    ensures { result ≡ entry_has_fault row.now (entry_of given.now) fault.NotBelowRange }
 {
     match *given {
         GivenEntry::Step { raw, .. } => row.opening.range <= raw,

@@ -3,7 +3,7 @@ ghost use Rattle.std.specs.Prelude.{◌≡◌, nat_lt, false};
 ghost use Rattle.office_events.specs.declared.commands.Command.TheVariants as command;
 ghost use Rattle.office_rules.specs.Refusals as refusals;
 
-use energy_core::{MAX_CEILING, MAX_RANGE, MIN_RANGE};
+use energy_core::{MAX_CEILING, MAX_RANGE, MAX_SCALE, MIN_RANGE, MIN_SCALE};
 use mb_wire::MAX_READ_REGISTERS;
 use office_events::{
     AddDevice, AddRegister, Close, Exchange, GivenScale, LAST_ADDRESS, LAST_COUNTER, LAST_UNIT,
@@ -15,7 +15,7 @@ use poll_core::{MAX_TIMEOUT, MAX_WINDOW};
 pub fn is_off_scale(sf: i64) -> bool
     ensures { result ≡ refusals.is_off_scale sf }
 {
-    sf < -3 || 3 < sf
+    sf < i64::from(MIN_SCALE) || i64::from(MAX_SCALE) < sf
 }
 
 /// Whether the new scale of a counter is none.

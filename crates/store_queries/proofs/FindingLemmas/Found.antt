@@ -126,6 +126,13 @@ fails_then g old mid new a e (Err d) P Q R s t u one two sound fails = record {
   looks = λ zone. looks_then g zone old mid new (one.looks zone) (two.looks zone);
 }
 
+-- two look-ups, the second of what the first found
+pub found_then : {S A B : Type 0} (g : Ghosts S) (old mid new : Held S) (a : A) (r : Result B RowFault) (P : List Fact → A → Type 0) (Q R : List Fact → B → Type 0) (s t u : List Fact → Type 0)
+    → Finds g old mid (Ok a) P s → Finds g mid new r Q t → ((facts : List Fact) → P facts a → u facts → t facts) → ((facts : List Fact) (b : B) → P facts a → Q facts b → R facts b) → Finds g old new r R u
+found_then g old mid new a (Ok b) P Q R s t u one two sound tells =
+    answered g old new b b (λ facts x. P facts a × Q facts x) R t u (finds_then g old mid new a (Ok b) P Q s t one two) (λ facts h. tells facts b h.0 h.1)
+found_then g old mid new a (Err e) P Q R s t u one two sound tells = fails_then g old mid new a e (Err e) P Q R s t u one two sound refl
+
 -- what was found is turned into something else, or can't be
 pub made : {S A C : Type 0} (g : Ghosts S) (old new : Held S) (a : A) (r : Result C RowFault) (P : List Fact → A → Type 0) (R : List Fact → C → Type 0) (s u : List Fact → Type 0)
     → Finds g old new (Ok a) P s → ((facts : List Fact) → P facts a → IfOk r (R facts)) → ((facts : List Fact) → P facts a → IfErr r (IsRowFault (u facts))) → Finds g old new r R u

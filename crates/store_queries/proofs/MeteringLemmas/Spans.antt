@@ -1,16 +1,16 @@
 -- Of the interval rows of the tables those that are asked for.
-use Rattle.std.proofs.Common.{◌≡◌, ℕ, ◌+◌, ◌<◌, ◌≤◌, ◌&&◌, min, nat_le, nat_lt, Bool, true, false, cond, inl, inr, List, [], ◌∷◌, ◌++◌, map, filter, reverse, Option, Some, None, refl, sym, ap, ap₂, subst, ◌∙◌, arith, le-leb, lt-leb, lt-ltb, le-ltb, IsPermutation}
+use Rattle.std.proofs.Common.{◌≡◌, ℕ, ◌+◌, ◌≤◌, ◌&&◌, min, nat_le, nat_lt, Bool, true, false, cond, inl, inr, List, [], ◌∷◌, ◌++◌, filter, Option, Some, None, refl, sym, ap, ap₂, subst, ◌∙◌, arith, le-leb, leb-true, leb-false, lt-ltb, le-ltb, ltb-true, ltb-false}
 use Rattle.std.specs.List.{AllByRecursion, flat_map, find}
-use Rattle.std.proofs.lemmas.Bool.{cases_Bool, cond-true, cond-false}
+use Rattle.std.proofs.lemmas.Bool.{cases_Bool, cond-true, cond-false, lt-leb}
 use Rattle.std.proofs.lemmas.Option.{same_Some}
 use Rattle.std.proofs.lemmas.List.Elements.{recursion_from_All, All-from_recursion}
-use Rattle.std.proofs.lemmas.List.Sorted.{All-permutation, IsPermutation-sym, IsPermutation-trans, IsPermutation-flat_map, IsPermutation-reverse}
-use Rattle.sqlite_keyed.proofs.ListLemmas.{all-map, filter-map, map-map, IsPermutation-filter, IsPermutation-same}
+use Rattle.std.proofs.lemmas.List.Sorted.{All-permutation, IsPermutation-sym, IsPermutation-reverse}
+use Rattle.sqlite_keyed.proofs.ListLemmas.{IsPermutation-flat_map}
 use Rattle.interval_core.specs.declared.shares.Share.{Share}
 use Rattle.office_events.specs.declared.facts.Opening.{Opening}
 use Rattle.office_events.specs.declared.facts.Fact.{Fact}
 use Rattle.office_rules.specs.Facts.{same, openings_in, opening_of}
-use Rattle.office_rules.specs.Intervals.{rows_of_opening, rows_of_installed, rows_of_meter, installations_at, rows_of_register}
+use Rattle.office_rules.specs.Intervals.{rows_of_opening, rows_of_installed, rows_of_meter, rows_of_register}
 use Rattle.office_rules.specs.Lawful.{AreLawful}
 use Rattle.office_rules.specs.Registers.{RegistersAreInTurn}
 use Rattle.office_rules.proofs.Lookups.{same_itself}
@@ -74,14 +74,14 @@ module _ (from till low high : ℕ) (low_is : low ≡ min from (latest_moment + 
 
   same_low : (n : ℕ) → n ≤ latest_moment → nat_le low n ≡ nat_le from n
   same_low n le = elim (cases_Bool (nat_le from n)) [
-    | inl on ↦ le-leb low n (omega (arith, le, low_is, Rattle.std.proofs.Common.leb-true from n on)) ∙ sym on
-    | inr off ↦ lt-leb low n (omega (arith, le, low_is, Rattle.std.proofs.Common.leb-false from n off)) ∙ sym off
+    | inl on ↦ le-leb low n (omega (arith, le, low_is, leb-true from n on)) ∙ sym on
+    | inr off ↦ lt-leb low n (omega (arith, le, low_is, leb-false from n off)) ∙ sym off
   ]
 
   same_high : (n : ℕ) → n ≤ latest_moment → nat_lt n high ≡ nat_lt n till
   same_high n le = elim (cases_Bool (nat_lt n till)) [
-    | inl on ↦ lt-ltb n high (omega (arith, le, high_is, Rattle.std.proofs.Common.ltb-true n till on)) ∙ sym on
-    | inr off ↦ le-ltb n high (omega (arith, le, high_is, Rattle.std.proofs.Common.ltb-false n till off)) ∙ sym off
+    | inl on ↦ lt-ltb n high (omega (arith, le, high_is, ltb-true n till on)) ∙ sym on
+    | inr off ↦ le-ltb n high (omega (arith, le, high_is, ltb-false n till off)) ∙ sym off
   ]
 
   pub bounded_rows : (rows : List Share) → AllByRecursion InTime rows → filter bounded rows ≡ filter asked rows

@@ -39,7 +39,7 @@ fn listed(
 
 /// The entries of a meter from a place on, voided ones too, in their order: at most so many. It goes over all entries of the
 /// meter.
-pub fn entries<S: Alter>(
+pub fn meter_entries<S: Alter>(
     alloc: Global,
     conn: &mut Connection<S>,
     name: &Name,

@@ -1,10 +1,12 @@
 //! All installations at a register.
-ghost use Rattle.std.specs.Prelude.{◌≡◌, ◌∷◌, [], false, List, map, IsUtf8};
+ghost use Rattle.std.specs.Prelude.{◌≡◌, false, List, map, IsUtf8};
 ghost use Rattle.office_books.specs.Entries.{installations_of};
 ghost use Rattle.office_events.specs.declared.facts.Opening.{Opening as RecordedOpening};
+ghost use Rattle.office_rules.specs.Intervals.{installations_at};
 ghost use Rattle.office_rules.specs.Meters.{installation_of};
-ghost use Rattle.store_queries.specs.Finding.Finding.{Finds};
-ghost use Rattle.store_queries.specs.Metering.RegisterMeters.{ShowInstalled, ShowsMetersAt};
+ghost use Rattle.store_tables.specs.Meters.Rows.{installed_shown, IsInstalled, IsSoundInstalled};
+ghost use Rattle.store_queries.specs.Finding.Finding.{Finds, OfLawful, ReadsAll};
+ghost use Rattle.store_queries.specs.Metering.RegisterMeters.{AreRowsOf, ShowsMetersAt};
 ghost use Rattle.store_queries.specs.Metering.Sound.{HasReadableMeters};
 
 use crate::finding::put;
@@ -19,48 +21,62 @@ use store_tables::{RowFault, check_open, read_installation};
 fn rows_at<S: Alter>(conn: &mut Connection<S>, register: &str) -> Result<Vec<Row>, RowFault>
     requires { conn.old.in_transaction ≡ false }
     ensures { Finds S.Store conn.old conn.new result
-        (λ facts rows. ShowsMetersAt register.now facts rows.items) HasReadableMeters }
+        (OfLawful (ShowsMetersAt register.now)) HasReadableMeters }
 {
     check_open(conn)?;
     Ok(register_meter_rows(conn, register)?)
 }
 
-/// The installation of a row, as it stands.
-fn standing_in<S: Alter>(conn: &mut Connection<S>, row: &Row) -> Result<Installation, RowFault>
+/// Reads installations as the query shows them.
+fn installed_in(rows: &Vec<Row>) -> Result<Vec<store_tables::Installation>, RowFault>
+    ensures { ReadsAll rows.now.items installed_shown IsInstalled IsSoundInstalled
+        (λ v. v.items) result }
+{
+    let mut installed = Vec::new(*rows.allocator());
+    for row in rows {
+        let installation = read_installation(row)?;
+        put(&mut installed, installation)?;
+    }
+    Ok(installed)
+}
+
+/// The rows of the installations at a register, as they were read.
+fn installed_at<S: Alter>(
+    conn: &mut Connection<S>,
+    register: &str,
+) -> Result<Vec<store_tables::Installation>, RowFault>
     requires { conn.old.in_transaction ≡ false }
     ensures { Finds S.Store conn.old conn.new result
-        (λ facts found. (opening : RecordedOpening) → ShowInstalled facts (opening ∷ []) (row.now ∷ [])
-        → found ≡ installation_of facts opening)
-        (λ facts. HasReadableMeters facts × (opening : RecordedOpening)
-        × ShowInstalled facts (opening ∷ []) (row.now ∷ [])) }
+        (λ facts v. AreRowsOf facts (installations_at facts register.now) v.items)
+        HasReadableMeters }
 {
-    let installed = read_installation(row)?;
-    standing(conn, &installed)
+    let rows = rows_at(conn, register)?;
+    installed_in(&rows)
 }
 
 /// The installations of these rows, as they stand.
 fn standing_all<S: Alter>(
     alloc: Global,
     conn: &mut Connection<S>,
-    rows: &[Row],
+    rows: &[store_tables::Installation],
 ) -> Result<Vec<Installation>, RowFault>
     requires { conn.old.in_transaction ≡ false }
     ensures { Finds S.Store conn.old conn.new result
-        (λ facts v. (openings : List RecordedOpening) → ShowInstalled facts openings rows.now
+        (λ facts v. (openings : List RecordedOpening) → AreRowsOf facts openings rows.now
         → v.items ≡ map (installation_of facts) openings)
         (λ facts. HasReadableMeters facts × (openings : List RecordedOpening)
-        × ShowInstalled facts openings rows.now) }
+        × AreRowsOf facts openings rows.now) }
 {
     let mut found = Vec::new(alloc);
     for row in rows {
-        let row = standing_in(conn, row)?;
-        put(&mut found, row)?;
+        let installation = standing(conn, row)?;
+        put(&mut found, installation)?;
     }
     Ok(found)
 }
 
 /// The installations at a register as they stand, ended ones too, in the order in which they were installed.
-pub fn meters<S: Alter>(
+pub fn meters_at<S: Alter>(
     alloc: Global,
     conn: &mut Connection<S>,
     register: &Name,
@@ -71,6 +87,6 @@ pub fn meters<S: Alter>(
         (λ facts. IsUtf8 register.now × HasReadableMeters facts) }
 {
     let register = text(register)?;
-    let rows = rows_at(conn, register)?;
-    standing_all(alloc, conn, &rows)
+    let installed = installed_at(conn, register)?;
+    standing_all(alloc, conn, &installed)
 }

@@ -45,7 +45,8 @@ pub fn intervals<S: Alter, K: RowSink<Share>>(
     }
 }
 
-/// Hands on the energy of a register by the quarter hours that are asked for: meter after meter, in the order in which they were installed.
+/// Hands on the energy of a register by the quarter hours that are asked for: meter after meter, in the order in which they
+/// were installed.
 pub fn register_intervals<S: Alter, K: RowSink<Share>>(
     conn: &mut Connection<S>,
     register: &Name,

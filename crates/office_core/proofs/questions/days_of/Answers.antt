@@ -10,5 +10,5 @@ returns-clause-days g c =
     let Starts : Zone → Type 0 = λ zone. HasTaken zone [] fresh.fold in
     let sound = c.in_ok-register_intervals.ensures in
     adds_up (g.B.Books.ledger c.args.books.now) (g.B.Books.ledger c.register_intervals.new.self) fresh c.register_intervals.new.sink
-    c.args.register.now _ c.into_days.result c.registers_are_in_turn.ensures (c.new-days.ensures.zone ∙ c.zone.ensures) c.new-days.ensures.works
+    c.args.register.now c.args.span _ c.into_days.result c.registers_are_in_turn.ensures (c.new-days.ensures.zone ∙ c.zone.ensures) c.new-days.ensures.works
     (subst Starts (sym c.new-days.ensures.zone) c.new-days.ensures.empty) sound.rows sound.reads c.into_days.ensures

@@ -1,6 +1,6 @@
 use Rattle.std.proofs.Common.{refl, sym, ap, ◌∙◌}
 use Rattle.office_events.specs.declared.commands.Command.TheVariants as command
-use Rattle.office_core.specs.Refusing.Entries.{has_fault}
+use Rattle.office_core.specs.Refusing.Entries.{entry_has_fault}
 use Rattle.office_core.proofs.RefusingLemmas.AtMeters.{refused_as}
 use Rattle.office_core.proofs.refusing.corrections.rescale.Goals as goal
 
@@ -16,5 +16,5 @@ returns-clause-found g c known holds clean slots =
       voidable = refl;
       place = refl;
       start = refl;
-      faults = λ why. ap (λ e. has_fault c.in-Some.row e why) (sym c.rescaled-given.ensures);
+      faults = λ why. ap (λ e. entry_has_fault c.in-Some.row e why) (sym c.rescaled-given.ensures);
     })

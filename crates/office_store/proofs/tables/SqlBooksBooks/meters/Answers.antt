@@ -4,11 +4,11 @@ use Rattle.office_store.proofs.tables.SqlBooksBooks.meters.Goals as goal
 
 pub returns-clause-found : goal.returns-clause-found
 returns-clause-found g c =
-    finds g.S.Store c.args.self.now.connection c.meters-found.new.conn c.args.self.now.failures c.answered.new.failures c.args.self.now.zone c.meters-found.result c.answered.result c.answered.ensures.answer c.meters-found.ensures
+    finds g.S.Store c.args.self.now.connection c.meters_at-found.new.conn c.args.self.now.failures c.answered.new.failures c.args.self.now.zone c.meters_at-found.result c.answered.result c.answered.ensures.answer c.meters_at-found.ensures
 
 pub returns-clause-reads : goal.returns-clause-reads
 returns-clause-reads g c =
-    reads g.S.Store c.args.self.now.connection c.meters-found.new.conn c.args.self.now.failures c.answered.new.failures c.args.self.now.zone c.answered.result c.answered.ensures.noted c.meters-found.ensures.looks
+    reads g.S.Store c.args.self.now.connection c.meters_at-found.new.conn c.args.self.now.failures c.answered.new.failures c.args.self.now.zone c.answered.result c.answered.ensures.noted c.meters_at-found.ensures.looks
 
 pub invariant_of-self : goal.invariant_of-self
-invariant_of-self g c = record { idle = (c.meters-found.ensures.looks []).mode c.args.self.now.idle }
+invariant_of-self g c = record { idle = (c.meters_at-found.ensures.looks []).mode c.args.self.now.idle }
