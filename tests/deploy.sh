@@ -100,7 +100,7 @@ status_of() {
 
 # rows METHOD: the targets that docs/HTTP.md has of a method
 rows() {
-    sed -n "s/^| \`*$1 \`*\(\/[^\` ]*\)\`.*/\1/p" "$here/../docs/HTTP.md" | sed 's/{name}/m1/; s/{number}/1/'
+    sed -n "s/^| \`*$1 \`*\(\/[^\` ]*\)\`.*/\1/p" "$here/../docs/HTTP.md" | sed 's/{name}/m1/; s/{number}/1/; s/{from}/900/; s/{till}/1800/; s/{place}/1/'
 }
 
 if has nginx && has openssl; then

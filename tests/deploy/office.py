@@ -67,6 +67,10 @@ class Handler(http.server.BaseHTTPRequestHandler):
             self.answer(200, "text/plain; version=0.0.4", told("METRICS"))
         elif self.path.endswith(("/days", "/intervals")):
             self.answer(200, "text/plain", "1900 200000\nend 1\n", has_length=False)
+        elif "/intervals/" in self.path:
+            self.answer(200, "text/plain", "900 177777\nend 1\n")
+        elif "/entries/" in self.path:
+            self.answer(200, "text/plain", "1 opening 1000 5000 0 0 0 stands\nend 1\n")
         elif self.path.startswith("/polls/"):
             self.json(200, {"code": 0, "device": "inv", "moment": 1900, "outcome": 1, "poll": 1, "started": 1898})
         else:
