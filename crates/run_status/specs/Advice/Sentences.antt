@@ -17,7 +17,6 @@ use Rattle.printed_numbers.specs.Numbers.{IsMeaningOf}
 use Rattle.printed_numbers.specs.declared.kind.Kind.{Kind}
 use Rattle.printed_numbers.specs.declared.kind.Kind.TheVariants as kind
 use Rattle.printed_numbers.specs.declared.meaning.Meaning.{Meaning}
-use Rattle.run_status.specs.Advice.Lacks.{lack_of}
 use Rattle.run_status.specs.declared.advice.lacks.DeviceLack.{DeviceLack}
 use Rattle.run_status.specs.declared.advice.lacks.Lack.{Lack}
 use Rattle.run_status.specs.declared.advice.lacks.Lack.TheVariants.{NoDevice, NoList, NoRegister, NotInList, NoMeter}

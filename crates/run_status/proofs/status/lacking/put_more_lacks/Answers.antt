@@ -1,4 +1,4 @@
-use Rattle.std.proofs.Common.{refl, arith, ◌∙◌, ap, List, ℕ}
+use Rattle.std.proofs.Common.{refl, arith, List, ℕ}
 use Rattle.run_status.specs.declared.advice.lacks.DeviceLack.{DeviceLack}
 use Rattle.std.specs.Prelude.{codes}
 use Rattle.run_status.specs.Status.LackingText as text

@@ -1,4 +1,4 @@
-use Rattle.std.proofs.Common.{refl, arith, ◌∙◌, ap, List, ℕ}
+use Rattle.std.proofs.Common.{refl, arith, List, ℕ}
 use Rattle.run_status.specs.declared.status.status.DeviceState.{DeviceState}
 use Rattle.run_status.specs.Status.MetricsText as text
 use Rattle.office_rounds.proofs.DeviceRoundsLemmas.Loops.{all_on, one_on}
