@@ -1,5 +1,5 @@
 -- What is told of meters, question by question.
-use Rattle.std.proofs.Common.{◌≡◌, ◌⊎◌, inl, inr, ℕ, zero, suc, ◌+◌, ◌<◌, Bool, true, false, cond, Option, Some, None, List, [], ◌∷◌, ◌++◌, map, reverse, take, drop, length, get_or, refl, sym, ap, subst, ◌∙◌, append-nil, append_assoc, arith}
+use Rattle.std.proofs.Common.{◌≡◌, inl, inr, ℕ, zero, suc, ◌+◌, ◌<◌, Bool, true, false, cond, Option, Some, None, List, [], ◌∷◌, ◌++◌, map, reverse, take, drop, length, get_or, refl, sym, ap, subst, ◌∙◌, append-nil, append_assoc, arith}
 use Rattle.std.specs.Prelude.{Result, Ok, Err, All, filter, is_ok, is_some}
 use Rattle.command_io.specs.declared.status.ExitStatus.{ExitStatus}
 use Rattle.command_io.specs.declared.status.ExitStatus.TheVariants.{Failed}
@@ -19,7 +19,7 @@ use Rattle.office_events.specs.declared.questions.Installation.{Installation}
 use Rattle.office_events.specs.declared.refusals.Refusal.{Refusal}
 use Rattle.office_events.specs.declared.refusals.Refusal.TheVariants as refusal
 use Rattle.office_rules.specs.Facts.{opening_of, openings_in, register_of, same}
-use Rattle.office_rules.specs.History.{History, facts_of}
+use Rattle.office_rules.specs.History.{facts_of}
 use Rattle.office_rules.specs.Intervals.{installations_at, rows_of_opening}
 use Rattle.office_rules.specs.Meters.{installation_of}
 use Rattle.office_rules.proofs.Lists.{reverse_cons}
@@ -29,9 +29,9 @@ use Rattle.office_books.specs.declared.failures.Failures.{Failures}
 use Rattle.office_books.specs.Entries.{entries_at, first_from, installations_of}
 use Rattle.office_books.specs.Ledgers.{Ledger}
 use Rattle.office_books.specs.Rows.{TakesAll}
-use Rattle.office_core.specs.Asking.{HandsRows, IsFound, OnlyAsks, TellsRows, intervals_of, is_there, or_not_found, rows_in}
+use Rattle.office_core.specs.Asking.{IsFound, OnlyAsks, TellsRows, intervals_of, is_there, rows_in}
 use Rattle.office_core.specs.Failing.{IsOutside}
-use Rattle.office_core.specs.Parts.{IsListed, ListsAccepted, entries_within, meters_at, meters_named}
+use Rattle.office_core.specs.Parts.{IsListed, ListsAccepted, entries_within, meters_named}
 use Rattle.office_core.specs.Standing.{After}
 use Rattle.office_core.specs.Taking.{failures_of}
 use Rattle.office_core.specs.declared.office.Office.{Office}
@@ -43,7 +43,7 @@ use Rattle.energy_report.specs.Energies.{AddsShare, IsFresh}
 use Rattle.energy_report.specs.Statements.{energy_within, tally_of, was_there}
 use Rattle.energy_report.proofs.EnergyLemmas.{added_up}
 use Rattle.office_program.specs.Texts.EndTexts.{IsTold}
-use Rattle.office_program.specs.Texts.Statements.{AreRecorded, IsStated, Keeps, States, Tells, energy_in, statement_in, statement_of, statements_in, statements_of, tally_in, told_of}
+use Rattle.office_program.specs.Texts.Statements.{AreRecorded, Keeps, States, Tells, energy_in, statement_in, statement_of, statements_in, statements_of, tally_in, told_of}
 use Rattle.office_program.proofs.AskingLemmas.{found_ok, found_so, refused_on}
 use Rattle.office_program.proofs.PlacesLemmas.{last_piece, one_piece_more, piece_at}
 

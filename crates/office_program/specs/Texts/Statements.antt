@@ -1,5 +1,5 @@
 -- The statement of the meters at a register, on a range of days.
-use Rattle.std.specs.Prelude.{◌≡◌, ℕ, List, ◌++◌, map, filter, All, is_some, true, Option, Some, None, Result, Ok, Err}
+use Rattle.std.specs.Prelude.{◌≡◌, ℕ, List, ◌++◌, map, filter, All, is_some, true, Option, Some, Result, Ok, Err}
 use Rattle.std.specs.Option.{option_map, option_and_then}
 use Rattle.std.specs.declared.alloc.Global.{Global}
 use Rattle.std.specs.declared.vec.Vec.{Vec}
@@ -24,7 +24,7 @@ use Rattle.office_books.specs.declared.failures.Failures.{Failures}
 use Rattle.office_books.specs.Entries.{entries_at}
 use Rattle.office_books.specs.Ledgers.{KeepsFacts, Ledger}
 use Rattle.office_books.specs.declared.books.Books as stores
-use Rattle.office_core.specs.Asking.{IsFound, OnlyAsks, intervals_of, is_there}
+use Rattle.office_core.specs.Asking.{IsFound, OnlyAsks, intervals_of}
 use Rattle.office_core.specs.Failing.{IsOutside}
 use Rattle.office_core.specs.Parts.{meters_named}
 use Rattle.office_core.specs.Standing.{After, Stands, books_in, is_stopped, notes_in, outgoing_in}

@@ -1,7 +1,6 @@
-use Rattle.std.proofs.Common.{◌≡◌, Ok, Err, refl, rules}
-use Rattle.command_io.specs.declared.status.ExitStatus.TheVariants.{Fine, Refused}
+use Rattle.std.proofs.Common.{Ok, Err, refl}
+use Rattle.command_io.specs.declared.status.ExitStatus.TheVariants.{Fine}
 use Rattle.energy_report.specs.StatementTexts.{statement_text}
-use Rattle.script_text.specs.AnswerText.{refused_line}
 use Rattle.office_program.proofs.AskingLemmas.{only_asked}
 use Rattle.office_program.proofs.StatementLemmas.{written_so}
 use Rattle.office_program.proofs.texts.statement.report_statement.Goals as goal
