@@ -1,4 +1,4 @@
-"""Reports on ranges of days, by periods, in both units and three formats: report.py PROGRAM; tests/report.sh calls it.
+"""Reports on ranges of days, by periods, and statements, in both units and three formats: report.py PROGRAM; tests/report.sh calls it.
 
 A file gets quarter hours over the end of a year, a 29 February and a clock change. What the program prints of them is held to what
 Python's own calendar, decimals, CSV and JSON make of the same quarter hours.
@@ -115,6 +115,45 @@ def hold(db, period, unit, form, first, till):
         same(what, printed, {"text": text_of, "csv": csv_of}[form](found, period, unit))
 
 
+def statement(unit, form, first, till):
+    """What a statement prints: the meter was read at the end of each day of UTC, and was there from the first of them on."""
+    readings, raw = [(BEGIN, 0)], 0
+    for day in range(DAYS):
+        raw += 96 * quarter(day)
+        readings.append((BEGIN + DAY * (day + 1), raw))
+    def within(moment):
+        day = datetime.datetime.fromtimestamp(moment, PLACE).date()
+        return (first is None or first <= day) and (till is None or day < till)
+    there = till is None or datetime.datetime.fromtimestamp(BEGIN, PLACE).date() < till
+    found = [it for it in readings if within(it[0])]
+    total = sum(mwh for start, mwh in QUARTERS if within(start))
+    stands = [found[0], found[-1]] if found else [None, None]
+    names = ["meter", "first", f"first_{unit}", "last", f"last_{unit}", f"energy_{unit}", "by_hand", "resets", "rescales", "voids"]
+    def row(nothing, number):
+        pairs = [value for it in stands for value in ((number(it[0]), energy(unit, it[1])) if it else (nothing, nothing))]
+        return ["m1", *pairs, energy(unit, total), *[number(0)] * 4]
+    if form == "json":
+        return [dict(zip(names, row(None, int)))] if there else []
+    table = io.StringIO()
+    if form == "csv":
+        writer = csv.writer(table)
+        writer.writerow(names)
+        writer.writerows([row("", str)] if there else [])
+        return table.getvalue()
+    return (" ".join(row("-", str)) + "\n" if there else "") + f"end {int(there)}\n"
+
+
+def hold_statement(db, unit, form, first, till):
+    """Holds one statement, and its energy to that of the report by days."""
+    words = ["--statement", "--unit", unit, "--format", form]
+    words += ["--from", str(first)] if first else []
+    words += ["--till", str(till)] if till else []
+    status, printed, said = run(db, "main", words)
+    what = " ".join(words)
+    same(f"{what}: its end", (status, said), (0, []))
+    same(what, json.loads(printed) if form == "json" else printed, statement(unit, form, first, till))
+
+
 def refused(db, words, said):
     """Words that are wrong."""
     status, printed, errors = run(db, "main", words)
@@ -141,18 +180,23 @@ def main():
               (day(2024, 3, 30), None), (day(2024, 2, 1), day(2024, 2, 1)), (day(1999, 1, 1), day(2000, 1, 1)), (day(2024, 1, 1), None)]
     for (first, till), period, unit, form in itertools.product(ranges, PERIODS, ("mwh", "kwh"), ("text", "csv", "json")):
         hold(db, period, unit, form, first, till)
+    for (first, till), unit, form in itertools.product(ranges, ("mwh", "kwh"), ("text", "csv", "json")):
+        hold_statement(db, unit, form, first, till)
     plain = run(db, "main", [])
     same("a word that is said or not", run(db, "main", ["--by", "day"]), plain)
     same("the plain report", plain, (0, text_of(rows("day", None, None), "day", "mwh"), []))
     for form, nothing in (("text", "end 0\n"), ("csv", "day,energy_mwh\r\n"), ("json", "[]\n")):
         same(f"no meter: {form}", run(db, "spare", ["--format", form]), (0, nothing, []))
         same(f"no register: {form}", run(db, "none", ["--format", form]), (1, "refused 1\n", []))
+        same(f"no statement: {form}", run(db, "none", ["--statement", "--format", form]), (1, "refused 1\n", []))
+    same("no meter to state", run(db, "spare", ["--statement"]), (0, "end 0\n", []))
     for word in ("2024-02-30", "2023-02-29", "24-02-01", "2024-2-1", "2024-02-01 ", "20240201", "2024-13-01", "2024-00-01"):
         for option in ("--from", "--till"):
             refused(db, [option, word], f"error: invalid value '{word}' for '{option} <DAY>': no day, as 2026-11-25")
     refused(db, ["--from", "2024-02-02", "--till", "2024-02-01"], "error: '--till <DAY>' is before '--from <DAY>'")
     refused(db, ["--unit", "wh"], "error: invalid value 'wh' for '--unit <UNIT>': none of mwh, kwh")
     refused(db, ["--by", "week"], "error: invalid value 'week' for '--by <PERIOD>': none of day, month, year")
+    refused(db, ["--statement", "--by", "day"], "error: the argument '--statement' cannot be used with '--by'")
     refused(db, ["--format", "xml"], "error: invalid value 'xml' for '--format <FORMAT>': none of text, csv, json")
     entries_stand(db)
     room.cleanup()

@@ -188,7 +188,7 @@ def lateness_of(device, since, until):
     return [t % EVERY for t in device.times if since <= t < until]
 
 
-METRIC = re.compile(r'[a-z_][a-z0-9_]*(\{[a-z_]+="[^"\\\n]*"\})? [0-9]+')
+METRIC = re.compile(r'[a-z_][a-z0-9_]*(\{[a-z_]+="[^"\\\n]*"(,[a-z_]+="[^"\\\n]*")*\})? [0-9]+(\.[0-9]{3})?')
 
 
 def metrics_in(text):
@@ -200,7 +200,7 @@ def metrics_in(text):
         elif not line.startswith("# HELP "):
             holds("a line of the metrics", METRIC.fullmatch(line) and re.split("[{ ]", line)[0] in families, line)
             name, value = line.rsplit(" ", 1)
-            values[name] = int(value)
+            values[name] = float(value)
     return values
 
 
@@ -216,7 +216,7 @@ def samples_in(text):
     read = subprocess.run([PEERS["prometheus"], "-B", "-c", READ_SAMPLES], input=text, capture_output=True, text=True)
     holds("Prometheus's parser reads the metrics", read.returncode == 0, read.stderr[-300:])
     samples = json.loads(read.stdout) if read.returncode == 0 else []
-    labels_of = lambda labels: "".join(f'{{{name}="{value}"}}' for name, value in labels.items())
+    labels_of = lambda labels: "{" + ",".join(f'{name}="{value}"' for name, value in labels.items()) + "}" if labels else ""
     return {name + labels_of(labels): value for name, labels, value in samples}
 
 
@@ -403,6 +403,13 @@ asked = json.loads(ask("/meters/mdead")[1])
 same("a meter is told as it is alone", meters["mdead"], {"device": "dead"} | {name: asked[name] for name in asked if name != "range"})
 same("what the servers of others show", [(meters[it]["last"], meters[it]["total"]) for it in ["mlib", "mpy"]], [(5007, "7000"), (6000, "1000000")])
 same("and by no other method", ask("/site", 902, "{}")[0], 405)
+
+# Energy in the metrics, in Wh. A reading may have come since.
+text = ask("/metrics")[1]
+of = '{meter="mlib",register="rlib",device="lib"}'
+holds("energy in the metrics", f"\nsunreg_energy_watthours_total{of} 7.000\n" in text, text)
+holds("the moment of the last entry", metrics_in(text)["sunreg_last_entry_timestamp_seconds" + of] >= meters["mlib"]["at"], text)
+same("each meter has its energy", text.count("\nsunreg_energy_watthours_total{"), len(ports))
 
 # Quarter hours of a span: the first of a meter whose energy came all by its first reading.
 rows = ask("/meters/mlib/intervals")[1].splitlines(keepends=True)

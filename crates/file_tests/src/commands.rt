@@ -1,7 +1,7 @@
 //! Commands over an office in a database that is closed and opened between, whatever makes the connections.
-use crate::day::{MONTH, REPORTED, book_day};
+use crate::day::{MONTH, REPORTED, STATED, book_day};
 use command_io::ExitStatus;
-use energy_report::{EnergyUnit, Period, ReportForm};
+use energy_report::{DayRange, EnergyUnit, Format, Period, ReportForm, StatementForm};
 use office_events::{Device, Register};
 use office_program::{NamedFiles, Shown};
 use office_store::{OpenFault, SqlBooks};
@@ -211,6 +211,21 @@ fn is_reported_by_months<D: Databases>(
     Ok(end == Ok(ExitStatus::Fine) && printed.as_slice() == MONTH)
 }
 
+/// Whether its meters are stated in mWh.
+fn is_stated<D: Databases>(rt: &HostRuntime, databases: &D, path: &str) -> Result<bool, Fail> {
+    let form = StatementForm {
+        range: DayRange::all(),
+        unit: EnergyUnit::MilliwattHours,
+        format: Format::Text,
+    };
+    let task = Task::Statement {
+        register: "main",
+        form: &form,
+    };
+    let (end, printed) = carry_out(rt, databases, path, task, 5000)?;
+    Ok(end == Ok(ExitStatus::Fine) && printed.as_slice() == STATED)
+}
+
 /// Whether what was booked is reported.
 pub(crate) fn is_reported<D: Databases>(
     rt: &HostRuntime,
@@ -219,7 +234,8 @@ pub(crate) fn is_reported<D: Databases>(
 ) -> Result<bool, Fail> {
     fill(rt, databases, path)?;
     let by_days = are_reported(rt, databases, path, &KNOWN)?;
-    Ok(by_days && is_reported_by_months(rt, databases, path)?)
+    let by_months = is_reported_by_months(rt, databases, path)?;
+    Ok(by_days && by_months && is_stated(rt, databases, path)?)
 }
 
 /// Whether a name that is no register's is refused, and an office of a version that isn't known is none.

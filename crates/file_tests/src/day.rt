@@ -23,6 +23,12 @@ pub(crate) const REPORTED: &[u8] = b"1970-01-01   4                   345000\nen
 /// The same by months, in kWh.
 pub(crate) const MONTH: &[u8] = b"1970-01    4                 0.345000\nend 1\n";
 
+/// What is stated of its meters: m1 from its opening to its exchange, and m2 from there to the number by hand.
+pub(crate) const STATED: &[u8] = b"m1 1000 5000000 2800 5300000 300000 0 0 0 0
+m2 2800 0 3700 45000 45000 1 0 0 0
+end 2
+";
+
 fn start_of(given: &GivenStart) -> Result<Command, Fail> {
     Ok(Command::StartPoll(StartPoll {
         device: given.device,

@@ -15,7 +15,7 @@ fn a_run_has_routes_of_its_own(rt: HostRuntime) {
     let status = own(StatusRoute::Status);
     assert!(rt; run_route(&[], b"GET /status HTTP/1.1\r\n\r\n") == status);
     let metrics = b"GET /metrics HTTP/1.0\r\nHost: a\r\n\r\n";
-    assert!(rt; run_route(&["a"], metrics) == own(StatusRoute::Metrics));
+    assert!(rt; run_route(&["a"], metrics) == Some(RunRoute::Metrics));
     let site = Some(RunRoute::Site);
     assert!(rt; run_route(&[], b"GET /site HTTP/1.1\r\n\r\n") == site);
     let others: [&[u8]; 10] = [

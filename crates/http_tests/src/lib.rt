@@ -36,6 +36,8 @@ mod links;
 #[cfg(test)]
 mod meter_rows;
 #[cfg(test)]
+mod metrics;
+#[cfg(test)]
 mod narrow;
 #[cfg(test)]
 mod office;

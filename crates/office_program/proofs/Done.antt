@@ -16,6 +16,10 @@ use Rattle.office_program.specs.Report.{TellsReport}
 use Rattle.energy_report.specs.declared.form.ReportForm.{ReportForm}
 use Rattle.office_program.specs.RangedReport.{TellsRange}
 use Rattle.office_program.specs.Texts.RangedReports.{RangePrints}
+use Rattle.energy_report.specs.declared.form.StatementForm.{StatementForm}
+use Rattle.interval_core.specs.declared.zone.Zone.{Zone}
+use Rattle.office_program.specs.Statement.{TellsStatement}
+use Rattle.office_program.specs.Texts.Statements.{StatementPrints}
 use Rattle.office_program.specs.HttpPort.{Port, ServesPort, TellsServing}
 use Rattle.office_program.specs.declared.http_port.ServeEnd.{ServeEnd}
 use Rattle.office_program.specs.declared.http_port.ServeEnd.TheVariants.{Served, Unopened, NoPort, Broken}
@@ -79,6 +83,36 @@ range_reported {W = W} ledger contents past register name form moments later boo
       left = left;
       does = record {
         prints = subst Q names (subst P same (prints _ behind.stands whole));
+        stands = asks.only.stands _ behind.stands;
+      };
+      handed = is;
+    })
+
+pub stated : {B W : Type 0} (ledger : B → Ledger) (contents : W → Option (List ℕ)) (past : History) (register : List ℕ)
+    (name : Option (List ℕ)) (form : StatementForm) (zone : Zone) (moments later : Option (List ℕ)) (books back : B) (opened left : Office B)
+    (before silent : W) (holds : Option (List ℕ)) (status : ExitStatus)
+    → name ≡ named register → zone ≡ (ledger books).zone
+    → ((ledger (books_in opened)).is_clean → OpensToAsk ledger past moments later opened)
+    → silent ≡ before
+    → After ledger opened left (λ behind. TellsEnd (StatementPrints zone behind name form
+    (failures_of ledger opened) (failures_of ledger left)) status (contents silent) holds)
+    → Asks ledger opened left → back ≡ books_in left → (ledger back).is_clean
+    → TellsStatement ledger past register form moments later books back (contents before) holds status
+stated {W = W} ledger contents past register name form zone moments later books back opened left before silent holds status names clocks opens same prints asks is clean =
+    let whole = kept ledger left back is clean in
+    let behind = opens (asks.only.clean whole) in
+    let P : W → Type 0 = λ w. TellsEnd (StatementPrints zone (Opened (asking_moment past behind.told) ∷ past) name form
+    (failures_of ledger opened) (failures_of ledger left)) status (contents w) holds in
+    let Q : Option (List ℕ) → Type 0 = λ n. TellsEnd (StatementPrints zone (Opened (asking_moment past behind.told) ∷ past) n form
+    (failures_of ledger opened) (failures_of ledger left)) status (contents before) holds in
+    let R : Zone → Type 0 = λ z. TellsEnd (StatementPrints z (Opened (asking_moment past behind.told) ∷ past) (named register) form
+    (failures_of ledger opened) (failures_of ledger left)) status (contents before) holds in
+    inr (record {
+      opened = opened;
+      opens = behind;
+      left = left;
+      does = record {
+        prints = subst R clocks (subst Q names (subst P same (prints _ behind.stands whole)));
         stands = asks.only.stands _ behind.stands;
       };
       handed = is;

@@ -4,4 +4,5 @@ pub mod OpenedOffice
 pub mod AskedOffice
 pub mod Reports
 pub mod RangedReports
+pub mod Statements
 pub mod Rounds

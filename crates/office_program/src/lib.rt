@@ -7,6 +7,7 @@ mod http_port;
 mod port_round;
 mod ranged_report;
 mod report;
+mod statement;
 mod texts;
 
 pub use command_end::CommandEnd;
@@ -17,6 +18,8 @@ pub use http_port::{ServeEnd, serve_books};
 pub use port_round::{PATIENCE, PollEnd, poll_books};
 pub use ranged_report::report_range_books;
 pub use report::report_books;
+pub use statement::statement_books;
 pub use texts::{
-    open_office, open_office_to_ask, poll_round, report_days, report_range, round_status,
+    open_office, open_office_to_ask, poll_round, report_days, report_range, report_statement,
+    round_status,
 };

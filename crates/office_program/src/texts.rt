@@ -6,9 +6,11 @@ mod opened_office;
 mod ranged_report;
 mod report;
 mod round;
+mod statement;
 
 pub use asked_office::open_office_to_ask;
 pub use opened_office::{Unopened, open_office};
 pub use ranged_report::report_range;
 pub use report::report_days;
 pub use round::{poll_round, round_status};
+pub use statement::report_statement;

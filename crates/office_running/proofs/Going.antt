@@ -1,6 +1,8 @@
 -- The steps of a run, and its turns.
 use Rattle.std.proofs.Common.{◌≡◌, ◌⊎◌, inl, inr, ℕ, true, false, Bool, List, [], ◌∷◌, ◌++◌, Option, Some, None, Result, refl, sym, ap, ◌∙◌, subst, append_assoc}
 use Rattle.std.specs.Prelude.{max, position, slice_get}
+use Rattle.std.specs.declared.alloc.Global.{Global}
+use Rattle.std.specs.declared.vec.Vec.{Vec}
 use Rattle.energy_report.specs.declared.form.ReportForm.{ReportForm}
 use Rattle.office_events.specs.declared.answers.Answer.{Answer}
 use Rattle.office_events.specs.declared.events.Event.{Event}
@@ -15,6 +17,7 @@ use Rattle.office_core.specs.EventRun.{Answered}
 use Rattle.office_core.specs.Standing.{After, Stands, books_in}
 use Rattle.office_core.specs.Taking.{Ends}
 use Rattle.office_core.specs.declared.office.Office.{Office}
+use Rattle.office_core.specs.declared.site.SiteRow.{SiteRow}
 use Rattle.office_http.specs.Connections.Connections.{ServesOne}
 use Rattle.office_http.specs.Connections.Named.{MayAsk}
 use Rattle.office_http.specs.Serving as http
@@ -231,9 +234,10 @@ goes_asked names ledger at old new request asked may asks lasts = record {
 }
 
 -- A question of the run itself leaves the office as it was.
-pub goes_looked : {B E : Type 0} (names : List (List ℕ)) (ledger : B → Ledger) (at : ℕ) (old new : Office B) (from to : List ℕ) (result : Result (Unit {0}) E)
-    → RepliesSite ledger at old new from to result → Goes names at ledger old new
-goes_looked names ledger at old new from to result replies = record {
+pub goes_looked : {B E : Type 0} (names : List (List ℕ)) (ledger : B → Ledger) (at : ℕ) (old new : Office B)
+    (reply : Result (Vec SiteRow Global) Refusal → List ℕ → List ℕ) (from to : List ℕ) (result : Result (Unit {0}) E)
+    → RepliesSite ledger old new reply from to result → Goes names at ledger old new
+goes_looked names ledger at old new reply from to result replies = record {
   stands = λ past stands clean. record { steps = []; each = tt; stands = replies.asks.stands past stands };
   clean = replies.asks.clean;
   zone = replies.asks.zone;

@@ -20,7 +20,7 @@ use office_events::Name;
 use run_schedule::{MOST_PEERS, PEER_SECONDS, Peers, place_for};
 use run_status::{
     PeerReply, RunRoute, StatusRoute, ask, reply_energy, reply_entries, reply_intervals,
-    reply_site, reply_status, run_route,
+    reply_metrics, reply_site, reply_status, run_route,
 };
 use std::alloc::{AllocError, Global};
 use std::io::ErrorKind;
@@ -220,6 +220,25 @@ impl Serving {
         }
     }
 
+    // The reply with what was counted and the energy of meters.
+    #[tactic(auto, using(crate::proofs::Going::goes_looked))]
+    fn reply_metrics<B: Books>(&self, office: &mut Office<B>, voice: &Voice) -> PeerReply
+        ensures { (names : List (List ℕ)) (at : ℕ) → Goes names at B.ledger office.old office.new }
+    {
+        let mut text = Vec::new(self.alloc);
+        let monitor = &voice.monitor;
+        match reply_metrics(
+            self.alloc,
+            &mut text,
+            office,
+            &monitor.counts,
+            &monitor.states,
+        ) {
+            Ok(()) => PeerReply::Replied(text),
+            Err(_) => PeerReply::Failed,
+        }
+    }
+
     // The reply to the question which registers and meters there are.
     #[tactic(auto, using(crate::proofs::Going::goes_looked))]
     fn reply_site<B: Books>(&self, office: &mut Office<B>, moment: u64) -> PeerReply
@@ -297,6 +316,7 @@ impl Serving {
     {
         match run_route(names, request) {
             Some(RunRoute::Own(route)) => self.reply_status(route, voice),
+            Some(RunRoute::Metrics) => self.reply_metrics(office, voice),
             Some(RunRoute::Site) => self.reply_site(office, now.moment),
             Some(RunRoute::Intervals { meter, span }) => self.reply_intervals(office, &meter, span),
             Some(RunRoute::Entries { meter, from }) => self.reply_entries(office, &meter, from),

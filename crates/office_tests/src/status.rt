@@ -1,7 +1,8 @@
 //! The status and the metrics of a known history.
-use energy_core::Cause;
+use energy_core::{Cause, Last};
 use mb_wire::ReadFunction;
-use office_events::{Name, Note, Register, ScaleSource};
+use office_core::SiteRow;
+use office_events::{Installation, Name, Note, Opening, Register, ScaleSource};
 use poll_core::{LostCause, Outcome};
 use run_status::{Counts, DeviceLack, DeviceState, Lack, put_lack, put_metrics, put_status};
 use std::str;
@@ -99,12 +100,60 @@ sunreg_device_connected{device=\"roof-2\"} 0
 # HELP sunreg_last_reading_timestamp_seconds When the latest reading of a device was accepted.
 # TYPE sunreg_last_reading_timestamp_seconds gauge
 sunreg_last_reading_timestamp_seconds{device=\"inv\"} 1700000000
+# HELP sunreg_energy_watthours_total Energy of a meter that is open.
+# TYPE sunreg_energy_watthours_total counter
+sunreg_energy_watthours_total{meter=\"m1\",register=\"import\",device=\"grid\"} 1234567.089
+sunreg_energy_watthours_total{meter=\"m2\",register=\"import\",device=\"grid\"} 0.005
+# HELP sunreg_last_entry_timestamp_seconds Moment of the last entry of a meter.
+# TYPE sunreg_last_entry_timestamp_seconds gauge
+sunreg_last_entry_timestamp_seconds{meter=\"m1\",register=\"import\",device=\"grid\"} 1700000000
+sunreg_last_entry_timestamp_seconds{meter=\"m2\",register=\"import\",device=\"grid\"} 1700000000
 ";
+
+fn site_row(meter: &[u8], total: u64, ended: bool) -> Option<SiteRow> {
+    let register = import()?;
+    Some(SiteRow {
+        register,
+        meter: Some(Installation {
+            opening: Opening {
+                meter: Name::new(meter)?,
+                register: register.name,
+                ceiling: 8000,
+                range: 4_294_967_296,
+                at: 1_600_000_000,
+                raw: 0,
+                sf: 0,
+            },
+            last: Last {
+                at: 1_700_000_000,
+                raw: 7,
+                sf: 0,
+            },
+            total,
+            ended,
+        }),
+    })
+}
+
+// A register without a meter, and three meters, of which one was closed.
+fn site() -> Option<[SiteRow; 4]> {
+    Some([
+        SiteRow {
+            register: import()?,
+            meter: None,
+        },
+        site_row(b"m1", 1_234_567_089, false)?,
+        site_row(b"m0", 9, true)?,
+        site_row(b"m2", 5, false)?,
+    ])
+}
 
 #[test]
 fn the_metrics_are_in_text_format(rt: HostRuntime) {
     let mut text = Vec::new(rt.alloc());
-    assert!(rt; put_metrics(&mut text, &counts(), &devices()).is_ok());
+    if let Some(rows) = site() {
+        assert!(rt; put_metrics(&mut text, &counts(), &devices(), &rows).is_ok());
+    }
     assert!(rt; str::from_utf8(&text) == Ok(METRICS));
 }
 

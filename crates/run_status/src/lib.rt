@@ -13,7 +13,7 @@ pub use advice::{
 pub use monitor::{LineQueue, MOST_WAITING, RunMonitor, put_head, put_lines, put_sum};
 pub use run_http::{
     MOST_ENTRIES, PeerReply, RunRoute, StatusRoute, ask, reply_energy, reply_entries,
-    reply_intervals, reply_site, reply_status, run_route,
+    reply_intervals, reply_metrics, reply_site, reply_status, run_route,
 };
 pub use status::{
     Counts, DeviceState, put, put_entries, put_metrics, put_number, put_site, put_status,

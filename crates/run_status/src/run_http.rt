@@ -5,6 +5,7 @@ mod answer;
 mod kept_rows;
 mod meter_replies;
 mod meter_targets;
+mod metrics;
 mod register_replies;
 mod register_targets;
 mod reply_link;
@@ -13,6 +14,7 @@ mod site;
 
 pub use answer::{PeerReply, ask};
 pub use meter_replies::{MOST_ENTRIES, reply_entries, reply_intervals};
+pub use metrics::reply_metrics;
 pub use register_replies::reply_energy;
 pub use reply_link::ReplyLink;
 pub use route::{RunRoute, StatusRoute, reply_status, run_route};

@@ -1,6 +1,7 @@
 //! What an office that polls has counted since it was opened, and the texts that tell it.
 
 mod counts;
+mod energy_lines;
 mod lacking;
 mod meter_lines;
 mod metrics;

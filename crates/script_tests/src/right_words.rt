@@ -2,7 +2,7 @@
 use command_words::{CommandLine, Device, FormWords, command_of};
 use energy_report::{EnergyUnit, Format, Period};
 
-const RIGHT: [(&[&str], CommandLine<'static>); 21] = [
+const RIGHT: [(&[&str], CommandLine<'static>); 22] = [
     // no word is replay
     (&[], CommandLine::Replay { zone: "UTC0" }),
     (&["replay"], CommandLine::Replay { zone: "UTC0" }),
@@ -73,6 +73,7 @@ const RIGHT: [(&[&str], CommandLine<'static>); 21] = [
                 period: None,
                 unit: None,
                 format: None,
+                statement: false,
             },
         },
     ),
@@ -103,6 +104,32 @@ const RIGHT: [(&[&str], CommandLine<'static>); 21] = [
                 period: Some(Period::Year),
                 unit: Some(EnergyUnit::KilowattHours),
                 format: Some(Format::Json),
+                statement: false,
+            },
+        },
+    ),
+    // a statement has no periods
+    (
+        &[
+            "report",
+            "--db",
+            "o.db",
+            "--register",
+            "main",
+            "--statement",
+            "--unit",
+            "kwh",
+        ],
+        CommandLine::Report {
+            db: "o.db",
+            register: "main",
+            form: FormWords {
+                from: None,
+                till: None,
+                period: None,
+                unit: Some(EnergyUnit::KilowattHours),
+                format: None,
+                statement: true,
             },
         },
     ),

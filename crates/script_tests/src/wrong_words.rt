@@ -1,7 +1,7 @@
 //! Words that spell no command.
 use command_words::{WordsFault, command_of};
 
-static WRONG: [&[&str]; 43] = [
+static WRONG: [&[&str]; 44] = [
     &["bogus"],
     &[""],
     &["Plan"],
@@ -39,6 +39,16 @@ static WRONG: [&[&str]; 43] = [
     &["report", "--db", "x", "--register", "r", "--by", "week"],
     &["report", "--db", "x", "--register", "r", "--unit", "wh"],
     &["report", "--db", "x", "--register", "r", "--format", "xml"],
+    &[
+        "report",
+        "--db",
+        "x",
+        "--register",
+        "r",
+        "--statement",
+        "--by",
+        "day",
+    ],
     &["scan", "--host", "h"],
     &["scan", "--port", "1", "--unit", "256"],
     &["scan", "--port", "1", "--timeout", "61"],

@@ -12,8 +12,10 @@ use Rattle.office_store.specs.Stored.{ledger_of}
 use Rattle.office_store.specs.Database.{HasFile, HoldsAlone}
 use Rattle.office_store.specs.declared.books.SqlBooks.{SqlBooks}
 use Rattle.energy_report.specs.declared.form.ReportForm.{ReportForm}
+use Rattle.energy_report.specs.declared.form.StatementForm.{StatementForm}
 use Rattle.office_program.specs.Report.{TellsReport}
 use Rattle.office_program.specs.RangedReport.{TellsRange}
+use Rattle.office_program.specs.Statement.{TellsStatement}
 use Rattle.office_program.specs.HttpPort.{Port, TellsServing}
 use Rattle.office_program.specs.PortRound.{TellsPolling}
 use Rattle.office_program.specs.Entering.Checked.{LooksOver}
@@ -59,6 +61,12 @@ module _ {S : Type 0} (g : Ghosts S) where
       → (moments later had holds : Option (List ℕ)) → ExitStatus → Type 0
   ReportsRange past register form moments later had holds status = OverBooks past (λ found left.
       TellsRange ledger_in past register form moments later found left had holds status)
+
+  -- the statement of its meters
+  abbrev pub States : (past : History) → (register : List ℕ) → StatementForm
+      → (moments later had holds : Option (List ℕ)) → ExitStatus → Type 0
+  States past register form moments later had holds status = OverBooks past (λ found left.
+      TellsStatement ledger_in past register form moments later found left had holds status)
 
   abbrev pub Serves : (past : History) → Port
       → (moments later had holds : Option (List ℕ)) → ServeEnd → Type 0

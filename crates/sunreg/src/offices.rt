@@ -260,6 +260,7 @@ fn output_of<'r>(
     match task {
         Task::Report { .. }
         | Task::ReportRange { .. }
+        | Task::Statement { .. }
         | Task::Serve { .. }
         | Task::Enter { .. }
         | Task::Check { .. } => Ok(CommandOutput::in_pieces(io::writer(rt))),

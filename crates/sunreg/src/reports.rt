@@ -1,7 +1,9 @@
 //! Reports of a register.
 use crate::offices::{Files, OWN_HOST, over_office};
 use command_words::FormWords;
-use energy_report::{EnergyUnit, Format, Period, RangeFault, ReportForm, read_range};
+use energy_report::{
+    DayRange, EnergyUnit, Format, Period, RangeFault, ReportForm, StatementForm, read_range,
+};
 use stored_office::{Ending, Task, ending_of_done};
 
 // Whether no form is asked for.
@@ -11,15 +13,10 @@ fn is_plain(words: &FormWords<'_>) -> bool {
     !has_range && !has_layout
 }
 
-// The form that is asked for.
-fn form_of<'a>(words: &FormWords<'a>) -> Result<ReportForm, Ending<'a>> {
+// The range that is asked for.
+fn range_of<'a>(words: &FormWords<'a>) -> Result<DayRange, Ending<'a>> {
     match read_range(words.from, words.till) {
-        Ok(range) => Ok(ReportForm {
-            range,
-            period: words.period.unwrap_or(Period::Day),
-            unit: words.unit.unwrap_or(EnergyUnit::MilliwattHours),
-            format: words.format.unwrap_or(Format::Text),
-        }),
+        Ok(range) => Ok(range),
         Err(RangeFault::From) => Err(Ending::NoDay {
             option: "from",
             word: words.from.unwrap_or(""),
@@ -37,19 +34,39 @@ fn report_by<'a>(rt: &HostRuntime, path: &'a str, task: Task<'_>) -> Ending<'a> 
     ending_of_done(over_office(rt, &Files::of(rt), path, task), OWN_HOST, 0)
 }
 
-/// Prints the energy of a register, by days where no form is asked for.
+/// Prints the energy of a register, by days where no form is asked for, or the statement of its meters.
 pub(crate) fn report<'a>(
     rt: &HostRuntime,
     path: &'a str,
     register: &str,
     words: &FormWords<'a>,
 ) -> Ending<'a> {
-    if is_plain(words) {
+    if !words.statement && is_plain(words) {
         return report_by(rt, path, Task::Report { register });
     }
-    let form = match form_of(words) {
-        Ok(form) => form,
+    let range = match range_of(words) {
+        Ok(range) => range,
         Err(ending) => return ending,
+    };
+    let unit = words.unit.unwrap_or(EnergyUnit::MilliwattHours);
+    let format = words.format.unwrap_or(Format::Text);
+    if words.statement {
+        let form = StatementForm {
+            range,
+            unit,
+            format,
+        };
+        let task = Task::Statement {
+            register,
+            form: &form,
+        };
+        return report_by(rt, path, task);
+    }
+    let form = ReportForm {
+        range,
+        period: words.period.unwrap_or(Period::Day),
+        unit,
+        format,
     };
     let task = Task::ReportRange {
         register,

@@ -26,9 +26,10 @@ with_site_reply at (Ok rows) text =
 with_site_reply at (Err why) text = with_refusal why text
 
 -- The office is asked, once, and what it answers is the reply, unless there was no memory for that.
-pub record RepliesSite {B : Type 0} (ledger : B → Ledger) (at : ℕ) (old new : Office B)
-    (from to : List ℕ) {E : Type 0} (result : Result (Unit {0}) E) : Type 0 where
+pub record RepliesSite {B : Type 0} (ledger : B → Ledger) (old new : Office B)
+    (reply : Result (Vec SiteRow Global) Refusal → List ℕ → List ℕ) (from to : List ℕ)
+    {E : Type 0} (result : Result (Unit {0}) E) : Type 0 where
   pub answer : Result (Vec SiteRow Global) Refusal
   pub tells : TellsSite ledger old new answer
   pub asks : OnlyAsks ledger old new answer
-  pub puts : OnOk result (to ≡ with_site_reply at answer from)
+  pub puts : OnOk result (to ≡ reply answer from)

@@ -1,5 +1,5 @@
--- The routes of a run itself, and the replies to those that ask nothing of the office: two by what was counted, the page, and
--- faults.
+-- The routes of a run itself, and the replies to those that ask nothing of the office: one by what was counted, the page,
+-- and faults.
 use Rattle.std.specs.Prelude.{◌≡◌, ℕ, Bool, true, false, if◌then◌else◌, Option, Some, None, List, [], ◌++◌, length, codes, decimal}
 use Rattle.std.specs.Option.{option_map}
 use Rattle.std.specs.Str.{bytes_eq}
@@ -15,14 +15,13 @@ use Rattle.http_answer.specs.Sending.Bodies.{fault_text}
 use Rattle.run_status.specs.RunHttp.MeterTargets.{meter_target}
 use Rattle.run_status.specs.RunHttp.RegisterTargets.{IsRegisterTarget}
 use Rattle.run_status.specs.Status.StatusText.{with_status}
-use Rattle.run_status.specs.Status.MetricsText.{with_metrics}
 use Rattle.run_status.specs.declared.advice.lacks.DeviceLack.{DeviceLack}
 use Rattle.run_status.specs.declared.status.counts.Counts.{Counts}
 use Rattle.run_status.specs.declared.status.status.DeviceState.{DeviceState}
 use Rattle.run_status.specs.declared.run_http.route.RunRoute.{RunRoute}
-use Rattle.run_status.specs.declared.run_http.route.RunRoute.TheVariants.{Own, Site}
+use Rattle.run_status.specs.declared.run_http.route.RunRoute.TheVariants.{Own, Metrics, Site}
 use Rattle.run_status.specs.declared.run_http.route.StatusRoute.{StatusRoute}
-use Rattle.run_status.specs.declared.run_http.route.StatusRoute.TheVariants.{Status, Metrics, Page, Rejected}
+use Rattle.run_status.specs.declared.run_http.route.StatusRoute.TheVariants.{Status, Page, Rejected}
 use Rattle.web_page.specs.Parts.{body_of, content_type_of, part_of}
 use Rattle.web_page.specs.declared.parts.PagePart.{PagePart}
 
@@ -30,7 +29,7 @@ use Rattle.web_page.specs.declared.parts.PagePart.{PagePart}
 abbrev pub path_named : (target : List ℕ) → Option RunRoute
 path_named target =
     if bytes_eq target (codes "/status") then Some (Own Status)
-    else if bytes_eq target (codes "/metrics") then Some (Own Metrics)
+    else if bytes_eq target (codes "/metrics") then Some Metrics
     else if bytes_eq target (codes "/site") then Some Site
     else option_map (λ part. Own (Page part)) (part_of target)
 
@@ -108,8 +107,6 @@ abbrev pub with_route_reply : StatusRoute → Counts → List DeviceState → Li
     → List ℕ → List ℕ
 with_route_reply Status counts devices lacks text =
     with_reply Fine (codes "application/json") (with_status [] counts devices lacks) text
-with_route_reply Metrics counts devices lacks text =
-    with_reply Fine (codes "text/plain; version=0.0.4") (with_metrics [] counts devices) text
 with_route_reply (Page part) counts devices lacks text = with_page_reply part text
 with_route_reply (Rejected status) counts devices lacks text =
     with_reply status (codes "application/json") (fault_text status) text

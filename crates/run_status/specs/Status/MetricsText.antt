@@ -1,7 +1,9 @@
--- `/metrics`: the counts and the devices in Prometheus's text format, version 0.0.4. Each definition gives a text with something at its end.
+-- `/metrics`: the counts, the devices and the meters that are open, in Prometheus's text format, version 0.0.4. Each definition gives a text with something at its end.
 use Rattle.std.specs.Prelude.{ℕ, Bool, true, false, List, [], ◌∷◌, ◌++◌, Option, Some, None, codes, decimal, slice_index}
 use Rattle.run_status.specs.declared.status.counts.Counts.{Counts}
 use Rattle.run_status.specs.declared.status.status.DeviceState.{DeviceState}
+use Rattle.office_core.specs.declared.site.SiteRow.{SiteRow}
+use Rattle.run_status.specs.Status.EnergyLines.{with_meters}
 use Rattle.run_status.specs.Status.StatusText.{with_name}
 
 abbrev pub with_outcomes : List ℕ → Counts → List ℕ
@@ -68,7 +70,9 @@ with_devices text devices =
     devices
     ++ codes "\n"
 
-abbrev pub with_metrics : List ℕ → Counts → List DeviceState → List ℕ
-with_metrics text counts devices =
-    with_devices (with_causes (with_readings (with_outcomes text counts) counts) counts.held)
-    devices
+abbrev pub with_metrics : List ℕ → Counts → List DeviceState → List SiteRow → List ℕ
+with_metrics text counts devices rows =
+    with_meters
+    (with_devices (with_causes (with_readings (with_outcomes text counts) counts) counts.held)
+    devices)
+    rows

@@ -9,7 +9,7 @@ ghost use Rattle.run_status.specs.RunHttp.StatusRoute as texts;
 use crate::advice::DeviceLack;
 use crate::run_http::meter_targets::meter_target;
 use crate::run_http::register_targets::register_target;
-use crate::status::{Counts, DeviceState, put, put_metrics, put_number, put_status, put_word};
+use crate::status::{Counts, DeviceState, put, put_number, put_status, put_word};
 use energy_report::ReportForm;
 use http_request::{HeadState, Status, may_ask, parse_head};
 use office_books::Span;
@@ -22,8 +22,6 @@ use web_page::{PagePart, part_of};
 pub enum StatusRoute {
     /// What was counted, as JSON.
     Status,
-    /// The same, as Prometheus reads it.
-    Metrics,
     /// A part of the page.
     Page(PagePart),
     /// A fault: who may not ask, another method than GET, or a target with a part that is malformed.
@@ -35,6 +33,8 @@ pub enum StatusRoute {
 pub enum RunRoute {
     /// It is answered without asking the office.
     Own(StatusRoute),
+    /// What was counted, and the energy of the meters that are open, which the office is asked for, as Prometheus reads it.
+    Metrics,
     /// The registers and their meters, which the office is asked for, as JSON.
     Site,
     /// The quarter hours of a meter, which the office is asked for, as text. `None` is a name that no meter can have.
@@ -62,7 +62,7 @@ fn path_named(target: &[u8]) -> Option<RunRoute>
     if target == b"/status".as_slice() {
         Some(RunRoute::Own(StatusRoute::Status))
     } else if target == b"/metrics".as_slice() {
-        Some(RunRoute::Own(StatusRoute::Metrics))
+        Some(RunRoute::Metrics)
     } else if target == b"/site".as_slice() {
         Some(RunRoute::Site)
     } else {
@@ -201,11 +201,6 @@ pub fn reply_status(
             let mut body = Vec::new(alloc);
             put_status(&mut body, counts, devices, lacks)?;
             put_reply(text, Status::Fine, b"application/json", &body)
-        }
-        StatusRoute::Metrics => {
-            let mut body = Vec::new(alloc);
-            put_metrics(&mut body, counts, devices)?;
-            put_reply(text, Status::Fine, b"text/plain; version=0.0.4", &body)
         }
         StatusRoute::Page(part) => put_page(text, part),
         StatusRoute::Rejected(status) => {

@@ -46,8 +46,8 @@ pub fn reply_site<B: Books>(
     office: &mut Office<B>,
     moment: u64,
 ) -> Result<(), AllocError>
-    ensures { RepliesSite B.ledger moment office.old office.new text.old.items text.new.items
-        result }
+    ensures { RepliesSite B.ledger office.old office.new (with_site_reply moment) text.old.items
+        text.new.items result }
 {
     let answer = office.site();
     put_answer(alloc, text, moment, &answer)

@@ -1,10 +1,12 @@
-//! `/metrics`: the counts and the devices in Prometheus's text format.
+//! `/metrics`: the counts, the devices and the meters that are open, in Prometheus's text format.
 ghost use Rattle.std.specs.Prelude.{◌≡◌, OnOk};
 ghost use Rattle.run_status.specs.Status.MetricsText as metrics;
 
 use crate::status::counts::Counts;
+use crate::status::energy_lines::put_meters;
 use crate::status::pieces::{put, put_number};
 use crate::status::status::{DeviceState, put_name};
+use office_core::SiteRow;
 use std::alloc::AllocError;
 
 fn put_outcomes(text: &mut Vec<u8>, counts: &Counts) -> Result<(), AllocError>
@@ -167,17 +169,19 @@ fn put_devices(text: &mut Vec<u8>, devices: &[DeviceState]) -> Result<(), AllocE
     put(text, b"\n")
 }
 
-/// Puts the metrics at the end of a text. Want of memory leaves a part of it.
+/// Puts the metrics at the end of a text: totals of meters, which are mWh, in Wh. Want of memory leaves a part of it.
 pub fn put_metrics(
     text: &mut Vec<u8>,
     counts: &Counts,
     devices: &[DeviceState],
+    rows: &[SiteRow],
 ) -> Result<(), AllocError>
     ensures { OnOk result (text.new.items
-        ≡ metrics.with_metrics text.old.items counts.now devices.now) }
+        ≡ metrics.with_metrics text.old.items counts.now devices.now rows.now) }
 {
     put_outcomes(text, counts)?;
     put_readings(text, counts)?;
     put_causes(text, &counts.held)?;
-    put_devices(text, devices)
+    put_devices(text, devices)?;
+    put_meters(text, rows)
 }

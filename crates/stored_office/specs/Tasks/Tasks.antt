@@ -6,7 +6,7 @@ use Rattle.http_request.specs.Hosts.{texts}
 use Rattle.office_program.specs.HttpPort.{port as port_of}
 use Rattle.office_program.specs.Entering.Lines.{Telling}
 use Rattle.office_running.specs.Runs.{BooksRun}
-use Rattle.stored_office.specs.BooksFound.{OverBooks, Reports, ReportsRange, Serves, Enters, Looks, Polls, ledger_in}
+use Rattle.stored_office.specs.BooksFound.{OverBooks, Reports, ReportsRange, States, Serves, Enters, Looks, Polls, ledger_in}
 use Rattle.stored_office.specs.declared.tasks.tasks.Task.{Task}
 use Rattle.stored_office.specs.declared.tasks.tasks.Task.TheVariants as task
 use Rattle.stored_office.specs.declared.tasks.tasks.Done.{Done}
@@ -16,6 +16,7 @@ use Rattle.stored_office.specs.declared.tasks.tasks.Done.TheVariants.{Reported, 
 abbrev pub IsOf : Task → Done → Type 0
 IsOf (task.Report register) (Reported end) = Unit {0}
 IsOf (task.ReportRange register form) (Reported end) = Unit {0}
+IsOf (task.Statement register form) (Reported end) = Unit {0}
 IsOf (task.Serve host port names connections) (Served end) = Unit {0}
 IsOf (task.Enter caller text) (Entered end) = Unit {0}
 IsOf (task.Check caller text) (Checked end) = Unit {0}
@@ -37,6 +38,8 @@ module _ {S : Type 0} (g : Ghosts S) where
       Reports g past register.now moments later had holds end
   Does tells past moments later had holds (task.ReportRange register form) (Reported end) =
       ReportsRange g past register.now form.now moments later had holds end
+  Does tells past moments later had holds (task.Statement register form) (Reported end) =
+      States g past register.now form.now moments later had holds end
   Does tells past moments later had holds (task.Serve host port names connections) (Served end) =
       Serves g past (port_of (texts names.now) connections) moments later had holds end
   Does tells past moments later had holds (task.Enter caller text) (Entered end) =

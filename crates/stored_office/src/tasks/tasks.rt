@@ -8,11 +8,11 @@ ghost use Rattle.stored_office.specs.BooksFound.{HasPast};
 ghost use Rattle.stored_office.specs.Tasks.Tasks.{IsOf, Does};
 
 use command_io::ExitStatus;
-use energy_report::ReportForm;
+use energy_report::{ReportForm, StatementForm};
 use kept_books::KeptBooks;
 use office_program::{
     CommandEnd, NamedFiles, PollEnd, ServeEnd, check_books, enter_books, poll_books, report_books,
-    report_range_books, serve_books,
+    report_range_books, serve_books, statement_books,
 };
 use office_running::{RunFault, Settings, Site, run_office};
 use office_store::{OpenFault, SqlBooks};
@@ -34,6 +34,11 @@ pub enum Task<'a> {
     ReportRange {
         register: &'a str,
         form: &'a ReportForm,
+    },
+    /// The meters at a register are stated on the days of a range, as `statement_books` does.
+    Statement {
+        register: &'a str,
+        form: &'a StatementForm,
     },
     /// HTTP is answered on so many connections at a port of a host, by these names too, as `serve_books` does.
     Serve {
@@ -114,6 +119,10 @@ pub fn carry_out_stored<
                 }
                 Task::ReportRange { register, form } => {
                     let done = report_range_books(alloc, books, register, form, clock, output);
+                    Ok(Done::Reported(done.end))
+                }
+                Task::Statement { register, form } => {
+                    let done = statement_books(alloc, books, register, form, clock, output);
                     Ok(Done::Reported(done.end))
                 }
                 Task::Serve {

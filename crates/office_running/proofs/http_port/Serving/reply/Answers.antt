@@ -7,6 +7,9 @@ returns-else-lacks g c =
     goes_asked (texts c.args.names.now) g.B.Books.ledger c.args.now.moment c.args.office.now c.ask.new.office c.args.request.now c.ask.result
     (may_ask_of (texts c.args.names.now) c.args.request.now c.in-None.ensures) c.ask.ensures.asks c.ask.ensures.lasts
 
+pub returns-in-Some-Metrics : goal.returns-in-Some-Metrics
+returns-in-Some-Metrics g c = c.reply_metrics.ensures (texts c.args.names.now) c.args.now.moment
+
 pub returns-in-Some-Site : goal.returns-in-Some-Site
 returns-in-Some-Site g c = c.reply_site.ensures (texts c.args.names.now)
 

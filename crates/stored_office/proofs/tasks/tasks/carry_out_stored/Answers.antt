@@ -25,6 +25,15 @@ returns-in-ReportRange-clause-does g c = λ past has.
     (c.in-Ok.ensures.again has.zone (facts_of past) has.has) c.new-books.ensures.books c.new-books.ensures.stands
     (λ stands clean. c.report_range_books-done.ensures.tells past stands clean))
 
+pub returns-in-Statement-clause-does : goal.returns-in-Statement-clause-does
+unfolding Does
+returns-in-Statement-clause-does g c = λ past has.
+    let P : Task → Type 0 = λ t. Does g.S.Store (telling_of g.F.NamedFiles c.args.files.now) past (g.C.Clock.moments c.args.clock.now) (g.C.Clock.moments c.statement_books-done.new.clock)
+    (g.W.Write.contents c.args.output.now) (g.W.Write.contents c.statement_books-done.new.output) t (Reported c.statement_books-done.result.end) in
+    subst P (sym c.in-Statement.is) (over g.S.Store past c.in-Ok.opened c.new-books.result c.statement_books-done.result.books _ has.zone has.is_past
+    (c.in-Ok.ensures.again has.zone (facts_of past) has.has) c.new-books.ensures.books c.new-books.ensures.stands
+    (λ stands clean. c.statement_books-done.ensures.tells past stands clean))
+
 pub returns-in-Serve-clause-does : goal.returns-in-Serve-clause-does
 unfolding Does
 returns-in-Serve-clause-does g c = λ past has.

@@ -1,0 +1,384 @@
+-- What is told of meters, question by question.
+use Rattle.std.proofs.Common.{◌≡◌, inl, inr, ℕ, zero, suc, ◌+◌, ◌<◌, Bool, true, false, cond, Option, Some, None, List, [], ◌∷◌, ◌++◌, map, reverse, take, drop, length, get_or, refl, sym, ap, subst, ◌∙◌, append-nil, append_assoc, arith}
+use Rattle.std.specs.Prelude.{Result, Ok, Err, All, filter, is_ok, is_some}
+use Rattle.command_io.specs.declared.status.ExitStatus.{ExitStatus}
+use Rattle.command_io.specs.declared.status.ExitStatus.TheVariants.{Failed}
+use Rattle.sun_points.specs.Writing.{GotText}
+use Rattle.std.specs.List.{find}
+use Rattle.std.specs.Option.{option_map, option_and_then}
+use Rattle.std.specs.declared.alloc.Global.{Global}
+use Rattle.std.specs.declared.vec.Vec.{Vec}
+use Rattle.std.proofs.lemmas.Bool.{cond-false, cond-true}
+use Rattle.std.proofs.lemmas.List.{map-append}
+use Rattle.std.proofs.lemmas.List.Elements.{All-append, All-cons, All-filter, All-head, All-map, All-tail, filter-append}
+use Rattle.interval_core.specs.declared.shares.Share.{Share}
+use Rattle.interval_core.specs.declared.zone.Zone.{Zone}
+use Rattle.office_events.specs.declared.facts.Fact.{Fact}
+use Rattle.office_events.specs.declared.facts.Opening.{Opening}
+use Rattle.office_events.specs.declared.questions.Installation.{Installation}
+use Rattle.office_events.specs.declared.refusals.Refusal.{Refusal}
+use Rattle.office_events.specs.declared.refusals.Refusal.TheVariants as refusal
+use Rattle.office_rules.specs.Facts.{opening_of, openings_in, register_of, same}
+use Rattle.office_rules.specs.History.{facts_of}
+use Rattle.office_rules.specs.Intervals.{installations_at, rows_of_opening}
+use Rattle.office_rules.specs.Meters.{installation_of}
+use Rattle.office_rules.proofs.Lists.{reverse_cons}
+use Rattle.office_rules.proofs.Lookups.{same_itself}
+use Rattle.office_books.specs.declared.entries.MeterEntry.{MeterEntry}
+use Rattle.office_books.specs.declared.failures.Failures.{Failures}
+use Rattle.office_books.specs.Entries.{entries_at, first_from, installations_of}
+use Rattle.office_books.specs.Ledgers.{Ledger}
+use Rattle.office_books.specs.Rows.{TakesAll}
+use Rattle.office_core.specs.Asking.{IsFound, OnlyAsks, TellsRows, intervals_of, is_there, rows_in}
+use Rattle.office_core.specs.Failing.{IsOutside}
+use Rattle.office_core.specs.Parts.{IsListed, ListsAccepted, entries_within, meters_named}
+use Rattle.office_core.specs.Standing.{After}
+use Rattle.office_core.specs.Taking.{failures_of}
+use Rattle.office_core.specs.declared.office.Office.{Office}
+use Rattle.energy_report.specs.declared.energy_within.EnergyWithin.{EnergyWithin}
+use Rattle.energy_report.specs.declared.meter_statement.MeterStatement.{MeterStatement}
+use Rattle.energy_report.specs.declared.range.DayRange.{DayRange}
+use Rattle.energy_report.specs.declared.tallies.EntryTally.{EntryTally}
+use Rattle.energy_report.specs.Energies.{AddsShare, IsFresh}
+use Rattle.energy_report.specs.Statements.{energy_within, tally_of, was_there}
+use Rattle.energy_report.proofs.EnergyLemmas.{added_up}
+use Rattle.office_program.specs.Texts.EndTexts.{IsTold}
+use Rattle.office_program.specs.Texts.Statements.{AreRecorded, Keeps, States, Tells, energy_in, statement_in, statement_of, statements_in, statements_of, tally_in, told_of}
+use Rattle.office_program.proofs.AskingLemmas.{found_ok, found_so, refused_on}
+use Rattle.office_program.proofs.PlacesLemmas.{last_piece, one_piece_more, piece_at}
+
+some_same : {X : Type 0} (x y : X) → Some x ≡ Some y → x ≡ y
+some_same x y is = cc is
+
+-- what a list or a row was made of
+mapped : {X Y : Type 0} (f : X → Y) (o : Option X) (y : Y) → option_map f o ≡ Some y → (x : X) × (o ≡ Some x) × (f x ≡ y)
+mapped f None y is = absurd (cc is)
+mapped f (Some x) y is = (x, refl, some_same (f x) y is)
+
+nothing : {X Y Z : Type 0} (f : X → Y) (g : X → Z) (o : Option X) → is_there (option_map f o) ≡ None → option_map g o ≡ None
+nothing f g None is = refl
+nothing f g (Some x) is = absurd (cc is)
+
+listed_err : {T : Type 0} (rows : Option (List T)) (before after : Failures) (why : Refusal) → IsListed rows before after (Err why)
+    → IsFound ⊥ (is_there rows) before after (Err why)
+listed_err None before after why (inl is) = inl (ap (λ w. Err w) is.0, is.1)
+listed_err None before after why (inr out) = inr out
+listed_err (Some rows) before after why out = inr out
+
+module _ {B : Type 0} (ledger : B → Ledger) (zone : Zone) (range : DayRange) where
+  -- ---- entries
+
+  abbrev pub IsTallied : (a b : Office B) → (meter : Option (List ℕ)) → (n : ℕ) → EntryTally → Type 0
+  IsTallied a b meter n tally = After ledger a b (λ past. (opening : Opening)
+      → option_and_then (opening_of (facts_of past)) meter ≡ Some opening
+      → tally ≡ tally_of zone range (take n (entries_at (facts_of past) (Some opening))))
+
+  abbrev Takes : (tally more : EntryTally) → List MeterEntry → Type 0
+  Takes tally more piece = (before : List MeterEntry) → tally ≡ tally_of zone range before → more ≡ tally_of zone range (before ++ piece)
+
+  abbrev from_place : List Fact → (n : ℕ) → Opening → List MeterEntry
+  from_place facts n opening = first_from (n + 1) 256 (entries_at facts (Some opening))
+
+  pub tally_more : (a b d : Office B) (meter : Option (List ℕ)) (n : ℕ) (tally more : EntryTally) (v : Vec MeterEntry Global)
+      → Keeps ledger a b → IsTallied a b meter n tally → OnlyAsks ledger b d (Ok v)
+      → ListsAccepted ledger b d (Ok v) (λ facts. entries_within facts meter (n + 1) 256)
+      → Takes tally more v.items → IsTallied a d meter (n + 256) more
+  tally_more a b d meter n tally more v kept told asks lists took = λ past stands clean opening is.
+      let facts = facts_of past in
+      let es = entries_at facts (Some opening) in
+      let known = subst (λ o. IsListed (option_map (from_place facts n) o) (failures_of ledger b) (failures_of ledger d) (Ok v)) is
+      (lists past (kept.stands past stands) clean) in
+      let items : v.items ≡ take 256 (drop n es) = sym (some_same (from_place facts n opening) v.items known.0) ∙ piece_at facts opening n 256 in
+      took (take n es) (told past stands (asks.clean clean) opening is)
+      ∙ ap (tally_of zone range) (ap (λ (piece : List MeterEntry). take n es ++ piece) items ∙ one_piece_more n 256 es)
+
+  pub tally_told : (a b d : Office B) (meter : Option (List ℕ)) (n : ℕ) (tally more : EntryTally) (v : Vec MeterEntry Global)
+      → Keeps ledger a b → IsTallied a b meter n tally → OnlyAsks ledger b d (Ok v)
+      → ListsAccepted ledger b d (Ok v) (λ facts. entries_within facts meter (n + 1) 256)
+      → Takes tally more v.items → length v.items < 256 → Tells ledger a d (Ok more) (λ facts. tally_in zone range facts meter)
+  tally_told a b d meter n tally more v kept told asks lists took few = λ past stands clean.
+      let facts = facts_of past in
+      let known = lists past (kept.stands past stands) clean in
+      let found = mapped (from_place facts n) (option_and_then (opening_of facts) meter) v.items known.0 in
+      let opening = found.0 in
+      let es = entries_at facts (Some opening) in
+      let items : v.items ≡ take 256 (drop n es) = sym found.2 ∙ piece_at facts opening n 256 in
+      let last : length (take 256 (drop n es)) < 256 = subst (λ (piece : List MeterEntry). length piece < 256) items few in
+      let all : more ≡ tally_of zone range es =
+      took (take n es) (told past stands (asks.clean clean) opening found.1)
+      ∙ ap (tally_of zone range) (ap (λ (piece : List MeterEntry). take n es ++ piece) items ∙ last_piece n 256 es last) in
+      found_so (Unit {0}) (tally_in zone range facts meter) (failures_of ledger a) (failures_of ledger d) more
+      (ap (option_map (λ (o : Opening). tally_of zone range (entries_at facts (Some o)))) found.1 ∙ ap Some (sym all)) (known.1 ∙ kept.failures)
+
+  pub tally_refused : (a b d : Office B) (meter : Option (List ℕ)) (n : ℕ) (why : Refusal) → Keeps ledger a b
+      → ListsAccepted {T = MeterEntry} ledger b d (Err why) (λ facts. entries_within facts meter (n + 1) 256)
+      → Tells {T = EntryTally} ledger a d (Err why) (λ facts. tally_in zone range facts meter)
+  tally_refused a b d meter n why kept lists = λ past stands clean.
+      let facts = facts_of past in
+      let o = option_and_then (opening_of facts) meter in
+      refused_on ⊥ (Unit {0}) (is_there (option_map (from_place facts n) o)) (tally_in zone range facts meter)
+      (failures_of ledger a) (failures_of ledger b) (failures_of ledger d) why (λ none. tt)
+      (nothing (from_place facts n) (λ (x : Opening). tally_of zone range (entries_at facts (Some x))) o) kept.failures
+      (listed_err (option_map (from_place facts n) o) (failures_of ledger b) (failures_of ledger d) why (lists past (kept.stands past stands) clean))
+
+  -- ---- energy
+
+  energy_of_rows : (rows : Option (List Share)) (from to : EnergyWithin) → IsFresh zone range from → is_there rows ≡ Some tt
+      → TakesAll AddsShare from (rows_in rows) to → option_map (energy_within zone range) rows ≡ Some to.mwh
+  energy_of_rows None from to fresh is took = absurd (cc is)
+  energy_of_rows (Some rows) from to fresh is took = ap Some (sym (added_up zone range rows from to fresh took))
+
+  no_rows : (rows : Option (List Share)) → is_there rows ≡ None → option_map (energy_within zone range) rows ≡ None
+  no_rows None is = refl
+  no_rows (Some rows) is = absurd (cc is)
+
+  pub energy_told : (a d : Office B) (meter : Option (List ℕ)) (from to : EnergyWithin) (mwh : ℕ) → IsFresh zone range from → mwh ≡ to.mwh
+      → TellsRows AddsShare ledger a d from to (Ok tt) (λ facts. intervals_of facts meter)
+      → Tells ledger a d (Ok mwh) (λ facts. energy_in zone range facts meter)
+  energy_told a d meter from to mwh fresh is rows = λ past stands clean.
+      let facts = facts_of past in
+      let hands = rows past stands clean in
+      let there = found_ok ⊥ (is_there (intervals_of facts meter)) (failures_of ledger a) (failures_of ledger d) tt hands.answer in
+      found_so (Unit {0}) (energy_in zone range facts meter) (failures_of ledger a) (failures_of ledger d) mwh
+      (energy_of_rows (intervals_of facts meter) from to fresh there.0 hands.whole ∙ ap Some (sym is)) there.1
+
+  pub energy_refused : (a d : Office B) (meter : Option (List ℕ)) (from to : EnergyWithin) (why : Refusal)
+      → TellsRows AddsShare ledger a d from to (Err why) (λ facts. intervals_of facts meter)
+      → Tells {T = ℕ} ledger a d (Err why) (λ facts. energy_in zone range facts meter)
+  energy_refused a d meter from to why rows = λ past stands clean.
+      let facts = facts_of past in
+      let hands = rows past stands clean in
+      refused_on ⊥ (Unit {0}) (is_there (intervals_of facts meter)) (energy_in zone range facts meter)
+      (failures_of ledger a) (failures_of ledger a) (failures_of ledger d) why (λ none. tt) (no_rows (intervals_of facts meter)) refl hands.answer
+
+  -- ---- a meter
+
+  abbrev by_opening : List Fact → (meter : List ℕ) → Opening → MeterStatement
+  by_opening facts meter opening = told_of zone range facts meter (Some opening)
+
+  both_told : (facts : List Fact) (meter : List ℕ) (o : Option Opening) (tally : EntryTally) (mwh : ℕ)
+      → option_map (λ x. tally_of zone range (entries_at facts (Some x))) o ≡ Some tally
+      → option_map (energy_within zone range) (option_map (rows_of_opening facts) o) ≡ Some mwh
+      → option_map (by_opening facts meter) o ≡ Some (record { meter = meter; entries = tally; mwh = mwh })
+  both_told facts meter None tally mwh first second = absurd (cc first)
+  both_told facts meter (Some x) tally mwh first second =
+      let t : tally_of zone range (entries_at facts (Some x)) ≡ tally = some_same _ _ first in
+      let e : energy_within zone range (rows_of_opening facts x) ≡ mwh = some_same _ _ second in
+      ap (λ (y : EntryTally). Some (let s : MeterStatement = record { meter = meter; entries = y; mwh = energy_within zone range (rows_of_opening facts x) } in s)) t
+      ∙ ap (λ n. Some (let s : MeterStatement = record { meter = meter; entries = tally; mwh = n } in s)) e
+
+  pub statement_told : (a b d : Office B) (meter : List ℕ) (tally : EntryTally) (mwh : ℕ) → OnlyAsks ledger a b (Ok tally) → OnlyAsks ledger b d (Ok mwh)
+      → Tells ledger a b (Ok tally) (λ facts. tally_in zone range facts (Some meter))
+      → Tells ledger b d (Ok mwh) (λ facts. energy_in zone range facts (Some meter))
+      → Tells ledger a d (Ok (record { meter = meter; entries = tally; mwh = mwh })) (λ facts. statement_in zone range facts meter)
+  statement_told a b d meter tally mwh first second told energy = λ past stands clean.
+      let facts = facts_of past in
+      let t = found_ok (Unit {0}) (tally_in zone range facts (Some meter)) (failures_of ledger a) (failures_of ledger b) tally
+      (told past stands (second.clean clean)) in
+      let e = found_ok (Unit {0}) (energy_in zone range facts (Some meter)) (failures_of ledger b) (failures_of ledger d) mwh
+      (energy past (first.stands past stands) clean) in
+      found_so (Unit {0}) (statement_in zone range facts meter) (failures_of ledger a) (failures_of ledger d) _
+      (both_told facts meter (opening_of facts meter) tally mwh t.0 e.0) (e.1 ∙ t.1)
+
+  gone : {Y Z : Type 0} (f : Opening → Y) (g : Opening → Z) (o : Option Opening) → option_map f o ≡ None → option_map g o ≡ None
+  gone f g None is = refl
+  gone f g (Some x) is = absurd (cc is)
+
+  gone_rows : {Z : Type 0} (facts : List Fact) (g : Opening → Z) (o : Option Opening)
+      → option_map (energy_within zone range) (option_map (rows_of_opening facts) o) ≡ None → option_map g o ≡ None
+  gone_rows facts g None is = refl
+  gone_rows facts g (Some x) is = absurd (cc is)
+
+  pub entries_refused : (a b : Office B) (meter : List ℕ) (why : Refusal)
+      → Tells {T = EntryTally} ledger a b (Err why) (λ facts. tally_in zone range facts (Some meter))
+      → Tells {T = MeterStatement} ledger a b (Err why) (λ facts. statement_in zone range facts meter)
+  entries_refused a b meter why told = λ past stands clean.
+      let facts = facts_of past in
+      refused_on (Unit {0}) (Unit {0}) (tally_in zone range facts (Some meter)) (statement_in zone range facts meter)
+      (failures_of ledger a) (failures_of ledger a) (failures_of ledger b) why (λ u. u)
+      (gone (λ (x : Opening). tally_of zone range (entries_at facts (Some x))) (by_opening facts meter) (opening_of facts meter)) refl
+      (told past stands clean)
+
+  pub rows_refused : (a b d : Office B) (meter : List ℕ) (why : Refusal) → Keeps ledger a b
+      → Tells {T = ℕ} ledger b d (Err why) (λ facts. energy_in zone range facts (Some meter))
+      → Tells {T = MeterStatement} ledger a d (Err why) (λ facts. statement_in zone range facts meter)
+  rows_refused a b d meter why kept told = λ past stands clean.
+      let facts = facts_of past in
+      refused_on (Unit {0}) (Unit {0}) (energy_in zone range facts (Some meter)) (statement_in zone range facts meter)
+      (failures_of ledger a) (failures_of ledger b) (failures_of ledger d) why (λ u. u)
+      (gone_rows facts (by_opening facts meter) (opening_of facts meter)) kept.failures (told past (kept.stands past stands) clean)
+
+  -- ---- the meters at a register
+
+  pub not_there : (a : Office B) (row : Installation) (before : List MeterStatement) → was_there zone range row ≡ false
+      → States ledger zone range (row ∷ []) a a before before (Ok tt)
+  not_there a row before absent = λ past stands clean recorded.
+      let facts = facts_of past in (
+        sym (ap (λ (rows : List Installation). before ++ map (λ r. statement_of zone range facts r.opening.meter) rows) (cond-false _ _ _ absent) ∙ append-nil before),
+        refl,
+      )
+
+  by_name : (facts : List Fact) (meter : List ℕ) (o : Option Opening) (s : MeterStatement) → option_map (by_opening facts meter) o ≡ Some s
+      → told_of zone range facts meter o ≡ s
+  by_name facts meter None s is = absurd (cc is)
+  by_name facts meter (Some x) s is = some_same _ _ is
+
+  pub one_stated : (a b : Office B) (row : Installation) (before after : List MeterStatement) (s : MeterStatement) → was_there zone range row ≡ true
+      → after ≡ before ++ s ∷ [] → Tells ledger a b (Ok s) (λ facts. statement_in zone range facts row.opening.meter)
+      → States ledger zone range (row ∷ []) a b before after (Ok tt)
+  one_stated a b row before after s there put told = λ past stands clean recorded.
+      let facts = facts_of past in
+      let meter = row.opening.meter in
+      let found = found_ok (Unit {0}) (statement_in zone range facts meter) (failures_of ledger a) (failures_of ledger b) s (told past stands clean) in (
+        put ∙ ap (λ (x : MeterStatement). before ++ x ∷ []) (sym (by_name facts meter (opening_of facts meter) s found.0))
+            ∙ ap (λ (rows : List Installation). before ++ map (λ r. statement_of zone range facts r.opening.meter) rows) (sym (cond-true _ _ _ there)),
+        found.1,
+      )
+
+  pub no_room : (a b : Office B) (row : Installation) (before after : List MeterStatement) (s : MeterStatement)
+      → Tells ledger a b (Ok s) (λ facts. statement_in zone range facts row.opening.meter)
+      → States ledger zone range (row ∷ []) a b before after (Err refusal.Memory)
+  no_room a b row before after s told = λ past stands clean recorded.
+      let facts = facts_of past in
+      let found = found_ok (Unit {0}) (statement_in zone range facts row.opening.meter) (failures_of ledger a) (failures_of ledger b) s
+      (told past stands clean) in
+      inr (tt, found.1)
+
+  outside : {T : Type 0} (f : Opening → T) (o : Option Opening) (before after : Failures) (why : Refusal) → is_some o ≡ true
+      → IsFound (Unit {0}) (option_map f o) before after (Err why) → IsOutside (Unit {0}) before after why
+  outside f None before after why some found = absurd (cc some)
+  outside f (Some x) before after why some (inl is) = absurd (let e = is.0 in cc e)
+  outside f (Some x) before after why some (inr fails) = fails
+
+  pub one_refused : (a b : Office B) (row : Installation) (before after : List MeterStatement) (why : Refusal)
+      → Tells {T = MeterStatement} ledger a b (Err why) (λ facts. statement_in zone range facts row.opening.meter)
+      → States ledger zone range (row ∷ []) a b before after (Err why)
+  one_refused a b row before after why told = λ past stands clean recorded.
+      let facts = facts_of past in
+      outside (by_opening facts row.opening.meter) (opening_of facts row.opening.meter) (failures_of ledger a) (failures_of ledger b) why
+      (All-head (λ (r : Installation). is_some (opening_of facts r.opening.meter) ≡ true) row [] recorded) (told past stands clean)
+
+  stated_both : (facts : List Fact) (xs ys : List Installation)
+      → statements_of zone range facts (xs ++ ys) ≡ statements_of zone range facts xs ++ statements_of zone range facts ys
+  stated_both facts xs ys =
+      ap (map (λ (r : Installation). statement_of zone range facts r.opening.meter)) (filter-append (was_there zone range) xs ys)
+      ∙ map-append (λ (r : Installation). statement_of zone range facts r.opening.meter) (filter (was_there zone range) xs) (filter (was_there zone range) ys)
+
+  -- the first of them, and one more
+  abbrev pub AreStated : (a b : Office B) → List Installation → (before after : List MeterStatement) → (i : ℕ) → Type 0
+  AreStated a b rows before after i = After ledger a b (λ past. AreRecorded (facts_of past) rows
+      → after ≡ before ++ statements_of zone range (facts_of past) (take i rows))
+
+  recorded_at : (facts : List Fact) (rows : List Installation) (i : ℕ) (row : Installation) → i < length rows → row ≡ get_or rows i row
+      → AreRecorded facts rows → AreRecorded facts (row ∷ [])
+  recorded_at facts rows i row lt is all =
+      let P : Installation → Type 0 = λ r. is_some (opening_of facts r.opening.meter) ≡ true in
+      All-cons P row [] (subst P (sym is) (all i row lt)) (λ k d less. absurd (omega (arith, less)))
+
+  pub more_stated : (a b d : Office B) (rows : List Installation) (i : ℕ) (row : Installation) (before mid after : List MeterStatement)
+      → i < length rows → row ≡ get_or rows i row → take (i + 1) rows ≡ take i rows ++ row ∷ []
+      → Keeps ledger a b → Keeps ledger b d → AreStated a b rows before mid i → States ledger zone range (row ∷ []) b d mid after (Ok tt)
+      → AreStated a d rows before after (i + 1)
+  more_stated a b d rows i row before mid after lt is next kept went told more = λ past stands clean recorded.
+      let facts = facts_of past in
+      let one = more past (kept.stands past stands) clean (recorded_at facts rows i row lt is recorded) in
+      one.0 ∙ ap (λ (front : List MeterStatement). front ++ statements_of zone range facts (row ∷ [])) (told past stands (went.clean clean) recorded)
+      ∙ append_assoc before (statements_of zone range facts (take i rows)) (statements_of zone range facts (row ∷ []))
+      ∙ ap (λ (back : List MeterStatement). before ++ back) (sym (ap (statements_of zone range facts) next ∙ stated_both facts (take i rows) (row ∷ [])))
+
+  pub more_refused : (a b d : Office B) (rows : List Installation) (i : ℕ) (row : Installation) (before mid after : List MeterStatement) (why : Refusal)
+      → i < length rows → row ≡ get_or rows i row → Keeps ledger a b → States ledger zone range (row ∷ []) b d mid after (Err why)
+      → States ledger zone range rows a d before after (Err why)
+  more_refused a b d rows i row before mid after why lt is kept more = λ past stands clean recorded.
+      subst (λ was. IsOutside (Unit {0}) was (failures_of ledger d) why) kept.failures
+      (more past (kept.stands past stands) clean (recorded_at (facts_of past) rows i row lt is recorded))
+
+  pub all_stated : (a b : Office B) (rows : List Installation) (i : ℕ) (before after : List MeterStatement) → take i rows ≡ rows
+      → Keeps ledger a b → AreStated a b rows before after i → States ledger zone range rows a b before after (Ok tt)
+  all_stated a b rows i before after is kept told = λ past stands clean recorded.
+      (told past stands clean recorded ∙ ap (λ (those : List Installation). before ++ statements_of zone range (facts_of past) those) is, kept.failures)
+
+  -- ---- meters that are installed are recorded
+
+  some_or : {X : Type 0} (b : Bool) (x : X) (o : Option X) → is_some o ≡ true → is_some (cond b (Some x) o) ≡ true
+  some_or true x o some = refl
+  some_or false x o some = some
+
+  is_found : {X : Type 0} (p : X → Bool) (xs : List X) (k : ℕ) (d : X) → k < length xs → p (get_or xs k d) ≡ true → is_some (find p xs) ≡ true
+  is_found p [] k d lt is = absurd (omega (arith, lt))
+  is_found p (x ∷ xs) zero d lt is = ap is_some (cond-true (p x) (Some x) (find p xs) is)
+  is_found p (x ∷ xs) (suc k) d lt is = some_or (p x) x (find p xs) (is_found p xs k d (omega (arith, lt)) is)
+
+  all_turned : {X : Type 0} (P : X → Type 0) (xs : List X) → All P xs → All P (reverse xs)
+  all_turned P [] all = all
+  all_turned P (x ∷ xs) all =
+      subst (All P) (sym (reverse_cons x xs))
+      (All-append P (reverse xs) (x ∷ []) (all_turned P xs (All-tail P x xs all))
+      (All-cons P x [] (All-head P x xs all) (λ k d less. absurd (omega (arith, less)))))
+
+  each_recorded : (facts : List Fact) → All (λ opening. is_some (opening_of facts opening.meter) ≡ true) (openings_in facts)
+  each_recorded facts = λ k d lt.
+      let os = openings_in facts in
+      let meter = (get_or os k d).meter in
+      is_found (λ (o : Opening). same o.meter meter) os k d lt (same_itself meter)
+
+  are_recorded : (facts : List Fact) (register : List ℕ) → AreRecorded facts (installations_of facts register)
+  are_recorded facts register =
+      let P : Opening → Type 0 = λ o. is_some (opening_of facts o.meter) ≡ true in
+      let at : Opening → Bool = λ o. same o.register register in
+      All-map (λ (r : Installation). is_some (opening_of facts r.opening.meter) ≡ true) (installation_of facts) (installations_at facts register)
+      (all_turned P (filter at (openings_in facts)) (All-filter at P (openings_in facts) (each_recorded facts)))
+
+  named_recorded : (facts : List Fact) (register : Option (List ℕ)) (rows : List Installation) → meters_named facts register ≡ Some rows
+      → AreRecorded facts rows
+  named_recorded facts None rows is = absurd (cc is)
+  named_recorded facts (Some register) rows is =
+      let found = mapped (λ r. installations_of facts register) (register_of facts register) rows is in
+      subst (AreRecorded facts) found.2 (are_recorded facts register)
+
+  -- ---- all of them
+
+  pub statements_told : (a b d : Office B) (register : Option (List ℕ)) (v : Vec Installation Global) (listed : List Installation) (rows : List MeterStatement)
+      → listed ≡ v.items → OnlyAsks ledger a b (Ok v) → Keeps ledger b d
+      → ListsAccepted ledger a b (Ok v) (λ facts. meters_named facts register)
+      → States ledger zone range listed b d [] rows (Ok tt)
+      → Tells ledger a d (Ok rows) (λ facts. statements_in zone range facts register)
+  statements_told a b d register v listed rows same asks kept lists states = λ past stands clean.
+      let facts = facts_of past in
+      let known = lists past stands (kept.clean clean) in
+      let is : meters_named facts register ≡ Some listed = known.0 ∙ ap Some (sym same) in
+      let stated = states past (asks.stands past stands) clean (named_recorded facts register listed is) in
+      found_so (Unit {0}) (statements_in zone range facts register) (failures_of ledger a) (failures_of ledger d) rows
+      (ap (option_map (statements_of zone range facts)) is ∙ ap Some (sym stated.0)) (stated.1 ∙ known.1)
+
+  pub statements_failed : (a b d : Office B) (register : Option (List ℕ)) (v : Vec Installation Global) (listed : List Installation)
+      (rows : List MeterStatement) (why : Refusal)
+      → listed ≡ v.items → OnlyAsks ledger a b (Ok v) → OnlyAsks {T = Unit {0}} ledger b d (Err why)
+      → ListsAccepted ledger a b (Ok v) (λ facts. meters_named facts register)
+      → States ledger zone range listed b d [] rows (Err why)
+      → Tells {T = List MeterStatement} ledger a d (Err why) (λ facts. statements_in zone range facts register)
+  statements_failed a b d register v listed rows why same asks more lists states = λ past stands clean.
+      let facts = facts_of past in
+      let known = lists past stands (more.clean clean) in
+      let is : meters_named facts register ≡ Some listed = known.0 ∙ ap Some (sym same) in
+      let out = states past (asks.stands past stands) clean (named_recorded facts register listed is) in
+      inr (subst (λ was. IsOutside (Unit {0}) was (failures_of ledger d) why) known.1 out)
+
+  gone_meters : (facts : List Fact) (rows : Option (List Installation)) → is_there rows ≡ None → option_map (statements_of zone range facts) rows ≡ None
+  gone_meters facts None is = refl
+  gone_meters facts (Some rows) is = absurd (cc is)
+
+  pub meters_refused : (a b : Office B) (register : Option (List ℕ)) (why : Refusal)
+      → ListsAccepted {T = Installation} ledger a b (Err why) (λ facts. meters_named facts register)
+      → Tells {T = List MeterStatement} ledger a b (Err why) (λ facts. statements_in zone range facts register)
+  meters_refused a b register why lists = λ past stands clean.
+      let facts = facts_of past in
+      refused_on ⊥ (Unit {0}) (is_there (meters_named facts register)) (statements_in zone range facts register)
+      (failures_of ledger a) (failures_of ledger a) (failures_of ledger b) why (λ none. tt) (gone_meters facts (meters_named facts register)) refl
+      (listed_err (meters_named facts register) (failures_of ledger a) (failures_of ledger b) why (lists past stands clean))
+
+-- a statement that was written, or a part of it
+pub written_so : {E : Type 0} (written : Result (Unit {0}) E) (text : List ℕ) (meant status : ExitStatus) (old new : Option (List ℕ))
+    → status ≡ cond (is_ok written) meant Failed → GotText written text old new → IsTold text meant status old new
+written_so (Ok done) text meant status old new ends got = inl (ends, got)
+written_so (Err error) text meant status old new ends got = inr (ends, got)

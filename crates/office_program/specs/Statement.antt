@@ -1,0 +1,44 @@
+-- A statement over books.
+use Rattle.std.specs.Prelude.{◌⊎◌, ℕ, List, Option}
+use Rattle.std.specs.declared.io.Write as writers
+use Rattle.socket_link.specs.declared.clock.Clock as clocks
+use Rattle.command_io.specs.declared.status.ExitStatus.{ExitStatus}
+use Rattle.energy_report.specs.declared.form.StatementForm.{StatementForm}
+use Rattle.interval_core.specs.declared.zone.Zone.{Zone}
+use Rattle.office_events.specs.Names.{named}
+use Rattle.office_rules.specs.History.{History}
+use Rattle.office_books.specs.Ledgers.{Ledger}
+use Rattle.office_books.specs.declared.books.Books as stores
+use Rattle.office_core.specs.Standing.{Stands}
+use Rattle.office_core.specs.Taking.{failures_of}
+use Rattle.office_core.specs.declared.office.Office.{Office}
+use Rattle.office_program.specs.Texts.AskedOffice.{TellsUnasked}
+use Rattle.office_program.specs.Texts.EndTexts.{TellsEnd}
+use Rattle.office_program.specs.Texts.Statements.{StatementPrints}
+use Rattle.office_program.specs.Opened.{OverStanding, WithAsked}
+
+-- The statements of the register's meters were printed, or why there are none; and the office was only asked.
+pub record StatesMeters {B : Type 0} (ledger : B → Ledger) (zone : Zone)
+    (register : Option (List ℕ)) (form : StatementForm) (had holds : Option (List ℕ))
+    (status : ExitStatus) (behind : History) (opened left : Office B) : Type 0 where
+  pub prints : TellsEnd (StatementPrints zone behind register form
+      (failures_of ledger opened) (failures_of ledger left)) status had holds
+  pub stands : Stands ledger behind left
+
+-- The opening was refused, and that alone was printed; or the office was opened to be asked, and stated its meters by the zone
+-- of the books.
+abbrev pub TellsStatement : {B : Type 0} → (B → Ledger) → (past : History) → (register : List ℕ)
+    → StatementForm → (moments later : Option (List ℕ)) → (books back : B)
+    → (had holds : Option (List ℕ)) → ExitStatus → Type 0
+TellsStatement ledger past register form moments later books back had holds status =
+    TellsUnasked past moments later (ledger books) (ledger back) status had holds
+    ⊎ WithAsked ledger past moments later back
+    (StatesMeters ledger (ledger books).zone (named register) form had holds status)
+
+-- So it is of the books, the clock and the writer, each as it was found and as it was left.
+abbrev pub StatementOver : {B C W : Type 0} → stores.Ghosts B → clocks.Ghosts C → writers.Ghosts W
+    → (register : List ℕ) → StatementForm → (books back : B) → (before after : C) → (had holds : W)
+    → ExitStatus → Type 0
+StatementOver b c w register form books back before after had holds end =
+    OverStanding b.ledger books back (λ past. TellsStatement b.ledger past register form
+    (c.moments before) (c.moments after) books back (w.contents had) (w.contents holds) end)

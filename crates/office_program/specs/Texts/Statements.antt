@@ -1,0 +1,153 @@
+-- The statement of the meters at a register, on a range of days.
+use Rattle.std.specs.Prelude.{◌≡◌, ℕ, List, ◌++◌, map, filter, All, is_some, true, Option, Some, Result, Ok, Err}
+use Rattle.std.specs.Option.{option_map, option_and_then}
+use Rattle.std.specs.declared.alloc.Global.{Global}
+use Rattle.std.specs.declared.vec.Vec.{Vec}
+use Rattle.std.specs.declared.io.Write as writers
+use Rattle.command_io.specs.declared.status.ExitStatus.{ExitStatus}
+use Rattle.command_io.specs.declared.status.ExitStatus.TheVariants.{Fine, Refused}
+use Rattle.energy_report.specs.declared.form.StatementForm.{StatementForm}
+use Rattle.energy_report.specs.declared.meter_statement.MeterStatement.{MeterStatement}
+use Rattle.energy_report.specs.declared.range.DayRange.{DayRange}
+use Rattle.energy_report.specs.declared.tallies.EntryTally.{EntryTally}
+use Rattle.energy_report.specs.Statements.{energy_within, tally_of, was_there}
+use Rattle.energy_report.specs.StatementTexts.{statement_text}
+use Rattle.interval_core.specs.declared.zone.Zone.{Zone}
+use Rattle.office_events.specs.declared.facts.Fact.{Fact}
+use Rattle.office_events.specs.declared.facts.Opening.{Opening}
+use Rattle.office_events.specs.declared.questions.Installation.{Installation}
+use Rattle.office_events.specs.declared.refusals.Refusal.{Refusal}
+use Rattle.office_rules.specs.Facts.{opening_of}
+use Rattle.office_rules.specs.History.{History, facts_of}
+use Rattle.office_rules.specs.Intervals.{rows_of_installed}
+use Rattle.office_books.specs.declared.failures.Failures.{Failures}
+use Rattle.office_books.specs.Entries.{entries_at}
+use Rattle.office_books.specs.Ledgers.{KeepsFacts, Ledger}
+use Rattle.office_books.specs.declared.books.Books as stores
+use Rattle.office_core.specs.Asking.{IsFound, OnlyAsks, intervals_of}
+use Rattle.office_core.specs.Failing.{IsOutside}
+use Rattle.office_core.specs.Parts.{meters_named}
+use Rattle.office_core.specs.Standing.{After, Stands, books_in, is_stopped, notes_in, outgoing_in}
+use Rattle.office_core.specs.Taking.{failures_of}
+use Rattle.office_core.specs.declared.office.Office.{Office}
+use Rattle.script_text.specs.AnswerText.{refused_line}
+use Rattle.office_program.specs.Texts.EndTexts.{TellsEnd}
+
+-- ---- a meter
+
+-- what is told of the meter of a name, by its opening: all its entries, and its energy by quarter hours
+abbrev pub told_of : Zone → DayRange → List Fact → (meter : List ℕ) → Option Opening
+    → MeterStatement
+told_of zone range facts meter opening = record {
+  meter = meter;
+  entries = tally_of zone range (entries_at facts opening);
+  mwh = energy_within zone range (rows_of_installed facts opening);
+}
+
+abbrev pub statement_of : Zone → DayRange → List Fact → (meter : List ℕ) → MeterStatement
+statement_of zone range facts meter = told_of zone range facts meter (opening_of facts meter)
+
+-- The meters that were there in the range, in the order in which they were installed.
+abbrev pub statements_of : Zone → DayRange → List Fact → List Installation → List MeterStatement
+statements_of zone range facts rows =
+    map (λ row. statement_of zone range facts row.opening.meter)
+    (filter (was_there zone range) rows)
+
+-- ---- what is answered, where there is a meter of the name
+
+abbrev pub tally_in : Zone → DayRange → List Fact → (meter : Option (List ℕ)) → Option EntryTally
+tally_in zone range facts meter =
+    option_map (λ opening. tally_of zone range (entries_at facts (Some opening)))
+    (option_and_then (opening_of facts) meter)
+
+abbrev pub energy_in : Zone → DayRange → List Fact → (meter : Option (List ℕ)) → Option ℕ
+energy_in zone range facts meter = option_map (energy_within zone range) (intervals_of facts meter)
+
+abbrev pub statement_in : Zone → DayRange → List Fact → (meter : List ℕ) → Option MeterStatement
+statement_in zone range facts meter =
+    option_map (λ opening. told_of zone range facts meter (Some opening)) (opening_of facts meter)
+
+-- So an office answers of what it accepted. It takes memory of its own.
+abbrev pub Tells : {B T : Type 0} → (B → Ledger) → (old new : Office B) → Result T Refusal
+    → (List Fact → Option T) → Type 0
+Tells ledger old new result found = After ledger old new (λ past.
+    IsFound (Unit {0}) (found (facts_of past)) (failures_of ledger old) (failures_of ledger new)
+    result)
+
+-- Several questions, or none, leave an office as it was: it stands where it stood, the books did not fail, and it has not stopped
+-- nor started again.
+pub record Keeps {B : Type 0} (ledger : B → Ledger) (old new : Office B) : Type 0 where
+  pub stands : (past : History) → Stands ledger past old → Stands ledger past new
+  pub keeps : KeepsFacts (ledger (books_in old)) (ledger (books_in new))
+  pub notes : notes_in new ≡ notes_in old
+  pub outgoing : outgoing_in new ≡ outgoing_in old
+  pub stays : is_stopped new ≡ is_stopped old
+  pub failures : failures_of ledger new ≡ failures_of ledger old
+  pub clean : (ledger (books_in new)).is_clean → (ledger (books_in old)).is_clean
+  pub zone : (ledger (books_in new)).zone ≡ (ledger (books_in old)).zone
+
+-- So they do where none was refused; and where one was, the office was only asked.
+abbrev pub GoesOn : {B : Type 0} → (B → Ledger) → (old new : Office B)
+    → Result (Unit {0}) Refusal → Type 0
+GoesOn ledger old new (Ok done) = Keeps ledger old new
+GoesOn ledger old new (Err why) = OnlyAsks {T = Unit {0}} ledger old new (Err why)
+
+-- ---- the meters at a register
+
+-- each of them is recorded
+abbrev pub AreRecorded : List Fact → List Installation → Type 0
+AreRecorded facts rows = All (λ row. is_some (opening_of facts row.opening.meter) ≡ true) rows
+
+-- The statements of these were put behind those before, or a question failed outside.
+abbrev pub IsStated : Zone → DayRange → List Fact → List Installation
+    → (before after : List MeterStatement) → (had has : Failures) → Result (Unit {0}) Refusal
+    → Type 0
+IsStated zone range facts rows before after had has (Ok done) =
+    (after ≡ before ++ statements_of zone range facts rows) × (has ≡ had)
+IsStated zone range facts rows before after had has (Err why) = IsOutside (Unit {0}) had has why
+
+abbrev pub States : {B : Type 0} → (B → Ledger) → Zone → DayRange → List Installation
+    → (old new : Office B) → (before after : List MeterStatement) → Result (Unit {0}) Refusal
+    → Type 0
+States ledger zone range rows old new before after result = After ledger old new (λ past.
+    AreRecorded (facts_of past) rows → IsStated zone range (facts_of past) rows before after
+    (failures_of ledger old) (failures_of ledger new) result)
+
+-- all of them, where there is a register of the name
+abbrev pub statements_in : Zone → DayRange → List Fact → (register : Option (List ℕ))
+    → Option (List MeterStatement)
+statements_in zone range facts register =
+    option_map (statements_of zone range facts) (meters_named facts register)
+
+abbrev pub items_of : {T E : Type 0} → Result (Vec T Global) E → Result (List T) E
+items_of (Ok rows) = Ok rows.items
+items_of (Err why) = Err why
+
+-- ---- what is printed
+
+-- The statements of the register's meters, or the reason alone.
+abbrev pub statement_or_not : StatementForm → Result (List MeterStatement) Refusal → List ℕ
+statement_or_not form (Ok rows) = statement_text form rows
+statement_or_not form (Err why) = refused_line why
+
+abbrev pub meant_by : Result (List MeterStatement) Refusal → ExitStatus
+meant_by (Ok rows) = Fine
+meant_by (Err why) = Refused
+
+-- What is printed with which end: the statements, refused as a report is.
+pub record StatementPrints (zone : Zone) (past : History) (register : Option (List ℕ))
+    (form : StatementForm) (before after : Failures) (text : List ℕ) (meant : ExitStatus)
+    : Type 0 where
+  pub reply : Result (List MeterStatement) Refusal
+  pub answer : IsFound (Unit {0}) (statements_in zone form.range (facts_of past) register)
+      before after reply
+  pub is : text ≡ statement_or_not form reply
+  pub means : meant ≡ meant_by reply
+
+-- It is printed so by an office over what it had accepted, or a part of it, since a write failed.
+abbrev pub PrintsStatement : {B W : Type 0} → stores.Ghosts B → writers.Ghosts W → Zone
+    → (register : Option (List ℕ)) → StatementForm → (old new : Office B) → (had holds : W)
+    → ExitStatus → Type 0
+PrintsStatement b w zone register form old new had holds status = After b.ledger old new
+    (λ past. TellsEnd (StatementPrints zone past register form (failures_of b.ledger old)
+    (failures_of b.ledger new)) status (w.contents had) (w.contents holds))

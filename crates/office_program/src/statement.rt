@@ -1,0 +1,45 @@
+//! The statement of the meters at a register, over books.
+ghost use Rattle.office_program.specs.Texts.Passing.{Lasts};
+ghost use Rattle.office_program.specs.Statement.{StatementOver};
+
+use crate::command_end::CommandEnd;
+use crate::texts::{open_office_to_ask, report_statement};
+use command_io::ExitStatus;
+use energy_report::StatementForm;
+use office_books::Books;
+use office_events::Name;
+use socket_link::Clock;
+use std::alloc::Global;
+use std::io::Write;
+
+/// Opens an office over books to ask it, as `report_books` does, and prints the statement of the meters at a register on the days
+/// of a range, by the clocks of the books' zone. Where the opening or a question is refused, `refused N` alone is printed. A text that
+/// is no name is a register that isn't there. The books are handed back.
+pub fn statement_books<B: Books, C: Clock, W: Write>(
+    alloc: Global,
+    books: B,
+    register: &str,
+    form: &StatementForm,
+    clock: &mut C,
+    output: &mut W,
+) -> CommandEnd<B, ExitStatus>
+    ensures tells { StatementOver B.Books C.Clock W.Write register.now form.now books result.books
+        clock.old clock.new output.old output.new result.end }
+    ensures lasts { Lasts (B.ledger books) (B.ledger result.books) }
+{
+    let zone = books.zone();
+    match open_office_to_ask(alloc, books, clock, output) {
+        Ok(mut office) => {
+            let name = Name::new(register.as_bytes());
+            let end = report_statement(alloc, &mut office, &zone, &name, form, output);
+            CommandEnd {
+                books: office.into_books(),
+                end,
+            }
+        }
+        Err(unopened) => CommandEnd {
+            books: unopened.books,
+            end: unopened.status,
+        },
+    }
+}

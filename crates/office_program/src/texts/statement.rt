@@ -1,0 +1,185 @@
+//! The statement of the meters at a register, on a range of days.
+ghost use Rattle.std.specs.Prelude.{◌∷◌, []};
+ghost use Rattle.office_core.specs.Asking.{OnlyAsks};
+ghost use Rattle.office_program.specs.Texts.Reports.{Asks};
+ghost use Rattle.office_program.specs.Texts.Statements as statements;
+ghost use Rattle.office_program.specs.Texts.Statements.{GoesOn, PrintsStatement, States, Tells};
+
+use crate::texts::end_texts::{ended, print_refusal};
+use command_io::ExitStatus;
+use energy_report::{
+    DayRange, EnergyWithin, EntryTally, MeterStatement, StatementForm, was_there, write_statement,
+};
+use interval_core::Zone;
+use office_books::Books;
+use office_core::Office;
+use office_events::{Installation, Name, Refusal};
+use std::alloc::Global;
+use std::io::Write;
+
+// How many entries are asked for at a time, and how often at most: places are numbers of 64 bits.
+const PIECE: u32 = 256;
+
+const MOST_PIECES: u64 = 72_057_594_037_927_935;
+
+// What all entries of a meter come to in a range. They are asked for piece by piece.
+fn tally<B: Books>(
+    office: &mut Office<B>,
+    zone: &Zone,
+    range: &DayRange,
+    meter: &Option<Name>,
+) -> Result<EntryTally, Refusal>
+    ensures tells { Tells B.ledger office.old office.new result
+        (λ facts. statements.tally_in zone.now range.now facts meter.now) }
+    ensures asks { OnlyAsks B.ledger office.old office.new result }
+{
+    let mut tally = EntryTally::new();
+    for turn in 0..MOST_PIECES {
+        match office.entries(meter, turn * 256 + 1, PIECE) {
+            Err(why) => return Err(why),
+            Ok(piece) => {
+                tally.take_all(zone, range, &piece);
+                if piece.len() < 256 {
+                    return Ok(tally);
+                }
+            }
+        }
+    }
+    Err(Refusal::Memory)
+}
+
+// The energy of a meter in a range.
+fn energy<B: Books>(
+    office: &mut Office<B>,
+    zone: &Zone,
+    range: &DayRange,
+    meter: &Option<Name>,
+) -> Result<u128, Refusal>
+    ensures tells { Tells B.ledger office.old office.new result
+        (λ facts. statements.energy_in zone.now range.now facts meter.now) }
+    ensures asks { OnlyAsks B.ledger office.old office.new result }
+{
+    let mut energy = EnergyWithin::new(*zone, *range);
+    match office.intervals(meter, &mut energy) {
+        Ok(()) => Ok(energy.mwh()),
+        Err(why) => Err(why),
+    }
+}
+
+// What a statement tells of a meter.
+fn meter_statement<B: Books>(
+    office: &mut Office<B>,
+    zone: &Zone,
+    range: &DayRange,
+    meter: &Name,
+) -> Result<MeterStatement, Refusal>
+    ensures tells { Tells B.ledger office.old office.new result
+        (λ facts. statements.statement_in zone.now range.now facts meter.now) }
+    ensures asks { OnlyAsks B.ledger office.old office.new result }
+{
+    let name = Some(*meter);
+    match tally(office, zone, range, &name) {
+        Err(why) => Err(why),
+        Ok(entries) => match energy(office, zone, range, &name) {
+            Err(why) => Err(why),
+            Ok(mwh) => Ok(MeterStatement {
+                meter: *meter,
+                entries,
+                mwh,
+            }),
+        },
+    }
+}
+
+// Adds the statement of a meter, if it was there in the range.
+fn add_statement<B: Books>(
+    rows: &mut Vec<MeterStatement>,
+    office: &mut Office<B>,
+    zone: &Zone,
+    range: &DayRange,
+    row: &Installation,
+) -> Result<(), Refusal>
+    ensures states { States B.ledger zone.now range.now (row.now ∷ []) office.old office.new
+        rows.old.items rows.new.items result }
+    ensures asks { GoesOn B.ledger office.old office.new result }
+{
+    if !was_there(zone, range, row) {
+        return Ok(());
+    }
+    match meter_statement(office, zone, range, &row.opening.meter) {
+        Err(why) => Err(why),
+        Ok(statement) => match rows.push(statement) {
+            Ok(()) => Ok(()),
+            Err(_) => Err(Refusal::Memory),
+        },
+    }
+}
+
+// Adds the statements of those that were there.
+fn add_statements<B: Books>(
+    rows: &mut Vec<MeterStatement>,
+    office: &mut Office<B>,
+    zone: &Zone,
+    range: &DayRange,
+    listed: &[Installation],
+) -> Result<(), Refusal>
+    ensures states { States B.ledger zone.now range.now listed.now office.old office.new
+        rows.old.items rows.new.items result }
+    ensures asks { GoesOn B.ledger office.old office.new result }
+{
+    for row in listed {
+        match add_statement(rows, office, zone, range, row) {
+            Ok(()) => {}
+            Err(why) => return Err(why),
+        }
+    }
+    Ok(())
+}
+
+// The statements of all meters at a register that were there in the range.
+fn statements<B: Books>(
+    alloc: Global,
+    office: &mut Office<B>,
+    zone: &Zone,
+    range: &DayRange,
+    register: &Option<Name>,
+) -> Result<Vec<MeterStatement>, Refusal>
+    ensures tells { Tells B.ledger office.old office.new (statements.items_of result)
+        (λ facts. statements.statements_in zone.now range.now facts register.now) }
+    ensures asks { OnlyAsks B.ledger office.old office.new result }
+{
+    match office.meters(register) {
+        Err(why) => Err(why),
+        Ok(listed) => {
+            let mut rows = Vec::new(alloc);
+            match add_statements(&mut rows, office, zone, range, &listed) {
+                Ok(()) => Ok(rows),
+                Err(why) => Err(why),
+            }
+        }
+    }
+}
+
+/// Prints what a bill on the days of a range is checked by: of each meter that was there at the register, in the order in which they
+/// were installed, where its counter stood at its first and last entry in the range, its energy in it and its corrections. Where the
+/// office refuses that, `refused N` alone. `None` is a name that no register can have.
+pub fn report_statement<B: Books, W: Write>(
+    alloc: Global,
+    office: &mut Office<B>,
+    zone: &Zone,
+    register: &Option<Name>,
+    form: &StatementForm,
+    output: &mut W,
+) -> ExitStatus
+    ensures prints { PrintsStatement B.Books W.Write zone.now register.now form.now
+        office.old office.new output.old output.new result }
+    ensures asks { Asks B.ledger office.old office.new }
+{
+    match statements(alloc, office, zone, &form.range, register) {
+        Ok(rows) => {
+            let written = write_statement(form, &rows, output);
+            ended(written, ExitStatus::Fine)
+        }
+        Err(why) => print_refusal(why, output),
+    }
+}
