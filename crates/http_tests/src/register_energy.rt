@@ -48,7 +48,7 @@ fn days_and_months_are_told(rt: HostRuntime) -> Result<(), Fail> {
     for (target, lines) in TOLD {
         let text = energy(rt.alloc(), &mut office, target)?;
         let expected = text_reply(rt.alloc(), lines)?;
-        assert_eq!(rt; text.as_slice(), expected.as_bytes());
+        assert!(rt; text.as_slice() == expected.as_bytes());
     }
     Ok(())
 }
@@ -65,11 +65,11 @@ fn no_energy_is_told_of_a_register_that_is_none(rt: HostRuntime) -> Result<(), F
     let expected = reply(rt.alloc(), "404 Not Found", "{\"refused\":1}")?;
     for target in NOWHERE {
         let text = energy(rt.alloc(), &mut office, target)?;
-        assert_eq!(rt; text.as_slice(), expected.as_bytes());
+        assert!(rt; text.as_slice() == expected.as_bytes());
     }
     let none = text_reply(rt.alloc(), "end 0\n")?;
     let text = energy(rt.alloc(), &mut office, "/registers/main/months")?;
-    assert_eq!(rt; text.as_slice(), none.as_bytes());
+    assert!(rt; text.as_slice() == none.as_bytes());
     Ok(())
 }
 
@@ -99,7 +99,7 @@ static ELSEWHERE: [&str; 7] = [
 fn a_target_may_ask_for_energy(rt: HostRuntime) -> Result<(), Fail> {
     let from = read_day("2026-11-01");
     let till = read_day("2026-12-01");
-    assert_eq!(rt; from.is_some() && till.is_some(), true);
+    assert!(rt; from.is_some() && till.is_some());
     let asked = RunRoute::Energy {
         register: Name::new(b"main"),
         form: ReportForm {
@@ -110,7 +110,7 @@ fn a_target_may_ask_for_energy(rt: HostRuntime) -> Result<(), Fail> {
         },
     };
     let route = route_of(rt.alloc(), "/registers/main/days/2026-11-01/2026-12-01")?;
-    assert_eq!(rt; route, Some(asked));
+    assert!(rt; route == Some(asked));
     Ok(())
 }
 
@@ -118,10 +118,10 @@ fn a_target_may_ask_for_energy(rt: HostRuntime) -> Result<(), Fail> {
 fn days_of_a_target_may_be_malformed(rt: HostRuntime) -> Result<(), Fail> {
     let malformed = RunRoute::Own(StatusRoute::Rejected(Status::BadRequest));
     for target in DAYLESS {
-        assert_eq!(rt; route_of(rt.alloc(), target)?, Some(malformed));
+        assert!(rt; route_of(rt.alloc(), target)? == Some(malformed));
     }
     for target in ELSEWHERE {
-        assert_eq!(rt; route_of(rt.alloc(), target)?, None);
+        assert!(rt; route_of(rt.alloc(), target)? == None);
     }
     Ok(())
 }
