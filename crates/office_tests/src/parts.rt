@@ -48,20 +48,20 @@ const BEGUN: MeterEntry = MeterEntry::Opening(Last {
     sf: 0,
 });
 
-// A step of m1 at its scale.
-const fn step(place: u64, kind: EntryKind, at: u64, raw: u32, stands: bool) -> MeterEntry {
-    MeterEntry::Later {
-        row: EntryRow {
-            place,
-            kind,
-            entry: Entry::Step { at, raw, rolls: 0 },
-            stands,
+// The exchange closed m1.
+const CLOSED: MeterEntry = MeterEntry::Later {
+    row: EntryRow {
+        place: 2,
+        kind: EntryKind::Closing,
+        entry: Entry::Step {
+            at: 1900,
+            raw: 5200,
+            rolls: 0,
         },
-        sf: 0,
-    }
-}
-
-const CLOSED: MeterEntry = step(2, EntryKind::Closing, 1900, 5200, true);
+        stands: true,
+    },
+    sf: 0,
+};
 
 // The entries of m1 from a place on, at most so many.
 struct Asked {
