@@ -103,4 +103,5 @@ def main():
               f" ratio {theirs / took:.2f}", flush=True)
 
 
-main()
+if __name__ == "__main__":
+    main()

@@ -1,0 +1,11 @@
+#!/bin/sh
+# Times what a running office answers of one day of a meter out of one year and out of ten: `bench/ranges.sh [PROGRAM]`, out/sunreg by default, which
+# `./sunreg-build` makes. It needs python3 and sqlite3.
+set -eu
+here=$(dirname "$(readlink -f "$0")")
+program=${1:-$here/../out/sunreg}
+[ -x "$program" ] || { echo "ranges.sh: $program is not built: run ./sunreg-build" >&2; exit 2; }
+for it in python3 sqlite3; do
+    command -v $it > /dev/null || { echo "ranges.sh: $it is not installed (apt-get install $it)" >&2; exit 2; }
+done
+PYTHONDONTWRITEBYTECODE=1 python3 "$here/../tests/peers/ranges.py" "$program"
