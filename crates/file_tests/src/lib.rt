@@ -9,6 +9,8 @@ mod commands;
 #[cfg(test)]
 mod day;
 #[cfg(test)]
+mod day_ranges;
+#[cfg(test)]
 mod failures;
 #[cfg(test)]
 mod files;

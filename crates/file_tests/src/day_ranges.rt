@@ -1,0 +1,124 @@
+//! The days of a range, asked of an office in a file.
+use crate::commands::fill;
+use crate::files::{Files, path, remove};
+use energy_report::read_day;
+use interval_core::DayTotal;
+use office_books::RowSink;
+use office_core::Office;
+use office_events::{Name, Refusal};
+use office_store::SqlBooks;
+use sqlite::Alter;
+use std::test::Fail;
+use stored_office::Databases;
+
+/// How many days were told, and their energy in mWh.
+#[derive(Drop)]
+struct ToldDays {
+    count: u32,
+    mwh: u128,
+}
+
+impl RowSink<DayTotal> for ToldDays {
+    ghost takes = { λ _ _ _. Unit {0} };
+
+    fn put(&mut self, total: DayTotal) {
+        self.count = self.count.saturating_add(1);
+        self.mwh = self.mwh.saturating_add(total.mwh);
+    }
+}
+
+/// A range of days of a register, and what is told of it: nothing where there is no such register.
+struct Asked {
+    register: &'static str,
+    from: &'static str,
+    till: &'static str,
+    told: Option<(u32, u128)>,
+}
+
+/// The energy of the office is that of one day, 1970-01-01.
+static ASKED: [Asked; 6] = [
+    Asked {
+        register: "main",
+        from: "1970-01-01",
+        till: "1970-01-02",
+        told: Some((1, 345_000)),
+    },
+    Asked {
+        register: "main",
+        from: "0000-01-01",
+        till: "9999-12-31",
+        told: Some((1, 345_000)),
+    },
+    Asked {
+        register: "main",
+        from: "1970-01-02",
+        till: "1970-01-03",
+        told: Some((0, 0)),
+    },
+    Asked {
+        register: "main",
+        from: "1969-12-31",
+        till: "1970-01-01",
+        told: Some((0, 0)),
+    },
+    Asked {
+        register: "main",
+        from: "1970-01-02",
+        till: "1970-01-01",
+        told: Some((0, 0)),
+    },
+    Asked {
+        register: "roof",
+        from: "1970-01-01",
+        till: "1970-01-02",
+        told: None,
+    },
+];
+
+fn told<S: Alter + Drop>(
+    office: &mut Office<SqlBooks<S>>,
+    asked: &Asked,
+) -> Result<Option<(u32, u128)>, Fail> {
+    let from = read_day(asked.from).ok_or("no day")?;
+    let till = read_day(asked.till).ok_or("no day")?;
+    let mut told = ToldDays { count: 0, mwh: 0 };
+    let register = Name::new(asked.register.as_bytes());
+    match office.days_within(&register, from, till, &mut told) {
+        Ok(()) => Ok(Some((told.count, told.mwh))),
+        Err(Refusal::NotFound) => Ok(None),
+        Err(_) => Err(Fail::from("refused")),
+    }
+}
+
+fn opened<D: Databases>(
+    rt: &HostRuntime,
+    databases: &D,
+    path: &str,
+) -> Result<Office<SqlBooks<D::Store>>, Fail> {
+    let Ok(books) = SqlBooks::open(rt.alloc(), databases.open(path)?) else {
+        return Err(Fail::from("no books"));
+    };
+    match Office::open(rt.alloc(), books, 4000) {
+        Ok(office) => Ok(office),
+        Err(_) => Err(Fail::from("not opened")),
+    }
+}
+
+/// Whether each range is told as its row says.
+fn are_told<D: Databases>(rt: &HostRuntime, databases: &D, path: &str) -> Result<bool, Fail> {
+    fill(rt, databases, path)?;
+    let mut office = opened(rt, databases, path)?;
+    for asked in &ASKED {
+        if told(&mut office, asked)? != asked.told {
+            return Ok(false);
+        }
+    }
+    Ok(true)
+}
+
+#[test]
+fn the_days_of_a_range_are_told(rt: HostRuntime) -> Result<(), Fail> {
+    let path = path(&rt)?;
+    assert!(rt; are_told(&rt, &Files { rt: &rt }, &path)?);
+    remove(&rt, &path)
+}
