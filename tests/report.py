@@ -26,7 +26,7 @@ counts = {"passed": 0, "failed": 0}
 
 def quarter(day):
     """The energy of each quarter hour of a day of UTC, in mWh: on the first two nothing, and then one mWh."""
-    return (0, 0, 1)[day] if day < 3 else 12_345 * day + 7
+    return (0, 0, 1)[day] if day < 3 else 8_543 * day + 7
 
 
 QUARTERS = [(BEGIN + DAY * day + 900 * at, quarter(day)) for day in range(DAYS) for at in range(96)]
