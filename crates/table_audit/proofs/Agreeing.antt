@@ -14,7 +14,7 @@ use Rattle.meter_audit.specs.Passing.{MayBeChecked, passed}
 use Rattle.meter_audit.specs.Going.{HasGone, Agrees, FinishedIsFine, RefusedIsNotFine}
 use Rattle.meter_audit.proofs.Apart.{same_head, same_tail, told_more}
 use Rattle.store_tables.specs.declared.meters.rows.InstallationRow.{InstallationRow}
-use Rattle.table_audit.specs.Lawful.{IsOpenedBy, tables_from, IsLawful, RestAgrees}
+use Rattle.table_audit.specs.Lawful.{last_shown, IsOpenedBy, tables_from, IsLawful, RestAgrees}
 
 -- ---- one row after the other
 
@@ -38,11 +38,11 @@ refused_there law meter rows i d progress fault may lt gone refused told =
 
 -- ---- the opening
 
-abbrev last_shown : TableRow → Last
-last_shown row = record { at = row.moment; raw = row.raw; sf = row.sf }
-
 abbrev meter_with : (range ceiling : ℕ) → Last → Installed
 meter_with range ceiling opening = record { range = range; ceiling = ceiling; opening = opening }
+
+pub shows_itself : (row : TableRow) (last : Last) → row ≡ opening_row last → row ≡ opening_row (last_shown row)
+shows_itself row last is = let same : last_shown row ≡ last = ap last_shown is in is ∙ ap opening_row (sym same)
 
 -- no two meters of one range and ceiling are opened by one row
 same_meter : (range ceiling : ℕ) (row : TableRow) (m n : Installed) → IsOpenedBy range ceiling row m → IsOpenedBy range ceiling row n → m ≡ n

@@ -1,6 +1,6 @@
 -- Rows read one after the other.
-use Rattle.std.proofs.Common.{◌≡◌, ℕ, zero, suc, ◌+◌, ◌<◌, List, [], ◌∷◌, ◌++◌, length, take, get_or, Result, Ok, Err, sym, ap, ◌∙◌, arith}
-use Rattle.std.proofs.lemmas.List.{take_more}
+use Rattle.std.proofs.Common.{◌≡◌, ℕ, zero, suc, ◌+◌, ◌<◌, ◌≤◌, List, [], ◌∷◌, ◌++◌, length, take, get_or, Result, Ok, Err, sym, ap, ◌∙◌, arith}
+use Rattle.std.proofs.lemmas.List.{take_more, take_all}
 use Rattle.sqlite.specs.Order.{Row}
 use Rattle.store_tables.specs.declared.faults.RowFault.{RowFault}
 use Rattle.store_tables.specs.Columns.{and_then}
@@ -36,3 +36,7 @@ module _ {X : Type 0} (read : Row → Result X RowFault) where
       let one = then_read (read row) _ xs h in
       let two = then_read (all_in read rows) _ xs one.2 in
       unread rows i d e (omega (arith, lt)) g two.0 two.1
+
+  -- all of them
+  pub all_read : (rows : List Row) (i : ℕ) (xs : List X) → length rows ≤ i → all_in read (take i rows) ≡ Ok xs → all_in read rows ≡ Ok xs
+  all_read rows i xs le h = ap (all_in read) (sym (take_all i rows le)) ∙ h

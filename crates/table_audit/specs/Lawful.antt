@@ -1,5 +1,5 @@
 -- When what was read of a meter is that of a lawful journal.
-use Rattle.std.specs.Prelude.{◌≡◌, ◌+◌, ℕ, Bool, true, nat_lt, nat_le, ◌&&◌, List, [], ◌∷◌, reverse, length}
+use Rattle.std.specs.Prelude.{◌≡◌, ℕ, Bool, true, nat_lt, nat_le, ◌&&◌, List, [], ◌∷◌, reverse, length}
 use Rattle.energy_core.specs.declared.entries.Last.{Last}
 use Rattle.interval_core.specs.declared.shares.Share.{Share}
 use Rattle.meter_journal.specs.declared.lines.Installed.{Installed}
@@ -17,6 +17,10 @@ pub record IsOpenedBy (range ceiling : ℕ) (row : TableRow) (meter : Installed)
   pub range_is : meter.range ≡ range
   pub ceiling_is : meter.ceiling ≡ ceiling
   pub opening_is : row ≡ opening_row meter.opening
+
+-- where the counter stands behind an opening
+abbrev pub last_shown : TableRow → Last
+last_shown row = record { at = row.moment; raw = row.raw; sf = row.sf }
 
 -- Places rise, from after one up to another.
 abbrev pub rises : (after most : ℕ) → List ℕ → Bool

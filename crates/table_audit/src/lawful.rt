@@ -4,7 +4,7 @@ ghost use Rattle.std.specs.Prelude.{IsTrue, IsNone, IfOk, OnOk, MatchOption};
 ghost use Rattle.meter_audit.specs.Fitting.{AreTold};
 ghost use Rattle.meter_audit.specs.Going.{IsSoundProgress, HasGone};
 ghost use Rattle.meter_audit.specs.Passing.{MayBeChecked};
-ghost use Rattle.table_audit.specs.Lawful as lawful;
+ghost use Rattle.table_audit.specs.Lawful as agreeing;
 
 use crate::differences::{Difference, Differences, MOST};
 use crate::opening::opened;
@@ -78,7 +78,7 @@ fn tell_refused(
 
 /// The first of some places that doesn't rise, from after the opening's up to the last entry's.
 fn first_astray(last: u64, places: &[u64]) -> Option<u64>
-    ensures { IsNone result ↔ (lawful.rises 1 last places.now ≡ true) }
+    ensures { IsNone result ↔ (agreeing.rises 1 last places.now ≡ true) }
 {
     let mut after = 1;
     for place in places {
@@ -93,7 +93,7 @@ fn first_astray(last: u64, places: &[u64]) -> Option<u64>
 /// Tells of the first void that names no entry.
 fn tell_voids(last: u64, voids: &[u64], found: &mut Differences) -> Result<bool, AllocError>
     requires few { length found.old.first.items ≤ MOST }
-    ensures named { IfOk result (λ named. IsTrue named ↔ (lawful.rises 1 last voids.now ≡ true)) }
+    ensures named { IfOk result (λ named. IsTrue named ↔ (agreeing.rises 1 last voids.now ≡ true)) }
     ensures few { OnOk result (length found.new.first.items ≤ MOST) }
 {
     match first_astray(last, voids) {
@@ -112,7 +112,7 @@ fn tell_each(wanted: &[Share], has: &[Share], found: &mut Differences) -> Result
 {
     let mut wanted = wanted;
     let mut has = has;
-    for _told in 0..u64::MAX {
+    'told: for _told in 0..u64::MAX {
         let Some(difference) = first_difference(wanted, has) else {
             return Ok(());
         };
@@ -149,7 +149,8 @@ fn tell_standing(
     found: &mut Differences,
 ) -> Result<bool, AllocError>
     requires few { length found.old.first.items ≤ MOST }
-    ensures stands { IfOk result (λ stands. IsTrue stands ↔ lawful.StandsThere row.now check.now) }
+    ensures stands { IfOk result (λ stands.
+        IsTrue stands ↔ agreeing.StandsThere row.now check.now) }
     ensures few { OnOk result (length found.new.first.items ≤ MOST) }
 {
     let has = Last {
@@ -189,7 +190,7 @@ fn tell_rest(
 ) -> Result<bool, AllocError>
     requires few { length found.old.first.items ≤ MOST }
     ensures agrees { IfOk result (λ agrees. IsTrue agrees
-        ↔ lawful.RestAgrees progress.now row.now voids.now last shares.now) }
+        ↔ agreeing.RestAgrees progress.now row.now voids.now last shares.now) }
     ensures few { OnOk result (length found.new.first.items ≤ MOST) }
 {
     let named = tell_voids(last, voids, found)?;
@@ -211,7 +212,7 @@ pub(crate) fn audit_read(
     requires places { All (λ entry. entry.place < 2 ^ 63) entries.now }
     requires few { length found.old.first.items ≤ MOST }
     ensures fine { IfOk result (λ fine. IsTrue fine
-        ↔ lawful.IsLawful range row.now voids.now entries.now shares.now) }
+        ↔ agreeing.IsLawful range row.now voids.now entries.now shares.now) }
     ensures few { OnOk result (length found.new.first.items ≤ MOST) }
 {
     finished_is_fine();

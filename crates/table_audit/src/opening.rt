@@ -3,7 +3,7 @@ ghost use Rattle.std.specs.Prelude.{◌≡◌, ◌↔◌, IsTrue, IsSome, IfSome
 ghost use Rattle.meter_journal.specs.declared.lines.Installed.{Installed as TheMeter};
 ghost use Rattle.meter_audit.specs.Rows.{opening_row};
 ghost use Rattle.meter_audit.specs.Passing.{MayBeChecked};
-ghost use Rattle.table_audit.specs.Lawful.{IsOpenedBy};
+ghost use Rattle.table_audit.specs.Lawful.{last_shown, IsOpenedBy};
 
 use energy_core::{Last, MAX_CEILING, MAX_SCALE, MIN_SCALE, Ranged};
 use meter_audit::{RowKind, TableRow};
@@ -11,8 +11,7 @@ use meter_journal::Installed;
 
 /// Whether a row is that of an opening.
 fn is_opening(row: &TableRow) -> bool
-    ensures { let shown = record { at = row.now.moment; raw = row.now.raw; sf = row.now.sf } in
-        IsTrue result ↔ (row.now ≡ opening_row shown) }
+    ensures { IsTrue result ↔ (row.now ≡ opening_row (last_shown row.now)) }
 {
     row.place == 1
         && row.kind == RowKind::Opening

@@ -1,8 +1,8 @@
 //! Values of rows as the queries show them.
-ghost use Rattle.std.specs.Prelude.{◌≡◌, ◌<◌, ◌^◌, ◌∷◌, [], All, Ok, IfOk, IfSome};
+ghost use Rattle.std.specs.Prelude.{◌≡◌, ◌↔◌, ◌<◌, ◌^◌, ◌∷◌, [], All, IfOk, IfSome};
 ghost use Rattle.sqlite.specs.Order.{column};
 ghost use Rattle.store_tables.specs.Columns.{or_damaged};
-ghost use Rattle.table_audit.specs.Reading as reading;
+ghost use Rattle.table_audit.specs.Reading as values;
 
 use energy_core::{MAX_RANGE, MAX_SHOWN, MAX_TOTAL, MIN_RANGE};
 use interval_core::Share;
@@ -13,7 +13,7 @@ use store_tables::{GREATEST_PLACE, LATEST_MOMENT, RowFault, scale, whole};
 
 /// The kind of an entry.
 fn kind(row: &Row, at: usize) -> Result<RowKind, RowFault>
-    ensures { result ≡ or_damaged (reading.kind_in (column row.now at)) }
+    ensures { result ≡ or_damaged (values.kind_in (column row.now at)) }
 {
     match whole(row, at, 1, 6)? {
         1 => Ok(RowKind::Opening),
@@ -28,14 +28,14 @@ fn kind(row: &Row, at: usize) -> Result<RowKind, RowFault>
 
 /// Whether one of these voids names a place.
 fn is_named(voids: &[u64], place: u64) -> bool
-    ensures { result ≡ reading.is_named voids.now place }
+    ensures { result ≡ values.is_named voids.now place }
 {
     voids.iter().any(|v| *v == place)
 }
 
 /// An entry, which one of these voids may name.
 fn entry(row: &Row, voids: &[u64]) -> Result<TableRow, RowFault>
-    ensures read { result ≡ reading.entry_in voids.now row.now }
+    ensures read { result ≡ values.entry_in voids.now row.now }
     ensures place { IfOk result (λ entry. entry.place < 2 ^ 63) }
 {
     let place = whole(row, 0, 1, GREATEST_PLACE)?;
@@ -60,14 +60,14 @@ fn entry(row: &Row, voids: &[u64]) -> Result<TableRow, RowFault>
 
 /// The place that a void names.
 fn place(row: &Row) -> Result<u64, RowFault>
-    ensures { result ≡ reading.place_in row.now }
+    ensures { result ≡ values.place_in row.now }
 {
     whole(row, 0, 1, GREATEST_PLACE)
 }
 
 /// The energy of an interval.
 fn share(row: &Row) -> Result<Share, RowFault>
-    ensures { result ≡ reading.share_in row.now }
+    ensures { result ≡ values.share_in row.now }
 {
     let start = whole(row, 0, 0, LATEST_MOMENT)?;
     let mwh = whole(row, 1, 0, MAX_TOTAL)?;
@@ -76,7 +76,7 @@ fn share(row: &Row) -> Result<Share, RowFault>
 
 /// The range of a meter, where it has one row.
 pub(crate) fn range(rows: &[Row]) -> Option<u64>
-    ensures { (n : _) → (reading.all_in reading.range_in rows.now ≡ Ok (n ∷ [])) ↔ (result ≡ Some n) }
+    ensures { (n : _) → (values.all_in values.range_in rows.now ≡ Ok (n ∷ [])) ↔ (result ≡ Some n) }
 {
     if rows.len() != 1 {
         return None;
@@ -93,7 +93,7 @@ pub(crate) fn entries(
     rows: &[Row],
     voids: &[u64],
 ) -> Result<Option<Vec<TableRow>>, AllocError>
-    ensures read { IfOk result (reading.AreRead (reading.entry_in voids.now) rows.now) }
+    ensures read { IfOk result (values.AreRead (values.entry_in voids.now) rows.now) }
     ensures places { IfOk result (λ found.
         IfSome found (λ entries. All (λ entry. entry.place < 2 ^ 63) entries.items)) }
 {
@@ -109,7 +109,7 @@ pub(crate) fn entries(
 
 /// The places that voids name, unless one can't be read.
 pub(crate) fn places(alloc: Global, rows: &[Row]) -> Result<Option<Vec<u64>>, AllocError>
-    ensures { IfOk result (reading.AreRead reading.place_in rows.now) }
+    ensures { IfOk result (values.AreRead values.place_in rows.now) }
 {
     let mut found = Vec::new(alloc);
     for row in rows {
@@ -123,7 +123,7 @@ pub(crate) fn places(alloc: Global, rows: &[Row]) -> Result<Option<Vec<u64>>, Al
 
 /// The energy of intervals, unless one can't be read.
 pub(crate) fn shares(alloc: Global, rows: &[Row]) -> Result<Option<Vec<Share>>, AllocError>
-    ensures { IfOk result (reading.AreRead reading.share_in rows.now) }
+    ensures { IfOk result (values.AreRead values.share_in rows.now) }
 {
     let mut found = Vec::new(alloc);
     for row in rows {

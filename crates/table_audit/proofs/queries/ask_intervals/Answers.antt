@@ -2,7 +2,7 @@ use Rattle.sqlite.specs.Held.{state}
 use Rattle.store_tables.specs.Schema.{books_schema}
 use Rattle.store_tables.proofs.Failures.{told, query_fails}
 use Rattle.store_tables.proofs.StepLemmas.{asks}
-use Rattle.table_audit.proofs.Texts as text
+use Rattle.table_audit.proofs.SqlTexts as text
 use Rattle.table_audit.proofs.Asks as asking
 use Rattle.table_audit.proofs.queries.ask_intervals.Goals as goal
 
