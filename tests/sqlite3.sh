@@ -40,7 +40,7 @@ serve() {
 ask() {
     for turn in $(seq 200); do
         curl -s --max-time 120 "${@:2}" "http://127.0.0.1:$port$1"
-        [ $? = 7 ] && [ ! -s served ] || return
+        [ $? = 7 ] && kill -0 "$child" 2> /dev/null || return
         sleep 0.5
     done
 }
