@@ -1,0 +1,149 @@
+-- What agrees with a check behind all entries is lawful, and nothing else is.
+use Rattle.std.proofs.Common.{◌≡◌, ℕ, ℤ, ◌+◌, ◌<◌, List, [], ◌∷◌, ◌++◌, reverse, take, drop, length, get_or, Result, Err, refl, sym, ap, subst, ◌∙◌, arith}
+use Rattle.std.proofs.lemmas.List.{reverse-append, take_more, take-append-drop, append_cancel_right}
+use Rattle.energy_core.specs.declared.entries.Last.{Last}
+use Rattle.interval_core.specs.declared.shares.Share.{Share}
+use Rattle.meter_journal.specs.declared.lines.Installed.{Installed}
+use Rattle.meter_journal.specs.declared.lines.EntryRow.{EntryRow}
+use Rattle.meter_audit.specs.declared.faults.RowFault.{RowFault}
+use Rattle.meter_audit.specs.declared.progress.Progress.{Progress}
+use Rattle.meter_audit.specs.declared.rows.TableRow.{TableRow}
+use Rattle.meter_audit.specs.Rows.{opening_row, later_rows}
+use Rattle.meter_audit.specs.Fitting.{AreTold, Tables, AreFine}
+use Rattle.meter_audit.specs.Passing.{MayBeChecked, passed}
+use Rattle.meter_audit.specs.Going.{HasGone, Agrees, FinishedIsFine, RefusedIsNotFine}
+use Rattle.meter_audit.proofs.Apart.{same_head, same_tail, told_more}
+use Rattle.store_tables.specs.declared.meters.rows.InstallationRow.{InstallationRow}
+use Rattle.table_audit.specs.Lawful.{last_shown, IsOpenedBy, tables_from, IsLawful, RestAgrees}
+
+-- ---- one row after the other
+
+pub gone_more : (meter : Installed) (rows : List TableRow) (i : ℕ) (d : TableRow) (new : Progress) → i < length rows
+    → HasGone meter (get_or rows i d ∷ reverse (take i rows)) [] new → HasGone meter (reverse (take (i + 1) rows)) [] new
+gone_more meter rows i d new lt gone = subst (λ (told : List TableRow). HasGone meter told [] new) (sym (told_more rows i d lt)) gone
+
+-- the latest first, a row stands between the later ones and those before it
+split_at : (rows : List TableRow) (i : ℕ) (d : TableRow) → i < length rows
+    → reverse rows ≡ reverse (drop (i + 1) rows) ++ get_or rows i d ∷ reverse (take i rows)
+split_at rows i d lt =
+    ap (λ (rs : List TableRow). reverse rs) (sym (take-append-drop (i + 1) rows)) ∙ reverse-append (take (i + 1) rows) (drop (i + 1) rows)
+    ∙ ap (λ (rs : List TableRow). reverse (drop (i + 1) rows) ++ rs) (told_more rows i d lt)
+
+pub refused_there : RefusedIsNotFine → (meter : Installed) (rows : List TableRow) (i : ℕ) (d : TableRow) (progress : Progress) (fault : RowFault)
+    → MayBeChecked meter → i < length rows → HasGone meter (reverse (take i rows)) [] progress
+    → passed meter progress.check (get_or rows i d) ≡ Err fault → AreTold meter (reverse rows) → ⊥
+refused_there law meter rows i d progress fault may lt gone refused told =
+    law meter (reverse (take i rows)) (reverse (drop (i + 1) rows)) [] progress (get_or rows i d) fault may.installed gone refused
+    (subst (AreTold meter) (split_at rows i d lt) told)
+
+-- ---- the opening
+
+abbrev meter_with : (range ceiling : ℕ) → Last → Installed
+meter_with range ceiling opening = record { range = range; ceiling = ceiling; opening = opening }
+
+pub shows_itself : (row : TableRow) (last : Last) → row ≡ opening_row last → row ≡ opening_row (last_shown row)
+shows_itself row last is = let same : last_shown row ≡ last = ap last_shown is in is ∙ ap opening_row (sym same)
+
+-- no two meters of one range and ceiling are opened by one row
+same_meter : (range ceiling : ℕ) (row : TableRow) (m n : Installed) → IsOpenedBy range ceiling row m → IsOpenedBy range ceiling row n → m ≡ n
+same_meter range ceiling row m n h g =
+    let opening : m.opening ≡ n.opening = ap last_shown (sym h.opening_is ∙ g.opening_is) in
+    ap (λ r. meter_with r m.ceiling m.opening) (h.range_is ∙ sym g.range_is)
+    ∙ ap (λ c. meter_with n.range c m.opening) (h.ceiling_is ∙ sym g.ceiling_is)
+    ∙ ap (λ l. meter_with n.range n.ceiling l) opening
+
+opening_last : (entries : List TableRow) (opening : TableRow) (later : List TableRow) (last : Last) → entries ≡ opening ∷ later
+    → opening ≡ opening_row last → reverse entries ≡ reverse later ++ opening_row last ∷ []
+opening_last entries opening later last first is =
+    ap (λ (rs : List TableRow). reverse rs) first ∙ reverse-append (opening ∷ []) later
+    ∙ ap (λ (r : TableRow). reverse later ++ r ∷ []) is
+
+-- the same rows, opened by the same meter
+record HasOpened (range : ℕ) (row : InstallationRow) (voids : List ℕ) (entries : List TableRow) (shares : List Share) (meter : Installed)
+    (later : List TableRow) : Type 0 where
+  fine : AreFine meter (tables_from entries shares row)
+  told : reverse entries ≡ reverse later ++ opening_row meter.opening ∷ []
+
+has_opened : (range : ℕ) (row : InstallationRow) (voids : List ℕ) (entries : List TableRow) (shares : List Share) (meter : Installed)
+    (opening : TableRow) (later : List TableRow) → entries ≡ opening ∷ later → IsOpenedBy range row.ceiling opening meter
+    → IsLawful range row voids entries shares → HasOpened range row voids entries shares meter later
+has_opened range row voids entries shares meter opening later first opened lawful =
+    let both : opening ∷ later ≡ lawful.opening ∷ lawful.later = sym first ∙ lawful.first in
+    let head : opening ≡ lawful.opening = same_head opening lawful.opening later lawful.later both in
+    let by : IsOpenedBy range row.ceiling opening lawful.meter = subst (λ (r : TableRow). IsOpenedBy range row.ceiling r lawful.meter) (sym head) lawful.opened in
+    let same : lawful.meter ≡ meter = same_meter range row.ceiling opening lawful.meter meter by opened in
+    record {
+      fine = subst (λ (m : Installed). AreFine m (tables_from entries shares row)) same lawful.fine;
+      told = opening_last entries opening later meter.opening first opened.opening_is;
+    }
+
+pub not_opened : (range : ℕ) (row : InstallationRow) (voids : List ℕ) (entries : List TableRow) (shares : List Share)
+    (opening : TableRow) (later : List TableRow) → entries ≡ opening ∷ later
+    → ((meter : Installed) → MayBeChecked meter → IsOpenedBy range row.ceiling opening meter → ⊥)
+    → IsLawful range row voids entries shares → ⊥
+not_opened range row voids entries shares opening later first none lawful =
+    let both : lawful.opening ∷ lawful.later ≡ opening ∷ later = sym lawful.first ∙ first in
+    let head : lawful.opening ≡ opening = same_head lawful.opening opening lawful.later later both in
+    none lawful.meter lawful.may (subst (λ (r : TableRow). IsOpenedBy range row.ceiling r lawful.meter) head lawful.opened)
+
+pub no_entry : (range : ℕ) (row : InstallationRow) (voids : List ℕ) (entries : List TableRow) (shares : List Share)
+    → entries ≡ [] → IsLawful range row voids entries shares → ⊥
+no_entry range row voids entries shares none lawful =
+    let both : [] ≡ lawful.opening ∷ lawful.later = sym none ∙ lawful.first in absurd (cc)
+
+-- where the rows behind the opening are those of none that fit, they are not lawful
+pub not_told : (range : ℕ) (row : InstallationRow) (voids : List ℕ) (entries : List TableRow) (shares : List Share) (meter : Installed)
+    (opening : TableRow) (later : List TableRow) → entries ≡ opening ∷ later → IsOpenedBy range row.ceiling opening meter
+    → (AreTold meter (reverse later) → ⊥) → IsLawful range row voids entries shares → ⊥
+not_told range row voids entries shares meter opening later first opened none lawful =
+    let h = has_opened range row voids entries shares meter opening later first opened lawful in
+    let rows : List EntryRow = h.fine.rows in
+    let both : reverse later ++ opening_row meter.opening ∷ [] ≡ later_rows meter rows ++ opening_row meter.opening ∷ [] =
+    sym h.told ∙ ap (λ (t : Tables). t.entries) h.fine.are in
+    none (record {
+      rows = rows;
+      fit = h.fine.fit;
+      told_is = append_cancel_right (reverse later) (later_rows meter rows) (opening_row meter.opening ∷ []) both;
+    })
+
+-- ---- behind all entries
+
+pub rest_is_lawful : FinishedIsFine → (range : ℕ) (row : InstallationRow) (voids : List ℕ) (entries : List TableRow) (shares : List Share)
+    (meter : Installed) (opening : TableRow) (later : List TableRow) (progress : Progress)
+    → entries ≡ opening ∷ later → MayBeChecked meter → IsOpenedBy range row.ceiling opening meter
+    → HasGone meter (reverse later) [] progress → RestAgrees progress row voids (length entries) shares
+    → IsLawful range row voids entries shares
+rest_is_lawful law range row voids entries shares meter opening later progress first may opened gone agrees =
+    let tables : Tables = tables_from entries shares row in
+    let told : tables.entries ≡ reverse later ++ opening_row meter.opening ∷ [] =
+    opening_last entries opening later meter.opening first opened.opening_is in
+    record {
+      opening = opening;
+      later = later;
+      first = first;
+      meter = meter;
+      may = may;
+      opened = opened;
+      fine = (law meter (reverse later) [] progress tables gone told).1 (record {
+        intervals = agrees.intervals;
+        last = agrees.stands.last;
+        total = agrees.stands.total;
+        ended = agrees.stands.ended;
+      });
+      named = agrees.named;
+    }
+
+pub lawful_rest : FinishedIsFine → (range : ℕ) (row : InstallationRow) (voids : List ℕ) (entries : List TableRow) (shares : List Share)
+    (meter : Installed) (opening : TableRow) (later : List TableRow) (progress : Progress)
+    → entries ≡ opening ∷ later → IsOpenedBy range row.ceiling opening meter
+    → HasGone meter (reverse later) [] progress → IsLawful range row voids entries shares
+    → RestAgrees progress row voids (length entries) shares
+lawful_rest law range row voids entries shares meter opening later progress first opened gone lawful =
+    let tables : Tables = tables_from entries shares row in
+    let h = has_opened range row voids entries shares meter opening later first opened lawful in
+    let agrees : Agrees tables [] progress = (law meter (reverse later) [] progress tables gone h.told).0 h.fine in
+    record {
+      named = lawful.named;
+      intervals = agrees.intervals;
+      stands = record { last = agrees.last; total = agrees.total; ended = agrees.ended };
+    }

@@ -1,0 +1,75 @@
+-- What the queries show of rows, whatever their columns hold.
+use Rattle.std.proofs.Common.{◌≡◌, ℕ, Bool, true, ◌&&◌, List, [], ◌∷◌, map, IsPermutation, refl, sym, ap, subst, ◌∙◌, map-id}
+use Rattle.std.specs.Ordering.{is_gt}
+use Rattle.std.proofs.lemmas.List.Sorted.{IsPermutation-refl}
+use Rattle.sqlite.specs.declared.types.Value.{Value}
+use Rattle.sqlite.specs.declared.types.Value.TheVariants.{Null, Int, Real, Text, Blob}
+use Rattle.sqlite.specs.Order.{Row, column}
+use Rattle.sqlite_value.specs.Order.{value_cmp}
+use Rattle.sqlite_value.proofs.OrderLemmas.{then-Equal}
+use Rattle.sqlite.specs.Ops.{binary, is_true}
+use Rattle.sqlite_sql.specs.declared.ops.BinaryOp.TheVariants.{Compare}
+use Rattle.sqlite_sql.specs.declared.ops.CompareOp.TheVariants.{Eq}
+use Rattle.sqlite.specs.Collation.TheVariants.{Binary}
+use Rattle.sqlite.specs.Term.{col}
+use Rattle.sqlite.specs.State.{State, Shown}
+use Rattle.store_tables.specs.Schema.{books_schema, entries_table, voids_table, ranges_table, intervals_table}
+use Rattle.store_tables.specs.Content.{Content, AreTables, HasRows}
+use Rattle.store_tables.specs.Answer.{AnyOrder}
+use Rattle.store_tables.specs.Asking.{Shows}
+use Rattle.store_tables.specs.Entries.Trees as entry_tree
+use Rattle.store_tables.specs.Meters.Trees as meter_tree
+use Rattle.store_tables.proofs.Frames.{tree_at}
+use Rattle.store_tables.proofs.Scans.{rising, text_is, and_true, no_limit}
+use Rattle.store_tables.proofs.Selects.{selects}
+use Rattle.store_tables.proofs.EntriesLemmas.Texts as entry_text
+use Rattle.table_audit.specs.Looking.{itself}
+use Rattle.table_audit.specs.Showing.{intervals_tree, is_text, is_of, InOrder, range_shown, entry_shown, void_shown, share_shown}
+use Rattle.table_audit.proofs.SqlTexts as text
+
+-- a column is compared with a text
+text_test : (v : Value) (t : List ℕ) → is_true (binary (Compare Eq Binary) v (Text t)) ≡ is_text t v
+unfolding binary value_cmp
+text_test Null t = refl
+text_test (Int n) t = refl
+text_test (Real x) t = refl
+text_test (Text s) t = text_is s t
+text_test (Blob b) t = refl
+
+meter_test : (row : Row) (meter : List ℕ) → is_true (binary (Compare Eq Binary) (column row 0) (Text meter)) && true ≡ is_of meter row
+meter_test row meter = and_true (is_true (binary (Compare Eq Binary) (column row 0) (Text meter))) ∙ text_test (column row 0) meter
+
+pub range_rows : (meter : List ℕ) (old new : State) (content : Content) (xs rows : List Row) → AreTables old.now content → HasRows meter_tree.ranges itself xs content
+    → Shown text.range_rows (Text meter ∷ []) old new rows → Shows (is_of meter) AnyOrder range_shown xs rows
+range_rows meter old new content xs rows has are h =
+    selects meter_tree.ranges text.of_meter text.range_project [] no_limit (Text meter ∷ []) itself (is_of meter) range_shown AnyOrder
+    (λ n x. meter_test x meter) (λ n x. refl) (λ m n x y le. tt)
+    old new text.range_rows text.range_names content xs rows (tree_at books_schema.tables 11 ranges_table refl) has are text.range_rows_is text.range_rows_unlisted text.range_rows_plain h
+
+pub share_rows : (meter : List ℕ) (old new : State) (content : Content) (xs rows : List Row) → AreTables old.now content → HasRows intervals_tree itself xs content
+    → Shown text.share_rows (Text meter ∷ []) old new rows → Shows (is_of meter) InOrder share_shown xs rows
+share_rows meter old new content xs rows has are h =
+    selects intervals_tree text.of_meter text.share_project ((col 1 2, rising) ∷ []) no_limit (Text meter ∷ []) itself (is_of meter) share_shown InOrder
+    (λ n x. meter_test x meter) (λ n x. refl)
+    (λ m n x y le. sym (ap is_gt (then-Equal (value_cmp (column x 1) (column y 1)))) ∙ le)
+    old new text.share_rows text.share_names content xs rows (tree_at books_schema.tables 9 intervals_table refl) has are text.share_rows_is text.share_rows_unlisted text.share_rows_plain h
+
+pub entry_rows : (meter : List ℕ) (old new : State) (content : Content) (xs rows : List Row) → AreTables old.now content → HasRows entry_tree.entries itself xs content
+    → Shown entry_text.entry_rows (Text meter ∷ []) old new rows → Shows (is_of meter) InOrder entry_shown xs rows
+entry_rows meter old new content xs rows has are h =
+    selects entry_tree.entries entry_text.entry_rows_tests entry_text.entry_rows_project ((col 1 2, rising) ∷ []) no_limit (Text meter ∷ []) itself (is_of meter) entry_shown InOrder
+    (λ n x. meter_test x meter) (λ n x. refl)
+    (λ m n x y le. sym (ap is_gt (then-Equal (value_cmp (column x 1) (column y 1)))) ∙ le)
+    old new entry_text.entry_rows entry_text.entry_rows_names content xs rows (tree_at books_schema.tables 5 entries_table refl) has are entry_text.entry_rows_is entry_text.entry_rows_unlisted entry_text.entry_rows_plain h
+
+pub void_rows : (meter : List ℕ) (old new : State) (content : Content) (xs rows : List Row) → AreTables old.now content → HasRows entry_tree.voids itself xs content
+    → Shown entry_text.void_rows (Text meter ∷ []) old new rows → Shows (is_of meter) InOrder void_shown xs rows
+void_rows meter old new content xs rows has are h =
+    selects entry_tree.voids entry_text.void_rows_tests entry_text.void_rows_project ((col 1 2, rising) ∷ []) no_limit (Text meter ∷ []) itself (is_of meter) void_shown InOrder
+    (λ n x. meter_test x meter) (λ n x. refl)
+    (λ m n x y le. sym (ap is_gt (then-Equal (value_cmp (column x 1) (column y 1)))) ∙ le)
+    old new entry_text.void_rows entry_text.void_rows_names content xs rows (tree_at books_schema.tables 12 voids_table refl) has are entry_text.void_rows_is entry_text.void_rows_unlisted entry_text.void_rows_plain h
+
+-- the rows of a table are those that it has
+pub all_rows : (content : Content) (tree : ℕ) → HasRows tree itself (content tree) content
+all_rows content tree = subst (λ rows. IsPermutation rows (content tree)) (sym (map-id (content tree))) (IsPermutation-refl (content tree))

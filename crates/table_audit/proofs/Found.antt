@@ -1,0 +1,63 @@
+-- What was read of a meter's rows decides whether they are fine.
+use Rattle.std.proofs.Common.{◌≡◌, ◌↔◌, ℕ, Bool, false, List, [], ◌∷◌, Option, Some, None, Ok, IsTrue, sym, ap, subst, ◌∙◌}
+use Rattle.interval_core.specs.declared.shares.Share.{Share}
+use Rattle.meter_audit.specs.declared.rows.TableRow.{TableRow}
+use Rattle.meter_audit.proofs.Apart.{same_head}
+use Rattle.store_tables.specs.declared.meters.rows.InstallationRow.{InstallationRow}
+use Rattle.store_tables.proofs.ReadLemmas.{ok_is}
+use Rattle.table_audit.specs.declared.rows.MeterRows.{MeterRows}
+use Rattle.table_audit.specs.Reading.{entry_in, place_in, share_in, range_in, all_in}
+use Rattle.table_audit.specs.Lawful.{IsLawful}
+use Rattle.table_audit.specs.Fine.{IsFine}
+
+-- what holds never
+pub never : (P : Type 0) → (P → ⊥) → IsTrue false ↔ P
+never P none = (λ f. absurd (let e : false ≡ Rattle.std.proofs.Common.true = f in cc), λ h. absurd (none h))
+
+module _ (row : InstallationRow) (rows : MeterRows) where
+  pub no_range : ((n : ℕ) → (all_in range_in rows.ranges.items ≡ Ok (n ∷ [])) ↔ (None ≡ Some n)) → IsFine row rows → ⊥
+  no_range none fine = let f : None ≡ Some fine.range = (none fine.range).0 fine.range_read in absurd (cc)
+
+  pub no_voids : ((xs : List ℕ) → all_in place_in rows.voids.items ≡ Ok xs → ⊥) → IsFine row rows → ⊥
+  no_voids none fine = none fine.voids fine.voids_read
+
+  pub no_shares : ((xs : List Share) → all_in share_in rows.intervals.items ≡ Ok xs → ⊥) → IsFine row rows → ⊥
+  no_shares none fine = none fine.shares fine.shares_read
+
+  same_voids : (voids : List ℕ) → all_in place_in rows.voids.items ≡ Ok voids → (fine : IsFine row rows) → fine.voids ≡ voids
+  same_voids voids v fine = ok_is (sym fine.voids_read ∙ v)
+
+  pub no_entries : (voids : List ℕ) → all_in place_in rows.voids.items ≡ Ok voids
+      → ((xs : List TableRow) → all_in (entry_in voids) rows.entries.items ≡ Ok xs → ⊥) → IsFine row rows → ⊥
+  no_entries voids v none fine =
+      none fine.entries (ap (λ (vs : List ℕ). all_in (entry_in vs) rows.entries.items) (sym (same_voids voids v fine)) ∙ fine.entries_read)
+
+  pub fine_as_read : (range : ℕ) (voids : List ℕ) (entries : List TableRow) (shares : List Share) (b : Bool)
+      → all_in range_in rows.ranges.items ≡ Ok (range ∷ []) → all_in place_in rows.voids.items ≡ Ok voids
+      → all_in (entry_in voids) rows.entries.items ≡ Ok entries → all_in share_in rows.intervals.items ≡ Ok shares
+      → IsTrue b ↔ IsLawful range row voids entries shares → IsTrue b ↔ IsFine row rows
+  fine_as_read range voids entries shares b r v e s told = (
+    λ is.
+        record {
+          range = range;
+          voids = voids;
+          entries = entries;
+          shares = shares;
+          range_read = r;
+          voids_read = v;
+          entries_read = e;
+          shares_read = s;
+          lawful = told.0 is;
+        },
+    λ fine.
+        let same_range : fine.range ≡ range = same_head fine.range range [] [] (ok_is (sym fine.range_read ∙ r)) in
+        let voided : fine.voids ≡ voids = same_voids voids v fine in
+        let same_entries : fine.entries ≡ entries =
+        ok_is (sym fine.entries_read ∙ ap (λ (vs : List ℕ). all_in (entry_in vs) rows.entries.items) voided ∙ e) in
+        let same_shares : fine.shares ≡ shares = ok_is (sym fine.shares_read ∙ s) in
+        told.1
+        (subst (λ ss. IsLawful range row voids entries ss) same_shares
+        (subst (λ es. IsLawful range row voids es fine.shares) same_entries
+        (subst (λ vs. IsLawful range row vs fine.entries fine.shares) voided
+        (subst (λ n. IsLawful n row fine.voids fine.entries fine.shares) same_range fine.lawful)))),
+  )

@@ -1,0 +1,10 @@
+use Rattle.std.proofs.Common.{◌≤◌, length}
+use Rattle.meter_audit.specs.Going.{IsSoundProgress}
+use Rattle.table_audit.specs.declared.differences.TheConstants.{MOST}
+use Rattle.table_audit.proofs.lawful.tell_refused.Given as goal
+
+abbrev pub invariant-loop-index : goal.invariant-loop-index
+invariant-loop-index l = record {
+  sound : IsSoundProgress l.meter l.progress;
+  few : length l.found.first.items ≤ MOST;
+}

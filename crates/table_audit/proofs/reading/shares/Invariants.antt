@@ -1,0 +1,6 @@
+use Rattle.std.proofs.Common.{◌≡◌, take, Ok}
+use Rattle.table_audit.specs.Reading.{share_in, all_in}
+use Rattle.table_audit.proofs.reading.shares.Given as goal
+
+abbrev pub invariant-loop-row : goal.invariant-loop-row
+invariant-loop-row l = all_in share_in (take l.row-index l.rows) ≡ Ok l.found.items

@@ -1,0 +1,30 @@
+-- When the rows of a meter are fine.
+use Rattle.std.specs.Prelude.{◌≡◌, ◌↔◌, ℕ, Bool, List, [], ◌∷◌, Ok, IsTrue}
+use Rattle.interval_core.specs.declared.shares.Share.{Share}
+use Rattle.meter_audit.specs.declared.rows.TableRow.{TableRow}
+use Rattle.store_tables.specs.declared.meters.rows.InstallationRow.{InstallationRow}
+use Rattle.table_audit.specs.declared.rows.MeterRows.{MeterRows}
+use Rattle.table_audit.specs.Reading.{entry_in, place_in, share_in, range_in, all_in}
+use Rattle.store_tables.specs.Content.{Content}
+use Rattle.table_audit.specs.Lawful.{IsLawful}
+use Rattle.table_audit.specs.Showing.{AreRowsOf}
+
+-- Each row has values that it may have, and they are those of a lawful journal of the meter of this installation. The meter has
+-- one range.
+pub record IsFine (installation : InstallationRow) (rows : MeterRows) : Type 0 where
+  pub range : ℕ
+  pub voids : List ℕ
+  pub entries : List TableRow
+  pub shares : List Share
+  pub range_read : all_in range_in rows.ranges.items ≡ Ok (range ∷ [])
+  pub voids_read : all_in place_in rows.voids.items ≡ Ok voids
+  pub entries_read : all_in (entry_in voids) rows.entries.items ≡ Ok entries
+  pub shares_read : all_in share_in rows.intervals.items ≡ Ok shares
+  pub lawful : IsLawful range installation voids entries shares
+
+-- It is told of the rows that the tables have for the meter whether they are fine.
+pub record TellsFine (meter : List ℕ) (installation : InstallationRow) (content : Content)
+    (fine : Bool) : Type 0 where
+  pub rows : MeterRows
+  pub theirs : AreRowsOf meter content rows
+  pub told : IsTrue fine ↔ IsFine installation rows

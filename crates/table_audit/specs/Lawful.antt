@@ -1,0 +1,69 @@
+-- When what was read of a meter is that of a lawful journal.
+use Rattle.std.specs.Prelude.{◌≡◌, ℕ, Bool, true, nat_lt, nat_le, ◌&&◌, List, [], ◌∷◌, reverse, length}
+use Rattle.energy_core.specs.declared.entries.Last.{Last}
+use Rattle.interval_core.specs.declared.shares.Share.{Share}
+use Rattle.meter_journal.specs.declared.lines.Installed.{Installed}
+use Rattle.meter_audit.specs.declared.checks.Check.{Check}
+use Rattle.meter_audit.specs.declared.progress.Progress.{Progress}
+use Rattle.meter_audit.specs.declared.rows.TableRow.{TableRow}
+use Rattle.meter_audit.specs.Rows.{opening_row}
+use Rattle.meter_audit.specs.Fitting.{Tables, AreFine}
+use Rattle.meter_audit.specs.Passing.{MayBeChecked}
+use Rattle.store_tables.specs.declared.meters.rows.LastRow.{LastRow}
+use Rattle.store_tables.specs.declared.meters.rows.InstallationRow.{InstallationRow}
+
+-- a meter of this range and ceiling, which was opened by this row
+pub record IsOpenedBy (range ceiling : ℕ) (row : TableRow) (meter : Installed) : Type 0 where
+  pub range_is : meter.range ≡ range
+  pub ceiling_is : meter.ceiling ≡ ceiling
+  pub opening_is : row ≡ opening_row meter.opening
+
+-- where the counter stands behind an opening
+abbrev pub last_shown : TableRow → Last
+last_shown row = record { at = row.moment; raw = row.raw; sf = row.sf }
+
+-- Places rise, from after one up to another.
+abbrev pub rises : (after most : ℕ) → List ℕ → Bool
+rises after most [] = true
+rises after most (place ∷ places) =
+    nat_lt after place && nat_le place most && rises place most places
+
+-- where the row of an installation says that the counter stands
+abbrev pub last_in : LastRow → Last
+last_in last = record { at = last.moment; raw = last.raw; sf = last.sf }
+
+-- what the tables tell of a meter, by entries in order of their places
+abbrev pub tables_from : List TableRow → List Share → InstallationRow → Tables
+tables_from entries shares row = record {
+  entries = reverse entries;
+  intervals = shares;
+  last = last_in row.last;
+  total = row.last.total;
+  ended = row.is_ended;
+}
+
+-- They are those of a lawful journal of a meter that was opened by the first entry. Each void names one of the later ones,
+-- and no two name the same.
+pub record IsLawful (range : ℕ) (row : InstallationRow) (voids : List ℕ)
+    (entries : List TableRow) (shares : List Share) : Type 0 where
+  pub opening : TableRow
+  pub later : List TableRow
+  pub first : entries ≡ opening ∷ later
+  pub meter : Installed
+  pub may : MayBeChecked meter
+  pub opened : IsOpenedBy range row.ceiling opening meter
+  pub fine : AreFine meter (tables_from entries shares row)
+  pub named : rises 1 (length entries) voids ≡ true
+
+-- The row of an installation says where a check stands.
+pub record StandsThere (row : InstallationRow) (check : Check) : Type 0 where
+  pub last : last_in row.last ≡ check.last
+  pub total : row.last.total ≡ check.total
+  pub ended : row.is_ended ≡ check.is_ended
+
+-- What else was read agrees with a check behind all entries.
+pub record RestAgrees (progress : Progress) (row : InstallationRow) (voids : List ℕ) (last : ℕ)
+    (shares : List Share) : Type 0 where
+  pub named : rises 1 last voids ≡ true
+  pub intervals : shares ≡ progress.wanted.items
+  pub stands : StandsThere row progress.check

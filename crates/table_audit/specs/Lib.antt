@@ -1,0 +1,5 @@
+pub mod Showing
+pub mod Reading
+pub mod Lawful
+pub mod Fine
+pub mod Looking

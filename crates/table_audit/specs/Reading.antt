@@ -1,0 +1,77 @@
+-- Values of rows as the queries show them.
+use Rattle.std.specs.Prelude.{◌≡◌, ℕ, ◌==◌, Bool, List, [], ◌∷◌, Option, Some, None, Result, Ok, Err, Vec, if◌then◌else◌}
+use Rattle.std.specs.List.{list_any}
+use Rattle.std.specs.Option.{option_and_then}
+use Rattle.energy_core.specs.declared.limits.TheConstants.{MAX_RANGE, MAX_SHOWN, MAX_TOTAL, MIN_RANGE}
+use Rattle.interval_core.specs.declared.shares.Share.{Share}
+use Rattle.meter_audit.specs.declared.rows.RowKind.{RowKind}
+use Rattle.meter_audit.specs.declared.rows.RowKind.TheVariants.{Opening, Reading, Manual, Closing, Reset, Rescale}
+use Rattle.meter_audit.specs.declared.rows.TableRow.{TableRow}
+use Rattle.sqlite.specs.declared.types.Value.{Value}
+use Rattle.sqlite.specs.Order.{Row, column}
+use Rattle.store_tables.specs.declared.faults.RowFault.{RowFault}
+use Rattle.store_tables.specs.Columns.{whole_in, within, or_damaged, and_then}
+use Rattle.store_tables.specs.Limits.{greatest_place, latest_moment}
+
+abbrev pub kind_of : ℕ → Option RowKind
+kind_of n =
+    if n == 1 then Some Opening else
+    if n == 2 then Some Reading else
+    if n == 3 then Some Manual else
+    if n == 4 then Some Closing else
+    if n == 5 then Some Reset else
+    if n == 6 then Some Rescale else None
+
+abbrev pub kind_in : Value → Option RowKind
+kind_in v = option_and_then kind_of (whole_in 1 6 v)
+
+-- a void names the place
+abbrev pub is_named : (voids : List ℕ) → (place : ℕ) → Bool
+is_named voids place = list_any (λ v. v == place) voids
+
+-- an entry, and whether it was voided
+abbrev pub entry_in : (voids : List ℕ) → Row → Result TableRow RowFault
+entry_in voids row =
+    and_then (or_damaged (whole_in 1 greatest_place (column row 0))) (λ place.
+    and_then (or_damaged (kind_in (column row 1))) (λ kind.
+    and_then (or_damaged (whole_in 0 latest_moment (column row 2))) (λ moment.
+    and_then (or_damaged (whole_in 0 MAX_SHOWN (column row 3))) (λ raw.
+    and_then (or_damaged (whole_in 0 255 (column row 4))) (λ rolls.
+    and_then (or_damaged (whole_in 0 MAX_SHOWN (column row 5))) (λ after.
+    and_then (or_damaged (within 3 (column row 6))) (λ sf.
+    Ok (record {
+      place = place;
+      kind = kind;
+      moment = moment;
+      raw = raw;
+      rolls = rolls;
+      after = after;
+      sf = sf;
+      is_voided = is_named voids place;
+    }))))))))
+
+-- the place of an entry that was voided
+abbrev pub place_in : Row → Result ℕ RowFault
+place_in row = or_damaged (whole_in 1 greatest_place (column row 0))
+
+abbrev pub share_in : Row → Result Share RowFault
+share_in row =
+    and_then (or_damaged (whole_in 0 latest_moment (column row 0))) (λ start.
+    and_then (or_damaged (whole_in 0 MAX_TOTAL (column row 1))) (λ mwh.
+    Ok (record { start = start; mwh = mwh })))
+
+abbrev pub range_in : Row → Result ℕ RowFault
+range_in row = or_damaged (whole_in MIN_RANGE MAX_RANGE (column row 0))
+
+-- what each row has, or damage
+abbrev pub all_in : {X : Type 0} → (Row → Result X RowFault) → List Row
+    → Result (List X) RowFault
+all_in read [] = Ok []
+all_in read (row ∷ rows) =
+    and_then (read row) (λ x. and_then (all_in read rows) (λ xs. Ok (x ∷ xs)))
+
+-- All rows were read, or one can't be.
+abbrev pub AreRead : {X Z : Type 0} → (Row → Result X RowFault) → List Row → Option (Vec X Z)
+    → Type 0
+AreRead {X} read rows None = (xs : List X) → all_in read rows ≡ Ok xs → ⊥
+AreRead read rows (Some found) = all_in read rows ≡ Ok found.items

@@ -1,0 +1,71 @@
+//! What an audit tells of.
+ghost use Rattle.std.specs.Prelude.{◌≤◌, length, OnOk};
+
+use energy_core::Last;
+use meter_audit::{IntervalFault, RowFault};
+use std::alloc::{AllocError, Global};
+
+/// A table in which a meter has rows.
+#[derive(Clone, Copy, Debug, PartialEq, Eq)]
+pub enum Table {
+    Ranges,
+    Entries,
+    Voids,
+    Intervals,
+}
+
+/// How the rows of a meter differ from those of a lawful journal.
+#[derive(Clone, Copy, Debug, PartialEq, Eq)]
+pub enum Difference {
+    /// A row of the table has a value that none may have.
+    OutOfRange(Table),
+    /// There is no entry, or the first is no lawful opening.
+    NotOpened,
+    /// An entry can't come behind the one before it.
+    Entry { place: u64, fault: RowFault },
+    /// A void names no entry behind the opening, or one that another names too.
+    Void { place: u64 },
+    /// The energy of a quarter hour.
+    Interval(IntervalFault),
+    /// Where the installation says that the counter stands.
+    Last { has: Last, wanted: Last },
+    /// The energy that the installation has, in mWh.
+    Total { has: u64, wanted: u64 },
+    /// Whether the installation says that the meter was closed.
+    Ended { wanted: bool },
+}
+
+/// The most differences that are kept.
+pub const MOST: usize = 100;
+
+/// The first differences, and how many came after these.
+#[derive(Debug, Drop)]
+pub struct Differences {
+    pub first: Vec<Difference>,
+    pub more: u64,
+}
+
+impl Differences {
+    /// None yet.
+    pub fn new(alloc: Global) -> Differences
+        ensures { length result.first.items ≤ MOST }
+    {
+        Differences {
+            first: Vec::new(alloc),
+            more: 0,
+        }
+    }
+
+    /// One more.
+    pub fn push(&mut self, difference: Difference) -> Result<(), AllocError>
+        requires { length self.old.first.items ≤ MOST }
+        ensures { OnOk result (length self.new.first.items ≤ MOST) }
+    {
+        if self.first.len() < MOST {
+            self.first.push(difference)?;
+        } else {
+            self.more = self.more.saturating_add(1);
+        }
+        Ok(())
+    }
+}

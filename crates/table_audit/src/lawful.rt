@@ -1,0 +1,234 @@
+//! What was read of a meter, against what its entries give.
+ghost use Rattle.std.specs.Prelude.{◌≡◌, ◌<◌, ◌≤◌, ◌^◌, ◌↔◌, [], All, reverse, length, true};
+ghost use Rattle.std.specs.Prelude.{IsTrue, IsNone, IfOk, OnOk, MatchOption};
+ghost use Rattle.meter_audit.specs.Fitting.{AreTold};
+ghost use Rattle.meter_audit.specs.Going.{IsSoundProgress, HasGone};
+ghost use Rattle.meter_audit.specs.Passing.{MayBeChecked};
+ghost use Rattle.table_audit.specs.Lawful as agreeing;
+
+use crate::differences::{Difference, Differences, MOST};
+use crate::opening::opened;
+use energy_core::Last;
+use interval_core::Share;
+use meter_audit::{
+    Check, Progress, RefusedRow, Standing, TableRow, finished_is_fine, first_difference,
+    refused_is_not_fine, standing_faults, start, take_row,
+};
+use meter_journal::Installed;
+use std::alloc::{AllocError, Global};
+use store_tables::InstallationRow;
+
+/// Goes over the rows behind an opening, up to the first that is refused.
+fn go_over(
+    meter: &Installed,
+    progress: &mut Progress,
+    rows: &[TableRow],
+) -> Result<Option<RefusedRow>, AllocError>
+    requires meter { MayBeChecked meter.now }
+    requires sound { IsSoundProgress meter.now progress.old }
+    requires begun { HasGone meter.now [] [] progress.old }
+    requires places { All (λ row. row.place < 2 ^ 63) rows.now }
+    ensures sound { OnOk result (IsSoundProgress meter.now progress.new) }
+    ensures gone { IfOk result (λ refused. MatchOption refused
+        (HasGone meter.now (reverse rows.now) [] progress.new)
+        (λ _. AreTold meter.now (reverse rows.now) → ⊥)) }
+{
+    refused_is_not_fine();
+    for (index, row) in rows.iter().enumerate() {
+        if let Some(fault) = take_row(meter, progress, row)? {
+            return Ok(Some(RefusedRow { index, fault }));
+        }
+    }
+    Ok(None)
+}
+
+/// Tells of that row, and of each one behind it that is refused.
+fn tell_refused(
+    meter: &Installed,
+    progress: &mut Progress,
+    rows: &[TableRow],
+    refused: RefusedRow,
+    found: &mut Differences,
+) -> Result<(), AllocError>
+    requires meter { MayBeChecked meter.now }
+    requires sound { IsSoundProgress meter.now progress.old }
+    requires places { All (λ row. row.place < 2 ^ 63) rows.now }
+    requires few { length found.old.first.items ≤ MOST }
+    ensures few { OnOk result (length found.new.first.items ≤ MOST) }
+{
+    for (index, row) in rows.iter().enumerate() {
+        if index == refused.index {
+            let fault = refused.fault;
+            found.push(Difference::Entry {
+                place: row.place,
+                fault,
+            })?;
+        }
+        if refused.index < index {
+            if let Some(fault) = take_row(meter, progress, row)? {
+                found.push(Difference::Entry {
+                    place: row.place,
+                    fault,
+                })?;
+            }
+        }
+    }
+    Ok(())
+}
+
+/// The first of some places that doesn't rise, from after the opening's up to the last entry's.
+fn first_astray(last: u64, places: &[u64]) -> Option<u64>
+    ensures { IsNone result ↔ (agreeing.rises 1 last places.now ≡ true) }
+{
+    let mut after = 1;
+    for place in places {
+        if *place <= after || last < *place {
+            return Some(*place);
+        }
+        after = *place;
+    }
+    None
+}
+
+/// Tells of the first void that names no entry.
+fn tell_voids(last: u64, voids: &[u64], found: &mut Differences) -> Result<bool, AllocError>
+    requires few { length found.old.first.items ≤ MOST }
+    ensures named { IfOk result (λ named. IsTrue named ↔ (agreeing.rises 1 last voids.now ≡ true)) }
+    ensures few { OnOk result (length found.new.first.items ≤ MOST) }
+{
+    match first_astray(last, voids) {
+        None => Ok(true),
+        Some(place) => {
+            found.push(Difference::Void { place })?;
+            Ok(false)
+        }
+    }
+}
+
+/// Tells of each difference between interval rows, in their order.
+fn tell_each(wanted: &[Share], has: &[Share], found: &mut Differences) -> Result<(), AllocError>
+    requires few { length found.old.first.items ≤ MOST }
+    ensures few { OnOk result (length found.new.first.items ≤ MOST) }
+{
+    let mut wanted = wanted;
+    let mut has = has;
+    'told: for _told in 0..u64::MAX {
+        let Some(difference) = first_difference(wanted, has) else {
+            return Ok(());
+        };
+        found.push(Difference::Interval(difference.fault))?;
+        let wanted_done = difference.wanted_done.min(wanted.len());
+        let found_done = difference.found_done.min(has.len());
+        wanted = &wanted[wanted_done..];
+        has = &has[found_done..];
+    }
+    Ok(())
+}
+
+/// Tells whether interval rows are those that the entries give, and of each difference.
+fn tell_intervals(
+    wanted: &[Share],
+    has: &[Share],
+    found: &mut Differences,
+) -> Result<bool, AllocError>
+    requires few { length found.old.first.items ≤ MOST }
+    ensures same { IfOk result (λ same. IsTrue same ↔ (has.now ≡ wanted.now)) }
+    ensures few { OnOk result (length found.new.first.items ≤ MOST) }
+{
+    if first_difference(wanted, has).is_none() {
+        return Ok(true);
+    }
+    tell_each(wanted, has, found)?;
+    Ok(false)
+}
+
+/// Tells whether the row of an installation says where the check stands, and of each difference.
+fn tell_standing(
+    check: &Check,
+    row: &InstallationRow,
+    found: &mut Differences,
+) -> Result<bool, AllocError>
+    requires few { length found.old.first.items ≤ MOST }
+    ensures stands { IfOk result (λ stands.
+        IsTrue stands ↔ agreeing.StandsThere row.now check.now) }
+    ensures few { OnOk result (length found.new.first.items ≤ MOST) }
+{
+    let has = Last {
+        at: row.last.moment,
+        raw: row.last.raw,
+        sf: row.last.sf,
+    };
+    let standing = Standing {
+        last: has,
+        total: row.last.total,
+        is_ended: row.is_ended,
+    };
+    let faults = standing_faults(check, &standing);
+    if let Some(wanted) = faults.last {
+        found.push(Difference::Last { has, wanted })?;
+    }
+    if let Some(wanted) = faults.total {
+        found.push(Difference::Total {
+            has: row.last.total,
+            wanted,
+        })?;
+    }
+    if let Some(wanted) = faults.is_ended {
+        found.push(Difference::Ended { wanted })?;
+    }
+    Ok(faults.last.is_none() && faults.total.is_none() && faults.is_ended.is_none())
+}
+
+/// Tells whether what else was read agrees with a check behind all entries, and of each difference.
+fn tell_rest(
+    progress: &Progress,
+    row: &InstallationRow,
+    voids: &[u64],
+    last: u64,
+    shares: &[Share],
+    found: &mut Differences,
+) -> Result<bool, AllocError>
+    requires few { length found.old.first.items ≤ MOST }
+    ensures agrees { IfOk result (λ agrees. IsTrue agrees
+        ↔ agreeing.RestAgrees progress.now row.now voids.now last shares.now) }
+    ensures few { OnOk result (length found.new.first.items ≤ MOST) }
+{
+    let named = tell_voids(last, voids, found)?;
+    let same = tell_intervals(progress.wanted.as_slice(), shares, found)?;
+    let stands = tell_standing(&progress.check, row, found)?;
+    Ok(named && same && stands)
+}
+
+/// Whether what was read of a meter is that of a lawful journal. It tells of what differs.
+pub(crate) fn audit_read(
+    alloc: Global,
+    range: u64,
+    row: &InstallationRow,
+    voids: &[u64],
+    entries: &[TableRow],
+    shares: &[Share],
+    found: &mut Differences,
+) -> Result<bool, AllocError>
+    requires places { All (λ entry. entry.place < 2 ^ 63) entries.now }
+    requires few { length found.old.first.items ≤ MOST }
+    ensures fine { IfOk result (λ fine. IsTrue fine
+        ↔ agreeing.IsLawful range row.now voids.now entries.now shares.now) }
+    ensures few { OnOk result (length found.new.first.items ≤ MOST) }
+{
+    finished_is_fine();
+    let Some(first) = entries.first() else {
+        found.push(Difference::NotOpened)?;
+        return Ok(false);
+    };
+    let Some(meter) = opened(range, row.ceiling, first) else {
+        found.push(Difference::NotOpened)?;
+        return Ok(false);
+    };
+    let later = &entries[1..];
+    let mut progress = start(alloc, &meter);
+    if let Some(refused) = go_over(&meter, &mut progress, later)? {
+        tell_refused(&meter, &mut progress, later, refused, found)?;
+        return Ok(false);
+    }
+    tell_rest(&progress, row, voids, entries.len() as u64, shares, found)
+}

@@ -1,0 +1,59 @@
+//! The meter that an opening opens.
+ghost use Rattle.std.specs.Prelude.{◌≡◌, ◌↔◌, IsTrue, IsSome, IfSome};
+ghost use Rattle.meter_journal.specs.declared.lines.Installed.{Installed as TheMeter};
+ghost use Rattle.meter_audit.specs.Rows.{opening_row};
+ghost use Rattle.meter_audit.specs.Passing.{MayBeChecked};
+ghost use Rattle.table_audit.specs.Lawful.{last_shown, IsOpenedBy};
+
+use energy_core::{Last, MAX_CEILING, MAX_SCALE, MIN_SCALE, Ranged};
+use meter_audit::{RowKind, TableRow};
+use meter_journal::Installed;
+
+/// Whether a row is that of an opening.
+fn is_opening(row: &TableRow) -> bool
+    ensures { IsTrue result ↔ (row.now ≡ opening_row (last_shown row.now)) }
+{
+    row.place == 1
+        && row.kind == RowKind::Opening
+        && row.rolls == 0
+        && row.after == 0
+        && !row.is_voided
+}
+
+/// Whether a meter may be checked.
+fn may_be_checked(meter: &Installed) -> bool
+    ensures { IsTrue result ↔ MayBeChecked meter.now }
+{
+    Ranged::new(meter.range).is_some()
+        && 1 <= meter.ceiling
+        && meter.ceiling <= MAX_CEILING
+        && u64::from(meter.opening.raw) < meter.range
+        && MIN_SCALE <= meter.opening.sf
+        && meter.opening.sf <= MAX_SCALE
+}
+
+/// The meter of this range and ceiling that a row opens, if it may be checked.
+pub(crate) fn opened(range: u64, ceiling: u64, row: &TableRow) -> Option<Installed>
+    ensures may { IfSome result MayBeChecked }
+    ensures opened { IfSome result (IsOpenedBy range ceiling row.now) }
+    ensures each { (meter : TheMeter) → MayBeChecked meter → IsOpenedBy range ceiling row.now meter
+        → IsSome result }
+{
+    if !is_opening(row) {
+        return None;
+    }
+    let meter = Installed {
+        range,
+        ceiling,
+        opening: Last {
+            at: row.moment,
+            raw: row.raw,
+            sf: row.sf,
+        },
+    };
+    if may_be_checked(&meter) {
+        Some(meter)
+    } else {
+        None
+    }
+}

@@ -1,0 +1,124 @@
+//! The rows of a meter, looked up in the tables.
+ghost use Rattle.std.specs.Prelude.{◌≡◌, false};
+ghost use Rattle.store_tables.specs.Answer.{AnyOrder};
+ghost use Rattle.store_tables.specs.Asking.{Asks, TellsRows, Shows};
+ghost use Rattle.store_tables.specs.Entries.Trees as entry_tree;
+ghost use Rattle.store_tables.specs.Meters.Trees as meter_tree;
+ghost use Rattle.table_audit.specs.Looking.{itself, Finds};
+ghost use Rattle.table_audit.specs.Showing as showing;
+
+use crate::rows::MeterRows;
+use sqlite::{Alter, Connection, Error, Row, params};
+use store_tables::{RowFault, check_open};
+
+/// Asks for the range of a meter.
+fn ask_range<S: Alter>(conn: &mut Connection<S>, meter: &str) -> Result<Vec<Row>, Error>
+    ensures asks { Asks S.Store conn.old conn.new }
+    ensures shows { TellsRows S.Store conn.old conn.new meter_tree.ranges itself result
+        (Shows (showing.is_of meter.now) AnyOrder showing.range_shown) }
+{
+    conn.query_all(
+        "SELECT \"range\" FROM ranges WHERE meter = ?1",
+        params![meter],
+    )
+}
+
+/// Asks for the entries of a meter, by their places.
+fn ask_entries<S: Alter>(conn: &mut Connection<S>, meter: &str) -> Result<Vec<Row>, Error>
+    ensures asks { Asks S.Store conn.old conn.new }
+    ensures shows { TellsRows S.Store conn.old conn.new entry_tree.entries itself result
+        (Shows (showing.is_of meter.now) showing.InOrder showing.entry_shown) }
+{
+    conn.query_all(
+        "SELECT place, kind, moment, raw, rolls, \"after\", sf FROM entries WHERE meter = ?1 ORDER BY place",
+        params![meter],
+    )
+}
+
+/// Asks for the voids of a meter's entries, by their places.
+fn ask_voids<S: Alter>(conn: &mut Connection<S>, meter: &str) -> Result<Vec<Row>, Error>
+    ensures asks { Asks S.Store conn.old conn.new }
+    ensures shows { TellsRows S.Store conn.old conn.new entry_tree.voids itself result
+        (Shows (showing.is_of meter.now) showing.InOrder showing.void_shown) }
+{
+    conn.query_all(
+        "SELECT place FROM voids WHERE meter = ?1 ORDER BY place",
+        params![meter],
+    )
+}
+
+/// Asks for the energy of a meter by intervals, in order of their starts.
+fn ask_intervals<S: Alter>(conn: &mut Connection<S>, meter: &str) -> Result<Vec<Row>, Error>
+    ensures asks { Asks S.Store conn.old conn.new }
+    ensures shows { TellsRows S.Store conn.old conn.new showing.intervals_tree itself result
+        (Shows (showing.is_of meter.now) showing.InOrder showing.share_shown) }
+{
+    conn.query_all(
+        "SELECT start, mwh FROM intervals WHERE meter = ?1 ORDER BY start",
+        params![meter],
+    )
+}
+
+/// The range of a meter.
+fn range<S: Alter>(conn: &mut Connection<S>, meter: &str) -> Result<Vec<Row>, RowFault>
+    requires { conn.old.in_transaction ≡ false }
+    ensures { Finds S.Store conn.old conn.new result
+        (λ content rows. showing.ShowsRange meter.now content rows.items) }
+{
+    check_open(conn)?;
+    let rows = ask_range(conn, meter)?;
+    Ok(rows)
+}
+
+/// The entries of a meter, by their places.
+fn entries<S: Alter>(conn: &mut Connection<S>, meter: &str) -> Result<Vec<Row>, RowFault>
+    requires { conn.old.in_transaction ≡ false }
+    ensures { Finds S.Store conn.old conn.new result
+        (λ content rows. showing.ShowsEntries meter.now content rows.items) }
+{
+    check_open(conn)?;
+    let rows = ask_entries(conn, meter)?;
+    Ok(rows)
+}
+
+/// The voids of a meter's entries, by their places.
+fn voids<S: Alter>(conn: &mut Connection<S>, meter: &str) -> Result<Vec<Row>, RowFault>
+    requires { conn.old.in_transaction ≡ false }
+    ensures { Finds S.Store conn.old conn.new result
+        (λ content rows. showing.ShowsVoids meter.now content rows.items) }
+{
+    check_open(conn)?;
+    let rows = ask_voids(conn, meter)?;
+    Ok(rows)
+}
+
+/// The energy of a meter by intervals, in order of their starts.
+fn intervals<S: Alter>(conn: &mut Connection<S>, meter: &str) -> Result<Vec<Row>, RowFault>
+    requires { conn.old.in_transaction ≡ false }
+    ensures { Finds S.Store conn.old conn.new result
+        (λ content rows. showing.ShowsIntervals meter.now content rows.items) }
+{
+    check_open(conn)?;
+    let rows = ask_intervals(conn, meter)?;
+    Ok(rows)
+}
+
+/// The rows that the tables have for a meter.
+pub(crate) fn meter_rows<S: Alter>(
+    conn: &mut Connection<S>,
+    meter: &str,
+) -> Result<MeterRows, RowFault>
+    requires { conn.old.in_transaction ≡ false }
+    ensures { Finds S.Store conn.old conn.new result (showing.AreRowsOf meter.now) }
+{
+    let ranges = range(conn, meter)?;
+    let entries = entries(conn, meter)?;
+    let voids = voids(conn, meter)?;
+    let intervals = intervals(conn, meter)?;
+    Ok(MeterRows {
+        ranges,
+        entries,
+        voids,
+        intervals,
+    })
+}

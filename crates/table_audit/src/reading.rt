@@ -1,0 +1,136 @@
+//! Values of rows as the queries show them.
+ghost use Rattle.std.specs.Prelude.{◌≡◌, ◌↔◌, ◌<◌, ◌^◌, ◌∷◌, [], All, IfOk, IfSome};
+ghost use Rattle.sqlite.specs.Order.{column};
+ghost use Rattle.store_tables.specs.Columns.{or_damaged};
+ghost use Rattle.table_audit.specs.Reading as values;
+
+use energy_core::{MAX_RANGE, MAX_SHOWN, MAX_TOTAL, MIN_RANGE};
+use interval_core::Share;
+use meter_audit::{RowKind, TableRow};
+use sqlite::Row;
+use std::alloc::{AllocError, Global};
+use store_tables::{GREATEST_PLACE, LATEST_MOMENT, RowFault, scale, whole};
+
+/// The kind of an entry.
+fn kind(row: &Row, at: usize) -> Result<RowKind, RowFault>
+    ensures { result ≡ or_damaged (values.kind_in (column row.now at)) }
+{
+    match whole(row, at, 1, 6)? {
+        1 => Ok(RowKind::Opening),
+        2 => Ok(RowKind::Reading),
+        3 => Ok(RowKind::Manual),
+        4 => Ok(RowKind::Closing),
+        5 => Ok(RowKind::Reset),
+        6 => Ok(RowKind::Rescale),
+        _ => Err(RowFault::Damaged),
+    }
+}
+
+/// Whether one of these voids names a place.
+fn is_named(voids: &[u64], place: u64) -> bool
+    ensures { result ≡ values.is_named voids.now place }
+{
+    voids.iter().any(|v| *v == place)
+}
+
+/// An entry, which one of these voids may name.
+fn entry(row: &Row, voids: &[u64]) -> Result<TableRow, RowFault>
+    ensures read { result ≡ values.entry_in voids.now row.now }
+    ensures place { IfOk result (λ entry. entry.place < 2 ^ 63) }
+{
+    let place = whole(row, 0, 1, GREATEST_PLACE)?;
+    let kind = kind(row, 1)?;
+    let moment = whole(row, 2, 0, LATEST_MOMENT)?;
+    let raw = whole(row, 3, 0, MAX_SHOWN)?;
+    let rolls = whole(row, 4, 0, 255)?;
+    let after = whole(row, 5, 0, MAX_SHOWN)?;
+    let sf = scale(row, 6)?;
+    let is_voided = is_named(voids, place);
+    Ok(TableRow {
+        place,
+        kind,
+        moment,
+        raw: raw as u32,
+        rolls: rolls as u8,
+        after: after as u32,
+        sf,
+        is_voided,
+    })
+}
+
+/// The place that a void names.
+fn place(row: &Row) -> Result<u64, RowFault>
+    ensures { result ≡ values.place_in row.now }
+{
+    whole(row, 0, 1, GREATEST_PLACE)
+}
+
+/// The energy of an interval.
+fn share(row: &Row) -> Result<Share, RowFault>
+    ensures { result ≡ values.share_in row.now }
+{
+    let start = whole(row, 0, 0, LATEST_MOMENT)?;
+    let mwh = whole(row, 1, 0, MAX_TOTAL)?;
+    Ok(Share { start, mwh })
+}
+
+/// The range of a meter, where it has one row.
+pub(crate) fn range(rows: &[Row]) -> Option<u64>
+    ensures { (n : _) → (values.all_in values.range_in rows.now ≡ Ok (n ∷ [])) ↔ (result ≡ Some n) }
+{
+    if rows.len() != 1 {
+        return None;
+    }
+    match whole(&rows[0], 0, MIN_RANGE, MAX_RANGE) {
+        Ok(range) => Some(range),
+        Err(_) => None,
+    }
+}
+
+/// Entries in their order, unless one can't be read.
+pub(crate) fn entries(
+    alloc: Global,
+    rows: &[Row],
+    voids: &[u64],
+) -> Result<Option<Vec<TableRow>>, AllocError>
+    ensures read { IfOk result (values.AreRead (values.entry_in voids.now) rows.now) }
+    ensures places { IfOk result (λ found.
+        IfSome found (λ entries. All (λ entry. entry.place < 2 ^ 63) entries.items)) }
+{
+    let mut found = Vec::new(alloc);
+    for row in rows {
+        match entry(row, voids) {
+            Ok(entry) => found.push(entry)?,
+            Err(_) => return Ok(None),
+        }
+    }
+    Ok(Some(found))
+}
+
+/// The places that voids name, unless one can't be read.
+pub(crate) fn places(alloc: Global, rows: &[Row]) -> Result<Option<Vec<u64>>, AllocError>
+    ensures { IfOk result (values.AreRead values.place_in rows.now) }
+{
+    let mut found = Vec::new(alloc);
+    for row in rows {
+        match place(row) {
+            Ok(place) => found.push(place)?,
+            Err(_) => return Ok(None),
+        }
+    }
+    Ok(Some(found))
+}
+
+/// The energy of intervals, unless one can't be read.
+pub(crate) fn shares(alloc: Global, rows: &[Row]) -> Result<Option<Vec<Share>>, AllocError>
+    ensures { IfOk result (values.AreRead values.share_in rows.now) }
+{
+    let mut found = Vec::new(alloc);
+    for row in rows {
+        match share(row) {
+            Ok(share) => found.push(share)?,
+            Err(_) => return Ok(None),
+        }
+    }
+    Ok(Some(found))
+}
