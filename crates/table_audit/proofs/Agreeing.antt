@@ -1,6 +1,6 @@
 -- What agrees with a check behind all entries is lawful, and nothing else is.
-use Rattle.std.proofs.Common.{◌≡◌, ℕ, ℤ, ◌+◌, ◌<◌, List, [], ◌∷◌, ◌++◌, reverse, take, drop, length, get_or, Result, Err, refl, sym, ap, subst, ◌∙◌, arith}
-use Rattle.std.proofs.lemmas.List.{reverse-append, take_more, take-append-drop, append_cancel_right}
+use Rattle.std.proofs.Common.{◌≡◌, ℕ, ◌+◌, ◌-◌, ◌<◌, List, [], ◌∷◌, ◌++◌, reverse, take, drop, length, get_or, Option, Some, None, MatchOption, Err, refl, sym, ap, subst, ◌∙◌, arith}
+use Rattle.std.proofs.lemmas.List.{reverse-append, take_all, take-append-drop, append_cancel_right}
 use Rattle.energy_core.specs.declared.entries.Last.{Last}
 use Rattle.interval_core.specs.declared.shares.Share.{Share}
 use Rattle.meter_journal.specs.declared.lines.Installed.{Installed}
@@ -11,7 +11,7 @@ use Rattle.meter_audit.specs.declared.rows.TableRow.{TableRow}
 use Rattle.meter_audit.specs.Rows.{opening_row, later_rows}
 use Rattle.meter_audit.specs.Fitting.{AreTold, Tables, AreFine}
 use Rattle.meter_audit.specs.Passing.{MayBeChecked, passed}
-use Rattle.meter_audit.specs.Going.{HasGone, Agrees, FinishedIsFine, RefusedIsNotFine}
+use Rattle.meter_audit.specs.Going.{HasGone, GoesOn, Agrees, FinishedIsFine, RefusedIsNotFine}
 use Rattle.meter_audit.proofs.Apart.{same_head, same_tail, told_more}
 use Rattle.store_tables.specs.declared.meters.rows.InstallationRow.{InstallationRow}
 use Rattle.table_audit.specs.Lawful.{last_shown, IsOpenedBy, tables_from, IsLawful, RestAgrees}
@@ -35,6 +35,23 @@ pub refused_there : RefusedIsNotFine → (meter : Installed) (rows : List TableR
 refused_there law meter rows i d progress fault may lt gone refused told =
     law meter (reverse (take i rows)) (reverse (drop (i + 1) rows)) [] progress (get_or rows i d) fault may.installed gone refused
     (subst (AreTold meter) (split_at rows i d lt) told)
+
+pub refused_so : RefusedIsNotFine → (meter : Installed) (rows : List TableRow) (i : ℕ) (d : TableRow) (old new : Progress) (o : Option RowFault)
+    (fault : RowFault) → MayBeChecked meter → i < length rows → HasGone meter (reverse (take i rows)) [] old
+    → o ≡ Some fault → GoesOn meter old (get_or rows i d) new o → AreTold meter (reverse rows) → ⊥
+refused_so law meter rows i d old new o fault may lt gone is goes =
+    refused_there law meter rows i d old fault may lt gone (subst (GoesOn meter old (get_or rows i d) new) is goes)
+
+-- the rows behind the first
+pub all_later : (rows : List TableRow) → take (length rows - 1) (drop 1 rows) ≡ drop 1 rows
+all_later [] = refl
+all_later (row ∷ rows) = take_all (length (row ∷ rows) - 1) rows (omega (arith))
+
+pub where_some : {A : Type 0} (P : Type 0) (Q : A → Type 0) (o : Option A) (a : A) → o ≡ Some a → MatchOption o P Q → Q a
+where_some P Q o a is h = subst (λ q. MatchOption q P Q) is h
+
+pub where_none : {A : Type 0} (P : Type 0) (Q : A → Type 0) (o : Option A) → o ≡ None → MatchOption o P Q → P
+where_none P Q o is h = subst (λ q. MatchOption q P Q) is h
 
 -- ---- the opening
 

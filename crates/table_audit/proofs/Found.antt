@@ -1,18 +1,34 @@
 -- What was read of a meter's rows decides whether they are fine.
-use Rattle.std.proofs.Common.{◌≡◌, ◌↔◌, ℕ, Bool, false, List, [], ◌∷◌, Option, Some, None, Ok, IsTrue, sym, ap, subst, ◌∙◌}
+use Rattle.std.proofs.Common.{◌≡◌, ◌↔◌, ℕ, Bool, false, List, [], ◌∷◌, Option, Some, None, Result, Ok, Err, Vec, IfOk, IsTrue, sym, ap, subst, ◌∙◌}
 use Rattle.interval_core.specs.declared.shares.Share.{Share}
 use Rattle.meter_audit.specs.declared.rows.TableRow.{TableRow}
 use Rattle.meter_audit.proofs.Apart.{same_head}
+use Rattle.sqlite.specs.Order.{Row}
+use Rattle.store_tables.specs.declared.faults.RowFault.{RowFault}
 use Rattle.store_tables.specs.declared.meters.rows.InstallationRow.{InstallationRow}
 use Rattle.store_tables.proofs.ReadLemmas.{ok_is}
 use Rattle.table_audit.specs.declared.rows.MeterRows.{MeterRows}
-use Rattle.table_audit.specs.Reading.{entry_in, place_in, share_in, range_in, all_in}
+use Rattle.table_audit.specs.Reading.{entry_in, place_in, share_in, range_in, all_in, AreRead}
 use Rattle.table_audit.specs.Lawful.{IsLawful}
 use Rattle.table_audit.specs.Fine.{IsFine}
 
 -- what holds never
 pub never : (P : Type 0) → (P → ⊥) → IsTrue false ↔ P
 never P none = (λ f. absurd (let e : false ≡ Rattle.std.proofs.Common.true = f in cc), λ h. absurd (none h))
+
+-- what tells of one thing tells of another that holds as it does
+pub told_by : {E P Q : Type 0} (r : Result Bool E) → IfOk r (λ b. IsTrue b ↔ P) → ((b : Bool) → IsTrue b ↔ P → IsTrue b ↔ Q)
+    → IfOk r (λ b. IsTrue b ↔ Q)
+told_by (Ok b) h both = both b h
+told_by (Err e) h both = tt
+
+pub told_too : {E P Q : Type 0} (r : Result Bool E) → IfOk r (λ b. IsTrue b ↔ P) → (P → Q) → (Q → P) → IfOk r (λ b. IsTrue b ↔ Q)
+told_too r h to from = told_by r h (λ b same. (λ is. to (same.0 is), λ q. same.1 (from q)))
+
+-- rows that were read, all of them
+pub what_was_read : {X Z : Type 0} (read : Row → Result X RowFault) (given rows : List Row) (o : Option (Vec X Z)) (found : Vec X Z)
+    → given ≡ rows → o ≡ Some found → AreRead read given o → all_in read rows ≡ Ok found.items
+what_was_read read given rows o found same is h = ap (all_in read) (sym same) ∙ subst (AreRead read given) is h
 
 module _ (row : InstallationRow) (rows : MeterRows) where
   pub no_range : ((n : ℕ) → (all_in range_in rows.ranges.items ≡ Ok (n ∷ [])) ↔ (None ≡ Some n)) → IsFine row rows → ⊥
@@ -61,3 +77,15 @@ module _ (row : InstallationRow) (rows : MeterRows) where
         (subst (λ vs. IsLawful range row vs fine.entries fine.shares) voided
         (subst (λ n. IsLawful n row fine.voids fine.entries fine.shares) same_range fine.lawful)))),
   )
+
+  -- the same, where it was handed on as slices
+  pub fine_found : (range : ℕ) (voids named vs : List ℕ) (entries es : List TableRow) (shares ss : List Share) (b : Bool)
+      → named ≡ voids → vs ≡ voids → es ≡ entries → ss ≡ shares
+      → all_in range_in rows.ranges.items ≡ Ok (range ∷ []) → all_in place_in rows.voids.items ≡ Ok voids
+      → all_in (entry_in named) rows.entries.items ≡ Ok entries → all_in share_in rows.intervals.items ≡ Ok shares
+      → IsTrue b ↔ IsLawful range row vs es ss → IsTrue b ↔ IsFine row rows
+  fine_found range voids named vs entries es shares ss b n_is v_is e_is s_is r v e s told =
+      fine_as_read range voids entries shares b r v (ap (λ (xs : List ℕ). all_in (entry_in xs) rows.entries.items) (sym n_is) ∙ e) s
+      (subst (λ x. IsTrue b ↔ IsLawful range row voids entries x) s_is
+      (subst (λ x. IsTrue b ↔ IsLawful range row voids x ss) e_is
+      (subst (λ x. IsTrue b ↔ IsLawful range row x es ss) v_is told)))
