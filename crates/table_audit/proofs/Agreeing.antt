@@ -12,7 +12,7 @@ use Rattle.meter_audit.specs.Rows.{opening_row, later_rows}
 use Rattle.meter_audit.specs.Fitting.{AreTold, Tables, AreFine}
 use Rattle.meter_audit.specs.Passing.{MayBeChecked, passed}
 use Rattle.meter_audit.specs.Going.{HasGone, GoesOn, Agrees, FinishedIsFine, RefusedIsNotFine}
-use Rattle.meter_audit.proofs.Apart.{same_head, same_tail, told_more}
+use Rattle.meter_audit.proofs.Apart.{same_head, told_more}
 use Rattle.store_tables.specs.declared.meters.rows.InstallationRow.{InstallationRow}
 use Rattle.table_audit.specs.Lawful.{last_shown, IsOpenedBy, tables_from, IsLawful, RestAgrees}
 

@@ -1,5 +1,5 @@
 -- Values of rows as the queries show them.
-use Rattle.std.specs.Prelude.{◌≡◌, ℕ, ◌==◌, Bool, List, [], ◌∷◌, Option, Some, None, Result, Ok, Err, Vec, if◌then◌else◌}
+use Rattle.std.specs.Prelude.{◌≡◌, ℕ, ◌==◌, Bool, List, [], ◌∷◌, Option, Some, None, Result, Ok, Vec, if◌then◌else◌}
 use Rattle.std.specs.List.{list_any}
 use Rattle.std.specs.Option.{option_and_then}
 use Rattle.energy_core.specs.declared.limits.TheConstants.{MAX_RANGE, MAX_SHOWN, MAX_TOTAL, MIN_RANGE}

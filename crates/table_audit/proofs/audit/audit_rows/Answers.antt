@@ -1,9 +1,5 @@
-use Rattle.std.proofs.Common.{rules, ◌≡◌, ◌↔◌, ℕ, Bool, List, [], ◌∷◌, Option, Some, None, Ok, IsTrue, refl, sym, ap, subst, ◌∙◌}
-use Rattle.interval_core.specs.declared.shares.Share.{Share}
-use Rattle.meter_audit.specs.declared.rows.TableRow.{TableRow}
+use Rattle.std.proofs.Common.{rules, ◌≡◌, ◌↔◌, ℕ, List, [], ◌∷◌, Some, None, Ok, refl, sym, ap, subst, ◌∙◌}
 use Rattle.sqlite.specs.Order.{Row}
-use Rattle.table_audit.specs.Fine.{IsFine}
-use Rattle.table_audit.specs.Lawful.{IsLawful}
 use Rattle.table_audit.specs.Reading.{entry_in, place_in, share_in, range_in, all_in}
 use Rattle.table_audit.proofs.Found.{never, told_by, what_was_read, no_range, fine_found}
 use Rattle.table_audit.proofs.audit.audit_rows.Goals as goal

@@ -1,5 +1,5 @@
 use Rattle.std.proofs.Common.{Ok, sym, ap, ◌∙◌, arith}
-use Rattle.table_audit.specs.Reading.{place_in, all_in}
+use Rattle.table_audit.specs.Reading.{place_in}
 use Rattle.table_audit.proofs.ReadRows.{next_read, unread, all_read}
 use Rattle.table_audit.proofs.reading.places.Goals as goal
 
