@@ -4,7 +4,7 @@ ghost use Rattle.sun_points.specs.Scale.{scale_of};
 ghost use Rattle.point_list.specs.Fields.{fixed_scale_of, minus, number_of, number_within};
 ghost use Rattle.point_list.specs.Fields.{function_of, text_type_of, type_of};
 
-use mb_wire::ReadFunction;
+use mb_wire::{MAX_READ_REGISTERS, ReadFunction};
 use sun_points::{PointType, Scale, TextLength, number_of_digits};
 
 /// The most digits of a whole number.
@@ -45,7 +45,7 @@ fn text_type(field: &[u8]) -> Option<PointType>
     if !field.starts_with(b"string") {
         return None;
     }
-    let registers = number_in(1, 125, &field[6..])?;
+    let registers = number_in(1, u64::from(MAX_READ_REGISTERS), &field[6..])?;
     let length = TextLength::new(registers as u16)?;
     Some(PointType::Text(length))
 }

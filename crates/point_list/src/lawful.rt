@@ -8,6 +8,7 @@ ghost use Rattle.sun_points.specs.PointType.{registers_of};
 
 use crate::name::is_point_name;
 use crate::point::{ListedPoint, PointScale, find_scale};
+use mb_wire::{ADDRESSES, MAX_READ_REGISTERS};
 use sun_points::PointType;
 
 /// The most points of a list.
@@ -40,7 +41,9 @@ pub fn is_group(point: &ListedPoint, scale: &ListedPoint) -> bool
 {
     let first = u32::from(point.address).min(u32::from(scale.address));
     let last = end(point).max(end(scale));
-    point.function == scale.function && point.area == scale.area && last <= first + 125
+    point.function == scale.function
+        && point.area == scale.area
+        && last <= first + u32::from(MAX_READ_REGISTERS)
 }
 
 fn has_lawful_scale(points: &[ListedPoint], point: &ListedPoint) -> bool
@@ -61,10 +64,10 @@ fn has_lawful_scale(points: &[ListedPoint], point: &ListedPoint) -> bool
 
 fn has_registers(point: &ListedPoint) -> bool
     ensures { IsTrue result
-        ↔ ((1 ≤ registers_of point.now.kind) × (registers_of point.now.kind ≤ 125)) }
+        ↔ ((1 ≤ registers_of point.now.kind) × (registers_of point.now.kind ≤ MAX_READ_REGISTERS)) }
 {
     let registers = point.kind.registers();
-    1 <= registers && registers <= 125
+    1 <= registers && registers <= MAX_READ_REGISTERS
 }
 
 fn has_other_name(point: &ListedPoint, name: &[u8]) -> bool
@@ -100,15 +103,16 @@ fn are_named(points: &[ListedPoint]) -> bool
 
 fn all_have_registers(points: &[ListedPoint]) -> bool
     ensures { IsTrue result ↔ All
-        (λ point. (1 ≤ registers_of point.kind) × (registers_of point.kind ≤ 125)) points.now }
+        (λ point. (1 ≤ registers_of point.kind) × (registers_of point.kind ≤ MAX_READ_REGISTERS))
+        points.now }
 {
     points.iter().all(|point| has_registers(point))
 }
 
 fn are_inside(points: &[ListedPoint]) -> bool
-    ensures { IsTrue result ↔ All (λ point. end_of point ≤ 65536) points.now }
+    ensures { IsTrue result ↔ All (λ point. end_of point ≤ ADDRESSES) points.now }
 {
-    points.iter().all(|point| end(point) <= 65536)
+    points.iter().all(|point| end(point) <= ADDRESSES)
 }
 
 fn are_scaled(points: &[ListedPoint]) -> bool

@@ -12,6 +12,7 @@ use crate::fields::{fixed_scale, function, number_in, point_type};
 use crate::lawful::{POINT_LIMIT, is_scaled_type};
 use crate::name::is_point_name;
 use csv::ByteRecord;
+use mb_wire::ADDRESSES;
 use sun_points::PointType;
 
 /// The six fields of a row.
@@ -69,7 +70,7 @@ fn is_past_end(address: Option<u64>, kind: Option<PointType>) -> bool
     ensures { result ≡ reaches_past address kind }
 {
     match (address, kind) {
-        (Some(address), Some(kind)) => address > 65536 - u64::from(kind.registers()),
+        (Some(address), Some(kind)) => address > u64::from(ADDRESSES) - u64::from(kind.registers()),
         _ => false,
     }
 }
