@@ -8,7 +8,7 @@ use Rattle.sqlite.specs.State.{HasCleanDisk, KeepsCommit}
 use Rattle.office_events.specs.declared.facts.Fact.{Fact}
 use Rattle.office_rules.specs.Lawful.{AreLawful}
 use Rattle.store_tables.specs.Content.{Content, AreTables}
-use Rattle.store_tables.specs.Failing.{GoesOn}
+use Rattle.store_tables.specs.Failing.{StateAfterCall}
 use Rattle.store_facts.specs.Tables.{AreOf}
 
 -- A database has the tables of these facts.
@@ -50,7 +50,7 @@ module _ {S : Type 0} (g : Ghosts S) (zone : List ℕ) where
     pub left : (facts : List Fact) → HoldsFacts old facts → HasCleanDisk (state g new)
         → (trees : Trees) → (state g new).may_leave trees → (state g old).may_leave trees
     pub goes : (facts : List Fact) → HoldsFacts old facts → HasCleanDisk (state g new)
-        → GoesOn (state g old) (state g new)
+        → StateAfterCall (state g old) (state g new)
 
   -- Facts that may follow those that are known were booked at Ok, all of them, and a stop leaves nothing else from then on.
   -- At a fault none is known, and a stop may yet leave all of them. To book no facts does nothing.

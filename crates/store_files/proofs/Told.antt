@@ -16,7 +16,7 @@ use Rattle.store_files.specs.Upgrade.{IsOpenTo}
 use Rattle.store_files.specs.Meta.{Meta, IsMarked}
 use Rattle.store_files.specs.Zones.{IsZone}
 use Rattle.sqlite.specs.declared.error.Error.{Error}
-use Rattle.store_tables.specs.Failing.{IsStoreError, GoesOn}
+use Rattle.store_tables.specs.Failing.{IsStoreError, StateAfterCall}
 use Rattle.store_tables.proofs.Failures.{later_failed}
 use Rattle.store_tables.proofs.StepLemmas.{kept_then}
 use Rattle.store_files.specs.Faults.{fault_of, IsOwnFault}
@@ -44,7 +44,7 @@ own_fault a b error e is kind up (inl want) = subst (IsOwnFault a b) (sym (is �
 own_fault a b error e is kind up (inr (inl failed)) = is_store a b e kind (up, inl failed)
 own_fault a b error e is kind up (inr (inr stopped)) = is_store a b e kind (up, inr stopped.1)
 
-pub later_own : (a b c : State) (e : OpenFault) → GoesOn a b → IsOwnFault b c e → IsOwnFault a c e
+pub later_own : (a b c : State) (e : OpenFault) → StateAfterCall a b → IsOwnFault b c e → IsOwnFault a c e
 later_own a b c Store goes own = (omega (arith, goes.faults, own.0), elim own.1 [ inl failed ↦ inl (later_failed a b c goes own.0 failed) | inr limit ↦ inr (subst IsSome goes.limit limit) ])
 later_own a b c Memory goes own = tt
 later_own a b c NotOurs goes own = absurd own
@@ -98,7 +98,7 @@ tells_well version m a b c z it = record {
 }
 
 -- the store had gone on before it was asked
-pub tells_since : (version : ℕ) (m : Meta) (a b c : State) (r : Result Zone OpenFault) → GoesOn a b → KeepsCommit a b → TellsOpening version m b c r → TellsOpening version m a c r
+pub tells_since : (version : ℕ) (m : Meta) (a b c : State) (r : Result Zone OpenFault) → StateAfterCall a b → KeepsCommit a b → TellsOpening version m b c r → TellsOpening version m a c r
 tells_since version m a b c (Ok z) goes kept it = record {
   other = λ off. ((it.other off).0, tt);
   ours = λ same. tt;

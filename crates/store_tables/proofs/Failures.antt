@@ -26,7 +26,7 @@ use Rattle.sqlite.proofs.Callers.{IsPlain, command_of}
 use Rattle.sqlite.specs.Schema.{Schema}
 use Rattle.store_tables.specs.declared.faults.RowFault.{RowFault}
 use Rattle.store_tables.specs.declared.faults.RowFault.TheVariants.{Sql, Damaged}
-use Rattle.store_tables.specs.Failing.{HasFailed, IsStoreError, IsFault, IsRowFault, GoesOn}
+use Rattle.store_tables.specs.Failing.{HasFailed, IsStoreError, IsFault, IsRowFault, StateAfterCall}
 use Rattle.store_tables.proofs.Scans.{scan}
 
 -- the text is one statement with so many parameters
@@ -141,13 +141,13 @@ on_err (Ok x) f h = tt
 on_err (Err e) f h = f e h
 
 -- nothing was asked, or one call went by
-pub still_goes : (a : State) → GoesOn a a
+pub still_goes : (a : State) → StateAfterCall a a
 still_goes a = record { faults = omega arith; closes = λ is. inl is; limit = refl }
 
-pub went_on : (a b : State) (Commits : Trees → Type 0) → HasCleanDisk b → Survives a b Commits → GoesOn a b
+pub went_on : (a b : State) (Commits : Trees → Type 0) → HasCleanDisk b → Survives a b Commits → StateAfterCall a b
 went_on a b Commits clean s = record { faults = s.counts; closes = s.closes clean; limit = s.limit }
 
-pub goes_then : (a b c : State) → GoesOn a b → GoesOn b c → GoesOn a c
+pub goes_then : (a b c : State) → StateAfterCall a b → StateAfterCall b c → StateAfterCall a c
 goes_then a b c one two = record {
   faults = omega (arith, one.faults, two.faults);
   closes = λ is. elim (one.closes is) [
@@ -158,7 +158,7 @@ goes_then a b c one two = record {
 }
 
 -- a store that failed since had failed before it is asked again
-pub later_failed : (a b c : State) → GoesOn a b → b.faults ≤ c.faults → HasFailed b c → HasFailed a c
+pub later_failed : (a b c : State) → StateAfterCall a b → b.faults ≤ c.faults → HasFailed b c → HasFailed a c
 later_failed a b c goes up (inr more) = inr (let first = goes.faults in omega arith)
 later_failed a b c goes up (inl shut) = elim (cases_Bool a.is_open) [
   | inr was_shut ↦ inl was_shut
@@ -168,12 +168,12 @@ later_failed a b c goes up (inl shut) = elim (cases_Bool a.is_open) [
   ]
 ]
 
-pub later_error : (a b c : State) (e : Error) → GoesOn a b → b.faults ≤ c.faults → IsStoreError b c e → IsStoreError a c e
+pub later_error : (a b c : State) (e : Error) → StateAfterCall a b → b.faults ≤ c.faults → IsStoreError b c e → IsStoreError a c e
 later_error a b c e goes up (inl want) = inl want
 later_error a b c e goes up (inr (inr stopped)) = inr (inr (stopped.0, subst IsSome goes.limit stopped.1))
 later_error a b c e goes up (inr (inl failed)) = inr (inl (later_failed a b c goes up failed))
 
-pub later_fault : (a b c : State) (Sound : Type 0) (f : RowFault) → GoesOn a b → b.faults ≤ c.faults → IsFault b c Sound f → IsFault a c Sound f
+pub later_fault : (a b c : State) (Sound : Type 0) (f : RowFault) → StateAfterCall a b → b.faults ≤ c.faults → IsFault b c Sound f → IsFault a c Sound f
 later_fault a b c Sound (Sql e) goes up why = later_error a b c e goes up why
 later_fault a b c Sound Damaged goes up why = why
 

@@ -34,7 +34,7 @@ IsRowFault IsSound (Sql e) = e ≡ want_of_memory
 IsRowFault IsSound Damaged = ¬ IsSound
 
 -- A store goes on after a call: no failure of its disk is forgotten, only such a one shuts it, and its limit stays.
-pub record GoesOn (old new : State) : Type 0 where
+pub record StateAfterCall (old new : State) : Type 0 where
   pub faults : old.faults ≤ new.faults
   pub closes : IsTrue old.is_open → IsTrue new.is_open ⊎ MoreFaults old.faults new.faults
   pub limit : new.step_limit ≡ old.step_limit

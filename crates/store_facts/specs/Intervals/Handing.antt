@@ -16,7 +16,7 @@ use Rattle.store_tables.specs.declared.faults.RowFault.{RowFault}
 use Rattle.store_tables.specs.declared.faults.RowFault.TheVariants.{Sql, Damaged}
 use Rattle.store_tables.specs.Content.{Content, AreTables, HasRows}
 use Rattle.store_tables.specs.Answer.{AreFound, FirstFirst}
-use Rattle.store_tables.specs.Failing.{IsFault, GoesOn}
+use Rattle.store_tables.specs.Failing.{IsFault, StateAfterCall}
 use Rattle.store_tables.specs.Asking.{Asks}
 use Rattle.store_tables.specs.Meters.Trees.{installations}
 use Rattle.store_tables.specs.Meters.Rows.{Installed, installed_columns, installed_place, is_at}
@@ -141,7 +141,7 @@ pub record HasStopped {S : Type 0} (g : Ghosts S) (sql : List ℕ) (params : Row
     (e : Error) : Type 0 where
   pub asked : Held S
   pub same : (state g asked).now ≡ (state g old).now
-  pub goes : GoesOn (state g old) (state g asked)
+  pub goes : StateAfterCall (state g old) (state g asked)
   pub counts : (state g asked).faults ≤ (state g new).faults
   pub fails : FailsToQuery sql params (state g asked) (state g new) e
 
