@@ -33,10 +33,10 @@ pub record HasGone (meter : Installed) (told : List TableRow) (done : List Share
   pub begun : progress.wanted.items ≡ [] → done ≡ []
 
 -- What a check that went over rows makes of one more: it went over that one too, or tells why that is refused.
-abbrev pub GoesOn : Installed → Progress → TableRow → Progress → Option RowFault → Type 0
-GoesOn meter old row new None = (told : List TableRow) (done : List Share)
+abbrev pub GoesOver : Installed → Progress → TableRow → Progress → Option RowFault → Type 0
+GoesOver meter old row new None = (told : List TableRow) (done : List Share)
     → HasGone meter told done old → HasGone meter (row ∷ told) done new
-GoesOn meter old row new (Some fault) = passed meter old.check row ≡ Err fault
+GoesOver meter old row new (Some fault) = passed meter old.check row ≡ Err fault
 
 -- how many interval rows no later entry adds to: all but the last
 abbrev pub settled_in : List Share → ℕ

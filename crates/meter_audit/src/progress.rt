@@ -3,7 +3,7 @@ ghost use Rattle.std.specs.Prelude.{◌≡◌, ◌<◌, ◌^◌, [], drop};
 ghost use Rattle.std.specs.Prelude.{IfOk, OnOk};
 ghost use Rattle.meter_journal.specs.declared.lines.Installed.{Installed as TheMeter};
 ghost use Rattle.meter_audit.specs.Passing.{MayBeChecked};
-ghost use Rattle.meter_audit.specs.Going.{IsSoundProgress, HasGone, GoesOn, DropsDone, settled_in};
+ghost use Rattle.meter_audit.specs.Going.{IsSoundProgress, HasGone, GoesOver, DropsDone, settled_in};
 
 use crate::checks::{Check, begin, pass};
 use crate::faults::RowFault;
@@ -44,7 +44,7 @@ pub fn take_row(
     requires sound { IsSoundProgress meter.now progress.old }
     requires place { row.now.place < 2 ^ 63 }
     ensures sound { OnOk result (IsSoundProgress meter.now progress.new) }
-    ensures goes_on { IfOk result (GoesOn meter.now progress.old row.now progress.new) }
+    ensures goes_on { IfOk result (GoesOver meter.now progress.old row.now progress.new) }
 {
     shares_add_up();
     passed_rows_fit();
