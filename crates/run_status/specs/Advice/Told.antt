@@ -51,14 +51,14 @@ pushed false told numbers = numbers
 abbrev pub Adds : ToldNumber → (old new : List ToldNumber) → (is_told : Bool) → Type 0
 Adds told old new is_told = new ≡ pushed is_told told old
 
-abbrev pub TellsAt : (place : Option ℕ) → ToldNumber → (old new : List ToldNumber)
+abbrev pub TellsNumberAt : (place : Option ℕ) → ToldNumber → (old new : List ToldNumber)
     → (is_told : Bool) → Type 0
-TellsAt None told old new is_told = Adds told old new is_told
-TellsAt (Some place) told old new is_told = Changes place told old new is_told
+TellsNumberAt None told old new is_told = Adds told old new is_told
+TellsNumberAt (Some place) told old new is_told = Changes place told old new is_told
 
 -- A number is told of a device or meter where another was told last, or none.
-abbrev pub Tells : ToldNumber → (old new : List ToldNumber) → (is_told : Bool) → Type 0
-Tells told old new is_told = TellsAt (place_of told old) told old new is_told
+abbrev pub TellsNumber : ToldNumber → (old new : List ToldNumber) → (is_told : Bool) → Type 0
+TellsNumber told old new is_told = TellsNumberAt (place_of told old) told old new is_told
 
 -- none is told of it
 abbrev pub nothing_of : Topic → (name : Option (List ℕ)) → ToldNumber

@@ -43,12 +43,12 @@ is_due queue = not (queue.dropped == 0) && is_written queue
 abbrev pub told : (at : ℕ) → Queue → Queue
 told at queue = record { put = with_dropped at queue.dropped []; written = 0; dropped = 0 }
 
-abbrev pub TellsBy : (due : Bool) → (at : ℕ) → (old new : Queue) → Type 0
-TellsBy true at old new = (new ≡ told at old) ⊎ (new ≡ emptied old)
-TellsBy false at old new = new ≡ old
+abbrev pub TellsDroppedBy : (due : Bool) → (at : ℕ) → (old new : Queue) → Type 0
+TellsDroppedBy true at old new = (new ≡ told at old) ⊎ (new ≡ emptied old)
+TellsDroppedBy false at old new = new ≡ old
 
-abbrev pub Tells : (at : ℕ) → (old new : Queue) → Type 0
-Tells at old new = TellsBy (is_due old) at old new
+abbrev pub TellsDropped : (at : ℕ) → (old new : Queue) → Type 0
+TellsDropped at old new = TellsDroppedBy (is_due old) at old new
 
 -- There is room for a text where none was dropped, and it is the first, or all is not too much.
 abbrev pub has_room : (text : List ℕ) → Queue → Bool

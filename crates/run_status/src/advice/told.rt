@@ -131,7 +131,7 @@ impl Told {
     /// Whether a number is to be told of a device or a meter: another was told last, or none. It counts as told then. Of a
     /// device or meter for which there is no room nothing is told.
     pub fn tell(&mut self, told: ToldNumber) -> bool
-        ensures { specs.Tells told self.old.numbers.items self.new.numbers.items result }
+        ensures { specs.TellsNumber told self.old.numbers.items self.new.numbers.items result }
     {
         match self.place_of(&told) {
             Some(place) => self.change(place, told),

@@ -115,7 +115,7 @@ impl LineQueue {
     /// Puts a line that tells how many were dropped up to this moment, once all that waited was written. Where there is no
     /// memory for it, it is told later.
     pub fn tell_dropped(&mut self, at: u64)
-        ensures { queues.Tells at (queue_of self.old) (queue_of self.new) }
+        ensures { queues.TellsDropped at (queue_of self.old) (queue_of self.new) }
     {
         if self.dropped == 0 || !self.is_written() {
             return;
