@@ -3,7 +3,7 @@ use Rattle.std.specs.Prelude.{ℕ, ◌+◌, ◌-◌, ◌==◌, ◌&&◌, ◌||�
 use Rattle.std.specs.Option.{option_map_or}
 use Rattle.std.specs.declared.option.Option.{Option}
 use Rattle.mb_wire.specs.Spans.{Span}
-use Rattle.mb_wire.specs.declared.limits.TheConstants.{MAX_READ_REGISTERS}
+use Rattle.mb_wire.specs.declared.limits.TheConstants.{ADDRESSES, MAX_READ_REGISTERS}
 use Rattle.mb_wire.specs.declared.span.ReadFunction.TheVariants.{HoldingRegisters}
 use Rattle.sun_chain.specs.Image.{Words}
 use Rattle.sun_chain.specs.Chain.{is_marked, next_after}
@@ -20,7 +20,7 @@ holding address count =
 -- registers at most as many as one read may ask for
 abbrev pub wanted : Stage → Option Span
 wanted (Mark address) = Some (holding address 2)
-wanted (Head address models) = Some (holding address (min 2 (65536 - address)))
+wanted (Head address models) = Some (holding address (min 2 (ADDRESSES - address)))
 wanted (Ending address) = Some (holding address 1)
 wanted (Registers model asked models) =
     Some (holding (model.address + 2 + asked) (min MAX_READ_REGISTERS (model.length - asked)))
@@ -60,7 +60,7 @@ in_model models model =
 -- no model has the end's ID, is the 65th, or reaches past the last address
 abbrev pub may_stand : (models : ℕ) → Model → Bool
 may_stand models model =
-    not (model.id == 0xFFFF) && nat_lt models 64 && nat_le (next_after model) 65536
+    not (model.id == 0xFFFF) && nat_lt models 64 && nat_le (next_after model) ADDRESSES
 
 abbrev pub checked : (models : ℕ) → Model → Option Model
 checked models model = if may_stand models model then Some model else None
@@ -96,11 +96,11 @@ stage_after word (Registers model asked models) =
     else head_at models (next_after model)
 stage_after word Over = Over
 
--- registers that are asked for are inside the 65536 of a device
+-- registers that are asked for are inside those of a device
 abbrev pub fits : Stage → Bool
 fits (Mark address) = nat_le address 50000
 fits (Head address models) = nat_le models 64
 fits (Ending address) = true
 fits (Registers model asked models) =
-    nat_lt asked model.length && nat_le (next_after model) 65536 && nat_le models 64
+    nat_lt asked model.length && nat_le (next_after model) ADDRESSES && nat_le models 64
 fits Over = true

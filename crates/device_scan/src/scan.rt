@@ -135,7 +135,7 @@ fn holding(address: u16, count: u16) -> ReadSpan
 
 // An ID and a length; the last address has no second register.
 fn head_count(address: u16) -> u16
-    ensures { result ≡ min 2 (65536 - address) }
+    ensures { result ≡ min 2 (ADDRESSES - address) }
 {
     if address == u16::MAX { 1 } else { 2 }
 }
@@ -195,7 +195,7 @@ fn ending_at(address: u16) -> Stage
 // The model behind so many others that stands at an address.
 fn model_in(image: &Image, address: u16, models: u8) -> Option<Model>
     ensures model { result ≡ model_in (word_in image.now) models address }
-    ensures inside { IfSome result (λ model. next_after model ≤ 65536) }
+    ensures inside { IfSome result (λ model. next_after model ≤ ADDRESSES) }
     ensures few { IsSome result → models < 64 }
 {
     let id = image.word(address)?;
@@ -214,7 +214,7 @@ fn model_in(image: &Image, address: u16, models: u8) -> Option<Model>
 
 // What is asked for behind the head of the last of so many models.
 fn in_model(model: Model, models: u8) -> Stage
-    requires inside { next_after model ≤ 65536 }
+    requires inside { next_after model ≤ ADDRESSES }
     requires few { models ≤ 64 }
     ensures stage { result ≡ in_model models model }
     ensures inside { IsTrue (fits result) }
@@ -228,7 +228,7 @@ fn in_model(model: Model, models: u8) -> Stage
 
 fn after_registers(model: Model, asked: u16, models: u8) -> Stage
     requires asked { asked < model.length }
-    requires inside { next_after model ≤ 65536 }
+    requires inside { next_after model ≤ ADDRESSES }
     requires few { models ≤ 64 }
     ensures stage { result ≡
         stage_after (λ address. None) (Stage.Registers model asked models) }
