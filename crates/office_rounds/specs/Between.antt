@@ -146,8 +146,8 @@ module _ {L B C W : Type 0} (l : links.Ghosts L) (b : stores.Ghosts B) (c : cloc
       (wire_of l to) new (one ∷ fed) there result (λ done. next_in past (one ∷ fed))
 
   -- What the round wants is fed, whatever is next.
-  abbrev pub GoesOn : StepsBetween (Unit {0})
-  GoesOn here there from to old new before after had holds result =
+  abbrev pub FeedsWanted : StepsBetween (Unit {0})
+  FeedsWanted here there from to old new before after had holds result =
       (now : Next) → StepsOn now (λ done. settled now) here there from to old new before after had
       holds result
 

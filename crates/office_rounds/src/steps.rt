@@ -2,7 +2,7 @@
 ghost use Rattle.std.specs.Prelude.{◌≡◌, IfOk};
 ghost use Rattle.std.specs.Io.KnownBytes.{Consumes, Keeps};
 ghost use Rattle.mb_wire.specs.Links.{risen};
-ghost use Rattle.office_rounds.specs.Between.{FeedsTaken, Follows, GoesOn, Puts, TakesTurn};
+ghost use Rattle.office_rounds.specs.Between.{FeedsTaken, FeedsWanted, Follows, Puts, TakesTurn};
 ghost use Rattle.office_rounds.specs.Course.{IsTaken};
 ghost use Rattle.office_rounds.specs.Faults.{AreGiven, OnlyLink, TakesOn, is_link_fault};
 ghost use Rattle.office_rounds.specs.Passing.{Lasts};
@@ -90,7 +90,7 @@ pub(crate) fn go_on<L: Link, B: Books, C: Clock, W: Write>(
     clock: &mut C,
     output: &mut W,
 ) -> Result<(), RoundFault>
-    ensures steps { GoesOn L.Link B.Books C.Clock W.Write progress.old progress.new
+    ensures steps { FeedsWanted L.Link B.Books C.Clock W.Write progress.old progress.new
         link.old link.new office.old office.new clock.old clock.new output.old output.new result }
     ensures failures { L.failed link.new ≡ risen (is_link_fault result) (L.failed link.old) }
     ensures takes { L.taken link.new ≡ L.taken link.old }
