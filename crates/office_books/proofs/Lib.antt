@@ -1,4 +1,5 @@
 pub mod Moving
 pub mod Handing
 pub mod Listing
+pub mod Planning
 mod Examples

@@ -6,3 +6,4 @@ pub mod Rows
 pub mod Same
 pub mod Spans
 pub mod Entries
+pub mod Plans

@@ -4,6 +4,7 @@ use crate::entries::MeterEntry;
 use crate::faults::BooksFault;
 use crate::spans::Span;
 use interval_core::{Share, Zone};
+use mb_wire::ReadSpan;
 use office_events::{
     CommandKind, Device, EntryPlace, Fact, Installation, Name, PlannedList, Poll, PollRow, Register,
 };
@@ -47,6 +48,7 @@ pub trait Books: Drop {
     ghost use Rattle.office_books.specs.Rows.{HandsOn};
     ghost use Rattle.office_books.specs.Same.{AreKnown};
     ghost use Rattle.office_books.specs.Spans.{rows_within};
+    ghost use Rattle.office_books.specs.Plans.{read_count_of, reads_from};
 
     /// What is known of them.
     ghost ledger: { Self → Ledger };
@@ -73,6 +75,18 @@ pub trait Books: Drop {
     fn list(&mut self, device: &Name) -> Result<Option<PlannedList>, BooksFault>
         ensures found { Finds (ledger self.old) (ledger self.new) result
             (λ known list. list ≡ list_of known device.now) }
+        ensures reads { OnlyReads (ledger self.old) (ledger self.new) result };
+
+    /// How many reads the plan of a device has, where it has a point list.
+    fn read_count(&mut self, device: &Name) -> Result<Option<usize>, BooksFault>
+        ensures found { Finds (ledger self.old) (ledger self.new) result
+            (λ known n. n ≡ read_count_of (list_of known device.now)) }
+        ensures reads { OnlyReads (ledger self.old) (ledger self.new) result };
+
+    /// The registers of the reads of that plan from one on, in their order: at most so many. Reads are numbered from 0 on.
+    fn reads(&mut self, device: &Name, from: u64, most: usize) -> Result<Vec<ReadSpan>, BooksFault>
+        ensures found { Finds (ledger self.old) (ledger self.new) result
+            (λ known v. v.items ≡ reads_from from most (list_of known device.now)) }
         ensures reads { OnlyReads (ledger self.old) (ledger self.new) result };
 
     /// The register of a name.

@@ -9,6 +9,7 @@ mod faults;
 mod named;
 mod next_entry;
 mod openings;
+mod plans;
 mod soundness;
 mod spans;
 
@@ -17,8 +18,9 @@ pub use books::{Books, Repeat, RowSink};
 pub use entries::{MeterEntry, list_entries};
 pub use failures::Failures;
 pub use faults::{BooksFault, StoreFault};
-pub use named::{list_at, meter_at};
+pub use named::{list_at, meter_at, read_count_at, reads_at};
 pub use next_entry::{after_entry, moved, verdict_at};
 pub use openings::{begun, has_numbers, installed, opened};
+pub use plans::{read_count, reads_from};
 pub use soundness::is_sound;
 pub use spans::Span;

@@ -5,10 +5,13 @@ ghost use Rattle.office_rules.specs.Facts.{list_of};
 ghost use Rattle.office_rules.specs.Meters.{installation_at};
 ghost use Rattle.office_books.specs.Ledgers.{Finds, OnlyReads};
 ghost use Rattle.office_books.specs.Sound.{ReadsInstallation};
+ghost use Rattle.office_books.specs.Plans.{read_count_of, reads_from};
 
 use crate::books::Books;
 use crate::faults::BooksFault;
+use mb_wire::ReadSpan;
 use office_events::{Installation, Name, PlannedList};
+use std::alloc::Global;
 
 /// The point list of the device of a name.
 pub fn list_at<B: Books>(
@@ -22,6 +25,39 @@ pub fn list_at<B: Books>(
     match given {
         None => Ok(None),
         Some(device) => books.list(device),
+    }
+}
+
+/// How many reads the plan of the device of a name has, where it has a point list.
+pub fn read_count_at<B: Books>(
+    books: &mut B,
+    given: &Option<Name>,
+) -> Result<Option<usize>, BooksFault>
+    ensures found { Finds (B.ledger books.old) (B.ledger books.new) result
+        (λ known n. n ≡ read_count_of (option_and_then (list_of known) given.now)) }
+    ensures reads { OnlyReads (B.ledger books.old) (B.ledger books.new) result }
+{
+    match given {
+        None => Ok(None),
+        Some(device) => books.read_count(device),
+    }
+}
+
+/// The registers of the reads of that plan from one on: at most so many.
+pub fn reads_at<B: Books>(
+    alloc: Global,
+    books: &mut B,
+    given: &Option<Name>,
+    from: u64,
+    most: usize,
+) -> Result<Vec<ReadSpan>, BooksFault>
+    ensures found { Finds (B.ledger books.old) (B.ledger books.new) result
+        (λ known v. v.items ≡ reads_from from most (option_and_then (list_of known) given.now)) }
+    ensures reads { OnlyReads (B.ledger books.old) (B.ledger books.new) result }
+{
+    match given {
+        None => Ok(Vec::new(alloc)),
+        Some(device) => books.reads(device, from, most),
     }
 }
 

@@ -1,0 +1,36 @@
+//! The reads of a plan that are asked for.
+ghost use Rattle.std.specs.Prelude.{◌≡◌, IfOk, Some, map};
+ghost use Rattle.office_books.specs.Plans.{read_count_of, reads_from};
+
+use mb_wire::ReadSpan;
+use office_events::PlannedList;
+use read_plan::PlannedRead;
+use std::alloc::{AllocError, Global};
+
+/// The registers of these reads.
+fn spans_of(alloc: Global, reads: &[PlannedRead]) -> Result<Vec<ReadSpan>, AllocError>
+    ensures { IfOk result (λ spans. spans.items ≡ map (λ read. read.span) reads.now) }
+{
+    reads.iter().map(|read| read.span).collect(alloc)
+}
+
+/// How many reads the plan of a list has.
+pub fn read_count(list: &PlannedList) -> usize
+    ensures { Some result ≡ read_count_of (Some list.now) }
+{
+    list.reads().len()
+}
+
+/// The registers of its reads from one on: so many at most. The points are not copied.
+pub fn reads_from(
+    alloc: Global,
+    list: &PlannedList,
+    from: u64,
+    most: usize,
+) -> Result<Vec<ReadSpan>, AllocError>
+    ensures { IfOk result (λ spans. spans.items ≡ reads_from from most (Some list.now)) }
+{
+    let reads = list.reads();
+    let left = &reads[(from as usize).min(reads.len())..];
+    spans_of(alloc, &left[..most.min(left.len())])
+}
