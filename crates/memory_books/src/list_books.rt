@@ -10,6 +10,7 @@ use crate::figures::Figures;
 use crate::lookups;
 use crate::tables::Tables;
 use interval_core::{Share, Zone};
+use mb_wire::ReadSpan;
 use office_books::{Books, BooksFault, MeterEntry, Repeat, RowSink, Span};
 use office_events::{
     Device, EntryPlace, Fact, Installation, Name, PlannedList, Poll, PollRow, Register,
@@ -134,6 +135,23 @@ impl Books for ListBooks {
     fn list(&mut self, device: &Name) -> Result<Option<PlannedList>, BooksFault> {
         self.ready()?;
         let found = self.tables.list(&self.facts, device);
+        told(&mut self.last_failure, found)
+    }
+
+    fn read_count(&mut self, device: &Name) -> Result<Option<usize>, BooksFault> {
+        self.ready()?;
+        Ok(self.tables.read_count(&self.facts, device))
+    }
+
+    fn reads(
+        &mut self,
+        device: &Name,
+        from: u64,
+        most: usize,
+    ) -> Result<Vec<ReadSpan>, BooksFault> {
+        self.ready()?;
+        let alloc = *self.facts.allocator();
+        let found = self.tables.reads(alloc, &self.facts, device, from, most);
         told(&mut self.last_failure, found)
     }
 

@@ -1,6 +1,7 @@
 //! What stands at places of facts.
 ghost use Rattle.std.specs.Prelude.{◌≡◌, IfOk};
 ghost use Rattle.std.specs.List.{filter_map};
+ghost use Rattle.std.specs.Option.{option_copied};
 ghost use Rattle.office_rules.specs.Facts as kinds;
 ghost use Rattle.office_books.specs.Repeats as repeats;
 ghost use Rattle.memory_books.specs.Tables.Lookups as spots;
@@ -56,28 +57,25 @@ pub(crate) fn registers_at(
 }
 
 /// The point list that a fact puts.
-fn as_list(fact: &Fact) -> Result<Option<PlannedList>, AllocError>
-    ensures { IfOk result (λ list. list ≡ spots.listed fact.now) }
+fn as_list(fact: &Fact) -> Option<&PlannedList>
+    ensures { option_copied result ≡ spots.listed fact.now }
 {
     match fact {
         Fact::List(put) => {
             if put.list.points().is_empty() {
-                return Ok(None);
+                return None;
             }
-            Ok(Some(put.list.clone()?))
+            Some(&put.list)
         }
-        _ => Ok(None),
+        _ => None,
     }
 }
 
-/// The point list that is put at a place.
-pub(crate) fn list_at(facts: &[Fact], place: usize) -> Result<Option<PlannedList>, AllocError>
-    ensures { IfOk result (λ list. list ≡ spots.list_at facts.now place) }
+/// The point list that is put at a place, where it stands.
+pub(crate) fn list_at(facts: &[Fact], place: usize) -> Option<&PlannedList>
+    ensures { option_copied result ≡ spots.list_at facts.now place }
 {
-    if place >= facts.len() {
-        return Ok(None);
-    }
-    as_list(&facts[place])
+    as_list(facts.get(place)?)
 }
 
 /// What a request is to one that is kept.

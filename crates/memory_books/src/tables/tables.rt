@@ -1,13 +1,14 @@
 //! All tables of some facts.
 ghost use Rattle.std.specs.Prelude.{◌≡◌, ◌∷◌, List, [], map, reverse, length, IfOk, IfSome, OnOk};
 ghost use Rattle.std.specs.List.{filter_map};
-ghost use Rattle.std.specs.Option.{option_map};
+ghost use Rattle.std.specs.Option.{option_copied, option_map};
 ghost use Rattle.office_events.specs.declared.facts.Fact.{Fact};
 ghost use Rattle.office_rules.specs.Facts.{polls_in, pending_in, list_of, register_of, registers_of, installed_at};
 ghost use Rattle.office_books.specs.Repeats.{repeat_of};
 ghost use Rattle.office_rules.specs.Ranges.{IsSound};
 ghost use Rattle.office_books.specs.Entries.{entries_from, installations_of};
 ghost use Rattle.office_books.specs.Rows.{TakesAll};
+ghost use Rattle.office_books.specs.Plans.{read_count_of, reads_from};
 ghost use Rattle.office_rules.specs.Intervals.{rows_of_meter, rows_of_register};
 ghost use Rattle.office_rules.specs.Lawful.{AreLawful};
 ghost use Rattle.office_rules.specs.Meters.{meter_of, installation_at, installation_of, entry_at};
@@ -23,7 +24,8 @@ use crate::tables::places::{Kind, Places, named};
 use crate::tables::polls::{Pending, Polls};
 use crate::tables::table::Kept;
 use interval_core::Share;
-use office_books::{MeterEntry, Repeat, RowSink, Span};
+use mb_wire::ReadSpan;
+use office_books::{MeterEntry, Repeat, RowSink, Span, read_count, reads_from};
 use office_events::{
     EntryPlace, Fact, Installation, Name, Opening, PlannedList, Poll, PollRow, Register,
 };
@@ -102,14 +104,54 @@ impl Tables {
         self.pending.table.all(alloc)
     }
 
-    /// The point list of a device, among the facts that the tables are of.
+    /// The point list of a device, where it stands among the facts that the tables are of.
+    fn list_among<'a>(&self, facts: &'a [Fact], device: &Name) -> Option<&'a PlannedList>
+        ensures { (known : List Fact) → facts.now ≡ reverse known → AreWhole self.now known
+            → option_copied result ≡ list_of known device.now }
+    {
+        match self.lists.table.latest(named(device)) {
+            Some(place) => list_at(facts, place),
+            None => None,
+        }
+    }
+
+    /// The point list of a device, among those facts.
     pub fn list(&self, facts: &[Fact], device: &Name) -> Result<Option<PlannedList>, AllocError>
         ensures { (known : List Fact) → facts.now ≡ reverse known → AreWhole self.now known
             → IfOk result (λ list. list ≡ list_of known device.now) }
     {
-        match self.lists.table.latest(named(device)) {
-            Some(place) => list_at(facts, place),
+        match self.list_among(facts, device) {
+            Some(list) => Ok(Some(list.clone()?)),
             None => Ok(None),
+        }
+    }
+
+    /// How many reads the plan of a device has, among those facts.
+    pub fn read_count(&self, facts: &[Fact], device: &Name) -> Option<usize>
+        ensures { (known : List Fact) → facts.now ≡ reverse known → AreWhole self.now known
+            → result ≡ read_count_of (list_of known device.now) }
+    {
+        match self.list_among(facts, device) {
+            Some(list) => Some(read_count(list)),
+            None => None,
+        }
+    }
+
+    /// The registers of its reads from one on: at most so many.
+    pub fn reads(
+        &self,
+        alloc: Global,
+        facts: &[Fact],
+        device: &Name,
+        from: u64,
+        most: usize,
+    ) -> Result<Vec<ReadSpan>, AllocError>
+        ensures { (known : List Fact) → facts.now ≡ reverse known → AreWhole self.now known
+            → IfOk result (λ v. v.items ≡ reads_from from most (list_of known device.now)) }
+    {
+        match self.list_among(facts, device) {
+            Some(list) => reads_from(alloc, list, from, most),
+            None => Ok(Vec::new(alloc)),
         }
     }
 
