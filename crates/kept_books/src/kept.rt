@@ -4,7 +4,8 @@ ghost use Rattle.kept_books.specs.Keeping.{StandsAs, beneath, ledger_over};
 
 use crate::known::Known;
 use interval_core::{Share, Zone};
-use office_books::{Books, BooksFault, MeterEntry, Repeat, RowSink, Span};
+use mb_wire::ReadSpan;
+use office_books::{Books, BooksFault, MeterEntry, Repeat, RowSink, Span, read_count};
 use office_events::{
     Device, EntryPlace, Fact, Installation, Name, PlannedList, Poll, PollRow, Register,
 };
@@ -69,6 +70,30 @@ impl<B: Books> Books for KeptBooks<B> {
         let found = self.books.list(device)?;
         self.known.keep_list(device, &found);
         Ok(found)
+    }
+
+    fn read_count(&mut self, device: &Name) -> Result<Option<usize>, BooksFault> {
+        if let Some(count) = self.known.read_count(device) {
+            return Ok(Some(count));
+        }
+        let found = self.books.list(device)?;
+        self.known.keep_list(device, &found);
+        match &found {
+            Some(list) => Ok(Some(read_count(list))),
+            None => Ok(None),
+        }
+    }
+
+    fn reads(
+        &mut self,
+        device: &Name,
+        from: u64,
+        most: usize,
+    ) -> Result<Vec<ReadSpan>, BooksFault> {
+        match self.known.reads(device, from, most) {
+            Some(spans) => Ok(spans),
+            None => self.books.reads(device, from, most),
+        }
     }
 
     fn register(&mut self, name: &Name) -> Result<Option<Register>, BooksFault> {

@@ -7,11 +7,13 @@ ghost use Rattle.office_rules.specs.Meters.{installation_at};
 ghost use Rattle.office_rules.specs.Ranges.{IsSound};
 ghost use Rattle.office_rules.specs.Readings.{poll_row_of};
 ghost use Rattle.office_books.specs.Ledgers.{with_facts};
+ghost use Rattle.office_books.specs.Plans.{read_count_of, reads_from};
 
 use crate::answers::Answers;
 use crate::polls::Polls;
 use crate::standing::go_on;
-use office_books::is_sound;
+use mb_wire::ReadSpan;
+use office_books::{is_sound, read_count, reads_from};
 use office_events::{
     Fact, Installation, MAX_DEVICES, MAX_INSTALLATIONS, MAX_REGISTERS, Name, PlannedList, PollRow,
     Register,
@@ -65,6 +67,31 @@ impl Known {
         };
         match list.clone() {
             Ok(copy) => Some(copy),
+            Err(_) => None,
+        }
+    }
+
+    /// How many reads the plan of a device has, if its point list is kept.
+    pub(crate) fn read_count(&self, device: &Name) -> Option<usize>
+        ensures { (known : List Fact) → AreTrue self.now known
+            → IfSome result (λ n. read_count_of (list_of known device.now) ≡ Some n) }
+    {
+        match self.lists.get(device) {
+            Some(list) => Some(read_count(list)),
+            None => None,
+        }
+    }
+
+    /// The registers of its reads from one on, so many at most, if its point list is kept, and there is memory for them.
+    pub(crate) fn reads(&self, device: &Name, from: u64, most: usize) -> Option<Vec<ReadSpan>>
+        ensures { (known : List Fact) → AreTrue self.now known
+            → IfSome result (λ v. v.items ≡ reads_from from most (list_of known device.now)) }
+    {
+        let Some(list) = self.lists.get(device) else {
+            return None;
+        };
+        match reads_from(self.alloc, list, from, most) {
+            Ok(spans) => Some(spans),
             Err(_) => None,
         }
     }
