@@ -1,4 +1,3 @@
 pub mod Trying
-pub mod Dropping
 pub mod Carried
 pub mod Begun

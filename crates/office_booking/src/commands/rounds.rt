@@ -1,14 +1,13 @@
 //! The reads that a command wants sent.
-ghost use Rattle.std.specs.Prelude.{◌≡◌, true, [], ◌∷◌, map, length, IfOk};
-ghost use Rattle.office_rules.specs.History.{spans_by, round_spans};
+ghost use Rattle.std.specs.Prelude.{◌≡◌, true, [], ◌∷◌, IfOk};
+ghost use Rattle.office_rules.specs.History.{spans_by};
 ghost use Rattle.office_rules.specs.Refusals.{is_start, reads_in_all};
 ghost use Rattle.office_events.specs.declared.commands.Command.TheVariants as command;
 ghost use Rattle.office_books.specs.Ledgers.{Finds, Consults};
 
 use mb_wire::ReadSpan;
-use office_books::{Books, BooksFault, list_at};
-use office_events::{Command, PlannedList, StartRound};
-use read_plan::PlannedRead;
+use office_books::{Books, BooksFault, read_count_at, reads_at};
+use office_events::{Command, StartRound};
 use std::alloc::{AllocError, Global};
 
 /// The reads that are left, and how many there are in all.
@@ -16,33 +15,6 @@ use std::alloc::{AllocError, Global};
 pub struct Reads {
     pub spans: Vec<ReadSpan>,
     pub of: u64,
-}
-
-/// The registers of these reads.
-fn spans_of(alloc: Global, reads: &[PlannedRead]) -> Result<Vec<ReadSpan>, AllocError>
-    ensures { IfOk result (λ spans. spans.items ≡ map (λ read. read.span) reads.now) }
-{
-    reads.iter().map(|read| read.span).collect(alloc)
-}
-
-/// The reads of a list from one on.
-fn reads_from(alloc: Global, list: &Option<PlannedList>, from: u64) -> Result<Reads, AllocError>
-    ensures spans { IfOk result (λ reads. reads.spans.items ≡ round_spans from list.now) }
-    ensures all { IfOk result (λ reads. reads.of ≡ length (round_spans 0 list.now)) }
-{
-    let Some(list) = list else {
-        return Ok(Reads {
-            spans: Vec::new(alloc),
-            of: 0,
-        });
-    };
-    let reads = list.reads();
-    let from = (from as usize).min(reads.len());
-    let spans = spans_of(alloc, &reads[from..])?;
-    Ok(Reads {
-        spans,
-        of: reads.len() as u64,
-    })
 }
 
 /// The reads of a round.
@@ -57,8 +29,17 @@ fn reads_of_round<B: Books>(
         (λ known reads. reads.of ≡ reads_in_all known (command.StartRound round.now)) }
     ensures reads { Consults (B.ledger books.old) (B.ledger books.new) result }
 {
-    let list = list_at(books, &round.device)?;
-    Ok(reads_from(alloc, &list, round.from)?)
+    let Some(of) = read_count_at(books, &round.device)? else {
+        return Ok(Reads {
+            spans: Vec::new(alloc),
+            of: 0,
+        });
+    };
+    let spans = reads_at(alloc, books, &round.device, round.from, of)?;
+    Ok(Reads {
+        spans,
+        of: of as u64,
+    })
 }
 
 /// One read.
