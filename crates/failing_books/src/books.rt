@@ -5,6 +5,7 @@ ghost use Rattle.office_books.specs.declared.faults.BooksFault.TheVariants.{Stor
 ghost use Rattle.office_books.specs.declared.faults.StoreFault.TheVariants.{Refused};
 
 use interval_core::{Share, Zone};
+use mb_wire::ReadSpan;
 use memory_books::ListBooks;
 use office_books::{Books, BooksFault, Failures, MeterEntry, Repeat, RowSink, Span, StoreFault};
 use office_events::{
@@ -88,6 +89,23 @@ impl Books for FailingBooks {
     fn list(&mut self, device: &Name) -> Result<Option<PlannedList>, BooksFault> {
         self.called()?;
         let found = self.books.list(device);
+        self.failures.noted(found)
+    }
+
+    fn read_count(&mut self, device: &Name) -> Result<Option<usize>, BooksFault> {
+        self.called()?;
+        let found = self.books.read_count(device);
+        self.failures.noted(found)
+    }
+
+    fn reads(
+        &mut self,
+        device: &Name,
+        from: u64,
+        most: usize,
+    ) -> Result<Vec<ReadSpan>, BooksFault> {
+        self.called()?;
+        let found = self.books.reads(device, from, most);
         self.failures.noted(found)
     }
 

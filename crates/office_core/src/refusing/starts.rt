@@ -6,16 +6,18 @@ ghost use Rattle.office_events.specs.declared.facts.Device.{Device};
 ghost use Rattle.office_rules.specs.Facts.{polls_in, poll_limit};
 ghost use Rattle.office_rules.specs.Sessions as sessions;
 ghost use Rattle.office_rules.specs.History.{round_spans};
+ghost use Rattle.read_plan.specs.PlannedLists.{Planned};
 ghost use Rattle.office_booking.specs.Sessions.Keeping.{KeepsSlots, KeepsPresent};
 ghost use Rattle.office_booking.specs.Sessions.Places.{StartsOnSlot, has_slot};
 ghost use Rattle.office_books.specs.Ledgers.{Finds, OnlyReads};
+ghost use Rattle.office_books.specs.Plans.{read_count_of};
 ghost use Rattle.office_core.specs.Refusing.Reasons.{IsWhyAmong, Befits};
 ghost use Rattle.office_core.specs.Refusing.Rounds.{HasRoom, HasRoomOn};
 
 use crate::refusing::arrivals::Arrival;
 use office_booking::{Slot, place_of};
-use office_books::{Books, BooksFault, list_at};
-use office_events::{MAX_POLLS, Name, PlannedList, Refusal, StartPoll, StartRound, StoreCause};
+use office_books::{Books, BooksFault, read_count_at};
+use office_events::{MAX_POLLS, Name, Refusal, StartPoll, StartRound, StoreCause};
 use poll_core::Session;
 
 /// How many polls can be started in a row on a session; none where a device has no session.
@@ -41,11 +43,12 @@ fn room(slots: &[Slot], given: &Option<Name>) -> Option<u64>
     }
 }
 
-/// How many reads a plan has from the one of a number on.
-fn reads_left(list: &PlannedList, from: u64) -> u64
-    ensures { result ≡ length (round_spans from (Some list.now)) }
+/// How many reads a plan of so many has from the one of a number on.
+fn reads_left(count: usize, from: u64) -> u64
+    ensures { (list : Option Planned) → Some count ≡ read_count_of list
+        → result ≡ length (round_spans from list) }
 {
-    (list.reads().len() as u64).saturating_sub(from)
+    (count as u64).saturating_sub(from)
 }
 
 /// Whether so many polls more would be numbered past the greatest number.
@@ -107,7 +110,7 @@ pub fn start_round<B: Books>(
     let Some(room) = room(slots, &start.device) else {
         return Ok(Some(Refusal::NotFound));
     };
-    let Some(list) = list_at(books, &start.device)? else {
+    let Some(count) = read_count_at(books, &start.device)? else {
         return Ok(Some(Refusal::NotFound));
     };
     if arrival.is_back {
@@ -116,7 +119,7 @@ pub fn start_round<B: Books>(
     if room == 0 {
         return Ok(Some(Refusal::Busy));
     }
-    let left = reads_left(&list, start.from);
+    let left = reads_left(count, start.from);
     if arrival.is_beyond || left == 0 {
         return Ok(Some(Refusal::Limit));
     }
