@@ -3,6 +3,7 @@ use crate::books::SqlBooks;
 use crate::fault_counts::answered;
 use crate::laws::databases_tell_their_facts;
 use interval_core::{Share, Zone};
+use mb_wire::ReadSpan;
 use office_books::{Books, BooksFault, MeterEntry, Repeat, RowSink, Span};
 use office_events::{
     Device, EntryPlace, Fact, Installation, Name, PlannedList, Poll, PollRow, Register,
@@ -33,6 +34,21 @@ impl<S: Alter + Drop> Books for SqlBooks<S> {
 
     fn list(&mut self, device: &Name) -> Result<Option<PlannedList>, BooksFault> {
         let found = store_queries::list(self.alloc, &mut self.connection, device);
+        answered(&mut self.failures, found)
+    }
+
+    fn read_count(&mut self, device: &Name) -> Result<Option<usize>, BooksFault> {
+        let found = store_queries::read_count(self.alloc, &mut self.connection, device);
+        answered(&mut self.failures, found)
+    }
+
+    fn reads(
+        &mut self,
+        device: &Name,
+        from: u64,
+        most: usize,
+    ) -> Result<Vec<ReadSpan>, BooksFault> {
+        let found = store_queries::reads(self.alloc, &mut self.connection, device, from, most);
         answered(&mut self.failures, found)
     }
 

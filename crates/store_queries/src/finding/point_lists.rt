@@ -4,12 +4,15 @@ ghost use Rattle.office_rules.specs.Facts.{list_of};
 ghost use Rattle.read_plan.specs.PlannedLists.{IsPlanned};
 ghost use Rattle.point_list.specs.Points.{IsPointList};
 ghost use Rattle.store_tables.specs.Failing.{IsRowFault};
+ghost use Rattle.office_books.specs.Plans.{read_count_of, reads_from};
 ghost use Rattle.store_facts.specs.Rows.{points_of};
 ghost use Rattle.store_queries.specs.Finding.Finding.{Finds, OfLawful};
 ghost use Rattle.store_queries.specs.Finding.Points.{HasReadablePoints};
 
 use crate::finding::memory::want_of_memory;
 use crate::finding::point_rows::{points_in, rows_of};
+use mb_wire::ReadSpan;
+use office_books::reads_from;
 use office_events::Name;
 use point_list::{ListedPoint, PointList};
 use read_plan::{PlannedList, lists_are_planned_once};
@@ -62,4 +65,43 @@ pub fn list<S: Alter>(
         return Ok(None);
     }
     Ok(Some(with_plan(alloc, points)?))
+}
+
+/// How many reads the plan of a device has, where it has a point list.
+pub fn read_count<S: Alter>(
+    alloc: Global,
+    conn: &mut Connection<S>,
+    device: &Name,
+) -> Result<Option<usize>, RowFault>
+    requires { conn.old.in_transaction ≡ false }
+    ensures { Finds S.Store conn.old conn.new result
+        (λ facts n. n ≡ read_count_of (list_of facts device.now))
+        (λ facts. IsUtf8 device.now × HasReadablePoints facts device.now) }
+{
+    match list(alloc, conn, device)? {
+        Some(list) => Ok(Some(office_books::read_count(&list))),
+        None => Ok(None),
+    }
+}
+
+/// The registers of the reads of that plan from one on: at most so many.
+pub fn reads<S: Alter>(
+    alloc: Global,
+    conn: &mut Connection<S>,
+    device: &Name,
+    from: u64,
+    most: usize,
+) -> Result<Vec<ReadSpan>, RowFault>
+    requires { conn.old.in_transaction ≡ false }
+    ensures { Finds S.Store conn.old conn.new result
+        (λ facts v. v.items ≡ reads_from from most (list_of facts device.now))
+        (λ facts. IsUtf8 device.now × HasReadablePoints facts device.now) }
+{
+    let Some(list) = list(alloc, conn, device)? else {
+        return Ok(Vec::new(alloc));
+    };
+    let Ok(spans) = reads_from(alloc, &list, from, most) else {
+        return Err(want_of_memory());
+    };
+    Ok(spans)
 }

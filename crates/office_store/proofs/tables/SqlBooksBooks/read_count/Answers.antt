@@ -1,0 +1,14 @@
+use Rattle.std.proofs.Common.{[]}
+use Rattle.office_store.proofs.Looking.{finds, reads}
+use Rattle.office_store.proofs.tables.SqlBooksBooks.read_count.Goals as goal
+
+pub returns-clause-found : goal.returns-clause-found
+returns-clause-found g c =
+    finds g.S.Store c.args.self.now.connection c.read_count-found.new.conn c.args.self.now.failures c.answered.new.failures c.args.self.now.zone c.read_count-found.result c.answered.result c.answered.ensures.answer c.read_count-found.ensures
+
+pub returns-clause-reads : goal.returns-clause-reads
+returns-clause-reads g c =
+    reads g.S.Store c.args.self.now.connection c.read_count-found.new.conn c.args.self.now.failures c.answered.new.failures c.args.self.now.zone c.answered.result c.answered.ensures.noted c.read_count-found.ensures.looks
+
+pub invariant_of-self : goal.invariant_of-self
+invariant_of-self g c = record { idle = (c.read_count-found.ensures.looks []).mode c.args.self.now.idle }
