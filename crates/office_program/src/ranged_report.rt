@@ -13,9 +13,9 @@ use std::alloc::Global;
 use std::io::Write;
 
 /// Opens an office over books to ask it, as `report_books` does, and prints the energy of a register on the days of a range,
-/// by periods, in a unit and a format. All its days are added up, also those outside of the range. Where the opening or the
-/// report is refused, `refused N` alone is printed. A text that is no name is a register that isn't there. The books are
-/// handed back.
+/// by periods, in a unit and a format. Where the range has both ends, only the quarter hours of its days, and of two days more
+/// at each end, are read. Where the opening or the report is refused, `refused N` alone is printed. A text that is no name is a
+/// register that isn't there. The books are handed back.
 pub fn report_range_books<B: Books, C: Clock, W: Write>(
     alloc: Global,
     books: B,
