@@ -1,4 +1,5 @@
 pub mod Handed
 pub mod Rows
 pub mod Spelled
+pub mod Asked
 pub mod Energy

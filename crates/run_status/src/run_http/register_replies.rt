@@ -1,12 +1,15 @@
 //! What a peer is replied who asks for the energy of a register.
 ghost use Rattle.std.specs.Prelude.{◌≡◌, IfOk, OnOk};
-ghost use Rattle.run_status.specs.RunHttp.RegisterReplies.{AsksEnergy, PutsLast, RepliesEnergy, with_energy_reply};
+ghost use Rattle.office_core.specs.Asking.{OnlyAsks, TakesRows};
+ghost use Rattle.run_status.specs.RunHttp.RegisterReplies.{AsksEnergy, PutsLast, RepliesEnergy, TellsDaysAsked};
+ghost use Rattle.run_status.specs.RunHttp.RegisterReplies.{with_energy_reply};
 
 use crate::run_http::route::put_reply;
 use crate::run_http::site::put_refusal;
-use energy_report::{ReportForm, ReportRows};
+use energy_report::{DayRange, ReportForm, ReportRows};
 use http_request::Status;
-use office_books::Books;
+use interval_core::DayTotal;
+use office_books::{Books, RowSink};
 use office_core::Office;
 use office_events::{Name, Refusal};
 use std::alloc::{AllocError, Global};
@@ -34,6 +37,28 @@ fn put_rest<W: Write>(
     }
 }
 
+// Hands on the days of a register that a range has; where it is open at an end, all days of the register. Only the quarter
+// hours of a range that is closed, and of two days more at each end, are read.
+fn days_asked<B: Books, K: RowSink<DayTotal>>(
+    office: &mut Office<B>,
+    register: &Option<Name>,
+    range: DayRange,
+    sink: &mut K,
+) -> Result<(), Refusal>
+    ensures days { TellsDaysAsked K.takes B.ledger office.old office.new sink.old sink.new result
+        register.now range }
+    ensures puts { TakesRows K.takes sink.old sink.new }
+    ensures asks { OnlyAsks B.ledger office.old office.new result }
+{
+    match range.from {
+        Some(from) => match range.till {
+            Some(till) => office.days_within(register, from, till, sink),
+            None => office.days(register, sink),
+        },
+        None => office.days(register, sink),
+    }
+}
+
 // Asks the office for the days of a register, and writes the report on them in a form.
 fn put_energy<B: Books, W: Write>(
     office: &mut Office<B>,
@@ -45,7 +70,7 @@ fn put_energy<B: Books, W: Write>(
         (W.contents output.old) (W.contents output.new) result }
 {
     let mut rows = ReportRows::to(*form, output);
-    let told = office.days(register, &mut rows);
+    let told = days_asked(office, register, form.range, &mut rows);
     put_rest(told, &mut rows)
 }
 
@@ -61,7 +86,8 @@ fn put_told(text: &mut Vec<u8>, answer: &Result<(), Refusal>, body: &[u8]) -> Re
 }
 
 /// Asks the office for the days of a register, and puts the reply with the report on them, in a form, at the end of a text.
-/// All its days are added up, also those outside of the form's range. Want of memory leaves a part of the reply.
+/// Where the form's range has both ends, only the quarter hours of its days, and of two days more at each end, are read. Want
+/// of memory leaves a part of the reply.
 pub fn reply_energy<B: Books>(
     alloc: Global,
     text: &mut Vec<u8>,
