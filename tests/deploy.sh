@@ -214,7 +214,7 @@ fi
 
 # metrics: the names that the program's metrics have, by its source
 metrics() {
-    sed -n 's/.*# TYPE \([a-z_]*\) .*/\1/p' "$here/../crates/run_status/src/status/metrics.rt" "$here/../crates/run_status/src/status/energy_lines.rt" | sort
+    sed -n 's/.*# TYPE \([a-z_]*\) .*/\1/p' "$here/../crates/run_http/src/texts/metrics.rt" "$here/../crates/run_http/src/texts/energy_lines.rt" | sort
 }
 
 # strange FILE: the names in a file that are none of these
@@ -233,7 +233,7 @@ for it in alerts.yml grafana.json; do
 done
 same 'grafana.json: all metrics of the program are in it' "$(unused "$deploy/grafana.json")" ''
 same 'its labels are those of the program' "$(grep -o '[a-z]*=\\*"[a-z_]*\\*"' "$deploy/alerts.yml" | grep -v '^job=' | tr -d '\\' | sort -u | while read -r it; do
-    sed 's/\\//g' "$here/../crates/run_status/src/status/metrics.rt" | grep -q -F "$it" || echo "$it"; done)" ''
+    sed 's/\\//g' "$here/../crates/run_http/src/texts/metrics.rt" | grep -q -F "$it" || echo "$it"; done)" ''
 python3 - "$deploy/grafana.json" > queries.yml 2> said << 'END'
 import json, sys
 

@@ -1,7 +1,8 @@
 //! What peers are replied.
 use crate::office::opened;
 use http_request::Status;
-use run_status::{Counts, PeerReply, RunRoute, StatusRoute, ask, reply_status, run_route};
+use run_http::{PeerReply, RunRoute, StatusRoute, ask, reply_status, run_route};
+use run_status::Counts;
 use std::test::Fail;
 use web_page::PagePart;
 

@@ -6,7 +6,7 @@ use http_request::Status;
 use meter_journal::{EntryKind, EntryRow};
 use office_books::{MeterEntry, Span};
 use office_events::Name;
-use run_status::{RunRoute, StatusRoute, put_entries, reply_entries, reply_intervals, run_route};
+use run_http::{RunRoute, StatusRoute, put_entries, reply_entries, reply_intervals, run_route};
 use std::alloc::{AllocError, Global};
 use std::test::Fail;
 

@@ -7,7 +7,7 @@ use http_request::Status;
 use memory_books::ListBooks;
 use office_core::Office;
 use office_events::Name;
-use run_status::{RunRoute, StatusRoute, reply_energy};
+use run_http::{RunRoute, StatusRoute, reply_energy};
 use std::alloc::Global;
 use std::test::Fail;
 

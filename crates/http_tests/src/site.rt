@@ -4,7 +4,7 @@ use crate::office::{opened, polled, unmetered};
 use energy_core::Last;
 use failing_books::FailingBooks;
 use office_core::{Office, SiteRow};
-use run_status::{put_site, reply_site};
+use run_http::{put_site, reply_site};
 use std::alloc::Global;
 use std::process::Abort;
 use std::test::Fail;

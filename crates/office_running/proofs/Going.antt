@@ -38,15 +38,15 @@ use Rattle.office_rounds.specs.declared.driver.device_events.DeviceEvent.TheVari
 use Rattle.office_program.specs.Texts.OpenedOffice.{Opens}
 use Rattle.office_program.specs.Texts.Passing.{Lasts}
 use Rattle.run_status.specs.Advice.Lacks.{LooksUp}
-use Rattle.run_status.specs.RunHttp.Answer as asking
-use Rattle.run_status.specs.declared.run_http.answer.PeerReply.{PeerReply}
-use Rattle.run_status.specs.declared.run_http.answer.PeerReply.TheVariants.{Open, Replied, Failed}
+use Rattle.run_http.specs.Answer as asking
+use Rattle.run_http.specs.declared.answer.PeerReply.{PeerReply}
+use Rattle.run_http.specs.declared.answer.PeerReply.TheVariants.{Open, Replied, Failed}
 use Rattle.http_request.specs.Hosts.{may_ask_in}
 use Rattle.http_request.specs.declared.head.head.HeadState.{HeadState}
-use Rattle.run_status.specs.RunHttp.RegisterReplies.{RepliesEnergy}
-use Rattle.run_status.specs.RunHttp.StatusRoute.{IsFor, IsRunRoute}
-use Rattle.run_status.specs.RunHttp.MeterReplies.{RepliesRows}
-use Rattle.run_status.specs.RunHttp.SiteReply.{RepliesSite}
+use Rattle.run_http.specs.RegisterReplies.{RepliesEnergy}
+use Rattle.run_http.specs.StatusRoute.{IsFor, IsRunRoute}
+use Rattle.run_http.specs.MeterReplies.{RepliesRows}
+use Rattle.run_http.specs.SiteReply.{RepliesSite}
 use Rattle.office_running.specs.Runs.{AreAt, BooksRun, Goes, IsOfRound, RunsOn, Step, Fed, Asks, TakesTurn, TakesTurns, history_behind, latest_of, steps_of, with_step}
 
 -- ---- At one moment

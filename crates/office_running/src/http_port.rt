@@ -17,11 +17,11 @@ use mio::{Interest, Registry, Token};
 use office_books::{Books, Span};
 use office_core::Office;
 use office_events::Name;
-use run_schedule::{MOST_PEERS, PEER_SECONDS, Peers, place_for};
-use run_status::{
+use run_http::{
     PeerReply, RunRoute, StatusRoute, ask, reply_energy, reply_entries, reply_intervals,
     reply_metrics, reply_site, reply_status, run_route,
 };
+use run_schedule::{MOST_PEERS, PEER_SECONDS, Peers, place_for};
 use std::alloc::{AllocError, Global};
 use std::io::ErrorKind;
 use std::mem;

@@ -1,6 +1,6 @@
 //! How much of what is asked may still be kept.
 use crate::settings::Settings;
-use run_status::PeerReply;
+use run_http::PeerReply;
 
 /// How many bytes of requests may still be kept: each command that acts is kept for good, and read again by each opening.
 #[derive(Clone, Copy, Debug, PartialEq, Eq)]

@@ -3,7 +3,7 @@ use crate::outbox::{MOST_CALLS, Outbox, Went, went_by};
 use http_request::{MOST_ROOM, Route, is_whole};
 use matchit::Router;
 use mio::net::TcpStream;
-use run_status::PeerReply;
+use run_http::PeerReply;
 use std::alloc::Global;
 use std::io::Read;
 use std::net::Shutdown;

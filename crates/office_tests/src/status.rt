@@ -4,7 +4,8 @@ use mb_wire::ReadFunction;
 use office_core::SiteRow;
 use office_events::{Installation, Name, Note, Opening, Register, ScaleSource};
 use poll_core::{LostCause, Outcome};
-use run_status::{Counts, DeviceLack, DeviceState, Lack, put_lack, put_metrics, put_status};
+use run_http::put_metrics;
+use run_status::{Counts, DeviceLack, DeviceState, Lack, put_lack, put_status};
 use std::str;
 
 fn outcome(outcome: Outcome) -> Note {

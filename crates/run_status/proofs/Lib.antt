@@ -1,2 +1,1 @@
 pub mod MonitorLemmas
-pub mod RunHttpLemmas

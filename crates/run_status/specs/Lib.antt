@@ -1,4 +1,3 @@
 pub mod Advice
 pub mod Status
 pub mod Monitor
-pub mod RunHttp

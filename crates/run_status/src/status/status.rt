@@ -19,11 +19,7 @@ pub struct DeviceState {
 }
 
 /// Puts the bytes of a device's name.
-pub(crate) fn put_name(
-    text: &mut Vec<u8>,
-    before: &[u8],
-    device: &DeviceState,
-) -> Result<(), AllocError>
+pub fn put_name(text: &mut Vec<u8>, before: &[u8], device: &DeviceState) -> Result<(), AllocError>
     ensures { OnOk result (text.new.items ≡ json.with_name text.old.items before.now device.now) }
 {
     match &device.name {

@@ -1,0 +1,34 @@
+-- What comes of the bytes of a peer: what one call of the office's HTTP does over a link that hands
+-- them out and then ends.
+use Rattle.std.specs.Prelude.{◌⊎◌, ℕ, List, [], Option, Some, Result, Ok, Err}
+use Rattle.office_books.specs.Ledgers.{Ledger}
+use Rattle.office_core.specs.declared.office.Office.{Office}
+use Rattle.office_http.specs.Exchange.{Handles, passage}
+use Rattle.office_http.specs.declared.fault.HandleFault.{HandleFault}
+use Rattle.office_http.specs.declared.fault.HandleFault.TheVariants as fault
+use Rattle.mb_wire.specs.declared.link.LastTake.{LastTake}
+use Rattle.run_http.specs.declared.answer.PeerReply.{PeerReply}
+use Rattle.run_http.specs.declared.answer.PeerReply.TheVariants.{Open, Replied, Failed}
+
+-- it ends so, and has given this
+pub record Serves {B : Type 0} (ledger : B → Ledger) (at : ℕ) (old new : Office B)
+    (request : List ℕ) (ending : Result (Unit {0}) HandleFault) (reply : List ℕ) : Type 0 where
+  pub left : List ℕ
+  pub last : Option LastTake
+  pub handles : Handles ledger at old new
+      (passage (Some request) (Some left) (Some []) (Some reply) last) ending
+
+-- Bytes that are open hold no whole request. Others are replied to, in whole, or up to where the
+-- books failed. Else there was no memory for the reply, or there were too many takes.
+abbrev pub Asks : {B : Type 0} → (B → Ledger) → (at : ℕ) → (old new : Office B)
+    → (request : List ℕ) → PeerReply → Type 0
+Asks ledger at old new request Open =
+    (reply : List ℕ) × Serves ledger at old new request (Err fault.Short) reply
+Asks ledger at old new request (Replied reply) =
+    Serves ledger at old new request (Ok tt) reply.items
+    ⊎ Serves ledger at old new request (Err fault.Cut) reply.items
+Asks ledger at old new request Failed =
+    (reply : List ℕ)
+    × (Serves ledger at old new request (Err fault.Read) reply
+    ⊎ Serves ledger at old new request (Err fault.Write) reply
+    ⊎ Serves ledger at old new request (Err fault.TurnsUsed) reply)

@@ -1,0 +1,45 @@
+-- The replies to questions for rows of a meter, by what the office answers to them.
+use Rattle.std.specs.Prelude.{◌≡◌, ℕ, true, List, [], ◌∷◌, ◌++◌, Option, Result, Ok, Err, IfOk, OnOk, codes}
+use Rattle.std.specs.declared.alloc.Global.{Global}
+use Rattle.std.specs.declared.vec.Vec.{Vec}
+use Rattle.http_request.specs.declared.status.Status.TheVariants.{Fine}
+use Rattle.interval_core.specs.declared.shares.Share.{Share}
+use Rattle.office_events.specs.declared.facts.Fact.{Fact}
+use Rattle.office_events.specs.declared.refusals.Refusal.{Refusal}
+use Rattle.office_books.specs.Ledgers.{Ledger}
+use Rattle.office_core.specs.Asking.{OnlyAsks}
+use Rattle.office_core.specs.Parts.{ListsAccepted}
+use Rattle.office_core.specs.declared.office.Office.{Office}
+use Rattle.run_http.specs.SiteReply.{with_refusal}
+use Rattle.run_http.specs.StatusRoute.{with_reply}
+use Rattle.run_http.specs.declared.kept_rows.KeptRows.{KeptRows}
+
+-- A row is kept behind those before it, as long as there was memory for each.
+abbrev pub KeepsRow : KeptRows → Share → KeptRows → Type 0
+KeepsRow old row new = new.is_whole ≡ true
+    → (old.is_whole ≡ true) × (new.rows.items ≡ old.rows.items ++ row ∷ [])
+
+-- The office is asked, once, and so it answers by what it has accepted, unless there was no memory for the rows.
+pub record AsksRows {B T : Type 0} (ledger : B → Ledger) (old new : Office B)
+    (says : List Fact → Option (List T)) {E : Type 0}
+    (result : Result (Result (Vec T Global) Refusal) E) : Type 0 where
+  pub answer : Result (Vec T Global) Refusal
+  pub asks : OnlyAsks ledger old new answer
+  pub gives : IfOk result (λ told. told ≡ answer)
+  pub lists : OnOk result (ListsAccepted ledger old new answer says)
+
+-- the text of the rows, or what any other question is refused by
+abbrev pub with_rows_reply : {T : Type 0} → (text : List T → List ℕ)
+    → Result (Vec T Global) Refusal → List ℕ → List ℕ
+with_rows_reply text (Ok rows) before =
+    with_reply Fine (codes "text/plain") (text rows.items) before
+with_rows_reply text (Err why) before = with_refusal why before
+
+-- The office is asked, once, and what it answers is the reply, unless there was no memory for that.
+pub record RepliesRows {B T : Type 0} (ledger : B → Ledger) (old new : Office B)
+    (says : List Fact → Option (List T)) (text : List T → List ℕ) (from to : List ℕ) {E : Type 0}
+    (result : Result (Unit {0}) E) : Type 0 where
+  pub answer : Result (Vec T Global) Refusal
+  pub asks : OnlyAsks ledger old new answer
+  pub lists : OnOk result (ListsAccepted ledger old new answer says)
+  pub puts : OnOk result (to ≡ with_rows_reply text answer from)

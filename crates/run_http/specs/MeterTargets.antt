@@ -1,0 +1,72 @@
+-- What a target asks of the rows of a meter: `/meters/NAME/intervals/FROM/TILL` the quarter hours that start at FROM or later,
+-- and before TILL, and `/meters/NAME/entries/PLACE` the entries from PLACE on.
+use Rattle.std.specs.Prelude.{ℕ, ◌+◌, ◌==◌, List, length, take, drop, position, bytes_eq, if◌then◌else◌, Option, Some, None, codes}
+use Rattle.http_request.specs.Values.{digits_in}
+use Rattle.http_request.specs.declared.status.Status.TheVariants.{BadRequest}
+use Rattle.office_events.specs.Names.{named}
+use Rattle.office_books.specs.declared.spans.Span.{Span}
+use Rattle.office_books.specs.declared.spans.Span.TheVariants.{Between}
+use Rattle.run_http.specs.declared.route.RunRoute.{RunRoute}
+use Rattle.run_http.specs.declared.route.RunRoute.TheVariants.{Own, Intervals, Entries}
+use Rattle.run_http.specs.declared.route.StatusRoute.TheVariants.{Rejected}
+
+-- what follows a word that a text begins with
+abbrev pub after : (word text : List ℕ) → Option (List ℕ)
+after word text =
+    if bytes_eq (take (length word) text) word then Some (drop (length word) text) else None
+
+-- where its first slash (47) stands
+abbrev pub slash_in : List ℕ → Option ℕ
+slash_in text = position (λ byte. byte == 47) text
+
+-- the span from one moment till another: one to nineteen digits each
+abbrev pub span_till : (from till : Option ℕ) → Option Span
+span_till None till = None
+span_till (Some from) None = None
+span_till (Some from) (Some till) = Some (Between from till)
+
+abbrev pub span_of : (from till : List ℕ) → Option Span
+span_of from till = span_till (digits_in from) (digits_in till)
+
+-- what is no span is malformed; where the name is none, no meter has it
+abbrev pub intervals_asked : (name : List ℕ) → Option Span → RunRoute
+intervals_asked name None = Own (Rejected BadRequest)
+intervals_asked name (Some span) = Intervals (named name) span
+
+abbrev pub intervals_cut : (name text : List ℕ) → Option ℕ → Option RunRoute
+intervals_cut name text None = None
+intervals_cut name text (Some at) =
+    Some (intervals_asked name (span_of (take at text) (drop (at + 1) text)))
+
+abbrev pub intervals_in : (name text : List ℕ) → Option RunRoute
+intervals_in name text = intervals_cut name text (slash_in text)
+
+-- so is what is no place
+abbrev pub entries_asked : (name : List ℕ) → (place : Option ℕ) → RunRoute
+entries_asked name None = Own (Rejected BadRequest)
+entries_asked name (Some place) = Entries (named name) place
+
+-- what follows the name and a slash
+abbrev pub rows_asked : (name : List ℕ) → (intervals entries : Option (List ℕ))
+    → Option RunRoute
+rows_asked name None None = None
+rows_asked name None (Some text) = Some (entries_asked name (digits_in text))
+rows_asked name (Some text) entries = intervals_in name text
+
+abbrev pub rows_in : (name text : List ℕ) → Option RunRoute
+rows_in name text =
+    rows_asked name (after (codes "intervals/") text) (after (codes "entries/") text)
+
+abbrev pub meter_cut : (text : List ℕ) → Option ℕ → Option RunRoute
+meter_cut text None = None
+meter_cut text (Some at) = rows_in (take at text) (drop (at + 1) text)
+
+abbrev pub meter_in : List ℕ → Option RunRoute
+meter_in text = meter_cut text (slash_in text)
+
+abbrev pub meter_asked : Option (List ℕ) → Option RunRoute
+meter_asked None = None
+meter_asked (Some text) = meter_in text
+
+abbrev pub meter_target : (target : List ℕ) → Option RunRoute
+meter_target target = meter_asked (after (codes "/meters/") target)

@@ -1,0 +1,112 @@
+-- The routes of a run itself, and the replies to those that ask nothing of the office: one by what was counted, the page,
+-- and faults.
+use Rattle.std.specs.Prelude.{◌≡◌, ℕ, Bool, true, false, if◌then◌else◌, Option, Some, None, List, [], ◌++◌, length, codes, decimal}
+use Rattle.std.specs.Option.{option_map}
+use Rattle.std.specs.Str.{bytes_eq}
+use Rattle.httparse.specs.Spans.{span_bytes}
+use Rattle.http_request.specs.Head.Heads.{Looks}
+use Rattle.http_request.specs.Hosts.{may_ask_in}
+use Rattle.http_request.specs.Status.Statuses.{number_of_status, reason_of_status}
+use Rattle.http_request.specs.declared.head.head.HeadState.{HeadState}
+use Rattle.http_request.specs.declared.head.head.HeadState.TheVariants.{Open, TooLarge, NoHead, Whole}
+use Rattle.http_request.specs.declared.status.Status.{Status as HttpStatus}
+use Rattle.http_request.specs.declared.status.Status.TheVariants.{Fine, MethodNotAllowed, Misdirected}
+use Rattle.http_answer.specs.Sending.Bodies.{fault_text}
+use Rattle.run_http.specs.MeterTargets.{meter_target}
+use Rattle.run_http.specs.RegisterTargets.{IsRegisterTarget}
+use Rattle.run_status.specs.Status.StatusText.{with_status}
+use Rattle.run_status.specs.declared.advice.lacks.DeviceLack.{DeviceLack}
+use Rattle.run_status.specs.declared.status.counts.Counts.{Counts}
+use Rattle.run_status.specs.declared.status.status.DeviceState.{DeviceState}
+use Rattle.run_http.specs.declared.route.RunRoute.{RunRoute}
+use Rattle.run_http.specs.declared.route.RunRoute.TheVariants.{Own, Metrics, Site}
+use Rattle.run_http.specs.declared.route.StatusRoute.{StatusRoute}
+use Rattle.run_http.specs.declared.route.StatusRoute.TheVariants.{Status, Page, Rejected}
+use Rattle.web_page.specs.Parts.{body_of, content_type_of, part_of}
+use Rattle.web_page.specs.declared.parts.PagePart.{PagePart}
+
+-- the three paths, and those of the page
+abbrev pub path_named : (target : List ℕ) → Option RunRoute
+path_named target =
+    if bytes_eq target (codes "/status") then Some (Own Status)
+    else if bytes_eq target (codes "/metrics") then Some Metrics
+    else if bytes_eq target (codes "/site") then Some Site
+    else option_map (λ part. Own (Page part)) (part_of target)
+
+-- or rows of a meter
+abbrev pub or_meter : (target : List ℕ) → Option RunRoute → Option RunRoute
+or_meter target None = meter_target target
+or_meter target (Some route) = Some route
+
+abbrev pub plain_target : (target : List ℕ) → Option RunRoute
+plain_target target = or_meter target (path_named target)
+
+-- or the energy of a register
+abbrev pub IsElse : (target : List ℕ) → Option RunRoute → Option RunRoute → Type 0
+IsElse target None route = IsRegisterTarget target route
+IsElse target (Some plain) route = route ≡ Some plain
+
+abbrev pub IsTarget : (target : List ℕ) → Option RunRoute → Type 0
+IsTarget target route = IsElse target (plain_target target) route
+
+-- each is asked by GET alone
+abbrev pub route_by : (method : List ℕ) → Option RunRoute → Option RunRoute
+route_by method None = None
+route_by method (Some route) =
+    if bytes_eq method (codes "GET") then Some route else Some (Own (Rejected MethodNotAllowed))
+
+abbrev pub IsRouteNamed : (method target : List ℕ) → Option RunRoute → Type 0
+IsRouteNamed method target route =
+    (asked : Option RunRoute) × IsTarget target asked × (route ≡ route_by method asked)
+
+-- what a head asks for: nothing before it is whole, or past its limits
+abbrev pub IsRouteIn : List ℕ → HeadState → Option RunRoute → Type 0
+IsRouteIn bytes Open route = route ≡ None
+IsRouteIn bytes TooLarge route = route ≡ None
+IsRouteIn bytes NoHead route = route ≡ None
+IsRouteIn bytes (Whole at) route =
+    IsRouteNamed (span_bytes bytes at.method) (span_bytes bytes at.target) route
+
+-- Who asks is tested before that, by the names that were given.
+abbrev pub IsRunRoute : (may : Bool) → List ℕ → HeadState → Option RunRoute → Type 0
+IsRunRoute true bytes head_state route = IsRouteIn bytes head_state route
+IsRunRoute false bytes head_state route = route ≡ Some (Own (Rejected Misdirected))
+
+-- a look at the bytes finds a head that asks for it
+pub record IsFor (names : List (List ℕ)) (bytes : List ℕ) (route : Option RunRoute) : Type 0 where
+  pub head_state : HeadState
+  pub looks : Looks bytes head_state
+  pub asks : IsRunRoute (may_ask_in names bytes head_state) bytes head_state route
+
+-- the status and the headers of each reply
+abbrev pub with_start : HttpStatus → (kind body : List ℕ) → List ℕ → List ℕ
+with_start status kind body text =
+    text ++ codes "HTTP/1.1 " ++ decimal (number_of_status status) ++ codes " "
+    ++ reason_of_status status
+    ++ codes "\r\nContent-Type: " ++ kind ++ codes "\r\nContent-Length: " ++ decimal (length body)
+    ++ codes "\r\nConnection: close"
+
+abbrev pub with_reply : HttpStatus → (kind body : List ℕ) → List ℕ → List ℕ
+with_reply status kind body text =
+    with_start status kind body text ++ codes "\r\n\r\n" ++ body
+
+-- Of a part of the page a browser is told to load nothing from elsewhere, to take it for no other type, and to show none
+-- that it has kept before it has asked again.
+abbrev pub with_page_headers : List ℕ → List ℕ
+with_page_headers text =
+    text ++ codes "\r\nContent-Security-Policy: default-src 'self'"
+    ++ codes "\r\nX-Content-Type-Options: nosniff"
+    ++ codes "\r\nCache-Control: no-cache"
+
+abbrev pub with_page_reply : PagePart → List ℕ → List ℕ
+with_page_reply part text =
+    with_page_headers (with_start Fine (content_type_of part) (body_of part) text)
+    ++ codes "\r\n\r\n" ++ body_of part
+
+abbrev pub with_route_reply : StatusRoute → Counts → List DeviceState → List DeviceLack
+    → List ℕ → List ℕ
+with_route_reply Status counts devices lacks text =
+    with_reply Fine (codes "application/json") (with_status [] counts devices lacks) text
+with_route_reply (Page part) counts devices lacks text = with_page_reply part text
+with_route_reply (Rejected status) counts devices lacks text =
+    with_reply status (codes "application/json") (fault_text status) text

@@ -1,0 +1,4 @@
+pub mod SiteText
+pub mod EnergyLines
+pub mod MeterLines
+pub mod MetricsText

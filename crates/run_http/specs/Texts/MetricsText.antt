@@ -1,0 +1,78 @@
+-- `/metrics`: the counts, the devices and the meters that are open, in Prometheus's text format, version 0.0.4. Each definition gives a text with something at its end.
+use Rattle.std.specs.Prelude.{ℕ, Bool, true, false, List, [], ◌∷◌, ◌++◌, Option, Some, None, codes, decimal, slice_index}
+use Rattle.run_status.specs.declared.status.counts.Counts.{Counts}
+use Rattle.run_status.specs.declared.status.status.DeviceState.{DeviceState}
+use Rattle.office_core.specs.declared.site.SiteRow.{SiteRow}
+use Rattle.run_http.specs.Texts.EnergyLines.{with_meters}
+use Rattle.run_status.specs.Status.StatusText.{with_name}
+
+abbrev pub with_outcomes : List ℕ → Counts → List ℕ
+with_outcomes text counts =
+    text ++ codes
+    "# HELP sunreg_polls_total Polls that ended, by outcome.\n# TYPE sunreg_polls_total counter\n"
+    ++ codes "sunreg_polls_total{outcome=\"answered\"} " ++ decimal counts.answered
+    ++ codes "\nsunreg_polls_total{outcome=\"exception\"} " ++ decimal counts.exceptions
+    ++ codes "\nsunreg_polls_total{outcome=\"silent\"} " ++ decimal counts.silent
+    ++ codes "\nsunreg_polls_total{outcome=\"malformed\"} " ++ decimal counts.malformed
+    ++ codes "\nsunreg_polls_total{outcome=\"lost\"} " ++ decimal counts.lost
+
+abbrev pub with_readings : List ℕ → Counts → List ℕ
+with_readings text counts =
+    text ++ codes "\n# HELP sunreg_readings_total Readings that were accepted.\n# TYPE sunreg_readings_total counter\n"
+    ++ codes "sunreg_readings_total " ++ decimal counts.readings
+    ++ codes "\n# HELP sunreg_refusals_total Events of devices that the office refused.\n# TYPE sunreg_refusals_total counter\n"
+    ++ codes "sunreg_refusals_total " ++ decimal counts.refusals
+
+abbrev pub with_causes : List ℕ → List ℕ → List ℕ
+with_causes text held =
+    text ++ codes "\n# HELP sunreg_held_readings_total Readings that were held, by cause.\n# TYPE sunreg_held_readings_total counter\n"
+    ++ codes "sunreg_held_readings_total{cause=\"not_accumulated\"} "
+    ++ decimal (slice_index held 0)
+    ++ codes "\nsunreg_held_readings_total{cause=\"scale_changed\"} "
+    ++ decimal (slice_index held 1)
+    ++ codes "\nsunreg_held_readings_total{cause=\"not_later\"} " ++ decimal (slice_index held 2)
+    ++ codes "\nsunreg_held_readings_total{cause=\"span_too_long\"} "
+    ++ decimal (slice_index held 3)
+    ++ codes "\nsunreg_held_readings_total{cause=\"gap_too_long\"} " ++ decimal (slice_index held 4)
+    ++ codes "\nsunreg_held_readings_total{cause=\"too_fast\"} " ++ decimal (slice_index held 5)
+    ++ codes "\nsunreg_held_readings_total{cause=\"total_full\"} " ++ decimal (slice_index held 6)
+    ++ codes "\nsunreg_held_readings_total{cause=\"not_below_range\"} "
+    ++ decimal (slice_index held 7)
+
+abbrev pub with_state : List ℕ → Bool → List ℕ
+with_state text true = text ++ codes "\"} 1"
+with_state text false = text ++ codes "\"} 0"
+
+-- whether each device is connected
+abbrev pub with_states : List ℕ → List DeviceState → List ℕ
+with_states text [] = text
+with_states text (device ∷ devices) =
+    with_states (with_state (with_name text (codes "\nsunreg_device_connected{device=\"") device)
+    device.connected) devices
+
+-- a device that had no reading yet has no line
+abbrev pub with_moment : List ℕ → DeviceState → Option ℕ → List ℕ
+with_moment text device None = text
+with_moment text device (Some moment) =
+    with_name text (codes "\nsunreg_last_reading_timestamp_seconds{device=\"") device
+    ++ codes "\"} " ++ decimal moment
+
+abbrev pub with_moments : List ℕ → List DeviceState → List ℕ
+with_moments text [] = text
+with_moments text (device ∷ devices) = with_moments (with_moment text device device.latest) devices
+
+abbrev pub with_devices : List ℕ → List DeviceState → List ℕ
+with_devices text devices =
+    with_moments
+    (with_states
+    (text ++ codes "\n# HELP sunreg_device_connected Whether a round of a device goes on.\n# TYPE sunreg_device_connected gauge") devices
+    ++ codes "\n# HELP sunreg_last_reading_timestamp_seconds When the latest reading of a device was accepted.\n# TYPE sunreg_last_reading_timestamp_seconds gauge")
+    devices
+    ++ codes "\n"
+
+abbrev pub with_metrics : List ℕ → Counts → List DeviceState → List SiteRow → List ℕ
+with_metrics text counts devices rows =
+    with_meters
+    (with_devices (with_causes (with_readings (with_outcomes text counts) counts) counts.held)
+    devices)
+    rows

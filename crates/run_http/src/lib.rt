@@ -1,0 +1,23 @@
+//! What a peer of a run is replied to bytes that were gathered: by the office, over a link in memory, by what was counted, or by
+//! what there is.
+#![tactic(auto)]
+
+mod answer;
+mod kept_rows;
+mod meter_replies;
+mod meter_targets;
+mod metrics;
+mod register_replies;
+mod register_targets;
+mod reply_link;
+mod route;
+mod site;
+mod texts;
+
+pub use answer::{PeerReply, ask};
+pub use meter_replies::{MOST_ENTRIES, reply_entries, reply_intervals};
+pub use metrics::reply_metrics;
+pub use register_replies::reply_energy;
+pub use route::{RunRoute, StatusRoute, reply_status, run_route};
+pub use site::reply_site;
+pub use texts::{put_entries, put_metrics, put_site};

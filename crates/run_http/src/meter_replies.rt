@@ -1,0 +1,111 @@
+//! What a peer is replied who asks for rows of a meter.
+ghost use Rattle.std.specs.Prelude.{◌≡◌, OnOk};
+ghost use Rattle.interval_core.specs.Lines.{intervals_text};
+ghost use Rattle.office_core.specs.Parts.{entries_within, intervals_within};
+ghost use Rattle.run_http.specs.MeterReplies.{AsksRows, RepliesRows, with_rows_reply};
+ghost use Rattle.run_http.specs.Texts.MeterLines.{entries_text};
+
+use crate::kept_rows::KeptRows;
+use crate::route::put_reply;
+use crate::site::put_refusal;
+use crate::texts::{put_entries, put_shares};
+use http_request::Status;
+use interval_core::Share;
+use office_books::{Books, MeterEntry, Span};
+use office_core::Office;
+use office_events::{Name, Refusal};
+use std::alloc::{AllocError, Global};
+
+/// The most entries that a reply tells.
+pub const MOST_ENTRIES: u32 = 4096;
+
+// Asks the office for the quarter hours of a meter.
+fn ask_intervals<B: Books>(
+    alloc: Global,
+    office: &mut Office<B>,
+    meter: &Option<Name>,
+    span: Span,
+) -> Result<Result<Vec<Share>, Refusal>, AllocError>
+    ensures { AsksRows B.ledger office.old office.new
+        (λ facts. intervals_within facts meter.now span) result }
+{
+    let mut kept = KeptRows::new(alloc);
+    let answer = office.intervals_within(meter, span, &mut kept);
+    let rows = kept.into_rows()?;
+    match answer {
+        Ok(()) => Ok(Ok(rows)),
+        Err(why) => Ok(Err(why)),
+    }
+}
+
+// Puts the reply for quarter hours that the office told of.
+fn put_intervals_told(
+    alloc: Global,
+    text: &mut Vec<u8>,
+    answer: &Result<Vec<Share>, Refusal>,
+) -> Result<(), AllocError>
+    ensures { OnOk result (text.new.items
+        ≡ with_rows_reply intervals_text answer.now text.old.items) }
+{
+    match answer {
+        Ok(rows) => {
+            let mut body = Vec::new(alloc);
+            put_shares(&mut body, rows)?;
+            put_reply(text, Status::Fine, b"text/plain", &body)
+        }
+        Err(why) => put_refusal(text, *why),
+    }
+}
+
+/// Asks the office for the quarter hours of a meter, and puts the reply at the end of a text. Want of memory leaves a part
+/// of it.
+pub fn reply_intervals<B: Books>(
+    alloc: Global,
+    text: &mut Vec<u8>,
+    office: &mut Office<B>,
+    meter: &Option<Name>,
+    span: Span,
+) -> Result<(), AllocError>
+    ensures { RepliesRows B.ledger office.old office.new
+        (λ facts. intervals_within facts meter.now span) intervals_text
+        text.old.items text.new.items result }
+{
+    let answer = ask_intervals(alloc, office, meter, span)?;
+    put_intervals_told(alloc, text, &answer)
+}
+
+// Puts the reply for entries that the office told of.
+fn put_entries_told(
+    alloc: Global,
+    text: &mut Vec<u8>,
+    answer: &Result<Vec<MeterEntry>, Refusal>,
+) -> Result<(), AllocError>
+    ensures { OnOk result (text.new.items
+        ≡ with_rows_reply entries_text answer.now text.old.items) }
+{
+    match answer {
+        Ok(entries) => {
+            let mut body = Vec::new(alloc);
+            put_entries(&mut body, entries)?;
+            put_reply(text, Status::Fine, b"text/plain", &body)
+        }
+        Err(why) => put_refusal(text, *why),
+    }
+}
+
+/// Asks the office for the entries of a meter from a place on, at most 4,096, and puts the reply at the end of a text. Want of
+/// memory leaves a part of it.
+pub fn reply_entries<B: Books>(
+    alloc: Global,
+    text: &mut Vec<u8>,
+    office: &mut Office<B>,
+    meter: &Option<Name>,
+    from: u64,
+) -> Result<(), AllocError>
+    ensures { RepliesRows B.ledger office.old office.new
+        (λ facts. entries_within facts meter.now from MOST_ENTRIES) entries_text
+        text.old.items text.new.items result }
+{
+    let answer = office.entries(meter, from, MOST_ENTRIES);
+    put_entries_told(alloc, text, &answer)
+}

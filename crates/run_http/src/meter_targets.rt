@@ -1,0 +1,96 @@
+//! What a target asks of the rows of a meter.
+ghost use Rattle.std.specs.Prelude.{◌≡◌, option_map};
+ghost use Rattle.run_http.specs.MeterTargets as targets;
+
+use crate::route::{RunRoute, StatusRoute};
+use http_request::{Status, digits};
+use office_books::Span;
+use office_events::Name;
+
+/// What follows a word that a text begins with.
+pub(crate) fn after<'t>(word: &[u8], text: &'t [u8]) -> Option<&'t [u8]>
+    ensures { option_map (λ rest. rest.now) result ≡ targets.after word.now text.now }
+{
+    text.strip_prefix(word)
+}
+
+/// Where the first slash of a text stands.
+pub(crate) fn slash_in(text: &[u8]) -> Option<usize>
+    ensures { result ≡ targets.slash_in text.now }
+{
+    text.iter().position(|byte| *byte == b'/')
+}
+
+// The span from one moment till another.
+fn span_of(from: &[u8], till: &[u8]) -> Option<Span>
+    ensures { result ≡ targets.span_of from.now till.now }
+{
+    let from = digits(from)?;
+    let till = digits(till)?;
+    Some(Span::Between { from, till })
+}
+
+// The quarter hours of a span, where it is one.
+fn intervals_asked(name: &[u8], span: Option<Span>) -> RunRoute
+    ensures { result ≡ targets.intervals_asked name.now span }
+{
+    match span {
+        Some(span) => RunRoute::Intervals {
+            meter: Name::new(name),
+            span,
+        },
+        None => RunRoute::Own(StatusRoute::Rejected(Status::BadRequest)),
+    }
+}
+
+// What asks for quarter hours, by what follows their word.
+fn intervals_in(name: &[u8], text: &[u8]) -> Option<RunRoute>
+    ensures { result ≡ targets.intervals_in name.now text.now }
+{
+    let at = slash_in(text)?;
+    Some(intervals_asked(name, span_of(&text[..at], &text[at + 1..])))
+}
+
+// The entries from a place on, where it is one.
+fn entries_asked(name: &[u8], place: Option<u64>) -> RunRoute
+    ensures { result ≡ targets.entries_asked name.now place }
+{
+    match place {
+        Some(from) => RunRoute::Entries {
+            meter: Name::new(name),
+            from,
+        },
+        None => RunRoute::Own(StatusRoute::Rejected(Status::BadRequest)),
+    }
+}
+
+// What asks for rows of a meter, by what follows its name.
+fn rows_in(name: &[u8], text: &[u8]) -> Option<RunRoute>
+    ensures { result ≡ targets.rows_in name.now text.now }
+{
+    match after(b"intervals/", text) {
+        Some(text) => intervals_in(name, text),
+        None => match after(b"entries/", text) {
+            Some(text) => Some(entries_asked(name, digits(text))),
+            None => None,
+        },
+    }
+}
+
+// What asks for rows of a meter, by what follows the word for meters.
+fn meter_in(text: &[u8]) -> Option<RunRoute>
+    ensures { result ≡ targets.meter_in text.now }
+{
+    let at = slash_in(text)?;
+    rows_in(&text[..at], &text[at + 1..])
+}
+
+/// What a target asks of the rows of a meter, if it asks for some.
+pub(crate) fn meter_target(target: &[u8]) -> Option<RunRoute>
+    ensures { result ≡ targets.meter_target target.now }
+{
+    match after(b"/meters/", target) {
+        Some(text) => meter_in(text),
+        None => None,
+    }
+}

@@ -1,0 +1,51 @@
+//! What a peer is replied who asks for metrics.
+ghost use Rattle.std.specs.Prelude.{◌≡◌, OnOk};
+ghost use Rattle.run_http.specs.MetricsReply.{with_metrics_reply};
+ghost use Rattle.run_http.specs.SiteReply.{RepliesSite};
+
+use crate::route::put_reply;
+use crate::site::put_refusal;
+use crate::texts::put_metrics;
+use http_request::Status;
+use office_books::Books;
+use office_core::{Office, SiteRow};
+use office_events::Refusal;
+use run_status::{Counts, DeviceState};
+use std::alloc::{AllocError, Global};
+
+// Puts the reply for what the office answers.
+fn put_answer(
+    alloc: Global,
+    text: &mut Vec<u8>,
+    counts: &Counts,
+    devices: &[DeviceState],
+    answer: &Result<Vec<SiteRow>, Refusal>,
+) -> Result<(), AllocError>
+    ensures { OnOk result (text.new.items
+        ≡ with_metrics_reply counts.now devices.now answer.now text.old.items) }
+{
+    match answer {
+        Ok(rows) => {
+            let mut body = Vec::new(alloc);
+            put_metrics(&mut body, counts, devices, rows)?;
+            put_reply(text, Status::Fine, b"text/plain; version=0.0.4", &body)
+        }
+        Err(why) => put_refusal(text, *why),
+    }
+}
+
+/// Asks the office which meters are open, and puts the reply with what was counted and their energy at the end of a text. Want
+/// of memory leaves a part of it.
+pub fn reply_metrics<B: Books>(
+    alloc: Global,
+    text: &mut Vec<u8>,
+    office: &mut Office<B>,
+    counts: &Counts,
+    devices: &[DeviceState],
+) -> Result<(), AllocError>
+    ensures { RepliesSite B.ledger office.old office.new
+        (with_metrics_reply counts.now devices.now) text.old.items text.new.items result }
+{
+    let answer = office.site();
+    put_answer(alloc, text, counts, devices, &answer)
+}

@@ -1,0 +1,124 @@
+//! What a target asks of the energy of a register.
+ghost use Rattle.std.specs.Prelude.{◌≡◌};
+ghost use Rattle.energy_report.specs.Days.{IsReadAs};
+ghost use Rattle.run_http.specs.RegisterTargets as targets;
+
+use crate::meter_targets::{after, slash_in};
+use crate::route::{RunRoute, StatusRoute};
+use energy_report::{DayRange, EnergyUnit, Format, Period, ReportForm, read_day};
+use http_request::Status;
+use interval_core::Day;
+use office_events::Name;
+use std::str::from_utf8;
+
+// The day that bytes spell as `YYYY-MM-DD`.
+#[tactic(auto, using(crate::proofs::ReplyLemmas::Spelled::unread))]
+fn day_of(text: &[u8]) -> Option<Day>
+    ensures { IsReadAs text.now result }
+{
+    match from_utf8(text) {
+        Ok(text) => read_day(text),
+        Err(_) => None,
+    }
+}
+
+// The range from one day until another.
+fn range_of(from: &[u8], till: &[u8]) -> Option<DayRange>
+    ensures { targets.IsRangeOf from.now till.now result }
+{
+    let Some(first) = day_of(from) else {
+        return None;
+    };
+    let Some(last) = day_of(till) else {
+        return None;
+    };
+    let range = DayRange {
+        from: Some(first),
+        till: Some(last),
+    };
+    if range.is_backward() {
+        return None;
+    }
+    Some(range)
+}
+
+// The lines of a report in mWh.
+fn lines_of(range: DayRange, period: Period) -> ReportForm
+    ensures { result ≡ targets.lines_of range period }
+{
+    ReportForm {
+        range,
+        period,
+        unit: EnergyUnit::MilliwattHours,
+        format: Format::Text,
+    }
+}
+
+// The days of a range, where it is one.
+fn days_asked(name: &[u8], range: Option<DayRange>) -> RunRoute
+    ensures { result ≡ targets.days_asked name.now range }
+{
+    match range {
+        Some(range) => RunRoute::Energy {
+            register: Name::new(name),
+            form: lines_of(range, Period::Day),
+        },
+        None => RunRoute::Own(StatusRoute::Rejected(Status::BadRequest)),
+    }
+}
+
+// The months of all days.
+fn months_asked(name: &[u8]) -> RunRoute
+    ensures { result ≡ targets.months_asked name.now }
+{
+    RunRoute::Energy {
+        register: Name::new(name),
+        form: lines_of(DayRange::all(), Period::Month),
+    }
+}
+
+// What asks for days, by what follows their word.
+fn days_in(name: &[u8], text: &[u8]) -> Option<RunRoute>
+    ensures { targets.IsDaysIn name.now text.now result }
+{
+    match slash_in(text) {
+        Some(at) => {
+            let range = range_of(&text[..at], &text[at + 1..]);
+            Some(days_asked(name, range))
+        }
+        None => None,
+    }
+}
+
+// What asks for energy, by what follows the name of a register.
+fn energy_in(name: &[u8], text: &[u8]) -> Option<RunRoute>
+    ensures { targets.IsEnergyIn name.now text.now result }
+{
+    if text == b"months".as_slice() {
+        return Some(months_asked(name));
+    }
+    match after(b"days/", text) {
+        Some(text) => days_in(name, text),
+        None => None,
+    }
+}
+
+// What asks for energy, by what follows the word for registers.
+fn register_in(text: &[u8]) -> Option<RunRoute>
+    ensures { targets.IsRegisterIn text.now result }
+{
+    match slash_in(text) {
+        Some(at) => energy_in(&text[..at], &text[at + 1..]),
+        None => None,
+    }
+}
+
+/// What a target asks of the energy of a register, if it asks for it.
+pub(crate) fn register_target(target: &[u8]) -> Option<RunRoute>
+    ensures { targets.IsRegisterTarget target.now result }
+{
+    match after(b"/registers/", target) {
+        Some(text) => register_in(text),
+        None => None,
+    }
+}

@@ -1,0 +1,210 @@
+//! The routes of a run itself: two that tell what was counted, one that tells what there is, rows of a meter, the energy of a
+//! register, the page, and who may not ask.
+ghost use Rattle.std.specs.Prelude.{◌≡◌, IfOk, OnOk};
+ghost use Rattle.http_request.specs.Head.Heads.{Looks};
+ghost use Rattle.http_answer.specs.Sending.Bodies.{fault_text};
+ghost use Rattle.http_request.specs.Hosts as hosts;
+ghost use Rattle.run_http.specs.StatusRoute as texts;
+
+use crate::meter_targets::meter_target;
+use crate::register_targets::register_target;
+use energy_report::ReportForm;
+use http_request::{HeadState, Status, may_ask, parse_head};
+use office_books::Span;
+use office_events::Name;
+use run_status::{Counts, DeviceLack, DeviceState, put, put_number, put_status, put_word};
+use std::alloc::{AllocError, Global};
+use web_page::{PagePart, part_of};
+
+/// What a request is answered without asking the office.
+#[derive(Clone, Copy, Debug, PartialEq, Eq)]
+pub enum StatusRoute {
+    /// What was counted, as JSON.
+    Status,
+    /// A part of the page.
+    Page(PagePart),
+    /// A fault: who may not ask, another method than GET, or a target with a part that is malformed.
+    Rejected(Status),
+}
+
+/// A route of a run itself.
+#[derive(Clone, Copy, Debug, PartialEq, Eq)]
+pub enum RunRoute {
+    /// It is answered without asking the office.
+    Own(StatusRoute),
+    /// What was counted, and the energy of the meters that are open, which the office is asked for, as Prometheus reads it.
+    Metrics,
+    /// The registers and their meters, which the office is asked for, as JSON.
+    Site,
+    /// The quarter hours of a meter, which the office is asked for, as text. `None` is a name that no meter can have.
+    Intervals {
+        meter: Option<Name>,
+        span: Span,
+    },
+    /// Its entries from a place on, voided ones too.
+    Entries {
+        meter: Option<Name>,
+        from: u64,
+    },
+    /// The energy of a register in the form of a report, which the office is asked for, as text. `None` is a name that no
+    /// register can have.
+    Energy {
+        register: Option<Name>,
+        form: ReportForm,
+    },
+}
+
+// The route of a path.
+fn path_named(target: &[u8]) -> Option<RunRoute>
+    ensures { result ≡ texts.path_named target.now }
+{
+    if target == b"/status".as_slice() {
+        Some(RunRoute::Own(StatusRoute::Status))
+    } else if target == b"/metrics".as_slice() {
+        Some(RunRoute::Metrics)
+    } else if target == b"/site".as_slice() {
+        Some(RunRoute::Site)
+    } else {
+        part_of(target).map(|part| RunRoute::Own(StatusRoute::Page(part)))
+    }
+}
+
+// The route of a path, or of rows of a meter.
+fn plain_target(target: &[u8]) -> Option<RunRoute>
+    ensures { result ≡ texts.plain_target target.now }
+{
+    match path_named(target) {
+        None => meter_target(target),
+        Some(route) => Some(route),
+    }
+}
+
+// The route of a target.
+fn target_named(target: &[u8]) -> Option<RunRoute>
+    ensures { texts.IsTarget target.now result }
+{
+    match plain_target(target) {
+        None => register_target(target),
+        Some(route) => Some(route),
+    }
+}
+
+// The route of a method and a target.
+fn route_named(method: &[u8], target: &[u8]) -> Option<RunRoute>
+    ensures { texts.IsRouteNamed method.now target.now result }
+{
+    match target_named(target) {
+        None => None,
+        Some(route) => {
+            if method == b"GET".as_slice() {
+                Some(route)
+            } else {
+                Some(RunRoute::Own(StatusRoute::Rejected(Status::MethodNotAllowed)))
+            }
+        }
+    }
+}
+
+// The route of a head that is whole and within its limits.
+fn route_in(request: &[u8], head_state: &HeadState) -> Option<RunRoute>
+    requires { Looks request.now head_state.now }
+    ensures { texts.IsRouteIn request.now head_state.now result }
+{
+    match head_state {
+        HeadState::Whole(head) => route_named(head.method.of(request), head.target.of(request)),
+        HeadState::Open | HeadState::TooLarge | HeadState::NoHead => None,
+    }
+}
+
+/// Which of the run's routes a request asks for, once its head is whole and within its limits, or why it is rejected: who
+/// asks may not, by these names. None is one of the office's.
+pub fn run_route(names: &[&str], request: &[u8]) -> Option<RunRoute>
+    ensures { texts.IsFor (hosts.texts names.now) request.now result }
+{
+    let head_state = parse_head(request);
+    if may_ask(names, request, &head_state) {
+        route_in(request, &head_state)
+    } else {
+        Some(RunRoute::Own(StatusRoute::Rejected(Status::Misdirected)))
+    }
+}
+
+// Puts the status and the headers of each reply, for a body of a kind.
+fn put_start(text: &mut Vec<u8>, status: Status, kind: &[u8], body: &[u8]) -> Result<(), AllocError>
+    ensures { OnOk result (text.new.items
+        ≡ texts.with_start status kind.now body.now text.old.items) }
+{
+    put_number(text, b"HTTP/1.1 ", u64::from(status.number()))?;
+    put_word(text, b" ", status.reason())?;
+    put_word(text, b"\r\nContent-Type: ", kind)?;
+    put_number(text, b"\r\nContent-Length: ", body.len() as u64)?;
+    put(text, b"\r\nConnection: close")
+}
+
+/// Puts a reply with a body of a kind.
+pub(crate) fn put_reply(
+    text: &mut Vec<u8>,
+    status: Status,
+    kind: &[u8],
+    body: &[u8],
+) -> Result<(), AllocError>
+    ensures { OnOk result (text.new.items
+        ≡ texts.with_reply status kind.now body.now text.old.items) }
+{
+    put_start(text, status, kind, body)?;
+    put_word(text, b"\r\n\r\n", body)
+}
+
+// Puts what a browser is told of a part of the page.
+fn put_page_headers(text: &mut Vec<u8>) -> Result<(), AllocError>
+    ensures { OnOk result (text.new.items ≡ texts.with_page_headers text.old.items) }
+{
+    put(text, b"\r\nContent-Security-Policy: default-src 'self'")?;
+    put(text, b"\r\nX-Content-Type-Options: nosniff")?;
+    put(text, b"\r\nCache-Control: no-cache")
+}
+
+// Puts the reply with a part of the page.
+fn put_page(text: &mut Vec<u8>, part: PagePart) -> Result<(), AllocError>
+    ensures { OnOk result (text.new.items ≡ texts.with_page_reply part text.old.items) }
+{
+    put_start(text, Status::Fine, part.content_type(), part.body())?;
+    put_page_headers(text)?;
+    put_word(text, b"\r\n\r\n", part.body())
+}
+
+// The body for a fault.
+fn fault_body(alloc: Global, status: Status) -> Result<Vec<u8>, AllocError>
+    ensures { IfOk result (λ body. body.items ≡ fault_text status) }
+{
+    let mut body = Vec::new(alloc);
+    put_number(&mut body, b"{\"fault\":", u64::from(status.number()))?;
+    put(&mut body, b"}")?;
+    Ok(body)
+}
+
+/// Puts the reply of a route that is answered without asking the office.
+pub fn reply_status(
+    alloc: Global,
+    text: &mut Vec<u8>,
+    route: StatusRoute,
+    counts: &Counts,
+    devices: &[DeviceState],
+    lacks: &[DeviceLack],
+) -> Result<(), AllocError>
+    ensures { OnOk result (text.new.items
+        ≡ texts.with_route_reply route counts.now devices.now lacks.now text.old.items) }
+{
+    match route {
+        StatusRoute::Status => {
+            let mut body = Vec::new(alloc);
+            put_status(&mut body, counts, devices, lacks)?;
+            put_reply(text, Status::Fine, b"application/json", &body)
+        }
+        StatusRoute::Page(part) => put_page(text, part),
+        StatusRoute::Rejected(status) => {
+            let body = fault_body(alloc, status)?;
+            put_reply(text, status, b"application/json", &body)
+        }
+    }
+}

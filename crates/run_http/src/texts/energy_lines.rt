@@ -1,0 +1,162 @@
+//! The energy of the meters that are open, in Prometheus's text format.
+ghost use Rattle.std.specs.Prelude.{◌≡◌, ℕ, ◌%◌, ◌++◌, negsuc, false, OnOk};
+ghost use Rattle.std.specs.Fmt.{digit_glyph};
+ghost use Rattle.sun_points.specs.Decimal.{low_digits, magnitude_text};
+ghost use Rattle.run_http.specs.Texts.EnergyLines as energy;
+
+use office_core::SiteRow;
+use office_events::{Installation, Name};
+use run_status::{put, put_number};
+use std::alloc::AllocError;
+
+// Puts a byte of a label.
+fn put_label_byte(text: &mut Vec<u8>, byte: u8) -> Result<(), AllocError>
+    ensures { OnOk result (text.new.items ≡ text.old.items ++ energy.label_byte byte) }
+{
+    match byte {
+        b'\\' => put(text, b"\\\\"),
+        b'"' => put(text, b"\\\""),
+        b'\n' => put(text, b"\\n"),
+        _ => put(text, &[byte]),
+    }
+}
+
+// Puts what introduces a label, and its value.
+fn put_label(text: &mut Vec<u8>, before: &[u8], value: &Name) -> Result<(), AllocError>
+    ensures { OnOk result (text.new.items
+        ≡ energy.with_label text.old.items before.now value.now) }
+{
+    put(text, before)?;
+    for &byte in value.as_bytes() {
+        put_label_byte(text, byte)?;
+    }
+    Ok(())
+}
+
+// Puts of which meter a value is, after what introduces that.
+fn put_labels(
+    text: &mut Vec<u8>,
+    before: &[u8],
+    row: &SiteRow,
+    meter: &Installation,
+) -> Result<(), AllocError>
+    ensures { OnOk result (text.new.items
+        ≡ energy.with_labels text.old.items before.now row.now meter.now) }
+{
+    put_label(text, before, &meter.opening.meter)?;
+    put_label(text, b"\",register=\"", &row.register.name)?;
+    put_label(text, b"\",device=\"", &row.register.device)
+}
+
+// The last digit of a number.
+fn last_digit(number: u64) -> u8
+    ensures { result ≡ digit_glyph false (number % 10) }
+{
+    b'0' + (number % 10) as u8
+}
+
+// The last three digits of a number.
+fn last_digits(number: u64) -> [u8; 3]
+    ensures { result ≡ low_digits 10 3 number }
+{
+    [
+        last_digit(number / 100),
+        last_digit(number / 10),
+        last_digit(number),
+    ]
+}
+
+// Puts a thousandth of a number, with three decimals, after what introduces it.
+fn put_thousandth(text: &mut Vec<u8>, before: &[u8], number: u64) -> Result<(), AllocError>
+    ensures { OnOk result (text.new.items
+        ≡ text.old.items ++ before.now ++ magnitude_text number (negsuc 2)) }
+{
+    put_number(text, before, number / 1000)?;
+    put(text, b".")?;
+    put(text, &last_digits(number))
+}
+
+// Puts the energy of a meter.
+fn put_energy(text: &mut Vec<u8>, row: &SiteRow, meter: &Installation) -> Result<(), AllocError>
+    ensures { OnOk result (text.new.items
+        ≡ energy.with_energy text.old.items row.now meter.now) }
+{
+    put_labels(
+        text,
+        b"\nsunreg_energy_watthours_total{meter=\"",
+        row,
+        meter,
+    )?;
+    put_thousandth(text, b"\"} ", meter.total)
+}
+
+// Puts the moment of the last entry of a meter.
+fn put_entry(text: &mut Vec<u8>, row: &SiteRow, meter: &Installation) -> Result<(), AllocError>
+    ensures { OnOk result (text.new.items ≡ energy.with_entry text.old.items row.now meter.now) }
+{
+    put_labels(
+        text,
+        b"\nsunreg_last_entry_timestamp_seconds{meter=\"",
+        row,
+        meter,
+    )?;
+    put_number(text, b"\"} ", meter.last.at)
+}
+
+// Puts the energy of the meter of a register, where one is open.
+fn put_energy_of(text: &mut Vec<u8>, row: &SiteRow) -> Result<(), AllocError>
+    ensures { OnOk result (text.new.items
+        ≡ energy.with_energy_of text.old.items row.now row.now.meter) }
+{
+    match &row.meter {
+        Some(meter) if !meter.ended => put_energy(text, row, meter),
+        _ => Ok(()),
+    }
+}
+
+// Puts the moment of the last entry of the meter of a register, where one is open.
+fn put_entry_of(text: &mut Vec<u8>, row: &SiteRow) -> Result<(), AllocError>
+    ensures { OnOk result (text.new.items
+        ≡ energy.with_entry_of text.old.items row.now row.now.meter) }
+{
+    match &row.meter {
+        Some(meter) if !meter.ended => put_entry(text, row, meter),
+        _ => Ok(()),
+    }
+}
+
+fn put_energies(text: &mut Vec<u8>, rows: &[SiteRow]) -> Result<(), AllocError>
+    ensures { OnOk result (text.new.items ≡ energy.with_energies text.old.items rows.now) }
+{
+    for row in rows {
+        put_energy_of(text, row)?;
+    }
+    Ok(())
+}
+
+fn put_entries(text: &mut Vec<u8>, rows: &[SiteRow]) -> Result<(), AllocError>
+    ensures { OnOk result (text.new.items ≡ energy.with_entries text.old.items rows.now) }
+{
+    for row in rows {
+        put_entry_of(text, row)?;
+    }
+    Ok(())
+}
+
+/// Puts the energy of the meters that are open, and the moment of the last entry of each, at the end of a text. Want of memory
+/// leaves a part of it.
+pub(crate) fn put_meters(text: &mut Vec<u8>, rows: &[SiteRow]) -> Result<(), AllocError>
+    ensures { OnOk result (text.new.items ≡ energy.with_meters text.old.items rows.now) }
+{
+    put(
+        text,
+        b"# HELP sunreg_energy_watthours_total Energy of a meter that is open.\n# TYPE sunreg_energy_watthours_total counter",
+    )?;
+    put_energies(text, rows)?;
+    put(
+        text,
+        b"\n# HELP sunreg_last_entry_timestamp_seconds Moment of the last entry of a meter.\n# TYPE sunreg_last_entry_timestamp_seconds gauge",
+    )?;
+    put_entries(text, rows)?;
+    put(text, b"\n")
+}

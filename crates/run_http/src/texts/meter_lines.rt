@@ -1,0 +1,145 @@
+//! The rows of a meter, as lines.
+ghost use Rattle.std.specs.Prelude.{◌≡◌, ◌++◌, OnOk, flat_map};
+ghost use Rattle.interval_core.specs.Lines.{end_line, intervals_text, share_line};
+ghost use Rattle.run_http.specs.Texts.MeterLines as lines;
+
+use energy_core::{Entry, Last};
+use interval_core::Share;
+use meter_journal::{EntryKind, EntryRow};
+use office_books::MeterEntry;
+use run_status::{put, put_number, put_scale};
+use std::alloc::AllocError;
+
+// Puts how many rows there are.
+fn put_end(text: &mut Vec<u8>, count: usize) -> Result<(), AllocError>
+    ensures { OnOk result (text.new.items ≡ text.old.items ++ end_line count) }
+{
+    put_number(text, b"end ", count as u64)?;
+    put(text, b"\n")
+}
+
+// Puts the line of a quarter hour.
+fn put_share(text: &mut Vec<u8>, row: &Share) -> Result<(), AllocError>
+    ensures { OnOk result (text.new.items ≡ text.old.items ++ share_line row.now) }
+{
+    put_number(text, b"", row.start)?;
+    put_number(text, b" ", row.mwh)?;
+    put(text, b"\n")
+}
+
+// Puts a line for each quarter hour.
+fn put_share_lines(text: &mut Vec<u8>, rows: &[Share]) -> Result<(), AllocError>
+    ensures { OnOk result (text.new.items ≡ text.old.items ++ flat_map share_line rows.now) }
+{
+    for row in rows {
+        put_share(text, row)?;
+    }
+    Ok(())
+}
+
+/// Puts the quarter hours of a meter at the end of a text, a line each, and then how many there are. Want of memory leaves a
+/// part of it.
+pub fn put_shares(text: &mut Vec<u8>, rows: &[Share]) -> Result<(), AllocError>
+    ensures { OnOk result (text.new.items ≡ text.old.items ++ intervals_text rows.now) }
+{
+    put_share_lines(text, rows)?;
+    put_end(text, rows.len())
+}
+
+// Puts where an entry comes from.
+fn put_kind(text: &mut Vec<u8>, kind: EntryKind) -> Result<(), AllocError>
+    ensures { OnOk result (text.new.items ≡ text.old.items ++ lines.kind_word kind) }
+{
+    match kind {
+        EntryKind::Reading => put(text, b" reading "),
+        EntryKind::Manual => put(text, b" manual "),
+        EntryKind::Closing => put(text, b" closing "),
+        EntryKind::Reset => put(text, b" reset "),
+        EntryKind::Rescale => put(text, b" rescale "),
+    }
+}
+
+// Puts the numbers of an entry.
+fn put_numbers(text: &mut Vec<u8>, entry: &Entry) -> Result<(), AllocError>
+    ensures { OnOk result (text.new.items ≡ text.old.items ++ lines.numbers_text entry.now) }
+{
+    match *entry {
+        Entry::Step { at, raw, rolls } => {
+            put_number(text, b"", at)?;
+            put_number(text, b" ", u64::from(raw))?;
+            put_number(text, b" ", u64::from(rolls))?;
+            put(text, b" 0")
+        }
+        Entry::Change {
+            at,
+            before,
+            after,
+            sf: _,
+        } => {
+            put_number(text, b"", at)?;
+            put_number(text, b" ", u64::from(before))?;
+            put_number(text, b" 0 ", u64::from(after))
+        }
+    }
+}
+
+// Puts whether an entry stands.
+fn put_standing(text: &mut Vec<u8>, stands: bool) -> Result<(), AllocError>
+    ensures { OnOk result (text.new.items ≡ text.old.items ++ lines.standing_word stands) }
+{
+    if stands {
+        put(text, b" stands\n")
+    } else {
+        put(text, b" void\n")
+    }
+}
+
+// Puts the line of the opening.
+fn put_opening(text: &mut Vec<u8>, last: &Last) -> Result<(), AllocError>
+    ensures { OnOk result (text.new.items ≡ text.old.items ++ lines.opening_line last.now) }
+{
+    put_number(text, b"1 opening ", last.at)?;
+    put_number(text, b" ", u64::from(last.raw))?;
+    put_scale(text, b" 0 0 ", last.sf)?;
+    put(text, b" stands\n")
+}
+
+// Puts the line of a later entry.
+fn put_later(text: &mut Vec<u8>, row: &EntryRow, sf: i16) -> Result<(), AllocError>
+    ensures { OnOk result (text.new.items ≡ text.old.items ++ lines.later_line row.now sf) }
+{
+    put_number(text, b"", row.place)?;
+    put_kind(text, row.kind)?;
+    put_numbers(text, &row.entry)?;
+    put_scale(text, b" ", sf)?;
+    put_standing(text, row.stands)
+}
+
+// Puts the line of an entry.
+fn put_entry(text: &mut Vec<u8>, entry: &MeterEntry) -> Result<(), AllocError>
+    ensures { OnOk result (text.new.items ≡ text.old.items ++ lines.entry_line entry.now) }
+{
+    match entry {
+        MeterEntry::Opening(last) => put_opening(text, last),
+        MeterEntry::Later { row, sf } => put_later(text, row, *sf),
+    }
+}
+
+// Puts a line for each entry.
+fn put_entry_lines(text: &mut Vec<u8>, entries: &[MeterEntry]) -> Result<(), AllocError>
+    ensures { OnOk result (text.new.items
+        ≡ text.old.items ++ flat_map lines.entry_line entries.now) }
+{
+    for entry in entries {
+        put_entry(text, entry)?;
+    }
+    Ok(())
+}
+
+/// Puts entries of a meter at the end of a text, a line each, and then how many there are. Want of memory leaves a part of it.
+pub fn put_entries(text: &mut Vec<u8>, entries: &[MeterEntry]) -> Result<(), AllocError>
+    ensures { OnOk result (text.new.items ≡ text.old.items ++ lines.entries_text entries.now) }
+{
+    put_entry_lines(text, entries)?;
+    put_end(text, entries.len())
+}
