@@ -8,9 +8,9 @@ use Rattle.interval_core.specs.declared.shares.Share.{Share}
 use Rattle.interval_core.specs.declared.zone.Zone.{Zone}
 use Rattle.office_books.specs.Rows.{TakesAll}
 use Rattle.energy_report.specs.declared.energy_within.EnergyWithin.{EnergyWithin}
-use Rattle.energy_report.specs.declared.range.DayRange.{DayRange}
+use Rattle.interval_core.specs.declared.day_range.DayRange.{DayRange}
 use Rattle.energy_report.specs.Energies.{AddsShare, IsFresh}
-use Rattle.energy_report.specs.Ranges.{has_moment}
+use Rattle.interval_core.specs.Ranges.{has_moment}
 use Rattle.energy_report.specs.Statements.{energy_within}
 use Rattle.energy_report.proofs.SnocLemmas.{capped}
 

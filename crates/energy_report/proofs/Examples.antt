@@ -21,7 +21,7 @@ use Rattle.energy_report.specs.declared.form.ReportForm.{ReportForm}
 use Rattle.energy_report.specs.Days.{IsReadAs, Spells}
 use Rattle.energy_report.specs.Laws.{range}
 use Rattle.energy_report.specs.Periods.{is_same}
-use Rattle.energy_report.specs.Ranges.{all_days, begins_by, ends_after, is_in}
+use Rattle.interval_core.specs.Ranges.{all_days, begins_by, ends_after, is_in}
 use Rattle.energy_report.specs.Rows.{joined, row_of, rows_by, shown}
 use Rattle.energy_report.specs.Texts.{energy_text, report_text}
 use Rattle.energy_report.proofs.DayLemmas.{unread}

@@ -15,7 +15,7 @@ use Rattle.interval_core.specs.Report.{day_line}
 use Rattle.interval_core.specs.declared.totals.DayTotal.{DayTotal}
 use Rattle.energy_report.specs.declared.form.Period.TheVariants as period
 use Rattle.energy_report.specs.Laws.{IsHeld}
-use Rattle.energy_report.specs.Ranges.{all_days, days_in}
+use Rattle.interval_core.specs.Ranges.{all_days, days_in}
 use Rattle.energy_report.specs.Rows.{row_of, rows_by, shown, shown_rows}
 use Rattle.energy_report.specs.Texts.{report_text, row_text, rows_text}
 use Rattle.energy_report.specs.Words.{plain_form}

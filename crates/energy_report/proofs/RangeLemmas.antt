@@ -13,7 +13,7 @@ use Rattle.jiff_core.proofs.SignedLemmas.{signed_arith}
 use Rattle.jiff.specs.Words.{epoch_day}
 use Rattle.interval_core.specs.declared.totals.DayTotal.{DayTotal}
 use Rattle.energy_report.specs.Laws.{energy_of_days, range}
-use Rattle.energy_report.specs.Ranges.{begins_by, days_in, ends_after, ends_before, is_in}
+use Rattle.interval_core.specs.Ranges.{begins_by, days_in, ends_after, ends_before, is_in}
 
 pub le_of : (r : Ordering) (a b : ℤ) → MatchOrdering r (a <ℤ b) (a ≡ b) (b <ℤ a) → is_le r ≡ true → a ≤ℤ b
 le_of Less a b is le = omega (arith, signed_arith, is)

@@ -7,7 +7,7 @@ use Rattle.interval_core.specs.declared.totals.DayTotal.{DayTotal}
 use Rattle.energy_report.specs.declared.form.ReportForm.{ReportForm}
 use Rattle.energy_report.specs.declared.row.Row.{Row}
 use Rattle.energy_report.specs.Laws.{energy_of_days, energy_of_rows, intervals_of_days, intervals_of_rows}
-use Rattle.energy_report.specs.Ranges.{days_in}
+use Rattle.interval_core.specs.Ranges.{days_in}
 use Rattle.energy_report.specs.Rows.{rows_in, shown, shown_rows}
 use Rattle.energy_report.proofs.SumLemmas.{sums}
 

@@ -9,7 +9,7 @@ use Rattle.energy_report.specs.declared.form.Period.{Period}
 use Rattle.energy_report.specs.declared.form.ReportForm.{ReportForm}
 use Rattle.energy_report.specs.declared.row.Row.{Row}
 use Rattle.energy_report.specs.Periods.{is_same}
-use Rattle.energy_report.specs.Ranges.{days_in, is_in}
+use Rattle.interval_core.specs.Ranges.{days_in, is_in}
 use Rattle.energy_report.specs.Rows.{before, joined, row_of, rows_by, rows_in, shown}
 use Rattle.energy_report.proofs.PeriodLemmas.{same-like}
 

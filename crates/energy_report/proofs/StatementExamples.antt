@@ -17,7 +17,7 @@ use Rattle.energy_report.specs.declared.form.Format.TheVariants.{Text, Csv, Json
 use Rattle.energy_report.specs.declared.form.StatementForm.{StatementForm}
 use Rattle.energy_report.specs.declared.meter_statement.MeterStatement.{MeterStatement}
 use Rattle.energy_report.specs.declared.tallies.EntryTally.{EntryTally}
-use Rattle.energy_report.specs.Ranges.{all_days}
+use Rattle.interval_core.specs.Ranges.{all_days}
 use Rattle.energy_report.specs.Statements.{energy_within, tally_of, worth_of}
 use Rattle.energy_report.specs.StatementTexts.{statement_text}
 

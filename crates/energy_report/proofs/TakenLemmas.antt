@@ -11,7 +11,7 @@ use Rattle.energy_report.specs.declared.form.ReportForm.{ReportForm}
 use Rattle.energy_report.specs.declared.report_rows.ReportRows.{ReportRows}
 use Rattle.energy_report.specs.declared.row.Row.{Row}
 use Rattle.energy_report.specs.Periods.{is_same}
-use Rattle.energy_report.specs.Ranges.{is_in}
+use Rattle.interval_core.specs.Ranges.{is_in}
 use Rattle.energy_report.specs.Rows.{joined, row_of, rows_in, shown}
 use Rattle.energy_report.specs.Texts.{last_text, lead, report_text, row_text}
 use Rattle.energy_report.specs.Writing.{AreWritten, GotUnless, Finishes, HasTaken, IsFinished, WritesRow, WritesText, begun_text}

@@ -8,7 +8,7 @@ use Rattle.std.proofs.lemmas.List.Sums.{sum_by-append, sum_by-cons}
 use Rattle.energy_core.specs.declared.entries.Last.{Last}
 use Rattle.interval_core.specs.declared.zone.Zone.{Zone}
 use Rattle.office_books.specs.declared.entries.MeterEntry.{MeterEntry}
-use Rattle.energy_report.specs.declared.range.DayRange.{DayRange}
+use Rattle.interval_core.specs.declared.day_range.DayRange.{DayRange}
 use Rattle.energy_report.specs.declared.tallies.EntryTally.{EntryTally}
 use Rattle.energy_report.specs.RowLines.{counted}
 use Rattle.energy_report.specs.Statements.{count_of, is_corrected, is_manual, is_rescale, is_reset, is_voided, stand_of, stands_within, tally_of}

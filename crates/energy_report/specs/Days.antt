@@ -4,8 +4,8 @@ use Rattle.std.specs.Borrow.{Bor}
 use Rattle.jiff.specs.Words.{date_text}
 use Rattle.jiff_fmt.specs.Text.{pad2}
 use Rattle.jiff_core.specs.declared.civil.date.Date.{Date}
-use Rattle.energy_report.specs.Ranges.{is_backward}
-use Rattle.energy_report.specs.declared.range.DayRange.{DayRange}
+use Rattle.interval_core.specs.Ranges.{is_backward}
+use Rattle.interval_core.specs.declared.day_range.DayRange.{DayRange}
 use Rattle.energy_report.specs.declared.spelled_day.Parts.{Parts}
 use Rattle.energy_report.specs.declared.spelled_range.RangeFault.{RangeFault}
 use Rattle.energy_report.specs.declared.spelled_range.RangeFault.TheVariants as fault

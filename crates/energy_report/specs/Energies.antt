@@ -3,8 +3,8 @@ use Rattle.std.specs.Prelude.{◌≡◌, ◌+◌, ◌-◌, ◌^◌, min, if◌th
 use Rattle.interval_core.specs.declared.shares.Share.{Share}
 use Rattle.interval_core.specs.declared.zone.Zone.{Zone}
 use Rattle.energy_report.specs.declared.energy_within.EnergyWithin.{EnergyWithin}
-use Rattle.energy_report.specs.declared.range.DayRange.{DayRange}
-use Rattle.energy_report.specs.Ranges.{has_moment}
+use Rattle.interval_core.specs.declared.day_range.DayRange.{DayRange}
+use Rattle.interval_core.specs.Ranges.{has_moment}
 
 -- no rows yet
 pub record IsFresh (zone : Zone) (range : DayRange) (new : EnergyWithin) : Type 0 where

@@ -6,10 +6,10 @@ use Rattle.interval_core.specs.Lines.{days_text}
 use Rattle.interval_core.specs.declared.totals.DayTotal.{DayTotal}
 use Rattle.energy_report.specs.declared.form.Period.{Period}
 use Rattle.energy_report.specs.declared.form.ReportForm.{ReportForm}
-use Rattle.energy_report.specs.declared.range.DayRange.{DayRange}
+use Rattle.interval_core.specs.declared.day_range.DayRange.{DayRange}
 use Rattle.energy_report.specs.declared.row.Row.{Row}
 use Rattle.energy_report.specs.Periods.{is_same}
-use Rattle.energy_report.specs.Ranges.{days_in, ends_before}
+use Rattle.interval_core.specs.Ranges.{days_in, ends_before}
 use Rattle.energy_report.specs.Rows.{rows_by, rows_in, shown_rows}
 use Rattle.energy_report.specs.Texts.{report_text}
 use Rattle.energy_report.specs.Words.{plain_form}

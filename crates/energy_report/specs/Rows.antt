@@ -4,7 +4,7 @@ use Rattle.interval_core.specs.declared.totals.DayTotal.{DayTotal}
 use Rattle.energy_report.specs.declared.form.Period.{Period}
 use Rattle.energy_report.specs.declared.form.ReportForm.{ReportForm}
 use Rattle.energy_report.specs.declared.row.Row.{Row}
-use Rattle.energy_report.specs.Ranges.{days_in}
+use Rattle.interval_core.specs.Ranges.{days_in}
 use Rattle.energy_report.specs.Periods.{is_same}
 
 -- the row of a day alone

@@ -15,9 +15,9 @@ use Rattle.meter_journal.specs.declared.lines.EntryKind.TheVariants as kind
 use Rattle.office_books.specs.declared.entries.MeterEntry.{MeterEntry}
 use Rattle.office_books.specs.declared.entries.MeterEntry.TheVariants as entry
 use Rattle.office_events.specs.declared.questions.Installation.{Installation}
-use Rattle.energy_report.specs.declared.range.DayRange.{DayRange}
+use Rattle.interval_core.specs.declared.day_range.DayRange.{DayRange}
 use Rattle.energy_report.specs.declared.tallies.EntryTally.{EntryTally}
-use Rattle.energy_report.specs.Ranges.{has_moment}
+use Rattle.interval_core.specs.Ranges.{has_moment}
 use Rattle.energy_report.specs.RowLines.{counted}
 
 -- ---- an entry

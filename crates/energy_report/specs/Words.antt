@@ -8,7 +8,7 @@ use Rattle.energy_report.specs.declared.form.EnergyUnit.TheVariants.{MilliwattHo
 use Rattle.energy_report.specs.declared.form.Format.{Format}
 use Rattle.energy_report.specs.declared.form.Format.TheVariants.{Text, Csv, Json}
 use Rattle.energy_report.specs.declared.form.ReportForm.{ReportForm}
-use Rattle.energy_report.specs.Ranges.{all_days}
+use Rattle.interval_core.specs.Ranges.{all_days}
 
 abbrev pub period_of : List ℕ → Option Period
 period_of word =

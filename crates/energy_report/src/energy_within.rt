@@ -1,8 +1,7 @@
 //! The energy of interval rows in a range.
 ghost use Rattle.std.specs.Prelude.{◌≡◌, if◌then◌else◌};
 
-use crate::range::DayRange;
-use interval_core::{Share, Zone};
+use interval_core::{DayRange, Share, Zone};
 use office_books::RowSink;
 
 /// Adds up the energy of the interval rows whose quarter hours start in a range, by the clocks of a zone. A sum stays at the

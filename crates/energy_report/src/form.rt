@@ -3,8 +3,7 @@ ghost use Rattle.std.specs.Prelude.{◌≡◌};
 ghost use Rattle.energy_report.specs.Periods.{is_same};
 ghost use Rattle.energy_report.specs.Words.{period_of, unit_of, format_of, plain_form};
 
-use crate::range::DayRange;
-use interval_core::Day;
+use interval_core::{Day, DayRange};
 
 /// What days are added up to a row.
 #[derive(Clone, Copy, Debug, PartialEq, Eq)]

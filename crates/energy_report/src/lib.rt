@@ -5,7 +5,6 @@ mod energy_within;
 mod form;
 mod laws;
 mod meter_statement;
-mod range;
 mod report_rows;
 mod row;
 mod row_lines;
@@ -21,7 +20,6 @@ pub use laws::{
     plain_reports_are_lists_of_days, ranges_add_up, rows_add_up, rows_are_shown, rows_are_whole,
 };
 pub use meter_statement::{MeterStatement, was_there};
-pub use range::DayRange;
 pub use report_rows::ReportRows;
 pub use row::Row;
 pub use row_lines::RowLines;

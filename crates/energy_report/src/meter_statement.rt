@@ -2,9 +2,8 @@
 ghost use Rattle.std.specs.Prelude.{◌≡◌};
 ghost use Rattle.energy_report.specs.Statements as statements;
 
-use crate::range::DayRange;
 use crate::tallies::EntryTally;
-use interval_core::Zone;
+use interval_core::{DayRange, Zone};
 use office_events::{Installation, Name};
 
 /// A meter, what its entries in a range come to, and its energy in it, in mWh.

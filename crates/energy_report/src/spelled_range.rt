@@ -2,9 +2,8 @@
 ghost use Rattle.std.specs.Prelude.{MatchResult};
 ghost use Rattle.energy_report.specs.Days.{IsEnd, IsNoEnd, IsRange, IsRangeFault};
 
-use crate::range::DayRange;
 use crate::spelled_day::read_day;
-use interval_core::Day;
+use interval_core::{Day, DayRange};
 
 /// Why two words are no range.
 #[derive(Clone, Copy, Debug, PartialEq, Eq)]

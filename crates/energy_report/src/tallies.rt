@@ -6,9 +6,8 @@ ghost use Rattle.energy_report.specs.RowLines.{counted};
 ghost use Rattle.energy_report.specs.Statements as statements;
 ghost use Rattle.energy_report.specs.Statements.{tally_of};
 
-use crate::range::DayRange;
 use energy_core::{Entry, Last};
-use interval_core::Zone;
+use interval_core::{DayRange, Zone};
 use meter_journal::EntryKind;
 use office_books::MeterEntry;
 

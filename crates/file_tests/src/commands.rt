@@ -1,7 +1,8 @@
 //! Commands over an office in a database that is closed and opened between, whatever makes the connections.
 use crate::day::{MONTH, REPORTED, STATED, book_day};
 use command_io::ExitStatus;
-use energy_report::{DayRange, EnergyUnit, Format, Period, ReportForm, StatementForm};
+use energy_report::{EnergyUnit, Format, Period, ReportForm, StatementForm};
+use interval_core::DayRange;
 use office_events::{Device, Register};
 use office_program::{NamedFiles, Shown};
 use office_store::{OpenFault, SqlBooks};

@@ -2,8 +2,9 @@
 use crate::cases::reply;
 use crate::meter_rows::{route_of, text_reply};
 use crate::office::{polled, unmetered};
-use energy_report::{DayRange, EnergyUnit, Format, Period, ReportForm, read_day};
+use energy_report::{EnergyUnit, Format, Period, ReportForm, read_day};
 use http_request::Status;
+use interval_core::DayRange;
 use memory_books::ListBooks;
 use office_core::Office;
 use office_events::Name;

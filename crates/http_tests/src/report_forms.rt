@@ -2,8 +2,8 @@
 use crate::narrow::Narrow;
 use crate::office::{metered, polled};
 use command_io::ExitStatus;
-use energy_report::{DayRange, EnergyUnit, Format, Period, ReportForm, Row, read_day};
-use interval_core::{Day, DayTotal};
+use energy_report::{EnergyUnit, Format, Period, ReportForm, Row, read_day};
+use interval_core::{Day, DayRange, DayTotal};
 use memory_books::ListBooks;
 use office_core::Office;
 use office_events::Name;

@@ -3,6 +3,7 @@ pub mod Underway
 pub mod Account
 pub mod Zone
 pub mod Days
+pub mod Ranges
 pub mod Fold
 pub mod Faults
 pub mod Report

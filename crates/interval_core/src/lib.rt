@@ -2,6 +2,7 @@
 #![tactic(auto)]
 
 mod day;
+mod day_range;
 mod laws;
 mod limits;
 mod shares;
@@ -10,6 +11,7 @@ mod totals;
 mod zone;
 
 pub use day::{DayFault, day_of};
+pub use day_range::DayRange;
 pub use jiff::civil::Date as Day;
 pub use laws::{
     accounts_add_up, accounts_are_one, accounts_ignore_order, shares_add_up, zones_are_one,

@@ -37,7 +37,7 @@ use Rattle.office_core.specs.Taking.{failures_of}
 use Rattle.office_core.specs.declared.office.Office.{Office}
 use Rattle.energy_report.specs.declared.energy_within.EnergyWithin.{EnergyWithin}
 use Rattle.energy_report.specs.declared.meter_statement.MeterStatement.{MeterStatement}
-use Rattle.energy_report.specs.declared.range.DayRange.{DayRange}
+use Rattle.interval_core.specs.declared.day_range.DayRange.{DayRange}
 use Rattle.energy_report.specs.declared.tallies.EntryTally.{EntryTally}
 use Rattle.energy_report.specs.Energies.{AddsShare, IsFresh}
 use Rattle.energy_report.specs.Statements.{energy_within, tally_of, was_there}

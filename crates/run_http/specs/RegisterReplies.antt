@@ -2,11 +2,11 @@
 use Rattle.std.specs.Prelude.{◌≡◌, ℕ, ◌<◌, ◌^◌, false, length, List, map, filter, Option, Some, Result, Ok, Err, IfOk, OnOk, OnErr, codes}
 use Rattle.std.specs.Option.{option_and_then}
 use Rattle.std.specs.Io.KnownBytes.{Appends}
-use Rattle.energy_report.specs.Ranges.{days_in, has_day}
+use Rattle.interval_core.specs.Ranges.{days_in, has_day}
 use Rattle.energy_report.specs.Texts.{report_text}
 use Rattle.energy_report.specs.Writing.{Finishes}
 use Rattle.energy_report.specs.declared.form.ReportForm.{ReportForm}
-use Rattle.energy_report.specs.declared.range.DayRange.{DayRange}
+use Rattle.interval_core.specs.declared.day_range.DayRange.{DayRange}
 use Rattle.energy_report.specs.declared.report_rows.ReportRows.{ReportRows}
 use Rattle.http_request.specs.declared.status.Status.TheVariants.{Fine}
 use Rattle.interval_core.specs.Days.{DayAccount, account_of}

@@ -3,13 +3,13 @@
 use Rattle.std.specs.Prelude.{◌≡◌, ◌⊎◌, ℕ, ◌+◌, Bool, true, false, List, take, drop, bytes_eq, Option, Some, None, codes}
 use Rattle.jiff_core.specs.declared.civil.date.Date.{Date}
 use Rattle.energy_report.specs.Days.{IsReadAs, Spells}
-use Rattle.energy_report.specs.Ranges.{all_days, is_backward}
+use Rattle.interval_core.specs.Ranges.{all_days, is_backward}
 use Rattle.energy_report.specs.declared.form.EnergyUnit.TheVariants.{MilliwattHours}
 use Rattle.energy_report.specs.declared.form.Format.TheVariants.{Text}
 use Rattle.energy_report.specs.declared.form.Period.{Period}
 use Rattle.energy_report.specs.declared.form.Period.TheVariants as period
 use Rattle.energy_report.specs.declared.form.ReportForm.{ReportForm}
-use Rattle.energy_report.specs.declared.range.DayRange.{DayRange}
+use Rattle.interval_core.specs.declared.day_range.DayRange.{DayRange}
 use Rattle.http_request.specs.declared.status.Status.TheVariants.{BadRequest}
 use Rattle.office_events.specs.Names.{named}
 use Rattle.run_http.specs.MeterTargets.{after, slash_in}

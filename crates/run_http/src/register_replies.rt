@@ -6,9 +6,9 @@ ghost use Rattle.run_http.specs.RegisterReplies.{with_energy_reply};
 
 use crate::route::put_reply;
 use crate::site::put_refusal;
-use energy_report::{DayRange, ReportForm, ReportRows};
+use energy_report::{ReportForm, ReportRows};
 use http_request::Status;
-use interval_core::DayTotal;
+use interval_core::{DayRange, DayTotal};
 use office_books::{Books, RowSink};
 use office_core::Office;
 use office_events::{Name, Refusal};

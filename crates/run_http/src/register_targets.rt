@@ -5,9 +5,9 @@ ghost use Rattle.run_http.specs.RegisterTargets as targets;
 
 use crate::meter_targets::{after, slash_in};
 use crate::route::{RunRoute, StatusRoute};
-use energy_report::{DayRange, EnergyUnit, Format, Period, ReportForm, read_day};
+use energy_report::{EnergyUnit, Format, Period, ReportForm, read_day};
 use http_request::Status;
-use interval_core::Day;
+use interval_core::{Day, DayRange};
 use office_events::Name;
 use std::str::from_utf8;
 

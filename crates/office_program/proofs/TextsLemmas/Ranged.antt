@@ -4,12 +4,12 @@ use Rattle.std.specs.Prelude.{Result, Ok, Err, ◌&&◌, filter, map, if◌then�
 use Rattle.std.proofs.lemmas.Bool.{cases_Bool, cond-true, cond-false}
 use Rattle.command_io.specs.declared.status.ExitStatus.{ExitStatus}
 use Rattle.command_io.specs.declared.status.ExitStatus.TheVariants.{Fine, Failed, Refused}
-use Rattle.energy_report.specs.Ranges.{begins_by, begins_by_number, days_in, ends_after, ends_after_number, has_day, is_in}
+use Rattle.interval_core.specs.Ranges.{begins_by, begins_by_number, days_in, ends_after, ends_after_number, has_day, is_in}
 use Rattle.energy_report.specs.Rows.{rows_by, shown}
 use Rattle.energy_report.specs.Texts.{report_text, rows_text}
 use Rattle.energy_report.specs.Writing.{GotUnless, HasTaken, IsFresh, TakesDay}
 use Rattle.energy_report.specs.declared.form.ReportForm.{ReportForm}
-use Rattle.energy_report.specs.declared.range.DayRange.{DayRange}
+use Rattle.interval_core.specs.declared.day_range.DayRange.{DayRange}
 use Rattle.energy_report.specs.declared.report_rows.ReportRows.{ReportRows}
 use Rattle.interval_core.specs.Days.{DayAccount, account_of}
 use Rattle.interval_core.specs.declared.totals.DayTotal.{DayTotal}

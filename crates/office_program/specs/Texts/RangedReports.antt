@@ -4,11 +4,11 @@ use Rattle.std.specs.Option.{option_and_then}
 use Rattle.std.specs.declared.io.Write as writers
 use Rattle.command_io.specs.declared.status.ExitStatus.{ExitStatus}
 use Rattle.command_io.specs.declared.status.ExitStatus.TheVariants.{Fine, Failed, Refused}
-use Rattle.energy_report.specs.Ranges.{days_in, has_day}
+use Rattle.interval_core.specs.Ranges.{days_in, has_day}
 use Rattle.energy_report.specs.Texts.{report_text}
 use Rattle.energy_report.specs.Writing.{Finishes}
 use Rattle.energy_report.specs.declared.form.ReportForm.{ReportForm}
-use Rattle.energy_report.specs.declared.range.DayRange.{DayRange}
+use Rattle.interval_core.specs.declared.day_range.DayRange.{DayRange}
 use Rattle.energy_report.specs.declared.report_rows.ReportRows.{ReportRows}
 use Rattle.interval_core.specs.Days.{DayAccount, account_of}
 use Rattle.interval_core.specs.declared.totals.DayTotal.{DayTotal}

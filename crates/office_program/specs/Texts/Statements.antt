@@ -8,7 +8,7 @@ use Rattle.command_io.specs.declared.status.ExitStatus.{ExitStatus}
 use Rattle.command_io.specs.declared.status.ExitStatus.TheVariants.{Fine, Refused}
 use Rattle.energy_report.specs.declared.form.StatementForm.{StatementForm}
 use Rattle.energy_report.specs.declared.meter_statement.MeterStatement.{MeterStatement}
-use Rattle.energy_report.specs.declared.range.DayRange.{DayRange}
+use Rattle.interval_core.specs.declared.day_range.DayRange.{DayRange}
 use Rattle.energy_report.specs.declared.tallies.EntryTally.{EntryTally}
 use Rattle.energy_report.specs.Statements.{energy_within, tally_of, was_there}
 use Rattle.energy_report.specs.StatementTexts.{statement_text}

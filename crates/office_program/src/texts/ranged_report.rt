@@ -5,8 +5,8 @@ ghost use Rattle.office_program.specs.Texts.Reports.{Asks};
 
 use crate::texts::end_texts::print_refusal;
 use command_io::ExitStatus;
-use energy_report::{DayRange, ReportForm, ReportRows};
-use interval_core::DayTotal;
+use energy_report::{ReportForm, ReportRows};
+use interval_core::{DayRange, DayTotal};
 use office_books::{Books, RowSink};
 use office_core::Office;
 use office_events::{Name, Refusal};

@@ -2,11 +2,11 @@
 use Rattle.std.proofs.Common.{◌≡◌, ℕ, Bool, true, false, cond, inl, inr, Option, Some, None, List, [], ◌∷◌, Result, Ok, Err, refl, sym, subst, ap, ◌∙◌}
 use Rattle.std.specs.Prelude.{◌&&◌, filter, map}
 use Rattle.std.proofs.lemmas.Bool.{cases_Bool, cond-true, cond-false}
-use Rattle.energy_report.specs.Ranges.{begins_by, begins_by_number, days_in, ends_after, ends_after_number, has_day, is_in}
+use Rattle.interval_core.specs.Ranges.{begins_by, begins_by_number, days_in, ends_after, ends_after_number, has_day, is_in}
 use Rattle.energy_report.specs.Rows.{rows_by, shown}
 use Rattle.energy_report.specs.Texts.{report_text, rows_text}
 use Rattle.energy_report.specs.declared.form.ReportForm.{ReportForm}
-use Rattle.energy_report.specs.declared.range.DayRange.{DayRange}
+use Rattle.interval_core.specs.declared.day_range.DayRange.{DayRange}
 use Rattle.interval_core.specs.Days.{DayAccount, account_of}
 use Rattle.interval_core.specs.declared.totals.DayTotal.{DayTotal}
 use Rattle.interval_core.specs.declared.zone.Zone.{Zone}

@@ -2,7 +2,7 @@
 use Rattle.std.proofs.Common.{◌≡◌, ℕ, Bool, Option, Some, List, [], ◌∷◌, ◌++◌, Result, Ok, Err, IsErr, sym, subst, ap, ◌∙◌, append-nil, append_assoc}
 use Rattle.std.specs.Prelude.{OnOk}
 use Rattle.std.specs.Io.KnownBytes.{Appends}
-use Rattle.energy_report.specs.Ranges.{days_in}
+use Rattle.interval_core.specs.Ranges.{days_in}
 use Rattle.energy_report.specs.Texts.{report_text}
 use Rattle.energy_report.specs.Writing.{GotUnless, HasTaken, IsFresh, TakesDay}
 use Rattle.energy_report.specs.declared.form.ReportForm.{ReportForm}

@@ -1,5 +1,5 @@
 use Rattle.std.proofs.Common.{refl}
-use Rattle.energy_report.specs.Ranges.{days_in}
+use Rattle.interval_core.specs.Ranges.{days_in}
 use Rattle.energy_report.proofs.SumLemmas.{sums}
 use Rattle.energy_report.proofs.laws.rows_add_up.Goals as goal
 

@@ -1,5 +1,5 @@
 use Rattle.std.proofs.Common.{◌≡◌, true, rules}
-use Rattle.energy_report.specs.Ranges.{is_backward}
+use Rattle.interval_core.specs.Ranges.{is_backward}
 use Rattle.energy_report.proofs.spelled_range.read_range.Goals as goal
 
 pub returns-then-is_backward : goal.returns-then-is_backward

@@ -1,5 +1,5 @@
 use Rattle.std.proofs.Common.{◌≡◌, inr, true, false, refl, rules}
-use Rattle.energy_report.specs.Ranges.{is_backward}
+use Rattle.interval_core.specs.Ranges.{is_backward}
 use Rattle.run_http.specs.RegisterTargets as targets
 use Rattle.run_http.proofs.register_targets.range_of.Goals as goal
 

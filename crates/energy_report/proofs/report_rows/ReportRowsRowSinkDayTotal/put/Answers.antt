@@ -1,6 +1,6 @@
 use Rattle.std.proofs.Common.{◌≡◌, Some, None, true, false, refl, ap, rules}
 use Rattle.energy_report.specs.Periods.{is_same}
-use Rattle.energy_report.specs.Ranges.{is_in}
+use Rattle.interval_core.specs.Ranges.{is_in}
 use Rattle.energy_report.proofs.TakenLemmas.{dropped, next_row, opened, skipped, together}
 use Rattle.energy_report.proofs.report_rows.ReportRowsRowSinkDayTotal.put.Goals as goal
 

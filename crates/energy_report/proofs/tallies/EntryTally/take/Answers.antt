@@ -1,6 +1,6 @@
 use Rattle.std.proofs.Common.{◌≡◌, refl, ◌∙◌, ap}
 use Rattle.energy_core.specs.declared.entries.Last.{Last}
-use Rattle.energy_report.specs.Ranges.{has_moment}
+use Rattle.interval_core.specs.Ranges.{has_moment}
 use Rattle.energy_report.specs.Statements.{is_within, stand_of, stands_within}
 use Rattle.energy_report.proofs.TallyLemmas.{alike, one_more}
 use Rattle.energy_report.proofs.tallies.EntryTally.take.Goals as goal

@@ -7,7 +7,7 @@ use Rattle.interval_core.specs.Zone.{day_at}
 use Rattle.interval_core.specs.declared.limits.TheConstants.{LAST_MOMENT}
 use Rattle.interval_core.specs.declared.totals.DayTotal.{DayTotal}
 use Rattle.interval_core.specs.declared.zone.Zone.{Zone}
-use Rattle.energy_report.specs.declared.range.DayRange.{DayRange}
+use Rattle.interval_core.specs.declared.day_range.DayRange.{DayRange}
 
 -- A range that begins so has begun by the day: that day is the first one that it has.
 abbrev pub begins_by : (from : Option Date) → Date → Bool

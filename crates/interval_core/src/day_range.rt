@@ -1,14 +1,17 @@
 //! Ranges of civil days.
 ghost use Rattle.std.specs.Prelude.{◌≡◌};
-ghost use Rattle.energy_report.specs.Ranges.{all_days, begins_by, ends_after, has_moment, is_backward, is_in};
+ghost use Rattle.interval_core.specs.Ranges.{all_days, begins_by, ends_after, has_moment, is_backward, is_in};
 
-use interval_core::{Day, LAST_MOMENT, Zone, day_of};
+use crate::day::day_of;
+use crate::limits::LAST_MOMENT;
+use crate::zone::Zone;
+use jiff::civil::Date;
 
 /// The civil days from one on until another, which is none of them. Without the one or the other there is no bound there.
 #[derive(Clone, Copy, Debug, PartialEq, Eq)]
 pub struct DayRange {
-    pub from: Option<Day>,
-    pub till: Option<Day>,
+    pub from: Option<Date>,
+    pub till: Option<Date>,
 }
 
 impl DayRange {
@@ -23,7 +26,7 @@ impl DayRange {
     }
 
     /// Whether the range has the day.
-    pub fn has(&self, day: Day) -> bool
+    pub fn has(&self, day: Date) -> bool
         ensures { result ≡ is_in self.now day }
     {
         begins_by_day(self.from, day) && ends_after_day(self.till, day)
@@ -55,7 +58,7 @@ impl DayRange {
 }
 
 // Whether a range that begins so has begun by the day.
-fn begins_by_day(from: Option<Day>, day: Day) -> bool
+fn begins_by_day(from: Option<Date>, day: Date) -> bool
     ensures { result ≡ begins_by from day }
 {
     match from {
@@ -65,7 +68,7 @@ fn begins_by_day(from: Option<Day>, day: Day) -> bool
 }
 
 // Whether a range that ends so ends after the day.
-fn ends_after_day(till: Option<Day>, day: Day) -> bool
+fn ends_after_day(till: Option<Date>, day: Date) -> bool
     ensures { result ≡ ends_after till day }
 {
     match till {
