@@ -3,3 +3,4 @@ pub mod Handing
 pub mod Listing
 pub mod Planning
 mod Examples
+mod HoldExamples

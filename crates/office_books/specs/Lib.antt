@@ -6,4 +6,5 @@ pub mod Rows
 pub mod Same
 pub mod Spans
 pub mod Entries
+pub mod Holds
 pub mod Plans

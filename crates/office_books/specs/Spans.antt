@@ -1,14 +1,14 @@
--- The rows of the quarter hours that are asked for.
+-- The moments that are asked for, and the rows of the quarter hours that are.
 use Rattle.std.specs.Prelude.{ℕ, nat_le, nat_lt, Bool, true, ◌&&◌, List}
 use Rattle.std.specs.List.{filter}
 use Rattle.interval_core.specs.declared.shares.Share.{Share}
 use Rattle.office_books.specs.declared.spans.Span.{Span}
 use Rattle.office_books.specs.declared.spans.Span.TheVariants.{All, Between}
 
--- the quarter hour that starts then is asked for
-abbrev pub is_within : Span → (start : ℕ) → Bool
-is_within All start = true
-is_within (Between from till) start = nat_le from start && nat_lt start till
+-- the moment is asked for
+abbrev pub is_within : Span → (moment : ℕ) → Bool
+is_within All moment = true
+is_within (Between from till) moment = nat_le from moment && nat_lt moment till
 
 -- Of these rows those whose quarter hour is asked for, in their order.
 abbrev pub rows_within : Span → List Share → List Share

@@ -6,7 +6,8 @@ use crate::spans::Span;
 use interval_core::{Share, Zone};
 use mb_wire::ReadSpan;
 use office_events::{
-    CommandKind, Device, EntryPlace, Fact, Installation, Name, PlannedList, Poll, PollRow, Register,
+    CommandKind, Device, EntryPlace, Fact, HeldReading, Installation, Name, PlannedList, Poll,
+    PollRow, Register,
 };
 
 /// What takes rows one by one. To take one can't fail: a sink that writes them somewhere keeps its own failure.
@@ -41,6 +42,7 @@ pub trait Books: Drop {
     ghost use Rattle.office_rules.specs.Readings.{poll_row_of};
     ghost use Rattle.office_rules.specs.Intervals.{rows_of_meter, rows_of_register};
     ghost use Rattle.office_books.specs.Entries.{entries_from, installations_of};
+    ghost use Rattle.office_books.specs.Holds.{holds_of, holds_within};
     ghost use Rattle.office_books.specs.Ledgers as ledgers;
     ghost use Rattle.office_books.specs.Ledgers.{Ledger, Finds, OnlyReads};
     ghost use Rattle.office_books.specs.Sound.{ReadsInstallation, ReadsPlace};
@@ -199,6 +201,17 @@ pub trait Books: Drop {
     ) -> Result<(), BooksFault>
         ensures rows { HandsOn K.takes (ledger self.old) (ledger self.new) sink.old sink.new result
             (λ known. rows_within span (rows_of_register known register.now)) }
+        ensures reads { OnlyReads (ledger self.old) (ledger self.new) result };
+
+    /// Hands on the readings of a meter that were held and whose moments are asked for, in the order in which they were recorded.
+    fn holds<K: RowSink<HeldReading>>(
+        &mut self,
+        meter: &Name,
+        span: Span,
+        sink: &mut K,
+    ) -> Result<(), BooksFault>
+        ensures rows { HandsOn K.takes (ledger self.old) (ledger self.new) sink.old sink.new result
+            (λ known. holds_within span (holds_of known meter.now)) }
         ensures reads { OnlyReads (ledger self.old) (ledger self.new) result };
 
     /// Adds facts that may follow those that are known: all of them, or none.

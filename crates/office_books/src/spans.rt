@@ -1,24 +1,24 @@
-//! Which quarter hours are asked for.
+//! Which moments are asked for.
 ghost use Rattle.std.specs.Prelude.{◌≡◌};
 ghost use Rattle.office_books.specs.Spans.{is_within};
 
-/// Which quarter hours are asked for, by their starts, in seconds since 1970-01-01 UTC.
+/// Which moments are asked for, in seconds since 1970-01-01 UTC. A quarter hour is asked for by its start.
 #[derive(Clone, Copy, Debug, PartialEq, Eq)]
 pub enum Span {
     /// All.
     All,
-    /// Those that start at `from` or later, and before `till`.
+    /// Those at `from` or later, and before `till`.
     Between { from: u64, till: u64 },
 }
 
 impl Span {
-    /// Whether the quarter hour that starts then is asked for.
-    pub fn contains(self, start: u64) -> bool
-        ensures { result ≡ is_within self start }
+    /// Whether the moment is asked for.
+    pub fn contains(self, moment: u64) -> bool
+        ensures { result ≡ is_within self moment }
     {
         match self {
             Span::All => true,
-            Span::Between { from, till } => from <= start && start < till,
+            Span::Between { from, till } => from <= moment && moment < till,
         }
     }
 }
