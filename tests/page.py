@@ -375,17 +375,20 @@ def see_zone(tab, office, origin):
 def see_today(tab, office):
     """Today is the office's day while readings come, also where the browser has another one by its zone."""
     meter, rows, at = office.of_register("main")[-1], list(office.of_register("main")[-1].rows), dict(office.at)
-    past = page_office.moment(2026, 11, 27, 0, 20)
+    past, eve = page_office.moment(2026, 11, 27, 0, 20), page_office.moment(2027, 1, 1, 0, 20)
     for zone, now, wanted in (
         ("America/New_York", past, "Fri 27 Nov 2026"), ("Europe/Berlin", past, "Fri 27 Nov 2026"), ("Asia/Tokyo", NOW + 21_600, "Thu 26 Nov 2026"),
+        ("America/New_York", eve, "Fri 1 Jan 2027"), ("Asia/Tokyo", eve - 7200, "Thu 31 Dec 2026"),
     ):
         meter.rows = rows + [(start, 1000) for start in range(rows[-1][0] + 900, now, 900)]
         office.now, office.at["main"] = now, now - 60
         tab.ask("Emulation.setTimezoneOverride", timezoneId=zone)
         tab.run("document.getElementById('again').click()")
-        first = "document.getElementById('open-main').closest('.card').querySelector('dl').innerText"
-        mwh = figures(office, "main", datetime.datetime.fromtimestamp(now, ZONE).date().isoformat())[0]
-        holds(f"today in {zone}", tab.wait(f"{first}.startsWith('Today\\n{wanted}\\n{kwh(mwh, 3)} kWh')"), tab.run(first))
+        # (while other years are asked it has none)
+        first = "(document.getElementById('open-main').closest('.card').querySelector('dl') || {innerText: ''}).innerText"
+        told = [kwh(mwh, 3) for mwh in figures(office, "main", datetime.datetime.fromtimestamp(now, ZONE).date().isoformat())]
+        holds(f"today in {zone}", tab.wait(f"{first}.startsWith('Today\\n{wanted}\\n{told[0]} kWh')"), tab.run(first))
+        same(f"its month and year in {zone}", card_of(tab, "main")[2:], [f"{it} kWh" for it in told[1:]])
     meter.rows, office.at, office.now = rows, at, NOW
     tab.forget()
 
