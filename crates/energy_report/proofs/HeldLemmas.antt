@@ -1,8 +1,9 @@
 -- Held readings that were counted one by one, and the text of their counts.
-use Rattle.std.proofs.Common.{◌≡◌, ℕ, ◌+◌, ◌==◌, Bool, true, false, cond, not, ◌&&◌, List, [], ◌∷◌, ◌++◌, refl, sym, ◌∙◌, ap, append-nil, append_assoc}
+use Rattle.std.proofs.Common.{◌≡◌, ℕ, ◌+◌, ◌<◌, ◌≤◌, ◌==◌, Bool, true, false, cond, not, ◌&&◌, List, [], ◌∷◌, ◌++◌, length, take, get_or, refl, sym, ◌∙◌, ap, append-nil, append_assoc}
 use Rattle.std.specs.Prelude.{codes}
 use Rattle.std.specs.List.{filter, flat_map}
 use Rattle.std.proofs.lemmas.Grind.{flat_map-append}
+use Rattle.std.proofs.lemmas.List.{take_all, take_more}
 use Rattle.std.proofs.lemmas.List.Elements.{filter-append}
 use Rattle.energy_core.specs.declared.verdicts.Cause.TheVariants as cause
 use Rattle.interval_core.specs.declared.day_range.DayRange.{DayRange}
@@ -14,9 +15,9 @@ use Rattle.energy_report.specs.declared.form.Format.{Format}
 use Rattle.energy_report.specs.declared.held_counts.HeldCount.{HeldCount}
 use Rattle.energy_report.specs.declared.held_counts.HeldCounts.{HeldCounts}
 use Rattle.energy_report.specs.declared.held_within.HeldWithin.{HeldWithin}
-use Rattle.energy_report.specs.Held.{held_within, is_held_within, with_one}
+use Rattle.energy_report.specs.Held.{by_cause, held_within, is_held_within, with_one}
 use Rattle.energy_report.specs.HeldSinks.{CountsReading, HasCountedNone}
-use Rattle.energy_report.specs.StatementTexts.{are_none, count_piece, count_text, counts_or_zero, counts_text, held_mark}
+use Rattle.energy_report.specs.StatementTexts.{are_none, count_piece, count_text, counts_or_zero, counts_text, held_mark, held_some}
 use Rattle.energy_report.proofs.TallyLemmas.{counts}
 
 -- ---- counts of readings
@@ -100,13 +101,41 @@ none_with (y ∷ ys) x b = refl
 abbrev pub some_of : List HeldCount → List HeldCount
 some_of counts = filter is_some counts
 
-pub text_with : (format : Format) (before : List HeldCount) (x : HeldCount)
+text_with : (format : Format) (before : List HeldCount) (x : HeldCount)
     → counts_text format (some_of (before ++ x ∷ [])) ≡ counts_text format (some_of before) ++ count_piece format (are_none (some_of before)) x
 text_with format before x =
     ap (counts_text format) (filter-append is_some before (x ∷ [])) ∙ text_more format (some_of before) x (x.count == 0)
 
-pub none_more : (before : List HeldCount) (x : HeldCount) → are_none (some_of (before ++ x ∷ [])) ≡ (are_none (some_of before) && (x.count == 0))
+none_more : (before : List HeldCount) (x : HeldCount) → are_none (some_of (before ++ x ∷ [])) ≡ (are_none (some_of before) && (x.count == 0))
 none_more before x = ap are_none (filter-append is_some before (x ∷ [])) ∙ none_with (some_of before) x (x.count == 0)
+
+-- a count more of a list
+pub piece_more : (format : Format) (xs : List HeldCount) (i : ℕ) (d : HeldCount) (old page new : List ℕ) (none : Bool) → i < length xs
+    → page ≡ old ++ counts_text format (some_of (take i xs)) → none ≡ are_none (some_of (take i xs))
+    → new ≡ page ++ count_piece format none (get_or xs i d) → new ≡ old ++ counts_text format (some_of (take (i + 1) xs))
+piece_more format xs i d old page new none lt begun is put =
+    let before = take i xs in
+    let x = get_or xs i d in
+    put ∙ ap (λ front. front ++ count_piece format none x) begun ∙ append_assoc old (counts_text format (some_of before)) (count_piece format none x)
+    ∙ ap (λ text. old ++ text) (
+    ap (λ b. counts_text format (some_of before) ++ count_piece format b x) is ∙ sym (text_with format before x)
+    ∙ ap (λ those. counts_text format (some_of those)) (sym (take_more xs i d lt))
+    )
+
+pub still_none : (xs : List HeldCount) (i : ℕ) (d : HeldCount) (none next : Bool) → i < length xs → none ≡ are_none (some_of (take i xs))
+    → next ≡ (none && ((get_or xs i d).count == 0)) → next ≡ are_none (some_of (take (i + 1) xs))
+still_none xs i d none next lt is put =
+    put ∙ ap (λ b. b && ((get_or xs i d).count == 0)) is ∙ sym (none_more (take i xs) (get_or xs i d))
+    ∙ ap (λ those. are_none (some_of those)) (sym (take_more xs i d lt))
+
+-- the whole list
+pub all_pieces : (format : Format) (held : HeldCounts) (xs : List HeldCount) (i : ℕ) (old page : List ℕ) (none : Bool) → xs ≡ by_cause held → length xs ≤ i
+    → page ≡ old ++ counts_text format (some_of (take i xs)) → none ≡ are_none (some_of (take i xs))
+    → (page ≡ old ++ counts_text format (held_some held)) × (none ≡ are_none (held_some held))
+unfolding held_some
+all_pieces format held xs i old page none are all begun is =
+    let whole : take i xs ≡ by_cause held = take_all i xs all ∙ are in
+    (begun ∙ ap (λ those. old ++ counts_text format (some_of those)) whole, is ∙ ap (λ those. are_none (some_of those)) whole)
 
 -- where there are none, a zero stands
 pub a_zero : (format : Format) (xs : List HeldCount) → are_none xs ≡ true → counts_text format xs ++ codes "0" ≡ counts_or_zero format xs

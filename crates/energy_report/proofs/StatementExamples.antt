@@ -24,7 +24,7 @@ use Rattle.energy_report.specs.declared.tallies.EntryTally.{EntryTally}
 use Rattle.interval_core.specs.Ranges.{all_days}
 use Rattle.energy_report.specs.Held.{held_within, none_held}
 use Rattle.energy_report.specs.Statements.{energy_within, tally_of, worth_of}
-use Rattle.energy_report.specs.StatementTexts.{held_text, statement_text}
+use Rattle.energy_report.specs.StatementTexts.{held_some, held_text, statement_text}
 
 -- ---- A meter that counts Wh: it was installed at 0, read at 5, a number by hand was voided, it was reset from 7 to 0, and read by hand at 2
 
@@ -130,7 +130,7 @@ all_held = record {
 }
 
 each_cause : held_text Text all_held ≡ codes "1:18446744073709551615,2:2,3:3,4:4,5:5,6:6,7:7,8:8"
-unfolding digits
+unfolding digits held_some
 each_cause = refl
 
 -- ---- texts: a meter with entries in the range, and one without
@@ -151,17 +151,17 @@ form unit format = record { range = all_days; unit = unit; format = format }
 
 as_text : statement_text (form MilliwattHours Text) (m1 ∷ m2 ∷ [])
     ≡ codes "m1 1000 0 5000 2000 9000 1 1 0 1 2:3,5:1\nm2 - - - - 0 0 0 0 0 0\nend 2\n"
-unfolding digits unit_of
+unfolding digits held_some unit_of
 as_text = refl
 
 as_table : statement_text (form KilowattHours Csv) (m1 ∷ m2 ∷ [])
     ≡ codes "meter,first,first_kwh,last,last_kwh,energy_kwh,by_hand,resets,rescales,voids,held\r\nm1,1000,0.000000,5000,0.002000,0.009000,1,1,0,1,2:3;5:1\r\nm2,,,,,0.000000,0,0,0,0,0\r\n"
-unfolding digits unit_of
+unfolding digits held_some unit_of
 as_table = refl
 
 as_objects : statement_text (form MilliwattHours Json) (m1 ∷ m2 ∷ [])
     ≡ codes "[{\"meter\":\"m1\",\"first\":1000,\"first_mwh\":\"0\",\"last\":5000,\"last_mwh\":\"2000\",\"energy_mwh\":\"9000\",\"by_hand\":1,\"resets\":1,\"rescales\":0,\"voids\":1,\"held\":{\"2\":3,\"5\":1}},\n{\"meter\":\"m2\",\"first\":null,\"first_mwh\":null,\"last\":null,\"last_mwh\":null,\"energy_mwh\":\"0\",\"by_hand\":0,\"resets\":0,\"rescales\":0,\"voids\":0,\"held\":{}}]\n"
-unfolding digits unit_of
+unfolding digits held_some unit_of
 as_objects = refl
 
 no_meter : statement_text (form MilliwattHours Json) [] ≡ codes "[]\n"

@@ -57,7 +57,7 @@ abbrev pub counts_text : Format → List HeldCount → List ℕ
 counts_text format counts = join_by (count_text format) (held_mark format) counts
 
 -- those causes for which some were held, in order of their numbers
-abbrev pub held_some : HeldCounts → List HeldCount
+unfoldable pub held_some : HeldCounts → List HeldCount
 held_some held = filter (λ one. not (one.count == 0)) (by_cause held)
 
 abbrev pub counts_or_zero : Format → List HeldCount → List ℕ

@@ -113,5 +113,8 @@ impl HeldCounts {
 fn one_more(count: u64, counts: bool, cause: Cause, counted_cause: Cause) -> u64
     ensures { result ≡ held.one_more count (counts && held.is_one cause counted_cause) }
 {
-    tallied(count, both(counts, cause.number() == counted_cause.number()))
+    tallied(
+        count,
+        both(counts, cause.number() == counted_cause.number()),
+    )
 }

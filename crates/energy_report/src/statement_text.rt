@@ -10,7 +10,7 @@ use crate::form::{EnergyUnit, Format, StatementForm};
 use crate::held_counts::{HeldCount, HeldCounts};
 use crate::meter_statement::MeterStatement;
 use crate::row_text::{energy, unit_word};
-use crate::tallies::EntryTally;
+use crate::tallies::{EntryTally, both};
 use energy_core::{Last, MAX_SCALE, MIN_SCALE, energy_up_to};
 use script_text::Text;
 use std::io::{self, Write};
@@ -197,7 +197,7 @@ fn held_mark(format: Format) -> &'static [u8]
 fn push_held(page: &mut Page, format: Format, held: &HeldCounts)
     requires { length page.old ≤ 700 }
     ensures bytes { page.new ≡ page.old ++ text.held_text format held.now }
-    ensures size { length page.new ≤ length page.old + 202 }
+    ensures size { length page.new ≤ length page.old + 218 }
 {
     match format {
         Format::Text | Format::Csv => push_counts_or_zero(page, format, held),
@@ -212,7 +212,7 @@ fn push_held(page: &mut Page, format: Format, held: &HeldCounts)
 fn push_counts_or_zero(page: &mut Page, format: Format, held: &HeldCounts)
     requires { length page.old ≤ 700 }
     ensures bytes { page.new ≡ page.old ++ text.counts_or_zero format (text.held_some held.now) }
-    ensures size { length page.new ≤ length page.old + 201 }
+    ensures size { length page.new ≤ length page.old + 217 }
 {
     let are_none = push_counts(page, format, held);
     if are_none {
@@ -225,13 +225,13 @@ fn push_counts(page: &mut Page, format: Format, held: &HeldCounts) -> bool
     requires { length page.old ≤ 710 }
     ensures bytes { page.new ≡ page.old ++ text.counts_text format (text.held_some held.now) }
     ensures none { result ≡ text.are_none (text.held_some held.now) }
-    ensures size { length page.new ≤ length page.old + 200 }
+    ensures size { length page.new ≤ length page.old + 216 }
 {
     let counts = held.by_cause();
     let mut are_none = true;
     for one in &counts {
         push_count(page, format, are_none, one);
-        are_none = are_none && one.count == 0;
+        are_none = both(are_none, one.count == 0);
     }
     are_none
 }
@@ -240,7 +240,7 @@ fn push_counts(page: &mut Page, format: Format, held: &HeldCounts) -> bool
 fn push_count(page: &mut Page, format: Format, is_first: bool, one: &HeldCount)
     requires { length page.old ≤ 910 }
     ensures bytes { page.new ≡ page.old ++ text.count_piece format is_first one.now }
-    ensures size { length page.new ≤ length page.old + 25 }
+    ensures size { length page.new ≤ length page.old + 27 }
 {
     if one.count == 0 {
         return;
@@ -254,7 +254,7 @@ fn push_count(page: &mut Page, format: Format, is_first: bool, one: &HeldCount)
 fn push_one(page: &mut Page, format: Format, one: &HeldCount)
     requires { length page.old ≤ 911 }
     ensures bytes { page.new ≡ page.old ++ text.count_text format one.now }
-    ensures size { length page.new ≤ length page.old + 24 }
+    ensures size { length page.new ≤ length page.old + 26 }
 {
     page.push(quote(format));
     page.push_number(b"", one.cause.number());

@@ -5,7 +5,7 @@ use Rattle.energy_report.proofs.statement_text.push_counts.Given as goal
 
 abbrev pub invariant-loop-one : goal.invariant-loop-one
 invariant-loop-one l = record {
-  bytes : l.page ≡ l.fn.page ++ counts_text l.format (some_of (take l.one-index l.counts));
-  none : l.are_none ≡ are_none (some_of (take l.one-index l.counts));
-  size : length l.page ≤ length l.fn.page + 25 * l.one-index;
+  bytes : l.page ≡ l.fn.page ++ counts_text l.format (some_of (take l.one-index l.one-items));
+  none : l.are_none ≡ are_none (some_of (take l.one-index l.one-items));
+  size : length l.page ≤ length l.fn.page + 27 * l.one-index;
 }
