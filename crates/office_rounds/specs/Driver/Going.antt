@@ -9,7 +9,7 @@ use Rattle.office_core.specs.Taking.{failures_of}
 use Rattle.office_core.specs.declared.office.Office.{Office}
 use Rattle.office_rounds.specs.Rounds.{IsFed, round_state}
 use Rattle.office_rounds.specs.declared.device_rounds.round.Round.{Round}
-use Rattle.office_rounds.specs.Driver.Showing.{Shown}
+use Rattle.office_events.specs.Showing.{Shown}
 use Rattle.office_rounds.specs.Driver.Turns.{AreNext, AreShown, Table, Wished, first_wish, next_by, table, table_behind}
 
 -- the office, how its books failed so far, the rounds, and the witness
