@@ -4,6 +4,7 @@ pub mod Answer
 pub mod SiteReply
 pub mod MetricsReply
 pub mod MeterReplies
+pub mod Voids
 pub mod RegisterTargets
 pub mod RegisterReplies
 pub mod Texts

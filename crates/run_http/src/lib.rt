@@ -13,6 +13,7 @@ mod reply_link;
 mod route;
 mod site;
 mod texts;
+mod voids;
 
 pub use answer::{PeerReply, ask};
 pub use meter_replies::{MOST_ENTRIES, reply_entries, reply_intervals};
@@ -21,3 +22,4 @@ pub use register_replies::reply_energy;
 pub use route::{RunRoute, StatusRoute, reply_status, run_route};
 pub use site::reply_site;
 pub use texts::{put_entries, put_metrics, put_site};
+pub use voids::reply_voids;
