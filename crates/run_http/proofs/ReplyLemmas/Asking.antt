@@ -1,26 +1,21 @@
 -- Questions that are asked one after the other.
-use Rattle.std.proofs.Common.{◌≡◌, inr, true, refl, sym, subst, ◌∙◌}
+use Rattle.std.proofs.Common.{◌≡◌, inr, true, refl, sym, ap, subst, ◌∙◌}
 use Rattle.std.specs.Prelude.{Result, Ok, Err}
 use Rattle.office_events.specs.declared.refusals.Refusal.{Refusal}
 use Rattle.office_events.specs.declared.refusals.Refusal.TheVariants as refusal
-use Rattle.office_rules.specs.History.{History}
-use Rattle.office_books.specs.Ledgers.{KeepsFacts, Ledger}
+use Rattle.office_books.specs.Ledgers.{Ledger}
 use Rattle.office_core.specs.Asking.{CountsAsked, OnlyAsks}
-use Rattle.office_core.specs.Standing.{Stands, books_in, is_stopped, notes_in, outgoing_in}
+use Rattle.office_core.specs.Standing.{is_stopped}
 use Rattle.office_core.specs.Taking.{failures_of}
 use Rattle.office_core.specs.declared.office.Office.{Office}
+use Rattle.run_http.specs.Several.{Keeps}
 
--- Several questions, or none, leave an office as it was: it stands where it stood, the books did not fail, and it has not stopped
--- nor started again.
-pub record Keeps {B : Type 0} (ledger : B → Ledger) (old new : Office B) : Type 0 where
-  pub stands : (past : History) → Stands ledger past old → Stands ledger past new
-  pub keeps : KeepsFacts (ledger (books_in old)) (ledger (books_in new))
-  pub notes : notes_in new ≡ notes_in old
-  pub outgoing : outgoing_in new ≡ outgoing_in old
-  pub stays : is_stopped new ≡ is_stopped old
-  pub failures : failures_of ledger new ≡ failures_of ledger old
-  pub clean : (ledger (books_in new)).is_clean → (ledger (books_in old)).is_clean
-  pub zone : (ledger (books_in new)).zone ≡ (ledger (books_in old)).zone
+abbrev reason_of : {T : Type 0} → Result T Refusal → Refusal
+reason_of (Ok x) = refusal.NotFound
+reason_of (Err why) = why
+
+abbrev refusal_as : {T : Type 0} → Refusal → Result T Refusal
+refusal_as why = Err why
 
 module _ {B : Type 0} (ledger : B → Ledger) where
   pub unasked : (a : Office B) → Keeps ledger a a
@@ -110,4 +105,21 @@ module _ {B : Type 0} (ledger : B → Ledger) where
     counts = inr (tt, kept.failures);
     clean = kept.clean;
     zone = kept.zone;
+  }
+
+  -- the same refusal of another question
+  pub refused_as : {T U : Type 0} (a b : Office B) (why : Refusal) → OnlyAsks {T = T} ledger a b (Err why) → OnlyAsks {T = U} ledger a b (Err why)
+  refused_as {T} {U} a b why asks = record {
+    stands = asks.stands;
+    keeps = asks.keeps;
+    notes = asks.notes;
+    outgoing = asks.outgoing;
+    stopped = (
+      λ is. asks.stopped.0 (ap (refusal_as {T = T}) (ap reason_of is)),
+      λ is. ap (refusal_as {T = U}) (ap reason_of (asks.stopped.1 is)),
+    );
+    stays = asks.stays;
+    counts = asks.counts;
+    clean = asks.clean;
+    zone = asks.zone;
   }
