@@ -1,0 +1,3 @@
+pub mod StayingEntries
+pub mod StayingShares
+pub mod StayingRows
