@@ -42,8 +42,8 @@ AreAt at (one ∷ earlier) = AreAt at earlier × (one.at ≡ at)
 pub record Going {B V : Type 0} (ledger : B → Ledger) (sees : V → Shown → V → Type 0)
     (past : History) (begun : Start V)
     (at : ℕ) (fed : List Answered) (first : Option Wished) (now : Scene B V) : Type 0 where
-  pub leaves : IsFed ledger past (round_state None None begun.failures) (round_state None None now.failures)
-      now.office fed
+  pub leaves : IsFed ledger past (round_state None None begun.failures)
+      (round_state None None now.failures) now.office fed
   pub next : AreNext past begun.table fed
   pub timed : AreAt at fed
   pub rounds : table first now.rounds ≡ table_behind past begun.table fed
