@@ -11,27 +11,31 @@ use Rattle.interval_core.specs.declared.shares.Share.{Share}
 use Rattle.interval_core.specs.Account.{SharesAddUp}
 use Rattle.meter_journal.specs.declared.lines.Installed.{Installed}
 use Rattle.meter_journal.specs.declared.lines.EntryRow.{EntryRow}
-use Rattle.meter_journal.specs.Books.{IsWellInstalled, last_after, steps_after, interval_rows}
+use Rattle.meter_journal.specs.Books.{IsWellInstalled, last_after, last_in, steps_after, interval_rows}
 use Rattle.meter_journal.specs.Fitting.{AreFitting}
 use Rattle.meter_journal.specs.Intervals.{rows_of_steps}
 use Rattle.meter_journal.specs.Journal as journal
 use Rattle.meter_journal.specs.Standing.{entered_count}
 use Rattle.meter_journal.proofs.AsEntered.{rows_stand}
+use Rattle.meter_journal.proofs.Chains.{rows_lie_within, voids_go_no_further}
 use Rattle.meter_journal.proofs.InTime.{in_time}
 use Rattle.meter_journal.proofs.Keeping.{journals_are_kept}
 use Rattle.meter_journal.proofs.Merging.{has_rows}
 use Rattle.office_events.specs.declared.facts.Opening.{Opening}
 use Rattle.office_events.specs.declared.facts.Fact.{Fact}
 use Rattle.office_events.specs.declared.facts.Fact.TheVariants as fact
-use Rattle.office_rules.specs.Facts.{same, openings_in, opening_of}
+use Rattle.office_rules.specs.Facts.{same, moment_limit, openings_in, opening_of, latest_in}
 use Rattle.office_rules.specs.Intervals.{rows_of_installed, rows_of_meter}
 use Rattle.office_rules.specs.Lawful.{AreLawful}
 use Rattle.office_rules.specs.Meters.{held_line, line_of, opened, installed, journal_of}
+use Rattle.office_rules.proofs.InTurn.{last_is_recorded}
 use Rattle.office_rules.proofs.Journals.{by_name, none_and_some, installed_fits, well}
 use Rattle.office_rules.proofs.Lookups.{same_text, find_passes}
-use Rattle.scratch_laws.specs.Copies.{rows_before, rows_from, entries_before, next_place, quarter_of, changes_of, changes_from, VoidsFrom, StaysBefore, RowsBeforeStay}
+use Rattle.office_books.specs.Spans.{rows_within}
+use Rattle.office_books.specs.declared.spans.Span.TheVariants.{Between}
+use Rattle.scratch_laws.specs.Copies.{rows_before, entries_before, next_place, quarter_of, changes_of, changes_from, VoidsFrom, StaysBefore, RowsBeforeStay}
 use Rattle.scratch_laws.proofs.StayingEntries.{LinesFrom, entries_stay, first_ones}
-use Rattle.scratch_laws.proofs.StayingShares.{entries_leave, rows_part}
+use Rattle.scratch_laws.proofs.StayingShares.{entries_leave, rows_part, all_before}
 
 -- ---- of a journal
 
@@ -66,9 +70,9 @@ record StayInJournal (meter : Installed) (place : ℕ) (more lines : journal.Jou
   moment : quarter_before meter place (more ++ lines) ≡ quarter_before meter place lines
   rows : rows_before (quarter_before meter place lines) (interval_rows meter (more ++ lines))
       ≡ rows_before (quarter_before meter place lines) (interval_rows meter lines)
-  whole : interval_rows meter (more ++ lines)
+  whole : (till : ℕ) → (last_in meter (more ++ lines)).at ≤ till → interval_rows meter (more ++ lines)
       ≡ rows_before (quarter_before meter place lines) (interval_rows meter lines)
-      ++ rows_from (quarter_before meter place lines) (interval_rows meter (more ++ lines))
+      ++ rows_within (Between (quarter_before meter place lines) till) (interval_rows meter (more ++ lines))
 
 lines_fit : (meter : Installed) (more lines : journal.Journal) → AreFitting meter (more ++ lines) → AreFitting meter lines
 lines_fit meter [] lines h = h
@@ -95,15 +99,18 @@ stay_in_journal law meter place more lines own h le from =
       entries = same;
       moment = moment;
       rows = stay;
-      whole = rows_part (quarter_before meter place lines) (interval_rows meter (more ++ lines)) rising
-          ∙ ap (λ rs. rs ++ rows_from (quarter_before meter place lines) (interval_rows meter (more ++ lines))) stay;
+      whole = λ till last.
+          let before = all_before meter.opening.at (last_in meter (more ++ lines)).at till (interval_rows meter (more ++ lines))
+          (rows_lie_within law meter (more ++ lines) own h) last in
+          rows_part (quarter_before meter place lines) till (interval_rows meter (more ++ lines)) rising before
+          ∙ ap (λ rs. rs ++ rows_within (Between (quarter_before meter place lines) till) (interval_rows meter (more ++ lines))) stay;
     }
 
 -- ---- of facts
 
-facts_below : (further facts : List Fact) → AreLawful (further ++ facts) → AreLawful facts
-facts_below [] facts h = h
-facts_below (f ∷ further) facts h = facts_below further facts h.1
+moments_bounded : (facts : List Fact) → AreLawful facts → latest_in facts ≤ moment_limit
+moments_bounded [] h = omega arith
+moments_bounded (f ∷ facts) h = omega (arith, h.0.1, moments_bounded facts h.1)
 
 -- what was opened stays
 still_opened : (further facts : List Fact) (meter : List ℕ) (opening : Opening) → AreLawful (further ++ facts) → opening_of facts meter ≡ Some opening
@@ -174,15 +181,23 @@ stays_before law further facts o place h there le from =
     ap (rows_of_installed later) still ∙ ap (interval_rows (installed o)) parts in
     let kept : rows_before (changes_from facts o.meter place) (rows_of_meter facts o.meter) ≡ rows_before moment (interval_rows (installed o) lines) =
     ap (λ n. rows_before n (rows_of_meter facts o.meter)) moment_is ∙ ap (rows_before moment) rows_are in
-    let asked : rows_from (changes_from facts o.meter place) (rows_of_meter later o.meter) ≡ rows_from moment (interval_rows (installed o) (more ++ lines)) =
-    ap (λ n. rows_from n (rows_of_meter later o.meter)) moment_is ∙ ap (rows_from moment) rows_later in
+    let told : List Share = interval_rows (installed o) (more ++ lines) in
+    let asked : (till : ℕ) → rows_within (Between (changes_from facts o.meter place) till) (rows_of_meter later o.meter) ≡ rows_within (Between moment till) told =
+    λ till. ap (λ n. rows_within (Between n till) (rows_of_meter later o.meter)) moment_is ∙ ap (rows_within (Between moment till)) rows_later in
+    let last : (last_in (installed o) (more ++ lines)).at ≤ moment_limit =
+    omega (
+      arith,
+      last_is_recorded voids_go_no_further later o h still,
+      moments_bounded later h,
+      ap (λ ls. (last_in (installed o) ls).at) parts,
+    ) in
     record {
       entries = ap (λ ls. entries_before place (journal.rows_of (opened o) ls)) parts ∙ stay.entries;
       moment = moment_later ∙ stay.moment ∙ sym moment_is;
       rows = ap (λ n. rows_before n (rows_of_meter later o.meter)) moment_is ∙ ap (rows_before moment) rows_later ∙ stay.rows ∙ sym kept;
-      whole = rows_later ∙ stay.whole
-          ∙ ap (λ rs. rs ++ rows_from moment (interval_rows (installed o) (more ++ lines))) (sym kept)
-          ∙ ap (λ rs. rows_before (changes_from facts o.meter place) (rows_of_meter facts o.meter) ++ rs) (sym asked);
+      whole = λ till limit.
+          rows_later ∙ stay.whole till (omega (arith, last, limit)) ∙ ap (λ rs. rs ++ rows_within (Between moment till) told) (sym kept)
+          ∙ ap (λ rs. rows_before (changes_from facts o.meter place) (rows_of_meter facts o.meter) ++ rs) (sym (asked till));
     }
 
 pub rows_before_stay : SharesAddUp → RowsBeforeStay

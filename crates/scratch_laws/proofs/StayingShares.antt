@@ -1,7 +1,9 @@
 -- What the steps of further entries leave of the rows of those before them.
-use Rattle.std.proofs.Common.{◌≡◌, ℕ, ◌+◌, ◌-◌, ◌%◌, ◌<◌, ◌≤◌, ◌==◌, nat_lt, nat_le, Bool, true, false, cond, List, [], ◌∷◌, ◌++◌, refl, sym, ap, ◌∙◌, inl, inr, arith}
+use Rattle.std.proofs.Common.{◌≡◌, ℕ, ◌+◌, ◌-◌, ◌%◌, ◌<◌, ◌≤◌, ◌==◌, nat_lt, nat_le, Bool, true, false, cond, ◌&&◌, List, [], ◌∷◌, ◌++◌, refl, sym, ap, ◌∙◌, inl, inr, arith}
+use Rattle.std.specs.Prelude.{All}
 use Rattle.std.proofs.lemmas.Bool.{cases_Bool, cond-true, cond-false, eqb-true}
 use Rattle.std.proofs.lemmas.Bool.Decides.{nat_tests}
+use Rattle.std.proofs.lemmas.List.Elements.{All-head, All-tail}
 use Rattle.energy_core.specs.declared.entries.Entry.{Entry}
 use Rattle.energy_core.specs.declared.entries.Step.{Step}
 use Rattle.energy_core.specs.Account.{step_to, AllFollow}
@@ -10,10 +12,13 @@ use Rattle.interval_core.specs.Share.{shares_of}
 use Rattle.interval_core.specs.Account.{SharesAddUp}
 use Rattle.meter_journal.specs.declared.lines.Installed.{Installed}
 use Rattle.meter_journal.specs.Books.{last_after, steps_after}
+use Rattle.meter_journal.specs.Changes.{LiesWithin}
 use Rattle.meter_journal.specs.Intervals.{with_shares, rows_of_steps}
 use Rattle.meter_journal.proofs.Chains.{last_moment}
 use Rattle.meter_journal.proofs.Merging.{Above, Among, Rising, contains_of}
-use Rattle.scratch_laws.specs.Copies.{rows_before, rows_from, quarter_of}
+use Rattle.office_books.specs.Spans.{rows_within}
+use Rattle.office_books.specs.declared.spans.Span.TheVariants.{Between}
+use Rattle.scratch_laws.specs.Copies.{rows_before, quarter_of}
 
 -- none starts before a moment
 abbrev StartFrom : (moment : ℕ) → List Share → Type 0
@@ -77,25 +82,41 @@ none_start : (moment start : ℕ) (rows : List Share) → moment ≤ start → A
 none_start moment start [] le h = tt
 none_start moment start (row ∷ rows) le h = (omega (arith, le, h.0), none_start moment start rows le h.1)
 
-all_others : (moment : ℕ) (rows : List Share) → StartFrom moment rows → rows_from moment rows ≡ rows
-all_others moment [] h = refl
-all_others moment (row ∷ rows) h =
-    let le : moment ≤ row.start = h.0 in
-    let is : nat_le moment row.start ≡ true = grind (arith, nat_tests, le) in
-    cond-true _ _ _ is ∙ ap (λ rs. row ∷ rs) (all_others moment rows h.1)
+-- all start before a moment
+abbrev pub StartBefore : (till : ℕ) → List Share → Type 0
+StartBefore till [] = Unit {0}
+StartBefore till (row ∷ rows) = (row.start < till) × StartBefore till rows
 
-pub rows_part : (moment : ℕ) (rows : List Share) → Rising rows → rows ≡ rows_before moment rows ++ rows_from moment rows
-rows_part moment [] h = refl
-rows_part moment (row ∷ rows) h =
+is_within : (from till start : ℕ) → from ≤ start → start < till → nat_le from start && nat_lt start till ≡ true
+is_within from till start le lt =
+    let low : nat_le from start ≡ true = grind (arith, nat_tests, le) in
+    let high : nat_lt start till ≡ true = grind (arith, nat_tests, lt) in ap (λ b. b && nat_lt start till) low ∙ high
+
+all_others : (moment till : ℕ) (rows : List Share) → StartFrom moment rows → StartBefore till rows → rows_within (Between moment till) rows ≡ rows
+all_others moment till [] h before = refl
+all_others moment till (row ∷ rows) h before =
+    cond-true _ _ _ (is_within moment till row.start h.0 before.0) ∙ ap (λ rs. row ∷ rs) (all_others moment till rows h.1 before.1)
+
+pub rows_part : (moment till : ℕ) (rows : List Share) → Rising rows → StartBefore till rows
+    → rows ≡ rows_before moment rows ++ rows_within (Between moment till) rows
+rows_part moment till [] h before = refl
+rows_part moment till (row ∷ rows) h before =
     elim (cases_Bool (nat_lt row.start moment)) [
       | inl e ↦
-          let off : nat_le moment row.start ≡ false = grind (arith, nat_tests, e) in
-          ap (λ rs. row ∷ rs) (rows_part moment rows h.1)
+          let low : nat_le moment row.start ≡ false = grind (arith, nat_tests, e) in
+          let off : nat_le moment row.start && nat_lt row.start till ≡ false = ap (λ b. b && nat_lt row.start till) low in
+          ap (λ rs. row ∷ rs) (rows_part moment till rows h.1 before.1)
           ∙ ap (λ rs. row ∷ rows_before moment rows ++ rs) (sym (cond-false _ _ _ off))
-          ∙ ap (λ rs. rs ++ rows_from moment (row ∷ rows)) (sym (cond-true _ _ _ e))
+          ∙ ap (λ rs. rs ++ rows_within (Between moment till) (row ∷ rows)) (sym (cond-true _ _ _ e))
       | inr e ↦
           let le : moment ≤ row.start = grind (arith, nat_tests, e) in
           let from : StartFrom moment (row ∷ rows) = (le, none_start moment row.start rows le h.0) in
-          sym (all_others moment (row ∷ rows) from)
-          ∙ ap (λ rs. rs ++ rows_from moment (row ∷ rows)) (sym (none_before moment (row ∷ rows) from))
+          sym (all_others moment till (row ∷ rows) from before)
+          ∙ ap (λ rs. rs ++ rows_within (Between moment till) (row ∷ rows)) (sym (none_before moment (row ∷ rows) from))
     ]
+
+pub all_before : (opened last till : ℕ) (rows : List Share) → All (LiesWithin opened last) rows → last ≤ till → StartBefore till rows
+all_before opened last till [] h le = tt
+all_before opened last till (row ∷ rows) h le =
+    let within = (All-head (LiesWithin opened last) row rows h).before in
+    (omega (arith, within, le), all_before opened last till rows (All-tail (LiesWithin opened last) row rows h) le)

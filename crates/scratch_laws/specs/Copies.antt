@@ -1,25 +1,24 @@
 -- What a new entry or a void can have changed of a meter's quarter hours, and what who copied them may keep.
-use Rattle.std.specs.Prelude.{◌≡◌, ℕ, ◌+◌, ◌-◌, ◌%◌, ◌≤◌, nat_le, nat_lt, List, ◌++◌, length, All, Option, Some, None}
+use Rattle.std.specs.Prelude.{◌≡◌, ℕ, ◌+◌, ◌-◌, ◌%◌, ◌≤◌, nat_lt, List, ◌++◌, length, All, Option, Some, None}
 use Rattle.std.specs.List.{filter}
 use Rattle.energy_core.specs.declared.limits.TheConstants.{INTERVAL_SECONDS}
 use Rattle.energy_core.specs.Account.{last_of}
 use Rattle.interval_core.specs.declared.shares.Share.{Share}
 use Rattle.meter_journal.specs.declared.lines.EntryRow.{EntryRow}
 use Rattle.meter_journal.specs.Journal.{entries_in}
+use Rattle.office_books.specs.Spans.{rows_within}
+use Rattle.office_books.specs.declared.spans.Span.TheVariants.{Between}
 use Rattle.office_events.specs.declared.facts.Opening.{Opening}
 use Rattle.office_events.specs.declared.facts.Fact.{Fact}
 use Rattle.office_events.specs.declared.facts.Fact.TheVariants as fact
-use Rattle.office_rules.specs.Facts.{opening_of}
+use Rattle.office_rules.specs.Facts.{moment_limit, opening_of}
 use Rattle.office_rules.specs.Intervals.{rows_of_meter}
 use Rattle.office_rules.specs.Lawful.{AreLawful}
 use Rattle.office_rules.specs.Meters.{opened, rows_of}
 
--- the rows whose quarter hour starts before a moment, and those of the others
+-- the rows whose quarter hour starts before a moment
 abbrev pub rows_before : (moment : ℕ) → List Share → List Share
 rows_before moment rows = filter (λ row. nat_lt row.start moment) rows
-
-abbrev pub rows_from : (moment : ℕ) → List Share → List Share
-rows_from moment rows = filter (λ row. nat_le moment row.start) rows
 
 -- the entries that stand or stood at the places before one
 abbrev pub entries_before : (place : ℕ) → List EntryRow → List EntryRow
@@ -52,9 +51,10 @@ abbrev pub VoidsFrom : (meter : List ℕ) → (place : ℕ) → Fact → Type 0
 VoidsFrom meter place (fact.Void voided) = voided.meter ≡ meter → place ≤ voided.place
 VoidsFrom meter place _ = Unit {0}
 
--- Let further facts come, of which none voids an entry of the meter before a place, which isn't past that of the next entry.
--- Then its entries before the place stay as they were, and so does the moment from which on quarter hours can have changed.
--- Those before that moment stay, so that a copy of them and what is asked anew from there on are together all there is.
+-- Let further facts come, of which none voids an entry of the meter before a place, and let the place not be past that of the
+-- next entry. Then its entries before the place stay as they were, and so does the moment from which on quarter hours can have
+-- changed. Those before that moment stay, so that a copy of them and what the office tells from there on are together all
+-- there is.
 pub record StaysBefore (further facts : List Fact) (meter : List ℕ) (opening : Opening) (place : ℕ) :
     Type 0 where
   pub entries : entries_before place (rows_of (further ++ facts) opening)
@@ -64,9 +64,9 @@ pub record StaysBefore (further facts : List Fact) (meter : List ℕ) (opening :
       rows_before moment (rows_of_meter (further ++ facts) meter)
       ≡ rows_before moment (rows_of_meter facts meter)
   pub whole : let moment = changes_from facts meter place in
-      rows_of_meter (further ++ facts) meter
+      (till : ℕ) → moment_limit ≤ till → rows_of_meter (further ++ facts) meter
       ≡ rows_before moment (rows_of_meter facts meter)
-      ++ rows_from moment (rows_of_meter (further ++ facts) meter)
+      ++ rows_within (Between moment till) (rows_of_meter (further ++ facts) meter)
 
 abbrev pub RowsBeforeStay : Type 0
 RowsBeforeStay = (further facts : List Fact) (meter : List ℕ) (opening : Opening) (place : ℕ)
