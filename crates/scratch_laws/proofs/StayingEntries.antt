@@ -1,16 +1,14 @@
 -- What lines leave of a meter's entries before a place.
-use Rattle.std.proofs.Common.{◌≡◌, ℕ, ◌+◌, ◌<◌, ◌≤◌, ◌==◌, nat_lt, Bool, true, false, cond, ◌&&◌, List, [], ◌∷◌, ◌++◌, length, refl, sym, ap, subst, ◌∙◌, inl, inr, Some, arith}
+use Rattle.std.proofs.Common.{◌≡◌, ℕ, ◌+◌, ◌<◌, ◌≤◌, ◌==◌, nat_lt, true, false, ◌&&◌, List, [], ◌∷◌, ◌++◌, length, refl, sym, ap, ◌∙◌, inl, inr, Some, arith}
 use Rattle.std.proofs.lemmas.Bool.{cases_Bool, cond-true, cond-false, eqb-true}
 use Rattle.std.proofs.lemmas.Bool.Decides.{nat_tests}
-use Rattle.std.proofs.lemmas.List.Elements.{filter-append}
 use Rattle.energy_core.specs.declared.entries.Last.{Last}
-use Rattle.energy_core.specs.declared.entries.Entry.{Entry}
 use Rattle.energy_core.specs.Account.{last_of}
 use Rattle.meter_journal.specs.declared.lines.Installed.{Installed}
 use Rattle.meter_journal.specs.declared.lines.EntryRow.{EntryRow}
 use Rattle.meter_journal.specs.Books.{IsWellInstalled}
 use Rattle.meter_journal.specs.Fitting.{AreFitting}
-use Rattle.meter_journal.specs.Journal.{Line, Entered, Held, Voided, Journal, Around, is_reading, entries_in, with_rolls, rolled, struck, with_void, rows_of, passed, row_at}
+use Rattle.meter_journal.specs.Journal.{Entered, Held, Voided, Journal, Around, is_reading, entries_in, rolled, struck, with_void, rows_of, passed, row_at}
 use Rattle.meter_journal.specs.Lists.{AreNumbered}
 use Rattle.meter_journal.specs.Standing.{entered_count}
 use Rattle.meter_journal.proofs.AsEntered.{rows_stand}
@@ -102,7 +100,7 @@ entries_stay meter place (Voided named ∷ more) lines well h le from =
 
 -- ---- the entries before a place are the first ones
 
-all_below : (place : ℕ) (rows : List EntryRow) → AreNumbered rows → length rows + 1 < place → entries_before place rows ≡ rows
+pub all_below : (place : ℕ) (rows : List EntryRow) → AreNumbered rows → length rows + 1 < place → entries_before place rows ≡ rows
 all_below place [] h lt = refl
 all_below place (row ∷ rows) h lt =
     cond-true _ _ _ (is_below row.place place (omega (arith, lt, h.0))) ∙ ap (λ rs. row ∷ rs) (all_below place rows h.1 (omega (arith, lt)))

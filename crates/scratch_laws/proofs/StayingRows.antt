@@ -1,5 +1,5 @@
 -- Further facts leave the quarter hours of a meter before that of an entry before which nothing is voided.
-use Rattle.std.proofs.Common.{◌≡◌, ℕ, ◌+◌, ◌≤◌, true, false, cond, List, [], ◌∷◌, ◌++◌, length, map, refl, sym, ap, subst, ◌∙◌, Option, Some, None, arith}
+use Rattle.std.proofs.Common.{◌≡◌, ℕ, ◌+◌, ◌≤◌, cond, List, [], ◌∷◌, ◌++◌, length, map, sym, ap, subst, ◌∙◌, Some, None, arith}
 use Rattle.std.specs.Prelude.{All}
 use Rattle.std.proofs.lemmas.Bool.{cond-false}
 use Rattle.std.specs.List.{cons_option}
@@ -33,8 +33,8 @@ use Rattle.office_rules.proofs.Journals.{by_name, none_and_some, installed_fits,
 use Rattle.office_rules.proofs.Lookups.{same_text, find_passes}
 use Rattle.office_books.specs.Spans.{rows_within}
 use Rattle.office_books.specs.declared.spans.Span.TheVariants.{Between}
-use Rattle.scratch_laws.specs.Copies.{rows_before, entries_before, next_place, quarter_of, changes_of, changes_from, VoidsFrom, StaysBefore, RowsBeforeStay}
-use Rattle.scratch_laws.proofs.StayingEntries.{LinesFrom, entries_stay, first_ones}
+use Rattle.scratch_laws.specs.Copies.{rows_before, entries_before, next_place, quarter_of, changes_of, changes_from, VoidsFrom, StaysBefore, RowsBeforeStay, EntriesComeBehind}
+use Rattle.scratch_laws.proofs.StayingEntries.{LinesFrom, entries_stay, all_below, first_ones}
 use Rattle.scratch_laws.proofs.StayingShares.{entries_leave, rows_part, all_before}
 
 -- ---- of a journal
@@ -90,7 +90,7 @@ stay_in_journal law meter place more lines own h le from =
     let moment : quarter_before meter place (more ++ lines) ≡ quarter_before meter place lines =
     ap (λ (first : List EntryRow). quarter_of (last_after meter (journal.entries_in first)).at) same in
     let stay : rows_before (quarter_before meter place lines) (interval_rows meter (more ++ lines))
-        ≡ rows_before (quarter_before meter place lines) (interval_rows meter lines) =
+    ≡ rows_before (quarter_before meter place lines) (interval_rows meter lines) =
     ap (λ n. rows_before n (interval_rows meter (more ++ lines))) (sym moment) ∙ rows_of_first law meter place (more ++ lines) own h
     ∙ ap of_entries same ∙ sym (rows_of_first law meter place lines own fits) in
     let rising = (has_rows law (steps_after meter (journal.entries_of meter.opening (more ++ lines)))
@@ -200,10 +200,21 @@ stays_before law further facts o place h there le from =
           ∙ ap (λ rs. rows_before (changes_from facts o.meter place) (rows_of_meter facts o.meter) ++ rs) (sym (asked till));
     }
 
+own_name : (facts : List Fact) (meter : List ℕ) (o : Opening) → opening_of facts meter ≡ Some o → o.meter ≡ meter
+own_name facts meter o there = same_text o.meter meter (find_passes (λ (p : Opening). same p.meter meter) (openings_in facts) o there)
+
 pub rows_before_stay : SharesAddUp → RowsBeforeStay
 rows_before_stay law further facts meter o place h there le from =
-    let name : o.meter ≡ meter =
-    same_text o.meter meter (find_passes (λ (p : Opening). same p.meter meter) (openings_in facts) o there) in
+    let name : o.meter ≡ meter = own_name facts meter o there in
     subst (λ (m : List ℕ). StaysBefore further facts m o place) name
     (stays_before law further facts o place h (subst (λ (m : List ℕ). opening_of facts m ≡ Some o) (sym name) there) le
     (subst (λ (m : List ℕ). All (VoidsFrom m place) further) (sym name) from))
+
+pub entries_come_behind : EntriesComeBehind
+entries_come_behind facts meter o h there =
+    let own : opening_of facts o.meter ≡ Some o = subst (λ (m : List ℕ). opening_of facts m ≡ Some o) (sym (own_name facts meter o there)) there in
+    let rows : List EntryRow = journal.rows_of (opened o) (journal_of facts o.meter) in
+    let numbers = (rows_stand (installed o) (journal_of facts o.meter) (well facts o h own) (installed_fits facts o h own)).places in
+    let all : entries_before (length rows + 2) rows ≡ rows = all_below (length rows + 2) rows numbers (omega arith) in
+    ap (changes_of facts (length rows + 2)) there
+    ∙ ap (λ (first : List EntryRow). quarter_of (last_after (installed o) (journal.entries_in first)).at) all

@@ -14,7 +14,7 @@ use Rattle.office_events.specs.declared.facts.Fact.TheVariants as fact
 use Rattle.office_rules.specs.Facts.{moment_limit, opening_of}
 use Rattle.office_rules.specs.Intervals.{rows_of_meter}
 use Rattle.office_rules.specs.Lawful.{AreLawful}
-use Rattle.office_rules.specs.Meters.{opened, rows_of}
+use Rattle.office_rules.specs.Meters.{opened, rows_of, installation_of}
 
 -- the rows whose quarter hour starts before a moment
 abbrev pub rows_before : (moment : ℕ) → List Share → List Share
@@ -73,3 +73,10 @@ RowsBeforeStay = (further facts : List Fact) (meter : List ℕ) (opening : Openi
     → AreLawful (further ++ facts) → opening_of facts meter ≡ Some opening
     → place ≤ next_place facts opening → All (VoidsFrom meter place) further
     → StaysBefore further facts meter opening place
+
+-- Where nothing is voided, what can change is told beside a meter's energy: the quarter hours from that of its last entry on.
+abbrev pub EntriesComeBehind : Type 0
+EntriesComeBehind = (facts : List Fact) (meter : List ℕ) (opening : Opening) → AreLawful facts
+    → opening_of facts meter ≡ Some opening
+    → changes_from facts meter (next_place facts opening)
+    ≡ quarter_of (installation_of facts opening).last.at

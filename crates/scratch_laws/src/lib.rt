@@ -3,4 +3,4 @@
 
 mod laws;
 
-pub use laws::rows_before_stay;
+pub use laws::{entries_come_behind, rows_before_stay};
