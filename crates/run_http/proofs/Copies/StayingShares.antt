@@ -18,7 +18,7 @@ use Rattle.meter_journal.proofs.Chains.{last_moment}
 use Rattle.meter_journal.proofs.Merging.{Above, Among, Rising, contains_of}
 use Rattle.office_books.specs.Spans.{rows_within}
 use Rattle.office_books.specs.declared.spans.Span.TheVariants.{Between}
-use Rattle.scratch_laws.specs.Copies.{rows_before, quarter_of}
+use Rattle.run_http.specs.Copies.{rows_before, quarter_of}
 
 -- none starts before a moment
 abbrev StartFrom : (moment : ℕ) → List Share → Type 0

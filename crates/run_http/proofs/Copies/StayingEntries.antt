@@ -13,7 +13,7 @@ use Rattle.meter_journal.specs.Lists.{AreNumbered}
 use Rattle.meter_journal.specs.Standing.{entered_count}
 use Rattle.meter_journal.proofs.AsEntered.{rows_stand}
 use Rattle.meter_journal.proofs.Keeping.{mapped_some}
-use Rattle.scratch_laws.specs.Copies.{entries_before}
+use Rattle.run_http.specs.Copies.{entries_before}
 
 -- where lines void, they do so at the place or behind it
 abbrev pub LinesFrom : (place : ℕ) → Journal → Type 0

@@ -1,5 +1,5 @@
 //! What who copies the quarter hours of meters may rely on. Each function's clause is the law, over all lawful facts.
-ghost use Rattle.scratch_laws.specs.Copies.{EntriesComeBehind, RowsBeforeStay};
+ghost use Rattle.run_http.specs.Copies.{EntriesComeBehind, RowsBeforeStay};
 
 use interval_core::shares_add_up;
 

@@ -33,9 +33,9 @@ use Rattle.office_rules.proofs.Journals.{by_name, none_and_some, installed_fits,
 use Rattle.office_rules.proofs.Lookups.{same_text, find_passes}
 use Rattle.office_books.specs.Spans.{rows_within}
 use Rattle.office_books.specs.declared.spans.Span.TheVariants.{Between}
-use Rattle.scratch_laws.specs.Copies.{rows_before, entries_before, next_place, quarter_of, changes_of, changes_from, VoidsFrom, StaysBefore, RowsBeforeStay, EntriesComeBehind}
-use Rattle.scratch_laws.proofs.StayingEntries.{LinesFrom, entries_stay, all_below, first_ones}
-use Rattle.scratch_laws.proofs.StayingShares.{entries_leave, rows_part, all_before}
+use Rattle.run_http.specs.Copies.{rows_before, entries_before, next_place, quarter_of, changes_of, changes_from, VoidsFrom, StaysBefore, RowsBeforeStay, EntriesComeBehind}
+use Rattle.run_http.proofs.Copies.StayingEntries.{LinesFrom, entries_stay, all_below, first_ones}
+use Rattle.run_http.proofs.Copies.StayingShares.{entries_leave, rows_part, all_before}
 
 -- ---- of a journal
 

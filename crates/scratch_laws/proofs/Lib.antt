@@ -1,3 +1,0 @@
-pub mod StayingEntries
-pub mod StayingShares
-pub mod StayingRows
