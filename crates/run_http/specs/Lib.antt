@@ -1,3 +1,4 @@
+pub mod Copies
 pub mod StatusRoute
 pub mod MeterTargets
 pub mod Answer

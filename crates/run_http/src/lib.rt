@@ -4,6 +4,7 @@
 
 mod answer;
 mod kept_rows;
+mod laws;
 mod meter_replies;
 mod meter_targets;
 mod metrics;
@@ -17,6 +18,7 @@ mod texts;
 mod voids;
 
 pub use answer::{PeerReply, ask};
+pub use laws::{entries_come_behind, rows_before_stay};
 pub use meter_replies::{MOST_ENTRIES, reply_entries, reply_intervals};
 pub use metrics::reply_metrics;
 pub use register_replies::reply_energy;
