@@ -30,10 +30,12 @@ abbrev pub intervals_within : List Fact → (meter : Option (List ℕ)) → Span
 intervals_within facts meter span = option_map (rows_within span) (intervals_of facts meter)
 
 -- Its readings that were held, those whose moments are asked for, in the order in which they were recorded.
+abbrev pub holds_at : List Fact → (meter : List ℕ) → Span → Option (List HeldReading)
+holds_at facts meter span =
+    option_map (λ opening. holds_within span (holds_of facts meter)) (opening_of facts meter)
+
 abbrev pub holds_named : List Fact → (meter : Option (List ℕ)) → Span → Option (List HeldReading)
-holds_named facts meter span =
-    option_map (λ opening. holds_within span (holds_of facts opening.meter))
-    (option_and_then (opening_of facts) meter)
+holds_named facts meter span = option_and_then (λ name. holds_at facts name span) meter
 
 -- Its entries from a place on, at most so many.
 abbrev pub entries_within : List Fact → (meter : Option (List ℕ)) → (from most : ℕ)

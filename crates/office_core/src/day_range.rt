@@ -15,8 +15,8 @@ use office_books::Span;
 const MARGIN: i32 = 2;
 
 /// Drops the days that the range hasn't.
-pub fn keep_within(days: &mut Vec<DayTotal>, range: DayRange)
-    ensures { days.new.items ≡ days_in range days.old.items }
+pub fn keep_within(days: &mut Vec<DayTotal>, range: &DayRange)
+    ensures { days.new.items ≡ days_in range.now days.old.items }
 {
     days.retain(|total| range.has(total.day));
 }

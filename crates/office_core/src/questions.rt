@@ -287,14 +287,14 @@ fn days_in<B: Books>(
     alloc: Global,
     books: &mut B,
     register: &Name,
-    range: DayRange,
+    range: &DayRange,
 ) -> Result<Vec<DayTotal>, Refusal>
-    ensures days { ListsDaysWithin (B.ledger books.old) (B.ledger books.new) register.now range
-        result }
+    ensures days { ListsDaysWithin (B.ledger books.old) (B.ledger books.new) register.now
+        range.now result }
     ensures asks { Asks (B.ledger books.old) (B.ledger books.new) result }
 {
     accounts_are_one();
-    let mut days = days_of(alloc, books, register, span_around(range))?;
+    let mut days = days_of(alloc, books, register, span_around(*range))?;
     keep_within(&mut days, range);
     Ok(days)
 }
@@ -316,7 +316,7 @@ pub fn days_within<B: Books, K: RowSink<DayTotal>>(
         return Err(Refusal::NotFound);
     };
     found(books.register(named))?;
-    let asked = days_in(alloc, books, named, range)?;
+    let asked = days_in(alloc, books, named, &range)?;
     hand_on(&asked, sink);
     Ok(())
 }

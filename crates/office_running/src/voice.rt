@@ -23,7 +23,7 @@ pub(crate) enum Standing {
     Unreachable,
 }
 
-/// Who is shown what the office is fed: a desk, the lines that are to be printed, and what is to be said to people. A line for
+/// Who is shown what the office is fed: a monitor, the lines that are to be printed, and what is to be said to people. A line for
 /// which there was no memory is left out, or is cut off.
 #[derive(Drop)]
 pub(crate) struct Voice {

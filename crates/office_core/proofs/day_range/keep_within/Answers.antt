@@ -5,4 +5,4 @@ use Rattle.interval_core.specs.declared.totals.DayTotal.{DayTotal}
 use Rattle.office_core.proofs.day_range.keep_within.Goals as goal
 
 pub returns : goal.returns
-returns c = filter_same _ (λ (total : DayTotal). is_in c.args.range total.day) _ (λ x b f r. (search rules, search rules)) _ _ c.retain.ensures.filtered
+returns c = filter_same _ (λ (total : DayTotal). is_in c.args.range.now total.day) _ (λ x b f r. (search rules, search rules)) _ _ c.retain.ensures.filtered
