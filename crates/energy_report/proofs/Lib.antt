@@ -15,4 +15,5 @@ pub mod TallyLemmas
 pub mod EnergyLemmas
 pub mod HeldLemmas
 pub mod StatementLemmas
+pub mod MeterSums
 mod StatementExamples
