@@ -67,6 +67,7 @@ fn read_reading(row: &Row, meter: &Name) -> Result<HeldReading, RowFault>
 }
 
 /// Reads the rows of the held readings of a meter.
+#[derive(Drop)]
 pub(crate) struct ReadingsOf {
     pub(crate) meter: Name,
 }

@@ -18,6 +18,7 @@ fn read_share(row: &Row) -> Result<Share, RowFault>
 }
 
 /// Reads the rows of intervals.
+#[derive(Drop)]
 pub(crate) struct Shares;
 
 impl RowReader<Share> for Shares {

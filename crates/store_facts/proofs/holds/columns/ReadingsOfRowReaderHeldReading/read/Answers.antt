@@ -2,7 +2,7 @@ use Rattle.std.proofs.Common.{◌≡◌, IfOk, IfErr, sym, subst}
 use Rattle.store_tables.specs.declared.faults.RowFault.TheVariants.{Damaged}
 use Rattle.store_facts.specs.Holds.{IsSoundReading}
 use Rattle.store_facts.proofs.HoldsLemmas.Reading.{sound_reading, damaged_reading}
-use Rattle.store_facts.proofs.holds.columns.ReadingsOfRowReader.read.Goals as goal
+use Rattle.store_facts.proofs.holds.columns.ReadingsOfRowReaderHeldReading.read.Goals as goal
 
 pub returns-clause-sound : goal.returns-clause-sound
 returns-clause-sound c = subst (λ r. IfOk r IsSoundReading) (sym c.read_reading.ensures) (sound_reading c.args.self.now.meter c.args.row.now)

@@ -2,7 +2,7 @@ use Rattle.std.proofs.Common.{◌≡◌, IfOk, IfErr, sym, subst}
 use Rattle.store_tables.specs.declared.faults.RowFault.TheVariants.{Damaged}
 use Rattle.store_facts.specs.Intervals.Rows.{IsSoundShare}
 use Rattle.store_facts.proofs.IntervalsLemmas.Reading.{sound_share, damaged_share}
-use Rattle.store_facts.proofs.intervals.columns.SharesRowReader.read.Goals as goal
+use Rattle.store_facts.proofs.intervals.columns.SharesRowReaderShare.read.Goals as goal
 
 pub returns-clause-sound : goal.returns-clause-sound
 returns-clause-sound c = subst (λ r. IfOk r IsSoundShare) (sym c.read_share.ensures) (sound_share c.args.row.now)
