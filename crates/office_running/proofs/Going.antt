@@ -26,7 +26,7 @@ use Rattle.office_rounds.specs.Passing as rounds
 use Rattle.office_rounds.specs.FedEvents as telling
 use Rattle.office_rounds.specs.Driver.Going as driver
 use Rattle.office_rounds.specs.Driver.Going.{Start, TakesTurn as TakesDeviceTurn, scene}
-use Rattle.office_rounds.specs.Driver.Showing.{Shown}
+use Rattle.office_events.specs.Showing.{Shown}
 use Rattle.office_rounds.specs.Driver.Turns as table
 use Rattle.office_rounds.specs.Driver.Turns.{Table, Wished}
 use Rattle.office_rounds.specs.DeviceRounds.Rounds.{is_wishing, wish_at, wish_of}

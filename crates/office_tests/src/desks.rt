@@ -89,12 +89,6 @@ const LINES: &str = "1700000000 inv connected
 1700000002 inv round answered 3 silent 1 failed 0
 ";
 
-const SUM: Sum = Sum {
-    answered: 3,
-    silent: 1,
-    failed: 0,
-};
-
 // The lines of two events that were accepted, of one that was refused, and of an end with its sum.
 fn put(text: &mut Vec<u8>) -> Result<(), AllocError> {
     let noted = Ok(Answer::Noted);
@@ -107,7 +101,7 @@ fn put(text: &mut Vec<u8>) -> Result<(), AllocError> {
     for (at, event, answer) in &events {
         put_lines(text, *at, &inv(), event, *answer, &[])?;
     }
-    put_sum(text, 1_700_000_002, &inv(), SUM)
+    put_sum(text, 1_700_000_002, &inv(), 3, 1, 0)
 }
 
 #[test]

@@ -10,7 +10,7 @@ use Rattle.office_events.specs.declared.refusals.Refusal.{Refusal}
 use Rattle.run_status.specs.Status.Counts.{noted_all, refused}
 use Rattle.run_status.specs.declared.status.counts.Counts.{Counts}
 use Rattle.run_status.specs.declared.status.status.DeviceState.{DeviceState}
-use Rattle.office_rounds.specs.Driver.Showing.{Shown}
+use Rattle.office_events.specs.Showing.{Shown}
 use Rattle.run_status.specs.Monitor.Output.{IsSentFor, queues_of}
 use Rattle.run_status.specs.declared.monitor.run_monitor.RunMonitor.{RunMonitor}
 

@@ -2,8 +2,7 @@
 use crate::monitor::device_state::{followed, unconnected};
 use crate::monitor::output::put_frames;
 use crate::status::{Counts, DeviceState};
-use office_events::{Answer, Event, Name, Note, Refusal};
-use office_rounds::Observer;
+use office_events::{Answer, Event, Name, Note, Observer, Refusal};
 use std::alloc::{AllocError, Global};
 use std::mem;
 

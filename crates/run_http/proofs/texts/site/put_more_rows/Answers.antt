@@ -2,7 +2,7 @@ use Rattle.std.proofs.Common.{refl, arith, List, ℕ}
 use Rattle.std.specs.Prelude.{codes}
 use Rattle.office_core.specs.declared.site.SiteRow.{SiteRow}
 use Rattle.run_http.specs.Texts.SiteText as text
-use Rattle.office_rounds.proofs.DeviceRoundsLemmas.Loops.{all_on, one_on}
+use Rattle.office_events.proofs.Loops.{all_on, one_on}
 use Rattle.run_http.proofs.texts.site.put_more_rows.Goals as goal
 
 pub loop-row-preserved : goal.loop-row-preserved

@@ -1,11 +1,13 @@
 //! Who is shown what the office is fed.
-use office_events::{Answer, Event, Note, Refusal};
+use crate::answers::{Answer, Note};
+use crate::events::Event;
+use crate::refusals::Refusal;
 
 /// Is shown each event that an office is fed, for whose round it was, what it was answered, what the office told of it, and
 /// the frames that it wants sent.
 pub trait Observer {
     ghost use Rattle.std.specs.Prelude.{Option};
-    ghost use Rattle.office_rounds.specs.Driver.Showing.{Shown, shown};
+    ghost use Rattle.office_events.specs.Showing.{Shown, shown};
 
     // What a showing leaves.
     ghost sees: { Self → Shown → Self → Type 0 };
