@@ -12,7 +12,8 @@ use store_queries::holds;
 use store_tables::RowFault;
 
 /// Two readings of m1, the later one with an earlier moment, and one of m0 between them.
-const HOLDS: &str = "INSERT INTO polls VALUES (1, 'inv', 1, 1898, 0, 3, 40094, 3), (2, 'inv', 1, 1999, 1, 3, 40094, 3);
+const HOLDS: &str =
+    "INSERT INTO polls VALUES (1, 'inv', 1, 1898, 0, 3, 40094, 3), (2, 'inv', 1, 1999, 1, 3, 40094, 3);
 INSERT INTO holds VALUES (3, 'm1', 2, 1500, 4294967295, -32768, 1), (1, 'm1', 1, 1900, 0, 32767, 8), (2, 'm0', 2, 2000, 7, 0, 6)";
 
 /// Poll, moment, counter, scale factor and cause of a reading.

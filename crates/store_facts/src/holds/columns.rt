@@ -76,6 +76,7 @@ impl RowReader<HeldReading> for ReadingsOf {
     ghost use Rattle.store_facts.specs.Holds.{reading_in, IsSoundReading};
 
     ghost reads = { λ reader row. reading_in reader.meter row };
+
     ghost is_row = { IsSoundReading };
 
     fn read(&self, row: &Row) -> Result<HeldReading, RowFault> {

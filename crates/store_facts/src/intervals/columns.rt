@@ -25,6 +25,7 @@ impl RowReader<Share> for Shares {
     ghost use Rattle.store_facts.specs.Intervals.Rows.{share_in, IsSoundShare};
 
     ghost reads = { λ reader row. share_in row };
+
     ghost is_row = { IsSoundShare };
 
     fn read(&self, row: &Row) -> Result<Share, RowFault> {
