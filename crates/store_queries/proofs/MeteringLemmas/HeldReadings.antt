@@ -65,7 +65,7 @@ module _ (meter : List ℕ) where
       let rows = placed held_row (holds_in facts) in
       let here = in_turn hold_place (filter (is_of meter) rows) h.0 (ascending-filter _ (is_of meter) rows (placed_falls held_row hold_place (λ place o. refl) (holds_in facts))) h.1.all h.1.order in
       h.2 ∙ ap (map (reading_of meter)) here ∙ map_reverse (reading_of meter) (filter (is_of meter) rows) ∙ ap reverse (readings_back (holds_in facts))
-      ∙ sym (filter_all (λ (r : HeldReading). true) (holds_of facts meter) (all_of _ (λ (r : HeldReading). refl) (holds_of facts meter)))
+      ∙ sym (filter_all (λ (r : HeldReading). true) (holds_of facts meter) (all_of (λ (r : HeldReading). true ≡ true) (λ r. refl) (holds_of facts meter)))
 
   module _ (facts : List Fact) (lawful : AreLawful facts) (from till low high : ℕ) (low_is : low ≡ min from (latest_moment + 1)) (high_is : high ≡ min till (latest_moment + 1)) where
     abbrev bounded : HeldReading → Bool
