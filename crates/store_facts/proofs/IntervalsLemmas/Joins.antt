@@ -159,7 +159,7 @@ module _ (params : Row) (tests : List Term) (passes : Installed × Interval → 
   sound_pairs (i ∷ is) rows sound = all-append (λ (p : Installed × Interval). IsSoundInterval p.1) (map (λ r. (i, r)) rows) (pairs is rows) (all_map (λ (p : Installed × Interval). IsSoundInterval p.1) (λ r. (i, r)) rows sound) (sound_pairs is rows sound)
 
   pub of_pairs : (db : Database) (content : Content) (lying : Lying) (rows : List Row) → AreTables db content → HaveLying lying content → IsAnswer query (overlay db.trees []) params rows
-      → Tells (λ p. share_shown p.1) (λ p. p.1.share) (λ p. IsSoundInterval p.1) (AreShown passes) AreSoundLying lying rows
+      → Tells (λ (p : Installed × Interval). share_shown p.1) (λ (p : Installed × Interval). p.1.share) (λ (p : Installed × Interval). IsSoundInterval p.1) (AreShown passes) AreSoundLying lying rows
   of_pairs db content lying rows has have a =
       let first = tree_at books_schema.tables 4 installations_table refl in
       let second = tree_at books_schema.tables 9 intervals_table refl in
@@ -191,7 +191,7 @@ module _ (params : Row) (tests : List Term) (passes : Installed × Interval → 
       }
 
 abbrev Shows : (passes : Installed × Interval → Bool) → Lying → List Row → Type 0
-Shows passes = Tells (λ p. share_shown p.1) (λ p. p.1.share) (λ p. IsSoundInterval p.1) (AreShown passes) AreSoundLying
+Shows passes = Tells (λ (p : Installed × Interval). share_shown p.1) (λ (p : Installed × Interval). p.1.share) (λ (p : Installed × Interval). IsSoundInterval p.1) (AreShown passes) AreSoundLying
 
 pub at_register : (register : List ℕ) (db : Database) (content : Content) (lying : Lying) (rows : List Row) → AreTables db content → HaveLying lying content
     → IsAnswer text.register_intervals_query (overlay db.trees []) (Text register ∷ []) rows → Shows (lies_at register) lying rows
