@@ -53,20 +53,20 @@ VoidsFrom meter place _ = Unit {0}
 
 -- Let further facts come, of which none voids an entry of the meter before a place, and let the place not be past that of the
 -- next entry. Then its entries before the place stay as they were, and so does the moment from which on quarter hours can have
--- changed. Those before that moment stay, so that a copy of them and what the office tells from there on are together all
--- there is.
+-- changed. Those before it, or before any earlier moment, stay, so that a copy of them and what the office tells from there on
+-- are together all there is.
 pub record StaysBefore (further facts : List Fact) (meter : List ℕ) (opening : Opening) (place : ℕ) :
     Type 0 where
   pub entries : entries_before place (rows_of (further ++ facts) opening)
       ≡ entries_before place (rows_of facts opening)
   pub moment : changes_from (further ++ facts) meter place ≡ changes_from facts meter place
-  pub rows : let moment = changes_from facts meter place in
-      rows_before moment (rows_of_meter (further ++ facts) meter)
-      ≡ rows_before moment (rows_of_meter facts meter)
-  pub whole : let moment = changes_from facts meter place in
-      (till : ℕ) → moment_limit ≤ till → rows_of_meter (further ++ facts) meter
-      ≡ rows_before moment (rows_of_meter facts meter)
-      ++ rows_within (Between moment till) (rows_of_meter (further ++ facts) meter)
+  pub rows : (from : ℕ) → from ≤ changes_from facts meter place
+      → rows_before from (rows_of_meter (further ++ facts) meter)
+      ≡ rows_before from (rows_of_meter facts meter)
+  pub whole : (from till : ℕ) → from ≤ changes_from facts meter place → moment_limit ≤ till
+      → rows_of_meter (further ++ facts) meter
+      ≡ rows_before from (rows_of_meter facts meter)
+      ++ rows_within (Between from till) (rows_of_meter (further ++ facts) meter)
 
 abbrev pub RowsBeforeStay : Type 0
 RowsBeforeStay = (further facts : List Fact) (meter : List ℕ) (opening : Opening) (place : ℕ)

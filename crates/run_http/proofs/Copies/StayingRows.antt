@@ -35,7 +35,7 @@ use Rattle.office_books.specs.Spans.{rows_within}
 use Rattle.office_books.specs.declared.spans.Span.TheVariants.{Between}
 use Rattle.run_http.specs.Copies.{rows_before, entries_before, next_place, quarter_of, changes_of, changes_from, VoidsFrom, StaysBefore, RowsBeforeStay, EntriesComeBehind}
 use Rattle.run_http.proofs.Copies.StayingEntries.{LinesFrom, entries_stay, all_below, first_ones}
-use Rattle.run_http.proofs.Copies.StayingShares.{entries_leave, rows_part, all_before}
+use Rattle.run_http.proofs.Copies.StayingShares.{entries_leave, before_earlier, rows_part, all_before}
 
 -- ---- of a journal
 
@@ -68,11 +68,10 @@ rows_of_first law meter place lines own h =
 record StayInJournal (meter : Installed) (place : ℕ) (more lines : journal.Journal) : Type 0 where
   entries : entries_before place (journal.rows_of meter.opening (more ++ lines)) ≡ entries_before place (journal.rows_of meter.opening lines)
   moment : quarter_before meter place (more ++ lines) ≡ quarter_before meter place lines
-  rows : rows_before (quarter_before meter place lines) (interval_rows meter (more ++ lines))
-      ≡ rows_before (quarter_before meter place lines) (interval_rows meter lines)
-  whole : (till : ℕ) → (last_in meter (more ++ lines)).at ≤ till → interval_rows meter (more ++ lines)
-      ≡ rows_before (quarter_before meter place lines) (interval_rows meter lines)
-      ++ rows_within (Between (quarter_before meter place lines) till) (interval_rows meter (more ++ lines))
+  rows : (from : ℕ) → from ≤ quarter_before meter place lines
+      → rows_before from (interval_rows meter (more ++ lines)) ≡ rows_before from (interval_rows meter lines)
+  whole : (from till : ℕ) → from ≤ quarter_before meter place lines → (last_in meter (more ++ lines)).at ≤ till → interval_rows meter (more ++ lines)
+      ≡ rows_before from (interval_rows meter lines) ++ rows_within (Between from till) (interval_rows meter (more ++ lines))
 
 lines_fit : (meter : Installed) (more lines : journal.Journal) → AreFitting meter (more ++ lines) → AreFitting meter lines
 lines_fit meter [] lines h = h
@@ -81,29 +80,30 @@ lines_fit meter (line ∷ more) lines h = lines_fit meter more lines h.1
 stay_in_journal : SharesAddUp → (meter : Installed) (place : ℕ) (more lines : journal.Journal) → IsWellInstalled meter
     → AreFitting meter (more ++ lines) → place ≤ length (journal.rows_of meter.opening lines) + 2 → LinesFrom place more
     → StayInJournal meter place more lines
-stay_in_journal law meter place more lines own h le from =
+stay_in_journal law meter place more lines own h le void =
     let fits : AreFitting meter lines = lines_fit meter more lines h in
     let count : length (journal.rows_of meter.opening lines) ≡ entered_count lines = (rows_stand meter lines own fits).count in
-    let same = entries_stay meter place more lines own h (omega (arith, count, le)) from in
+    let same = entries_stay meter place more lines own h (omega (arith, count, le)) void in
     let of_entries : List EntryRow → List Share = λ first. let base = journal.entries_in first in
     rows_before (quarter_of (last_after meter base).at) (rows_of_steps (steps_after meter base)) in
     let moment : quarter_before meter place (more ++ lines) ≡ quarter_before meter place lines =
     ap (λ (first : List EntryRow). quarter_of (last_after meter (journal.entries_in first)).at) same in
-    let stay : rows_before (quarter_before meter place lines) (interval_rows meter (more ++ lines))
-    ≡ rows_before (quarter_before meter place lines) (interval_rows meter lines) =
-    ap (λ n. rows_before n (interval_rows meter (more ++ lines))) (sym moment) ∙ rows_of_first law meter place (more ++ lines) own h
+    let told : List Share = interval_rows meter (more ++ lines) in
+    let stay : rows_before (quarter_before meter place lines) told ≡ rows_before (quarter_before meter place lines) (interval_rows meter lines) =
+    ap (λ n. rows_before n told) (sym moment) ∙ rows_of_first law meter place (more ++ lines) own h
     ∙ ap of_entries same ∙ sym (rows_of_first law meter place lines own fits) in
+    let earlier : (from : ℕ) → from ≤ quarter_before meter place lines → rows_before from told ≡ rows_before from (interval_rows meter lines) =
+    λ from upto. sym (before_earlier (quarter_before meter place lines) from told upto) ∙ ap (rows_before from) stay
+    ∙ before_earlier (quarter_before meter place lines) from (interval_rows meter lines) upto in
     let rising = (has_rows law (steps_after meter (journal.entries_of meter.opening (more ++ lines)))
     (in_time meter (journal.entries_of meter.opening (more ++ lines)) (journals_are_kept meter (more ++ lines) own h).account.follow)).rising in
     record {
       entries = same;
       moment = moment;
-      rows = stay;
-      whole = λ till last.
-          let before = all_before meter.opening.at (last_in meter (more ++ lines)).at till (interval_rows meter (more ++ lines))
-          (rows_lie_within law meter (more ++ lines) own h) last in
-          rows_part (quarter_before meter place lines) till (interval_rows meter (more ++ lines)) rising before
-          ∙ ap (λ rs. rs ++ rows_within (Between (quarter_before meter place lines) till) (interval_rows meter (more ++ lines))) stay;
+      rows = earlier;
+      whole = λ from till upto last.
+          let before = all_before meter.opening.at (last_in meter (more ++ lines)).at till told (rows_lie_within law meter (more ++ lines) own h) last in
+          rows_part from till told rising before ∙ ap (λ rs. rs ++ rows_within (Between from till) told) (earlier from upto);
     }
 
 -- ---- of facts
@@ -163,7 +163,7 @@ lines_from (fact.Reply r ∷ further) meter place h = lines_from further meter p
 -- of a meter by its own opening
 stays_before : SharesAddUp → (further facts : List Fact) (o : Opening) (place : ℕ) → AreLawful (further ++ facts) → opening_of facts o.meter ≡ Some o
     → place ≤ next_place facts o → All (VoidsFrom o.meter place) further → StaysBefore further facts o.meter o place
-stays_before law further facts o place h there le from =
+stays_before law further facts o place h there le void =
     let later : List Fact = further ++ facts in
     let lines : journal.Journal = journal_of facts o.meter in
     let more : journal.Journal = journal_of further o.meter in
@@ -171,7 +171,7 @@ stays_before law further facts o place h there le from =
     let still : opening_of later o.meter ≡ Some o = still_opened further facts o.meter o h there in
     let stay : StayInJournal (installed o) place more lines =
     stay_in_journal law (installed o) place more lines (well later o h still)
-    (subst (AreFitting (installed o)) parts (installed_fits later o h still)) le (lines_from further o.meter place from) in
+    (subst (AreFitting (installed o)) parts (installed_fits later o h still)) le (lines_from further o.meter place void) in
     let moment : ℕ = quarter_before (installed o) place lines in
     let moment_is : changes_from facts o.meter place ≡ moment = ap (changes_of facts place) there in
     let moment_later : changes_from later o.meter place ≡ quarter_before (installed o) place (more ++ lines) =
@@ -179,11 +179,6 @@ stays_before law further facts o place h there le from =
     let rows_are : rows_of_meter facts o.meter ≡ interval_rows (installed o) lines = ap (rows_of_installed facts) there in
     let rows_later : rows_of_meter later o.meter ≡ interval_rows (installed o) (more ++ lines) =
     ap (rows_of_installed later) still ∙ ap (interval_rows (installed o)) parts in
-    let kept : rows_before (changes_from facts o.meter place) (rows_of_meter facts o.meter) ≡ rows_before moment (interval_rows (installed o) lines) =
-    ap (λ n. rows_before n (rows_of_meter facts o.meter)) moment_is ∙ ap (rows_before moment) rows_are in
-    let told : List Share = interval_rows (installed o) (more ++ lines) in
-    let asked : (till : ℕ) → rows_within (Between (changes_from facts o.meter place) till) (rows_of_meter later o.meter) ≡ rows_within (Between moment till) told =
-    λ till. ap (λ n. rows_within (Between n till) (rows_of_meter later o.meter)) moment_is ∙ ap (rows_within (Between moment till)) rows_later in
     let last : (last_in (installed o) (more ++ lines)).at ≤ moment_limit =
     omega (
       arith,
@@ -194,21 +189,23 @@ stays_before law further facts o place h there le from =
     record {
       entries = ap (λ ls. entries_before place (journal.rows_of (opened o) ls)) parts ∙ stay.entries;
       moment = moment_later ∙ stay.moment ∙ sym moment_is;
-      rows = ap (λ n. rows_before n (rows_of_meter later o.meter)) moment_is ∙ ap (rows_before moment) rows_later ∙ stay.rows ∙ sym kept;
-      whole = λ till limit.
-          rows_later ∙ stay.whole till (omega (arith, last, limit)) ∙ ap (λ rs. rs ++ rows_within (Between moment till) told) (sym kept)
-          ∙ ap (λ rs. rows_before (changes_from facts o.meter place) (rows_of_meter facts o.meter) ++ rs) (sym (asked till));
+      rows = λ from upto.
+          ap (rows_before from) rows_later ∙ stay.rows from (omega (arith, upto, moment_is)) ∙ sym (ap (rows_before from) rows_are);
+      whole = λ from till upto limit.
+          rows_later ∙ stay.whole from till (omega (arith, upto, moment_is)) (omega (arith, last, limit))
+          ∙ ap (λ rs. rows_before from rs ++ rows_within (Between from till) (interval_rows (installed o) (more ++ lines))) (sym rows_are)
+          ∙ ap (λ rs. rows_before from (rows_of_meter facts o.meter) ++ rows_within (Between from till) rs) (sym rows_later);
     }
 
 own_name : (facts : List Fact) (meter : List ℕ) (o : Opening) → opening_of facts meter ≡ Some o → o.meter ≡ meter
 own_name facts meter o there = same_text o.meter meter (find_passes (λ (p : Opening). same p.meter meter) (openings_in facts) o there)
 
 pub rows_before_stay : SharesAddUp → RowsBeforeStay
-rows_before_stay law further facts meter o place h there le from =
+rows_before_stay law further facts meter o place h there le void =
     let name : o.meter ≡ meter = own_name facts meter o there in
     subst (λ (m : List ℕ). StaysBefore further facts m o place) name
     (stays_before law further facts o place h (subst (λ (m : List ℕ). opening_of facts m ≡ Some o) (sym name) there) le
-    (subst (λ (m : List ℕ). All (VoidsFrom m place) further) (sym name) from))
+    (subst (λ (m : List ℕ). All (VoidsFrom m place) further) (sym name) void))
 
 pub entries_come_behind : EntriesComeBehind
 entries_come_behind facts meter o h there =

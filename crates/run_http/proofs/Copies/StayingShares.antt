@@ -76,6 +76,23 @@ entries_leave law meter (e ∷ es) base h =
     (shares_start law step (last_after meter base).at h.0.later (last_later meter es base h.1))
     ∙ entries_leave law meter es base h.1
 
+before_row : (moment from : ℕ) (row : Share) (rows : List Share) → from ≤ moment
+    → rows_before from (cond (nat_lt row.start moment) (row ∷ rows) rows) ≡ cond (nat_lt row.start from) (row ∷ rows_before from rows) (rows_before from rows)
+before_row moment from row rows le =
+    elim (cases_Bool (nat_lt row.start moment)) [
+      | inl e ↦ ap (rows_before from) (cond-true _ _ _ e)
+      | inr e ↦
+          let ge : moment ≤ row.start = grind (arith, nat_tests, e) in
+          ap (rows_before from) (cond-false _ _ _ e) ∙ sym (cond-false _ _ _ (not_before from row.start (omega (arith, ge, le))))
+    ]
+
+-- of the rows before a moment those before an earlier one
+pub before_earlier : (moment from : ℕ) (rows : List Share) → from ≤ moment → rows_before from (rows_before moment rows) ≡ rows_before from rows
+before_earlier moment from [] le = refl
+before_earlier moment from (row ∷ rows) le =
+    before_row moment from row (rows_before moment rows) le
+    ∙ ap (λ rs. cond (nat_lt row.start from) (row ∷ rs) rs) (before_earlier moment from rows le)
+
 -- ---- rows in order are those before a moment, and then the others
 
 none_start : (moment start : ℕ) (rows : List Share) → moment ≤ start → Above start rows → StartFrom moment rows
