@@ -15,5 +15,4 @@ pub mod TallyLemmas
 pub mod EnergyLemmas
 pub mod HeldLemmas
 pub mod StatementLemmas
-pub mod MeterSums
 mod StatementExamples

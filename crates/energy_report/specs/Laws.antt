@@ -1,13 +1,9 @@
 -- What holds of the rows of any days.
-use Rattle.std.specs.Prelude.{◌≡◌, ℕ, ◌+◌, ◌<◌, ◌≤◌, ◌^◌, false, List, [], ◌∷◌, map, filter, All, Option, Some, sum_by}
-use Rattle.std.specs.List.{flat_map}
+use Rattle.std.specs.Prelude.{◌≡◌, ℕ, ◌+◌, ◌<◌, ◌^◌, false, List, [], ◌∷◌, map, filter, All, Option, Some, sum_by}
 use Rattle.jiff_core.specs.declared.civil.date.Date.{Date}
-use Rattle.interval_core.specs.Days.{account_of, AreAccounts, AreInOrder}
+use Rattle.interval_core.specs.Days.{account_of, AreInOrder}
 use Rattle.interval_core.specs.Lines.{days_text}
-use Rattle.interval_core.specs.declared.limits.TheConstants.{LAST_MOMENT}
-use Rattle.interval_core.specs.declared.shares.Share.{Share}
 use Rattle.interval_core.specs.declared.totals.DayTotal.{DayTotal}
-use Rattle.interval_core.specs.declared.zone.Zone.{Zone}
 use Rattle.energy_report.specs.declared.form.Period.{Period}
 use Rattle.energy_report.specs.declared.form.ReportForm.{ReportForm}
 use Rattle.interval_core.specs.declared.day_range.DayRange.{DayRange}
@@ -15,7 +11,6 @@ use Rattle.energy_report.specs.declared.row.Row.{Row}
 use Rattle.energy_report.specs.Periods.{is_same}
 use Rattle.interval_core.specs.Ranges.{days_in, ends_before}
 use Rattle.energy_report.specs.Rows.{rows_by, rows_in, shown_rows}
-use Rattle.energy_report.specs.Statements.{energy_within}
 use Rattle.energy_report.specs.Texts.{report_text}
 use Rattle.energy_report.specs.Words.{plain_form}
 
@@ -55,19 +50,6 @@ RangesAddUp = (from till : Option Date) (cut : Date) (days : List DayTotal)
     → energy_of_days (days_in (range from (Some cut)) days)
     + energy_of_days (days_in (range (Some cut) till) days)
     ≡ energy_of_days (days_in (range from till) days)
-
--- a moment past the last has no day
-abbrev pub HasDay : Share → Type 0
-HasDay row = row.start ≤ LAST_MOMENT
-
--- The rows of a register are those of its meters, one meter after the other. The energies of the meters' statements on a range
--- add up to that of the report on it: to the days of all these rows that the range has, below 2^128 mWh.
-abbrev pub StatementsAddUp : Type 0
-StatementsAddUp = (zone : Zone) (range : DayRange) (meters : List (List Share))
-    (days : List DayTotal) → let rows = flat_map (λ rows. rows) meters in
-    All HasDay rows → AreAccounts zone rows (map account_of days)
-    → energy_of_days (days_in range days) < 2 ^ 128
-    → sum_by (energy_within zone range) meters ≡ energy_of_days (days_in range days)
 
 -- the days of a list that fall in a row's period
 abbrev pub days_of_row : Period → Row → List DayTotal → List DayTotal

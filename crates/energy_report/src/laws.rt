@@ -1,5 +1,5 @@
 //! Laws of reports. Each function's clause is a law over all values; its body is empty.
-ghost use Rattle.energy_report.specs.Laws.{PlainReportsAreListsOfDays, RangesAddUp, RowsAddUp, RowsAreShown, RowsAreWhole, StatementsAddUp};
+ghost use Rattle.energy_report.specs.Laws.{PlainReportsAreListsOfDays, RangesAddUp, RowsAddUp, RowsAreShown, RowsAreWhole};
 
 /// By whatever period, the energy of the rows is that of the days in the range, and so is their count of intervals.
 pub fn rows_add_up()
@@ -14,11 +14,6 @@ pub fn rows_are_shown()
 /// Where a range is cut at a day, its two parts have its energy together.
 pub fn ranges_add_up()
     ensures { RangesAddUp }
-{}
-
-/// The energies of the statements of a register's meters on a range are together that of the report on it.
-pub fn statements_add_up()
-    ensures { StatementsAddUp }
 {}
 
 /// Of days in their order a row has all that fall in its period.

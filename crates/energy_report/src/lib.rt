@@ -22,7 +22,6 @@ pub use held_counts::{HeldCount, HeldCounts};
 pub use held_within::HeldWithin;
 pub use laws::{
     plain_reports_are_lists_of_days, ranges_add_up, rows_add_up, rows_are_shown, rows_are_whole,
-    statements_add_up,
 };
 pub use meter_statement::{MeterStatement, was_there};
 pub use report_rows::ReportRows;
