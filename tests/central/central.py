@@ -600,7 +600,7 @@ def fails_at_each_call(shards):
     server = http.server.ThreadingHTTPServer(("127.0.0.1", 0), Between)
     server.engine, server.http = shards.one.http, server.server_port
     threading.Thread(target=server.serve_forever, daemon=True).start()
-    cases = {f"{how[0]}{at}": (how, at) for how in ("never arrives", "carried out") for at in range(1, 15)}
+    cases = {f"{how[0]}{at}": (how, at) for how in ("never arrives", "carried out") for at in range(1, 20)}
     mocks = Mocks(cases)
     for office in mocks.offices.values():
         filled(office, 100)
