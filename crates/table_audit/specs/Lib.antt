@@ -3,3 +3,4 @@ pub mod Reading
 pub mod Lawful
 pub mod Fine
 pub mod Looking
+pub mod Telling

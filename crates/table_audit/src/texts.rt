@@ -7,6 +7,7 @@ use std::fmt::{Display, Formatter};
 impl Display for Table {
     fn fmt<W: fmt::Write>(&self, f: &mut Formatter<W>) -> fmt::Result {
         f.write_str(match self {
+            Table::Installations => "installations",
             Table::Ranges => "ranges",
             Table::Entries => "entries",
             Table::Voids => "voids",
