@@ -4,3 +4,5 @@ pub mod Lawful
 pub mod Fine
 pub mod Looking
 pub mod Telling
+pub mod Meters
+pub mod Named

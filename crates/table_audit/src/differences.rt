@@ -20,6 +20,10 @@ pub enum Table {
 pub enum Difference {
     /// A row of the table has a value that none may have.
     OutOfRange(Table),
+    /// The row of installations at this place names no meter.
+    Unnamed { place: u64 },
+    /// The place of the installation isn't the next one.
+    Installation { has: u64, wanted: u64 },
     /// There is no entry, or the first is no lawful opening.
     NotOpened,
     /// An entry can't come behind the one before it.

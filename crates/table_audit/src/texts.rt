@@ -52,6 +52,12 @@ impl Display for Difference {
             Difference::OutOfRange(table) => {
                 write!(f, "has a row in {table} with a value that none may have")
             }
+            Difference::Unnamed { place } => {
+                write!(f, "row {place} of installations names no meter")
+            }
+            Difference::Installation { has, wanted } => {
+                write!(f, "has place {has}, the next is {wanted}")
+            }
             Difference::NotOpened => f.write_str("is opened by no lawful entry"),
             Difference::Entry { place, fault } => {
                 write!(f, "entry {place} can't come there: ")?;
