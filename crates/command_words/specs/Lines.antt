@@ -34,6 +34,7 @@ pub data Line : Type 0 where
   Round : (db device host : Text) (port : ℕ) → Line
   Report : (db register : Text) (form : Form) → Line
   Backup : (db to : Text) → Line
+  Audit : (db : Text) → Line
   Scan : (host : Text) (port unit timeout : ℕ) (list : Bool) (setup : Option Text) → Line
   StandIn : (host : Text) (port connections : ℕ) → Line
   Loop : (zone : Text) → Line
@@ -64,6 +65,7 @@ seen (line.Serve db port connections hosts) =
 seen (line.Round db device host port) = Round db.now device.now host.now port
 seen (line.Report db register form) = Report db.now register.now (seen_form form)
 seen (line.Backup db to) = Backup db.now to.now
+seen (line.Audit db) = Audit db.now
 seen (line.Scan host port unit timeout list setup) =
     Scan host.now port unit timeout list (option_map (λ text. text.now) setup)
 seen (line.StandIn host port connections) = StandIn host.now port connections
@@ -147,6 +149,9 @@ backup_in rows =
     given (db_in rows) (λ db.
     given (text_at (codes "to") rows) (λ to. Some (Backup db to)))
 
+abbrev pub audit_in : List Row → Option Line
+audit_in rows = given (db_in rows) (λ db. Some (Audit db))
+
 -- of a list and lines to set a device up only one is printed
 abbrev pub one_of : (list : Bool) (setup : Option Text) → Line → Option Line
 one_of list setup line = if list && is_some setup then None else Some line
@@ -217,9 +222,10 @@ command_in name rows =
     else (if bytes_eq name (codes "scan") then scan_in rows
     else (if bytes_eq name (codes "enter") then enter_in rows
     else (if bytes_eq name (codes "backup") then backup_in rows
+    else (if bytes_eq name (codes "audit") then audit_in rows
     else (if bytes_eq name (codes "explain") then explain_in rows
     else (if bytes_eq name (codes "completions") then completions_in rows
-    else None))))))))))))))
+    else None)))))))))))))))
 
 -- no command is `replay` without options
 abbrev pub line_in : Option (Text × List Row) → Option Line

@@ -34,6 +34,7 @@ commands =
     ∷ flag (codes "statement") ∷ [])
     ∷ command_with (codes "backup")
     (required_option (codes "db") ∷ required_option (codes "to") ∷ [])
+    ∷ command_with (codes "audit") (required_option (codes "db") ∷ [])
     ∷ command_with (codes "stand-in")
     (optional_option (codes "host") ∷ required_option (codes "port")
     ∷ required_option (codes "connections") ∷ [])

@@ -65,6 +65,10 @@ pub enum CommandLine<'a> {
         db: &'a str,
         to: &'a str,
     },
+    /// Whether the tables of an office's file have the rows of lawful journals.
+    Audit {
+        db: &'a str,
+    },
     /// The SunSpec models of a live device: listed, as a point list, or as the lines that set the device up under a name.
     Scan {
         host: &'a str,

@@ -1,7 +1,7 @@
 //! The command of what was found.
 ghost use Rattle.clap.specs.Words.{subcommand_rows_of};
 ghost use Rattle.command_words.specs.Values.Devices.{devices_in, places_of};
-ghost use Rattle.command_words.specs.Lines.{backup_in, command_in, completions_in, create_in, devices_at};
+ghost use Rattle.command_words.specs.Lines.{audit_in, backup_in, command_in, completions_in, create_in, devices_at};
 ghost use Rattle.command_words.specs.Lines.{devices_if};
 ghost use Rattle.command_words.specs.Lines.{enter_in, explain_in, form_in, line_in, report_in, round_in, run_in, scan_in, seen};
 ghost use Rattle.command_words.specs.Lines.{seen_form, serve_in, stand_in_in};
@@ -94,6 +94,13 @@ fn backup_line<'a>(found: &ArgMatches<'a>) -> Result<CommandLine<'a>, ValueFault
     let db = text(found, "db")?;
     let to = text(found, "to")?;
     Ok(CommandLine::Backup { db, to })
+}
+
+fn audit_line<'a>(found: &ArgMatches<'a>) -> Result<CommandLine<'a>, ValueFault<'a>>
+    ensures { Reads seen (audit_in (rows_in found.now)) result }
+{
+    let db = text(found, "db")?;
+    Ok(CommandLine::Audit { db })
 }
 
 fn scan_line<'a>(found: &ArgMatches<'a>) -> Result<CommandLine<'a>, ValueFault<'a>>
@@ -242,6 +249,7 @@ fn command_line<'a>(
         "scan" => scan_line(found),
         "enter" => enter_line(alloc, found),
         "backup" => backup_line(found),
+        "audit" => audit_line(found),
         "explain" => explain_line(found),
         "completions" => completions_line(found),
         _ => Err(ValueFault::Command { name }),

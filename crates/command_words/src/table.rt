@@ -291,6 +291,13 @@ const BACKUP: CommandText<'static> = CommandText {
     options: &[DB, COPY],
 };
 
+const AUDIT: CommandText<'static> = CommandText {
+    name: "audit",
+    about: "Tells whether the rows of an office's meters agree",
+    after: "Example: sunreg audit --db office.db",
+    options: &[DB],
+};
+
 const SCAN: CommandText<'static> = CommandText {
     name: "scan",
     about: "Lists the SunSpec models of a live device, which it only reads",
@@ -440,6 +447,7 @@ pub const PROGRAM: ProgramText<'static> = ProgramText {
         ROUND,
         REPORT,
         BACKUP,
+        AUDIT,
         STAND_IN,
         LOOP,
         RUN,

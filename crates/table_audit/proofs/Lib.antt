@@ -5,3 +5,5 @@ pub mod SqlTexts
 pub mod Asks
 pub mod Rising
 pub mod Found
+pub mod LookedAt
+pub mod Named

@@ -1,19 +1,15 @@
 -- When the tables are fine for every meter, and what is told of them.
-use Rattle.std.specs.Prelude.{⊤, ◌≡◌, ◌↔◌, ◌+◌, ℕ, suc, min, ◌^◌, ◌-◌, List, [], ◌∷◌, ◌++◌, map, length, take, Option, Some, None, Ok, string_bytes}
-use Rattle.std.specs.Prelude.{IfSome, IsSome}
+use Rattle.std.specs.Prelude.{⊤, ◌≡◌, ◌↔◌, ◌+◌, ℕ, suc, min, ◌^◌, ◌-◌, List, [], ◌∷◌, map, length, Option, Some, None, Ok, IsUtf8}
 use Rattle.std.specs.List.{AllByRecursion}
 use Rattle.sqlite.specs.declared.types.Value.TheVariants.{Text}
 use Rattle.sqlite.specs.Order.{Row, column}
 use Rattle.store_tables.specs.Content.{Content}
 use Rattle.store_tables.specs.Meters.Rows.{installation_in}
 use Rattle.store_tables.specs.declared.meters.rows.InstallationRow.{InstallationRow}
-use Rattle.table_audit.specs.declared.differences.Difference.{Difference}
 use Rattle.table_audit.specs.declared.findings.Counts.{Counts}
-use Rattle.table_audit.specs.declared.findings.Finding.{Finding}
 use Rattle.table_audit.specs.declared.findings.Findings.{Findings}
 use Rattle.table_audit.specs.declared.rows.MeterRows.{MeterRows}
 use Rattle.table_audit.specs.Fine.{IsFine}
-use Rattle.table_audit.specs.Reading.{IsTextIn}
 use Rattle.table_audit.specs.Showing.{AreRowsOf, ShowsInstallations}
 
 -- ---- fine

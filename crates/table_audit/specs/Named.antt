@@ -1,12 +1,10 @@
 -- Differences of a meter among those of others.
-use Rattle.std.specs.Prelude.{◌≡◌, ◌+◌, ◌-◌, ℕ, List, ◌++◌, map, length, take, Option, Some, string_bytes}
+use Rattle.std.specs.Prelude.{◌≡◌, ℕ, List, ◌++◌, map, take, Some, string_bytes}
 use Rattle.std.specs.List.{AllByRecursion}
 use Rattle.table_audit.specs.declared.differences.Difference.{Difference}
-use Rattle.table_audit.specs.declared.differences.Differences.{Differences}
 use Rattle.table_audit.specs.declared.differences.TheConstants.{MOST}
 use Rattle.table_audit.specs.declared.findings.Finding.{Finding}
 use Rattle.table_audit.specs.declared.findings.Findings.{Findings}
-use Rattle.table_audit.specs.Meters.{up_to_most}
 
 abbrev pub difference_of : Finding → Difference
 difference_of finding = finding.difference

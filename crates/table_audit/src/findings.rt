@@ -3,7 +3,7 @@ ghost use Rattle.std.specs.Prelude.{◌≡◌, ◌≤◌, ◌+◌, ◌-◌, ◌+
 ghost use Rattle.std.specs.Prelude.{IfOk, OnOk, Some, None};
 ghost use Rattle.table_audit.specs.Named.{IsUnder};
 
-use crate::differences::{Difference, Differences, MOST};
+use crate::differences::{Difference, MOST};
 use crate::rows::MeterRows;
 use std::alloc::{AllocError, Global};
 
@@ -69,35 +69,37 @@ impl Findings {
         ensures counts { OnOk result (self.new.counts ≡ self.old.counts) }
         ensures few { OnOk result (length self.new.first.items ≤ MOST) }
     {
+        let more = self.more;
         if self.first.len() < MOST {
             self.first.push(finding)?;
         } else {
-            self.more = self.more.saturating_add(1);
+            self.more = more.saturating_add(1);
         }
         Ok(())
     }
 
-    /// The differences of a meter.
+    /// The first differences of a meter, and how many came after these.
     pub(crate) fn tell(
         &mut self,
         alloc: Global,
         meter: &str,
-        found: &Differences,
+        found: &[Difference],
+        more: u64,
     ) -> Result<(), AllocError>
         requires few { length self.old.first.items ≤ MOST }
         ensures first { OnOk result
-            (KeepsFirst meter.now found.now.first.items self.old self.new) }
+            (KeepsFirst meter.now found.now self.old self.new) }
         ensures more { OnOk result (self.new.more ≡ up_to_most (self.old.more
-            + (length self.old.first.items + length found.now.first.items - MOST)
-            + found.now.more)) }
+            + (length self.old.first.items + length found.now - MOST) + more)) }
         ensures counts { OnOk result (self.new.counts ≡ self.old.counts) }
         ensures few { OnOk result (length self.new.first.items ≤ MOST) }
     {
-        for difference in &found.first {
-            let finding = under(alloc, meter, *difference)?;
+        let _so_far = self.more;
+        for difference in found {
+            let finding = under(alloc, meter, difference)?;
             self.push(finding)?;
         }
-        self.more = self.more.saturating_add(found.more);
+        self.more = self.more.saturating_add(more);
         Ok(())
     }
 
@@ -125,13 +127,13 @@ impl Findings {
 }
 
 /// A difference of the meter of this name.
-fn under(alloc: Global, meter: &str, difference: Difference) -> Result<Finding, AllocError>
+fn under(alloc: Global, meter: &str, difference: &Difference) -> Result<Finding, AllocError>
     ensures meter { IfOk result (IsUnder meter.now) }
-    ensures difference { IfOk result (λ finding. finding.difference ≡ difference) }
+    ensures difference { IfOk result (λ finding. finding.difference ≡ difference.now) }
 {
     let name = String::from_str(alloc, meter)?;
     Ok(Finding {
         meter: Some(name),
-        difference,
+        difference: *difference,
     })
 }

@@ -68,7 +68,7 @@ fn audit_named(
 {
     let mut found = Differences::new(alloc);
     let _fine = audit_installation(alloc, place, row, rows, &mut found)?;
-    findings.tell(alloc, meter, &found)?;
+    findings.tell(alloc, meter, found.first.as_slice(), found.more)?;
     findings.count(rows);
     Ok(())
 }
