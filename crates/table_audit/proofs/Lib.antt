@@ -7,3 +7,4 @@ pub mod Rising
 pub mod Found
 pub mod LookedAt
 pub mod Named
+pub mod Lines

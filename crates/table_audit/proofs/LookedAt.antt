@@ -52,10 +52,9 @@ none_told rows content found none counts = record {
   counts = counts;
 }
 
-pub one_more_told : (content : Content) (rows : List Row) (i place : ℕ) (d : Row) (old new : Findings) → i < length rows → place ≡ i + 1
-    → TellsRows (take i rows) content old → TellsRow content place (get_or rows i d) old new → TellsRows (take (i + 1) rows) content new
-one_more_told content rows i place d old new lt placed before one =
-    let row = get_or rows i d in
+pub one_more_told : (content : Content) (rows : List Row) (i place : ℕ) (row : Row) (old new : Findings) → i < length rows → row ≡ get_or rows i row → place ≡ i + 1
+    → TellsRows (take i rows) content old → TellsRow content place row old new → TellsRows (take (i + 1) rows) content new
+one_more_told content rows i place row old new lt is placed before one =
     let x : LookedAt = record { row = row; rows = one.rows } in
     let long : length before.looked ≡ i =
     sym (length-map before.looked row_of) ∙ ap (λ (rs : List Row). length rs) before.each ∙ length-take-le i rows (omega (arith, lt)) in
@@ -63,7 +62,7 @@ one_more_told content rows i place d old new lt placed before one =
     record {
       looked = before.looked ++ x ∷ [];
       each = map-append row_of before.looked (x ∷ []) ∙ ap (λ (rs : List Row). rs ++ row ∷ []) before.each
-          ∙ sym (take_more rows i d lt);
+          ∙ ap (λ (r : Row). take i rows ++ r ∷ []) is ∙ sym (take_more rows i row lt);
       theirs = all_more (IsLookedUp content) before.looked x before.theirs one.theirs;
       told = (
         λ none.

@@ -119,8 +119,7 @@ pub told_named : (place : ℕ) (row : Row) (rows : MeterRows) (meter : List ℕ)
 told_named place row rows meter fine before found given old new last given_is last_is none same tells kept =
     let told = none_told_named meter found.first.items old new (subst (λ (ds : List Difference). KeepsFirst meter ds old new) given_is kept) in
     let as_fine = tells_none fine before found none tells in
-    let items : last.first.items ≡ new.first.items = ap (λ v. v.items) last_is in
-    (
+    let items : last.first.items ≡ new.first.items = ap (λ v. v.items) last_is in (
       λ is. let two = told.0 (sym items ∙ is) in (two.0, same.0 (as_fine.1 two.1)),
       λ is. items ∙ told.1 (is.0, as_fine.0 (same.1 is.1)),
     )

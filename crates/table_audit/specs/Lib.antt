@@ -6,3 +6,4 @@ pub mod Looking
 pub mod Telling
 pub mod Meters
 pub mod Named
+pub mod Texts

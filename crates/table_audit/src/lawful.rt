@@ -148,11 +148,7 @@ fn tell_intervals(
 }
 
 /// Tells where the counter stands, if it doesn't stand where the installation says.
-fn tell_last(
-    has: Last,
-    wanted: Option<Last>,
-    found: &mut Differences,
-) -> Result<bool, AllocError>
+fn tell_last(has: Last, wanted: Option<Last>, found: &mut Differences) -> Result<bool, AllocError>
     requires few { length found.old.first.items ≤ MOST }
     ensures none { IfOk result (λ same. IsTrue same ↔ IsNone wanted) }
     ensures tells { IfOk result (λ same. Tells same found.old found.new) }
@@ -166,11 +162,7 @@ fn tell_last(
 }
 
 /// Tells the energy, if it isn't the installation's.
-fn tell_total(
-    has: u64,
-    wanted: Option<u64>,
-    found: &mut Differences,
-) -> Result<bool, AllocError>
+fn tell_total(has: u64, wanted: Option<u64>, found: &mut Differences) -> Result<bool, AllocError>
     requires few { length found.old.first.items ≤ MOST }
     ensures none { IfOk result (λ same. IsTrue same ↔ IsNone wanted) }
     ensures tells { IfOk result (λ same. Tells same found.old found.new) }

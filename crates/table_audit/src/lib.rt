@@ -17,3 +17,4 @@ pub use differences::{Difference, Differences, MOST, Table};
 pub use findings::{Counts, Finding, Findings};
 pub use meters::audit_meters;
 pub use rows::MeterRows;
+pub use texts::put_findings;

@@ -134,10 +134,7 @@ fn audit_rows_of<S: Alter>(
 
 /// Whether the tables have for each meter the rows of a lawful journal: the differences, and how many rows were looked at. The
 /// rows of one meter at a time are held in memory, and those of `installations`.
-pub fn audit_meters<S: Alter>(
-    alloc: Global,
-    conn: &mut Connection<S>,
-) -> Result<Findings, RowFault>
+pub fn audit_meters<S: Alter>(alloc: Global, conn: &mut Connection<S>) -> Result<Findings, RowFault>
     requires mode { conn.old.in_transaction ≡ false }
     ensures finds { Finds S.Store conn.old conn.new result TellsMeters }
     ensures few { IfOk result (λ findings. length findings.first.items ≤ MOST) }

@@ -6,7 +6,7 @@ use Rattle.table_audit.proofs.Looking.{finds_then, passed_on}
 use Rattle.table_audit.proofs.meters.audit_meters.Goals as goal
 
 pub audit_rows_of-requires : goal.audit_rows_of-requires
-audit_rows_of-requires g c = c.in_ok-rows.ensures.looks.mode c.requires
+audit_rows_of-requires g c = record { mode = c.in_ok-rows.ensures.looks.mode c.requires.mode }
 
 pub returns-in_err-rows-clause-finds : goal.returns-in_err-rows-clause-finds
 returns-in_err-rows-clause-finds g c =

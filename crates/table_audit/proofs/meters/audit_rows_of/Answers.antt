@@ -20,7 +20,7 @@ loop-index-preserved g c = record {
       (finds_then g.S.Store c.args.conn.now c.loop-index.conn c.audit_row.new.conn c.loop-index.findings (Ok c.in_ok-audit_row.field-0) _ _
       (λ content _. TellsRows (take (c.loop-index.index + 1) c.args.rows.now) content c.audit_row.new.findings)
       c.loop-index.invariant.finds c.in_ok-audit_row.ensures.finds
-      (λ content _ before one. one_more_told content c.args.rows.now c.loop-index.index _ _ c.loop-index.findings c.audit_row.new.findings (omega arith) refl before one))
+      (λ content _ before one. one_more_told content c.args.rows.now c.loop-index.index (c.loop-index.index + 1) c.index-rows-index.result c.loop-index.findings c.audit_row.new.findings (omega arith) c.index-rows-index.is refl before one))
       (λ content told. told);
   few = c.in_ok-audit_row.ensures.few;
 }
