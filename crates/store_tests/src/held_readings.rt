@@ -55,14 +55,13 @@ fn of_m1(alloc: Global, conn: &mut Connection<MemStore>, span: Span) -> Result<T
 }
 
 /// The reading is this one of this meter.
-fn is(reading: &HeldReading, meter: &Name, shown: &Shown) -> bool {
-    let (poll, at, raw, sf, cause) = *shown;
+fn shows(reading: &HeldReading, meter: &Name, shown: &Shown) -> bool {
     reading.meter == *meter
-        && reading.poll == poll
-        && reading.at == at
-        && reading.raw == raw
-        && reading.sf == sf
-        && reading.cause == cause
+        && reading.poll == shown.0
+        && reading.at == shown.1
+        && reading.raw == shown.2
+        && reading.sf == shown.3
+        && reading.cause == shown.4
 }
 
 /// They are these readings of m1, in this order.
@@ -72,7 +71,7 @@ fn are(taken: &Taken, wanted: &[Shown]) -> Result<bool, RowFault> {
         return Ok(false);
     }
     for (reading, shown) in taken.readings.iter().zip(wanted.iter()) {
-        if !is(reading, &meter, shown) {
+        if !shows(reading, &meter, shown) {
             return Ok(false);
         }
     }
