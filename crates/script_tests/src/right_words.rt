@@ -211,7 +211,10 @@ const RIGHT: [(&[&str], CommandLine<'static>); 23] = [
             to: "copy of o.db",
         },
     ),
-    (&["audit", "--db", "o.db"], CommandLine::Audit { db: "o.db" }),
+    (
+        &["audit", "--db", "o.db"],
+        CommandLine::Audit { db: "o.db" },
+    ),
     // what is no number is told by the table of meanings, and not here
     (
         &["explain", "refused", "12"],

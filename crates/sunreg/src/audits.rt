@@ -1,7 +1,7 @@
 //! The audit of an office's file.
 use crate::offices::{Files, open_in};
-use stored_office::{AuditFault, Databases, Ending, Failure, audit_stored, write_audit};
 use std::io::{self, Write};
+use stored_office::{AuditFault, Databases, Ending, Failure, audit_stored, write_audit};
 
 // Audits the tables in the database at a path, and tells whether they are fine.
 fn audit_in<'a, D: Databases>(

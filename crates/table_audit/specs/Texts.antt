@@ -1,5 +1,5 @@
 -- What is said of an audit: a line for each difference, and a last one. Each definition gives a text with something at its end.
-use Rattle.std.specs.Prelude.{◌+◌, ℕ, ℤ, ◌==◌, Bool, true, false, List, [], ◌∷◌, ◌++◌, length, Option, Some, None, if◌then◌else◌}
+use Rattle.std.specs.Prelude.{◌+◌, ℕ, ◌==◌, Bool, true, false, List, [], ◌∷◌, ◌++◌, length, Option, Some, None, if◌then◌else◌}
 use Rattle.std.specs.Prelude.{codes, decimal, String, string_bytes}
 use Rattle.std.specs.Fmt.{signed_decimal}
 use Rattle.energy_core.specs.declared.entries.Last.{Last}

@@ -1,6 +1,5 @@
-use Rattle.std.proofs.Common.{◌+◌, length, refl, ◌∙◌, arith}
-use Rattle.table_audit.specs.declared.differences.TheConstants.{MOST}
-use Rattle.table_audit.proofs.Named.{none_kept, kept_more, kept_length, more_counted, all_counted, all_kept}
+use Rattle.std.proofs.Common.{length, refl, ◌∙◌, arith}
+use Rattle.table_audit.proofs.Named.{none_kept, kept_more, kept_length, more_counted, all_kept}
 use Rattle.table_audit.proofs.findings.Findings.tell.Goals as goal
 
 pub loop-difference-init : goal.loop-difference-init
