@@ -65,7 +65,7 @@ pub enum CommandLine<'a> {
         db: &'a str,
         to: &'a str,
     },
-    /// Whether a file has what an office books.
+    /// Whether the rows of a file's meters are those of lawful journals.
     Audit {
         db: &'a str,
     },

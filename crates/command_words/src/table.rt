@@ -293,7 +293,7 @@ const BACKUP: CommandText<'static> = CommandText {
 
 const AUDIT: CommandText<'static> = CommandText {
     name: "audit",
-    about: "Tells whether a file has for each meter what an office books; it only reads",
+    about: "Checks each meter's rows against its entries; it only reads",
     after: "Example: sunreg audit --db office.db",
     options: &[DB],
 };

@@ -56,7 +56,7 @@ use Rattle.energy_report.specs.Statements.{energy_within, tally_of, was_there}
 use Rattle.energy_report.proofs.EnergyLemmas.{added_up}
 use Rattle.energy_report.proofs.HeldLemmas.{counted_all}
 use Rattle.office_program.specs.Texts.EndTexts.{IsTold}
-use Rattle.office_program.specs.Texts.Statements.{AnswersOf, AreRecorded, Keeps, States, energy_in, held_in, holds_at, statement_in, statement_of, statements_in, statements_of, tally_in, told_of}
+use Rattle.office_program.specs.Texts.Statements.{AnswersOf, AreRecorded, Keeps, States, energy_in, held_in, statement_in, statement_of, statements_in, statements_of, tally_in, told_of}
 use Rattle.office_program.proofs.AskingLemmas.{found_ok, found_so, refused_on}
 use Rattle.office_program.proofs.PlacesLemmas.{last_piece, one_piece_more, piece_at}
 
@@ -207,15 +207,28 @@ module _ {B : Type 0} (ledger : B → Ledger) (zone : Zone) (range : DayRange) w
 
   -- ---- readings that were held
 
-  abbrev holds_of_opening : List Fact → Opening → List HeldReading
-  holds_of_opening facts opening = holds_within span.All (holds_of facts opening.meter)
+  abbrev holds_if : List Fact → (name : List ℕ) → Opening → List HeldReading
+  holds_if facts name opening = holds_within span.All (holds_of facts name)
 
-  held_of_holds : (facts : List Fact) (o : Option Opening) (from to : HeldWithin) → HasCountedNone zone range from
-      → is_there (option_map (holds_of_opening facts) o) ≡ Some tt → TakesAll CountsReading from (rows_in (option_map (holds_of_opening facts) o)) to
-      → option_map (λ (x : Opening). held_within zone range (holds_at facts (Some x))) o ≡ Some to.counts
+  abbrev held_if : List Fact → (name : List ℕ) → Opening → HeldCounts
+  held_if facts name opening = held_within zone range (holds_of facts name)
+
+  held_of_name : (facts : List Fact) (name : List ℕ) (o : Option Opening) (from to : HeldWithin) → HasCountedNone zone range from
+      → is_there (option_map (holds_if facts name) o) ≡ Some tt → TakesAll CountsReading from (rows_in (option_map (holds_if facts name) o)) to
+      → option_map (held_if facts name) o ≡ Some to.counts
+  held_of_name facts name None from to fresh is took = absurd (cc is)
+  held_of_name facts name (Some x) from to fresh is took =
+      ap Some (sym (counted_all zone range (holds_if facts name x) from to fresh took ∙ ap (held_within zone range) (all_pass (holds_of facts name))))
+
+  held_of_holds : (facts : List Fact) (meter : Option (List ℕ)) (from to : HeldWithin) → HasCountedNone zone range from
+      → is_there (holds_named facts meter span.All) ≡ Some tt → TakesAll CountsReading from (rows_in (holds_named facts meter span.All)) to
+      → held_in zone range facts meter ≡ Some to.counts
   held_of_holds facts None from to fresh is took = absurd (cc is)
-  held_of_holds facts (Some x) from to fresh is took =
-      ap Some (sym (counted_all zone range (holds_of_opening facts x) from to fresh took ∙ ap (held_within zone range) (all_pass (holds_of facts x.meter))))
+  held_of_holds facts (Some name) from to fresh is took = held_of_name facts name (opening_of facts name) from to fresh is took
+
+  no_holds : (facts : List Fact) (meter : Option (List ℕ)) → is_there (holds_named facts meter span.All) ≡ None → held_in zone range facts meter ≡ None
+  no_holds facts None is = refl
+  no_holds facts (Some name) is = nothing (holds_if facts name) (held_if facts name) (opening_of facts name) is
 
   pub held_told : (a d : Office B) (meter : Option (List ℕ)) (from to : HeldWithin) (held : HeldCounts) → HasCountedNone zone range from
       → held ≡ to.counts → TellsRows CountsReading ledger a d from to (Ok tt) (λ facts. holds_named facts meter span.All)
@@ -225,7 +238,7 @@ module _ {B : Type 0} (ledger : B → Ledger) (zone : Zone) (range : DayRange) w
       let hands = rows past stands clean in
       let there = found_ok ⊥ (is_there (holds_named facts meter span.All)) (failures_of ledger a) (failures_of ledger d) tt hands.answer in
       found_so (Unit {0}) (held_in zone range facts meter) (failures_of ledger a) (failures_of ledger d) held
-      (held_of_holds facts (option_and_then (opening_of facts) meter) from to fresh there.0 hands.whole ∙ ap Some (sym is)) there.1
+      (held_of_holds facts meter from to fresh there.0 hands.whole ∙ ap Some (sym is)) there.1
 
   pub holds_refused : (a d : Office B) (meter : Option (List ℕ)) (from to : HeldWithin) (why : Refusal)
       → TellsRows CountsReading ledger a d from to (Err why) (λ facts. holds_named facts meter span.All)
@@ -234,8 +247,7 @@ module _ {B : Type 0} (ledger : B → Ledger) (zone : Zone) (range : DayRange) w
       let facts = facts_of past in
       let hands = rows past stands clean in
       refused_on ⊥ (Unit {0}) (is_there (holds_named facts meter span.All)) (held_in zone range facts meter)
-      (failures_of ledger a) (failures_of ledger a) (failures_of ledger d) why (λ none. tt)
-      (nothing (holds_of_opening facts) (λ (x : Opening). held_within zone range (holds_at facts (Some x))) (option_and_then (opening_of facts) meter)) refl hands.answer
+      (failures_of ledger a) (failures_of ledger a) (failures_of ledger d) why (λ none. tt) (no_holds facts meter) refl hands.answer
 
   -- ---- a meter
 
@@ -245,16 +257,16 @@ module _ {B : Type 0} (ledger : B → Ledger) (zone : Zone) (range : DayRange) w
   all_told : (facts : List Fact) (meter : List ℕ) (o : Option Opening) (tally : EntryTally) (mwh : ℕ) (held : HeldCounts)
       → option_map (λ x. tally_of zone range (entries_at facts (Some x))) o ≡ Some tally
       → option_map (energy_within zone range) (option_map (rows_of_opening facts) o) ≡ Some mwh
-      → option_map (λ x. held_within zone range (holds_at facts (Some x))) o ≡ Some held
+      → option_map (held_if facts meter) o ≡ Some held
       → option_map (by_opening facts meter) o ≡ Some (record { meter = meter; entries = tally; mwh = mwh; held = held })
   all_told facts meter None tally mwh held first second third = absurd (cc first)
   all_told facts meter (Some x) tally mwh held first second third =
       let t : tally_of zone range (entries_at facts (Some x)) ≡ tally = some_same _ _ first in
       let e : energy_within zone range (rows_of_opening facts x) ≡ mwh = some_same _ _ second in
-      let h : held_within zone range (holds_at facts (Some x)) ≡ held = some_same _ _ third in
+      let h : held_within zone range (holds_of facts meter) ≡ held = some_same _ _ third in
       let made : EntryTally → ℕ → HeldCounts → MeterStatement = λ tally mwh held. record { meter = meter; entries = tally; mwh = mwh; held = held } in
-      ap (λ y. Some (made y (energy_within zone range (rows_of_opening facts x)) (held_within zone range (holds_at facts (Some x))))) t
-      ∙ ap (λ n. Some (made tally n (held_within zone range (holds_at facts (Some x))))) e
+      ap (λ y. Some (made y (energy_within zone range (rows_of_opening facts x)) (held_within zone range (holds_of facts meter)))) t
+      ∙ ap (λ n. Some (made tally n (held_within zone range (holds_of facts meter)))) e
       ∙ ap (λ y. Some (made tally mwh y)) h
 
   pub statement_told : (a b d e : Office B) (meter : List ℕ) (tally : EntryTally) (mwh : ℕ) (held : HeldCounts)
@@ -310,7 +322,7 @@ module _ {B : Type 0} (ledger : B → Ledger) (zone : Zone) (range : DayRange) w
       let facts = facts_of past in
       refused_on (Unit {0}) (Unit {0}) (held_in zone range facts (Some meter)) (statement_in zone range facts meter)
       (failures_of ledger a) (failures_of ledger b) (failures_of ledger d) why (λ u. u)
-      (gone (λ (x : Opening). held_within zone range (holds_at facts (Some x))) (by_opening facts meter) (opening_of facts meter)) kept.failures
+      (gone (held_if facts meter) (by_opening facts meter) (opening_of facts meter)) kept.failures
       (told past (kept.stands past stands) clean)
 
   -- ---- the meters at a register

@@ -1,5 +1,5 @@
 -- The replies to questions for the energy of a register, by what the office answers to them.
-use Rattle.std.specs.Prelude.{◌≡◌, ℕ, false, List, map, Option, Result, Ok, Err, IfOk, OnOk, codes}
+use Rattle.std.specs.Prelude.{◌≡◌, ℕ, false, List, map, Option, Some, Result, Ok, Err, IfOk, OnOk, codes}
 use Rattle.std.specs.Option.{option_and_then}
 use Rattle.std.specs.Io.KnownBytes.{Appends}
 use Rattle.energy_report.specs.Texts.{report_text}

@@ -2,7 +2,7 @@
 use command_words::{CommandLine, Device, FormWords, command_of};
 use energy_report::{EnergyUnit, Format, Period};
 
-const RIGHT: [(&[&str], CommandLine<'static>); 22] = [
+const RIGHT: [(&[&str], CommandLine<'static>); 23] = [
     // no word is replay
     (&[], CommandLine::Replay { zone: "UTC0" }),
     (&["replay"], CommandLine::Replay { zone: "UTC0" }),
@@ -211,6 +211,7 @@ const RIGHT: [(&[&str], CommandLine<'static>); 22] = [
             to: "copy of o.db",
         },
     ),
+    (&["audit", "--db", "o.db"], CommandLine::Audit { db: "o.db" }),
     // what is no number is told by the table of meanings, and not here
     (
         &["explain", "refused", "12"],

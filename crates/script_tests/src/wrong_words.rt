@@ -1,7 +1,7 @@
 //! Words that spell no command.
 use command_words::{WordsFault, command_of};
 
-static WRONG: [&[&str]; 44] = [
+static WRONG: [&[&str]; 45] = [
     &["bogus"],
     &[""],
     &["Plan"],
@@ -60,6 +60,7 @@ static WRONG: [&[&str]; 44] = [
     &["enter", "--db", "x", "--caller", "c", "--devices", "inv=h"],
     &["enter", "--db", "x", "--caller", "c", "-m"],
     &["backup", "--db", "x"],
+    &["audit"],
     &["explain", "refused"],
     &["explain", "refused", "1", "2"],
     &["completions"],

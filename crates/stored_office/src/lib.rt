@@ -1,6 +1,7 @@
 //! The program's commands over an office in a database: over any store, clock, sockets and writer.
 #![tactic(auto)]
 
+mod audits;
 mod backups;
 mod ends;
 mod files;
@@ -8,6 +9,7 @@ mod new_office;
 mod runs;
 mod tasks;
 
+pub use audits::{AuditFault, audit_stored, write_audit};
 pub use backups::{CopyFault, whole_file, whole_files};
 pub use ends::{Ending, Failure, ending_of, say};
 pub use files::{Databases, FileConnection, FileFault, is_bare, is_office, make_file, open_file};

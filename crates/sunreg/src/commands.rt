@@ -1,4 +1,5 @@
 //! The commands, over the streams and sockets of the process.
+use crate::audits::audit;
 use crate::backups::backup;
 use crate::completions::completions;
 use crate::entering::enter;
@@ -102,6 +103,7 @@ pub(crate) fn carry_out<'a>(rt: &HostRuntime, line: &CommandLine<'a>) -> Ending<
             only_read,
         } => enter(rt, *db, *caller, devices, *only_read),
         CommandLine::Backup { db, to } => backup(rt, *db, *to),
+        CommandLine::Audit { db } => audit(rt, *db),
         CommandLine::Explain { what, number } => explain(rt, *what, *number),
         CommandLine::Completions => completions(rt),
     }

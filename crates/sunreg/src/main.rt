@@ -5,6 +5,7 @@ ghost use Rattle.std.specs.Prelude.{◌≡◌};
 ghost use Rattle.std.specs.Process.{exit_status};
 ghost use Rattle.stored_office.specs.Ends.Endings.{ending_number};
 
+mod audits;
 mod backups;
 mod command_output;
 mod commands;

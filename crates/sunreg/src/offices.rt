@@ -173,8 +173,8 @@ fn say_opening(rt: &HostRuntime, path: &str, bytes: u64) {
     }
 }
 
-// A connection to the office in the database at a path. That a log is missing, or stands alone, is told.
-fn open_in<'a, D: Databases>(
+/// A connection to the office in the database at a path. That a log is missing, or stands alone, is told.
+pub(crate) fn open_in<'a, D: Databases>(
     rt: &HostRuntime,
     databases: &D,
     path: &'a str,

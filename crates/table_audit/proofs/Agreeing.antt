@@ -11,7 +11,7 @@ use Rattle.meter_audit.specs.declared.rows.TableRow.{TableRow}
 use Rattle.meter_audit.specs.Rows.{opening_row, later_rows}
 use Rattle.meter_audit.specs.Fitting.{AreTold, Tables, AreFine}
 use Rattle.meter_audit.specs.Passing.{MayBeChecked, passed}
-use Rattle.meter_audit.specs.Going.{HasGone, GoesOn, Agrees, FinishedIsFine, RefusedIsNotFine}
+use Rattle.meter_audit.specs.Going.{HasGone, GoesOver, Agrees, FinishedIsFine, RefusedIsNotFine}
 use Rattle.meter_audit.proofs.Apart.{same_head, told_more}
 use Rattle.store_tables.specs.declared.meters.rows.InstallationRow.{InstallationRow}
 use Rattle.table_audit.specs.Lawful.{last_shown, IsOpenedBy, tables_from, IsLawful, RestAgrees}
@@ -38,9 +38,9 @@ refused_there law meter rows i d progress fault may lt gone refused told =
 
 pub refused_so : RefusedIsNotFine → (meter : Installed) (rows : List TableRow) (i : ℕ) (d : TableRow) (old new : Progress) (o : Option RowFault)
     (fault : RowFault) → MayBeChecked meter → i < length rows → HasGone meter (reverse (take i rows)) [] old
-    → o ≡ Some fault → GoesOn meter old (get_or rows i d) new o → AreTold meter (reverse rows) → ⊥
+    → o ≡ Some fault → GoesOver meter old (get_or rows i d) new o → AreTold meter (reverse rows) → ⊥
 refused_so law meter rows i d old new o fault may lt gone is goes =
-    refused_there law meter rows i d old fault may lt gone (subst (GoesOn meter old (get_or rows i d) new) is goes)
+    refused_there law meter rows i d old fault may lt gone (subst (GoesOver meter old (get_or rows i d) new) is goes)
 
 -- the rows behind the first
 pub all_later : (rows : List TableRow) → take (length rows - 1) (drop 1 rows) ≡ drop 1 rows

@@ -13,9 +13,9 @@ use Rattle.sqlite_sql.specs.declared.ops.CompareOp.TheVariants.{Eq}
 use Rattle.sqlite.specs.Collation.TheVariants.{Binary}
 use Rattle.sqlite.specs.Term.{col}
 use Rattle.sqlite.specs.State.{State, Shown}
-use Rattle.store_tables.specs.Schema.{books_schema, entries_table, voids_table, ranges_table, intervals_table}
+use Rattle.store_tables.specs.Schema.{books_schema, installations_table, entries_table, voids_table, ranges_table, intervals_table}
 use Rattle.store_tables.specs.Content.{Content, AreTables, HasRows}
-use Rattle.store_tables.specs.Answer.{AnyOrder}
+use Rattle.store_tables.specs.Answer.{AnyOrder, every}
 use Rattle.store_tables.specs.Asking.{Shows}
 use Rattle.store_tables.specs.Entries.Trees as entry_tree
 use Rattle.store_tables.specs.Meters.Trees as meter_tree
@@ -24,7 +24,7 @@ use Rattle.store_tables.proofs.Scans.{rising, text_is, and_true, no_limit}
 use Rattle.store_tables.proofs.Selects.{selects}
 use Rattle.store_tables.proofs.EntriesLemmas.Texts as entry_text
 use Rattle.table_audit.specs.Looking.{itself}
-use Rattle.table_audit.specs.Showing.{intervals_tree, is_text, is_of, InOrder, range_shown, entry_shown, void_shown, share_shown}
+use Rattle.table_audit.specs.Showing.{intervals_tree, is_text, is_of, InOrder, InPlace, installation_shown, range_shown, entry_shown, void_shown, share_shown}
 use Rattle.table_audit.proofs.SqlTexts as text
 
 -- a column is compared with a text
@@ -69,6 +69,14 @@ void_rows meter old new content xs rows has are h =
     (λ n x. meter_test x meter) (λ n x. refl)
     (λ m n x y le. sym (ap is_gt (then-Equal (value_cmp (column x 1) (column y 1)))) ∙ le)
     old new entry_text.void_rows entry_text.void_rows_names content xs rows (tree_at books_schema.tables 12 voids_table refl) has are entry_text.void_rows_is entry_text.void_rows_unlisted entry_text.void_rows_plain h
+
+pub installation_rows : (old new : State) (content : Content) (xs rows : List Row) → AreTables old.now content → HasRows meter_tree.installations itself xs content
+    → Shown text.installation_rows [] old new rows → Shows every InPlace installation_shown xs rows
+installation_rows old new content xs rows has are h =
+    selects meter_tree.installations [] text.installation_project ((col 1 0, rising) ∷ []) no_limit [] itself every installation_shown InPlace
+    (λ n x. refl) (λ n x. refl)
+    (λ m n x y le. sym (ap is_gt (then-Equal (value_cmp (column x 0) (column y 0)))) ∙ le)
+    old new text.installation_rows text.installation_names content xs rows (tree_at books_schema.tables 4 installations_table refl) has are text.installation_rows_is text.installation_rows_unlisted text.installation_rows_plain h
 
 -- the rows of a table are those that it has
 pub all_rows : (content : Content) (tree : ℕ) → HasRows tree itself (content tree) content

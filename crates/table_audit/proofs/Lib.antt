@@ -5,3 +5,6 @@ pub mod SqlTexts
 pub mod Asks
 pub mod Rising
 pub mod Found
+pub mod LookedAt
+pub mod Named
+pub mod Lines

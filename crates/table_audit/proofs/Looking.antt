@@ -1,15 +1,15 @@
 -- A question after the store answered, and one look-up after the other.
-use Rattle.std.proofs.Common.{◌≡◌, ◌⊎◌, inl, inr, false, Ok, Err, Result, IfOk, IsErrAnd, IsTrue, sym, subst, ◌∙◌, arith}
+use Rattle.std.proofs.Common.{◌≡◌, ◌⊎◌, inl, inr, false, Ok, Err, Result, IfOk, IsErrAnd, IsTrue, refl, sym, subst, ◌∙◌, arith}
 use Rattle.sqlite.specs.Store.{Ghosts}
 use Rattle.sqlite.specs.Held.{Held, state}
 use Rattle.sqlite.specs.State.{HasCleanDisk, KeepsCommit, Survives}
 use Rattle.sqlite.specs.declared.error.Error.{Error}
 use Rattle.store_tables.specs.declared.faults.RowFault.{RowFault}
 use Rattle.store_tables.specs.declared.faults.RowFault.TheVariants.{Sql}
-use Rattle.store_tables.specs.Failing.{IsStoreError, IsFault}
+use Rattle.store_tables.specs.Failing.{IsStoreError, IsFault, want_of_memory}
 use Rattle.store_tables.specs.Content.{Content, AreTables}
 use Rattle.store_tables.specs.Asking.{Asks}
-use Rattle.store_tables.proofs.Failures.{goes_then, went_on, later_fault, on_err}
+use Rattle.store_tables.proofs.Failures.{still_goes, goes_then, went_on, later_fault, on_err}
 use Rattle.store_tables.proofs.StepLemmas.{kept_then}
 use Rattle.table_audit.specs.Looking.{HoldsTables, OnlyLooks, Finds}
 
@@ -154,5 +154,41 @@ pub made : {S A B : Type 0} (g : Ghosts S) (old new : Held S) (a : A) (b : B) (P
 made g old new a b P Q one tells = record {
   answer = λ content holds clean. tells content (one.answer content holds clean);
   fault = λ content holds clean. tt;
+  looks = one.looks;
+}
+
+-- ---- nothing was asked, or memory is wanting
+
+module _ {S : Type 0} (g : Ghosts S) (held : Held S) where
+  not_looked : OnlyLooks g held held
+  not_looked = record {
+    clean = λ clean. clean;
+    mode = λ idle. idle;
+    kept = λ content holds clean. record { was_open = λ is. is; committed = λ is. refl };
+    left = λ content holds clean trees left. left;
+    goes = λ content holds clean. still_goes (state g held);
+  }
+
+  pub known : {A : Type 0} (a : A) (Says : Content → A → Type 0) → ((content : Content) → Says content a) → Finds g held held (Ok a) Says
+  known a Says says = record {
+    answer = λ content holds clean. says content;
+    fault = λ content holds clean. tt;
+    looks = not_looked;
+  }
+
+  pub not_begun : {A : Type 0} (r : Result A RowFault) (Says : Content → A → Type 0) → IsErrAnd r (λ d. d ≡ Sql want_of_memory) → Finds g held held r Says
+  not_begun (Ok a) Says fails = absurd fails
+  not_begun (Err d) Says fails = record {
+    answer = λ content holds clean. tt;
+    fault = λ content holds clean. subst (IsFault (state g held) (state g held) (Unit {0})) (sym fails) (inl refl);
+    looks = not_looked;
+  }
+
+-- what was found, and memory was wanting then
+pub cut_off : {S A B : Type 0} (g : Ghosts S) (old new : Held S) (a : A) (P : Content → A → Type 0) (Q : Content → B → Type 0)
+    → Finds g old new (Ok a) P → Finds g old new (Err (Sql want_of_memory)) Q
+cut_off g old new a P Q one = record {
+  answer = λ content holds clean. tt;
+  fault = λ content holds clean. inl refl;
   looks = one.looks;
 }

@@ -67,3 +67,32 @@ share_rows_plain = (refl, refl)
 pub share_rows_suits : (meter : List ℕ) → Suits books_schema share_rows (Text meter ∷ [])
 unfolding understood everything
 share_rows_suits meter = suits_scan 14 of_meter share_project ((col 1 2, rising) ∷ []) no_limit share_rows share_names (Text meter ∷ []) (refl, refl, refl) share_rows_plain share_rows_unlisted share_rows_is refl
+
+-- ---- installation_rows
+
+abbrev pub installation_rows : List ℕ
+installation_rows = codes "SELECT place, meter, register, ceiling, ended, last_moment, last_raw, last_sf, total FROM installations ORDER BY place"
+
+abbrev pub installation_project : List Term
+installation_project = col 1 0 ∷ col 1 2 ∷ col 1 3 ∷ col 1 4 ∷ col 1 5 ∷ col 1 6 ∷ col 1 7 ∷ col 1 8 ∷ col 1 9 ∷ []
+
+abbrev pub installation_names : List (List ℕ)
+installation_names =
+    codes "place" ∷ codes "meter" ∷ codes "register" ∷ codes "ceiling" ∷ codes "ended" ∷ codes "last_moment" ∷ codes "last_raw"
+    ∷ codes "last_sf" ∷ codes "total" ∷ []
+
+pub installation_rows_is : command_of (understood books_schema installation_rows) ≡ Select (record { lets = []; body = scan 7 [] installation_project ((col 1 0, rising) ∷ []) no_limit }) installation_names
+unfolding understood everything
+installation_rows_is = refl
+
+pub installation_rows_unlisted : reads_listing books_schema installation_rows ≡ false
+unfolding understood everything
+installation_rows_unlisted = refl
+
+pub installation_rows_plain : IsPlain (understood books_schema installation_rows)
+unfolding understood everything
+installation_rows_plain = (refl, refl)
+
+pub installation_rows_suits : Suits books_schema installation_rows []
+unfolding understood everything
+installation_rows_suits = suits_scan 7 [] installation_project ((col 1 0, rising) ∷ []) no_limit installation_rows installation_names [] (refl, refl, refl) installation_rows_plain installation_rows_unlisted installation_rows_is refl

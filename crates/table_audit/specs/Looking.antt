@@ -7,7 +7,7 @@ use Rattle.sqlite.specs.Held.{Held, state}
 use Rattle.sqlite.specs.State.{HasCleanDisk, KeepsCommit}
 use Rattle.store_tables.specs.declared.faults.RowFault.{RowFault}
 use Rattle.store_tables.specs.Content.{Content, AreTables}
-use Rattle.store_tables.specs.Failing.{IsFault, GoesOn}
+use Rattle.store_tables.specs.Failing.{IsFault, StateAfterCall}
 
 -- a row as it is
 abbrev pub itself : Row → Row
@@ -29,7 +29,7 @@ module _ {S : Type 0} (g : Ghosts S) where
     pub left : (content : Content) → HoldsTables old content → HasCleanDisk (state g new)
         → (trees : Trees) → (state g new).may_leave trees → (state g old).may_leave trees
     pub goes : (content : Content) → HoldsTables old content → HasCleanDisk (state g new)
-        → GoesOn (state g old) (state g new)
+        → StateAfterCall (state g old) (state g new)
 
 -- What is answered is what the tables have, where the store gave back what was written. An error is the store's own, and
 -- damage is never told. Nothing is changed.

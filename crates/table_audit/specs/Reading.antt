@@ -1,5 +1,6 @@
 -- Values of rows as the queries show them.
-use Rattle.std.specs.Prelude.{◌≡◌, ℕ, ◌==◌, Bool, List, [], ◌∷◌, Option, Some, None, Result, Ok, Vec, if◌then◌else◌}
+use Rattle.std.specs.Prelude.{◌≡◌, ℕ, ◌==◌, Bool, List, [], ◌∷◌, Option, Some, None, Result, Ok, Vec, String, if◌then◌else◌}
+use Rattle.std.specs.Prelude.{IsUtf8, string_bytes}
 use Rattle.std.specs.List.{list_any}
 use Rattle.std.specs.Option.{option_and_then}
 use Rattle.energy_core.specs.declared.limits.TheConstants.{MAX_RANGE, MAX_SHOWN, MAX_TOTAL, MIN_RANGE}
@@ -8,6 +9,7 @@ use Rattle.meter_audit.specs.declared.rows.RowKind.{RowKind}
 use Rattle.meter_audit.specs.declared.rows.RowKind.TheVariants.{Opening, Reading, Manual, Closing, Reset, Rescale}
 use Rattle.meter_audit.specs.declared.rows.TableRow.{TableRow}
 use Rattle.sqlite.specs.declared.types.Value.{Value}
+use Rattle.sqlite.specs.declared.types.Value.TheVariants.{Text}
 use Rattle.sqlite.specs.Order.{Row, column}
 use Rattle.store_tables.specs.declared.faults.RowFault.{RowFault}
 use Rattle.store_tables.specs.Columns.{whole_in, within, or_damaged, and_then}
@@ -75,3 +77,8 @@ abbrev pub AreRead : {X Z : Type 0} → (Row → Result X RowFault) → List Row
     → Type 0
 AreRead {X} read rows None = (xs : List X) → all_in read rows ≡ Ok xs → ⊥
 AreRead read rows (Some found) = all_in read rows ≡ Ok found.items
+
+-- the text that a column has, or that it has none
+abbrev pub IsTextIn : {Z : Type 0} → Value → Option (String Z) → Type 0
+IsTextIn v None = (text : List ℕ) → IsUtf8 text → v ≡ Text text → ⊥
+IsTextIn v (Some text) = v ≡ Text (string_bytes text)

@@ -4,7 +4,7 @@ use Rattle.std.specs.Ordering.{is_gt}
 use Rattle.sqlite.specs.declared.types.Value.{Value}
 use Rattle.sqlite.specs.declared.types.Value.TheVariants.{Null, Int, Real, Text, Blob}
 use Rattle.sqlite.specs.Order.{Row, column, value_cmp}
-use Rattle.store_tables.specs.Answer.{AnyOrder}
+use Rattle.store_tables.specs.Answer.{AnyOrder, every}
 use Rattle.store_tables.specs.Asking.{Shows}
 use Rattle.store_tables.specs.Content.{Content}
 use Rattle.store_tables.specs.Entries.Trees as entry_tree
@@ -31,6 +31,16 @@ is_of meter row = is_text meter (column row 0)
 abbrev pub InOrder : Row → Row → Type 0
 InOrder row later = is_gt (value_cmp (column row 1) (column later 1)) ≡ false
 
+-- by the first column, which has a row's number where that is its place
+abbrev pub InPlace : Row → Row → Type 0
+InPlace row later = is_gt (value_cmp (column row 0) (column later 0)) ≡ false
+
+-- what the query shows of a row of installations: its place, and the columns behind it
+abbrev pub installation_shown : Row → Row
+installation_shown row =
+    column row 0 ∷ column row 2 ∷ column row 3 ∷ column row 4 ∷ column row 5 ∷ column row 6
+    ∷ column row 7 ∷ column row 8 ∷ column row 9 ∷ []
+
 -- what the queries show of a row: the columns behind the meter's name
 abbrev pub range_shown : Row → Row
 range_shown row = column row 1 ∷ []
@@ -45,6 +55,11 @@ void_shown row = column row 1 ∷ []
 
 abbrev pub share_shown : Row → Row
 share_shown row = column row 1 ∷ column row 2 ∷ []
+
+-- Installations are shown by their places, all of them.
+abbrev pub ShowsInstallations : Content → List Row → Type 0
+ShowsInstallations content rows =
+    Shows every InPlace installation_shown (content meter_tree.installations) rows
 
 -- Entries and voids are shown by their places, intervals by their starts.
 abbrev pub ShowsRange : (meter : List ℕ) → Content → List Row → Type 0

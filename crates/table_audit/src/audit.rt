@@ -2,6 +2,7 @@
 ghost use Rattle.std.specs.Prelude.{◌≡◌, ◌≤◌, ◌↔◌, false, length, IsTrue, IfOk, OnOk};
 ghost use Rattle.table_audit.specs.Looking.{Finds};
 ghost use Rattle.table_audit.specs.Fine.{IsFine, TellsFine};
+ghost use Rattle.table_audit.specs.Telling.{Tells};
 
 use crate::differences::{Difference, Differences, MOST, Table};
 use crate::lawful::audit_read;
@@ -21,6 +22,7 @@ pub fn audit_rows(
 ) -> Result<bool, AllocError>
     requires few { length found.old.first.items ≤ MOST }
     ensures fine { IfOk result (λ fine. IsTrue fine ↔ IsFine installation.now rows.now) }
+    ensures tells { IfOk result (λ fine. Tells fine found.old found.new) }
     ensures few { OnOk result (length found.new.first.items ≤ MOST) }
 {
     let Some(range) = range(&rows.ranges) else {
@@ -62,6 +64,7 @@ pub fn audit_meter<S: Alter>(
     requires mode { conn.old.in_transaction ≡ false }
     requires few { length found.old.first.items ≤ MOST }
     ensures finds { Finds S.Store conn.old conn.new result (TellsFine meter.now installation.now) }
+    ensures tells { IfOk result (λ fine. Tells fine found.old found.new) }
     ensures few { OnOk result (length found.new.first.items ≤ MOST) }
 {
     let rows = meter_rows(conn, meter)?;

@@ -1,5 +1,5 @@
 //! What an audit tells of.
-ghost use Rattle.std.specs.Prelude.{◌≤◌, length, OnOk};
+ghost use Rattle.std.specs.Prelude.{◌≡◌, ◌<◌, ◌≤◌, [], length, OnOk};
 
 use energy_core::Last;
 use meter_audit::{IntervalFault, RowFault};
@@ -8,6 +8,7 @@ use std::alloc::{AllocError, Global};
 /// A table in which a meter has rows.
 #[derive(Clone, Copy, Debug, PartialEq, Eq)]
 pub enum Table {
+    Installations,
     Ranges,
     Entries,
     Voids,
@@ -19,6 +20,10 @@ pub enum Table {
 pub enum Difference {
     /// A row of the table has a value that none may have.
     OutOfRange(Table),
+    /// The row of installations at this place names no meter.
+    Unnamed { place: u64 },
+    /// The place of the installation isn't the next one.
+    Installation { has: u64, wanted: u64 },
     /// There is no entry, or the first is no lawful opening.
     NotOpened,
     /// An entry can't come behind the one before it.
@@ -48,7 +53,8 @@ pub struct Differences {
 impl Differences {
     /// None yet.
     pub fn new(alloc: Global) -> Differences
-        ensures { length result.first.items ≤ MOST }
+        ensures none { result.first.items ≡ [] }
+        ensures more { result.more ≡ 0 }
     {
         Differences {
             first: Vec::new(alloc),
@@ -58,8 +64,9 @@ impl Differences {
 
     /// One more.
     pub fn push(&mut self, difference: Difference) -> Result<(), AllocError>
-        requires { length self.old.first.items ≤ MOST }
-        ensures { OnOk result (length self.new.first.items ≤ MOST) }
+        requires few { length self.old.first.items ≤ MOST }
+        ensures told { OnOk result (0 < length self.new.first.items) }
+        ensures few { OnOk result (length self.new.first.items ≤ MOST) }
     {
         if self.first.len() < MOST {
             self.first.push(difference)?;

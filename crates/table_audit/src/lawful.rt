@@ -1,10 +1,11 @@
 //! What was read of a meter, against what its entries give.
 ghost use Rattle.std.specs.Prelude.{◌≡◌, ◌<◌, ◌≤◌, ◌^◌, ◌↔◌, [], All, reverse, length, true};
-ghost use Rattle.std.specs.Prelude.{IsTrue, IsNone, IfOk, OnOk, MatchOption};
+ghost use Rattle.std.specs.Prelude.{IsTrue, IsNone, IfSome, IfOk, OnOk, MatchOption};
 ghost use Rattle.meter_audit.specs.Fitting.{AreTold};
 ghost use Rattle.meter_audit.specs.Going.{IsSoundProgress, HasGone};
 ghost use Rattle.meter_audit.specs.Passing.{MayBeChecked};
 ghost use Rattle.table_audit.specs.Lawful as agreeing;
+ghost use Rattle.table_audit.specs.Telling.{Tells};
 
 use crate::differences::{Difference, Differences, MOST};
 use crate::opening::opened;
@@ -32,6 +33,7 @@ fn go_over(
     ensures gone { IfOk result (λ refused. MatchOption refused
         (HasGone meter.now (reverse rows.now) [] progress.new)
         (λ _. AreTold meter.now (reverse rows.now) → ⊥)) }
+    ensures one { IfOk result (λ refused. IfSome refused (λ row. row.index < length rows.now)) }
 {
     refused_is_not_fine();
     for (index, row) in rows.iter().enumerate() {
@@ -53,23 +55,19 @@ fn tell_refused(
     requires meter { MayBeChecked meter.now }
     requires sound { IsSoundProgress meter.now progress.old }
     requires places { All (λ row. row.place < 2 ^ 63) rows.now }
+    requires one { refused.index < length rows.now }
     requires few { length found.old.first.items ≤ MOST }
+    ensures told { OnOk result (0 < length found.new.first.items) }
     ensures few { OnOk result (length found.new.first.items ≤ MOST) }
 {
+    let place = rows[refused.index].place;
+    let fault = refused.fault;
+    found.push(Difference::Entry { place, fault })?;
     for (index, row) in rows.iter().enumerate() {
-        if index == refused.index {
-            let fault = refused.fault;
-            found.push(Difference::Entry {
-                place: row.place,
-                fault,
-            })?;
-        }
         if refused.index < index {
             if let Some(fault) = take_row(meter, progress, row)? {
-                found.push(Difference::Entry {
-                    place: row.place,
-                    fault,
-                })?;
+                let place = row.place;
+                found.push(Difference::Entry { place, fault })?;
             }
         }
     }
@@ -94,6 +92,7 @@ fn first_astray(last: u64, places: &[u64]) -> Option<u64>
 fn tell_voids(last: u64, voids: &[u64], found: &mut Differences) -> Result<bool, AllocError>
     requires few { length found.old.first.items ≤ MOST }
     ensures named { IfOk result (λ named. IsTrue named ↔ (agreeing.rises 1 last voids.now ≡ true)) }
+    ensures tells { IfOk result (λ named. Tells named found.old found.new) }
     ensures few { OnOk result (length found.new.first.items ≤ MOST) }
 {
     match first_astray(last, voids) {
@@ -107,7 +106,9 @@ fn tell_voids(last: u64, voids: &[u64], found: &mut Differences) -> Result<bool,
 
 /// Tells of each difference between interval rows, in their order.
 fn tell_each(wanted: &[Share], has: &[Share], found: &mut Differences) -> Result<(), AllocError>
+    requires told { 0 < length found.old.first.items }
     requires few { length found.old.first.items ≤ MOST }
+    ensures told { OnOk result (0 < length found.new.first.items) }
     ensures few { OnOk result (length found.new.first.items ≤ MOST) }
 {
     let mut wanted = wanted;
@@ -133,12 +134,58 @@ fn tell_intervals(
 ) -> Result<bool, AllocError>
     requires few { length found.old.first.items ≤ MOST }
     ensures same { IfOk result (λ same. IsTrue same ↔ (has.now ≡ wanted.now)) }
+    ensures tells { IfOk result (λ same. Tells same found.old found.new) }
     ensures few { OnOk result (length found.new.first.items ≤ MOST) }
 {
-    if first_difference(wanted, has).is_none() {
+    let Some(difference) = first_difference(wanted, has) else {
         return Ok(true);
-    }
-    tell_each(wanted, has, found)?;
+    };
+    found.push(Difference::Interval(difference.fault))?;
+    let wanted_done = difference.wanted_done.min(wanted.len());
+    let found_done = difference.found_done.min(has.len());
+    tell_each(&wanted[wanted_done..], &has[found_done..], found)?;
+    Ok(false)
+}
+
+/// Tells where the counter stands, if it doesn't stand where the installation says.
+fn tell_last(has: Last, wanted: Option<Last>, found: &mut Differences) -> Result<bool, AllocError>
+    requires few { length found.old.first.items ≤ MOST }
+    ensures none { IfOk result (λ same. IsTrue same ↔ IsNone wanted) }
+    ensures tells { IfOk result (λ same. Tells same found.old found.new) }
+    ensures few { OnOk result (length found.new.first.items ≤ MOST) }
+{
+    let Some(wanted) = wanted else {
+        return Ok(true);
+    };
+    found.push(Difference::Last { has, wanted })?;
+    Ok(false)
+}
+
+/// Tells the energy, if it isn't the installation's.
+fn tell_total(has: u64, wanted: Option<u64>, found: &mut Differences) -> Result<bool, AllocError>
+    requires few { length found.old.first.items ≤ MOST }
+    ensures none { IfOk result (λ same. IsTrue same ↔ IsNone wanted) }
+    ensures tells { IfOk result (λ same. Tells same found.old found.new) }
+    ensures few { OnOk result (length found.new.first.items ≤ MOST) }
+{
+    let Some(wanted) = wanted else {
+        return Ok(true);
+    };
+    found.push(Difference::Total { has, wanted })?;
+    Ok(false)
+}
+
+/// Tells whether the meter was closed, if the installation doesn't say so.
+fn tell_ended(wanted: Option<bool>, found: &mut Differences) -> Result<bool, AllocError>
+    requires few { length found.old.first.items ≤ MOST }
+    ensures none { IfOk result (λ same. IsTrue same ↔ IsNone wanted) }
+    ensures tells { IfOk result (λ same. Tells same found.old found.new) }
+    ensures few { OnOk result (length found.new.first.items ≤ MOST) }
+{
+    let Some(wanted) = wanted else {
+        return Ok(true);
+    };
+    found.push(Difference::Ended { wanted })?;
     Ok(false)
 }
 
@@ -151,6 +198,7 @@ fn tell_standing(
     requires few { length found.old.first.items ≤ MOST }
     ensures stands { IfOk result (λ stands.
         IsTrue stands ↔ agreeing.StandsThere row.now check.now) }
+    ensures tells { IfOk result (λ stands. Tells stands found.old found.new) }
     ensures few { OnOk result (length found.new.first.items ≤ MOST) }
 {
     let has = Last {
@@ -164,19 +212,10 @@ fn tell_standing(
         is_ended: row.is_ended,
     };
     let faults = standing_faults(check, &standing);
-    if let Some(wanted) = faults.last {
-        found.push(Difference::Last { has, wanted })?;
-    }
-    if let Some(wanted) = faults.total {
-        found.push(Difference::Total {
-            has: row.last.total,
-            wanted,
-        })?;
-    }
-    if let Some(wanted) = faults.is_ended {
-        found.push(Difference::Ended { wanted })?;
-    }
-    Ok(faults.last.is_none() && faults.total.is_none() && faults.is_ended.is_none())
+    let last = tell_last(has, faults.last, found)?;
+    let total = tell_total(row.last.total, faults.total, found)?;
+    let ended = tell_ended(faults.is_ended, found)?;
+    Ok(last && total && ended)
 }
 
 /// Tells whether what else was read agrees with a check behind all entries, and of each difference.
@@ -191,6 +230,7 @@ fn tell_rest(
     requires few { length found.old.first.items ≤ MOST }
     ensures agrees { IfOk result (λ agrees. IsTrue agrees
         ↔ agreeing.RestAgrees progress.now row.now voids.now last shares.now) }
+    ensures tells { IfOk result (λ agrees. Tells agrees found.old found.new) }
     ensures few { OnOk result (length found.new.first.items ≤ MOST) }
 {
     let named = tell_voids(last, voids, found)?;
@@ -213,6 +253,7 @@ pub(crate) fn audit_read(
     requires few { length found.old.first.items ≤ MOST }
     ensures fine { IfOk result (λ fine. IsTrue fine
         ↔ agreeing.IsLawful range row.now voids.now entries.now shares.now) }
+    ensures tells { IfOk result (λ fine. Tells fine found.old found.new) }
     ensures few { OnOk result (length found.new.first.items ≤ MOST) }
 {
     finished_is_fine();

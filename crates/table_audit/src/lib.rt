@@ -3,7 +3,9 @@
 
 mod audit;
 mod differences;
+mod findings;
 mod lawful;
+mod meters;
 mod opening;
 mod queries;
 mod reading;
@@ -12,4 +14,7 @@ mod texts;
 
 pub use audit::{audit_meter, audit_rows};
 pub use differences::{Difference, Differences, MOST, Table};
+pub use findings::{Counts, Finding, Findings};
+pub use meters::audit_meters;
 pub use rows::MeterRows;
+pub use texts::put_findings;

@@ -1,6 +1,6 @@
 //! The rows of a meter, looked up in the tables.
 ghost use Rattle.std.specs.Prelude.{◌≡◌, false};
-ghost use Rattle.store_tables.specs.Answer.{AnyOrder};
+ghost use Rattle.store_tables.specs.Answer.{AnyOrder, every};
 ghost use Rattle.store_tables.specs.Asking.{Asks, TellsRows, Shows};
 ghost use Rattle.store_tables.specs.Entries.Trees as entry_tree;
 ghost use Rattle.store_tables.specs.Meters.Trees as meter_tree;
@@ -10,6 +10,18 @@ ghost use Rattle.table_audit.specs.Showing as showing;
 use crate::rows::MeterRows;
 use sqlite::{Alter, Connection, Error, Row, params};
 use store_tables::{RowFault, check_open};
+
+/// Asks for the installations, by their places.
+fn ask_installations<S: Alter>(conn: &mut Connection<S>) -> Result<Vec<Row>, Error>
+    ensures asks { Asks S.Store conn.old conn.new }
+    ensures shows { TellsRows S.Store conn.old conn.new meter_tree.installations itself result
+        (Shows every showing.InPlace showing.installation_shown) }
+{
+    conn.query_all(
+        "SELECT place, meter, register, ceiling, ended, last_moment, last_raw, last_sf, total FROM installations ORDER BY place",
+        &[],
+    )
+}
 
 /// Asks for the range of a meter.
 fn ask_range<S: Alter>(conn: &mut Connection<S>, meter: &str) -> Result<Vec<Row>, Error>
@@ -57,6 +69,17 @@ fn ask_intervals<S: Alter>(conn: &mut Connection<S>, meter: &str) -> Result<Vec<
         "SELECT start, mwh FROM intervals WHERE meter = ?1 ORDER BY start",
         params![meter],
     )
+}
+
+/// The installations, by their places.
+pub(crate) fn installations<S: Alter>(conn: &mut Connection<S>) -> Result<Vec<Row>, RowFault>
+    requires { conn.old.in_transaction ≡ false }
+    ensures { Finds S.Store conn.old conn.new result
+        (λ content rows. showing.ShowsInstallations content rows.items) }
+{
+    check_open(conn)?;
+    let rows = ask_installations(conn)?;
+    Ok(rows)
 }
 
 /// The range of a meter.

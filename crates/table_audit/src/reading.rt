@@ -1,15 +1,19 @@
 //! Values of rows as the queries show them.
-ghost use Rattle.std.specs.Prelude.{◌≡◌, ◌↔◌, ◌<◌, ◌^◌, ◌∷◌, [], All, IfOk, IfSome};
+ghost use Rattle.std.specs.Prelude.{◌≡◌, ◌↔◌, ◌<◌, ◌^◌, ◌∷◌, [], All, IfOk, IfErr, IfSome};
 ghost use Rattle.sqlite.specs.Order.{column};
 ghost use Rattle.store_tables.specs.Columns.{or_damaged};
+ghost use Rattle.store_tables.specs.Failing.{want_of_memory};
+ghost use Rattle.store_tables.specs.Meters.Rows.{flag_in, last_in, installation_in};
 ghost use Rattle.table_audit.specs.Reading as values;
 
-use energy_core::{MAX_RANGE, MAX_SHOWN, MAX_TOTAL, MIN_RANGE};
+use energy_core::{MAX_CEILING, MAX_RANGE, MAX_SHOWN, MAX_TOTAL, MIN_RANGE};
 use interval_core::Share;
 use meter_audit::{RowKind, TableRow};
-use sqlite::Row;
+use sqlite::{Error, ErrorCode, Row};
 use std::alloc::{AllocError, Global};
-use store_tables::{GREATEST_PLACE, LATEST_MOMENT, RowFault, scale, whole};
+use store_tables::{
+    GREATEST_PLACE, InstallationRow, LATEST_MOMENT, LastRow, RowFault, scale, whole,
+};
 
 /// The kind of an entry.
 fn kind(row: &Row, at: usize) -> Result<RowKind, RowFault>
@@ -133,4 +137,61 @@ pub(crate) fn shares(alloc: Global, rows: &[Row]) -> Result<Option<Vec<Share>>, 
         }
     }
     Ok(Some(found))
+}
+
+/// A flag, which is 0 or 1.
+fn flag(row: &Row, at: usize) -> Result<bool, RowFault>
+    ensures { result ≡ or_damaged (flag_in (column row.now at)) }
+{
+    match whole(row, at, 0, 1)? {
+        0 => Ok(false),
+        1 => Ok(true),
+        _ => Err(RowFault::Damaged),
+    }
+}
+
+/// Where an installation says that the counter stands, and its energy.
+fn last(row: &Row) -> Result<LastRow, RowFault>
+    ensures { result ≡ last_in row.now }
+{
+    let moment = whole(row, 5, 0, LATEST_MOMENT)?;
+    let raw = whole(row, 6, 0, MAX_SHOWN)?;
+    let sf = scale(row, 7)?;
+    let total = whole(row, 8, 0, MAX_TOTAL)?;
+    Ok(LastRow {
+        moment,
+        raw: raw as u32,
+        sf,
+        total,
+    })
+}
+
+/// The numbers of an installation.
+pub(crate) fn installation(row: &Row) -> Result<InstallationRow, RowFault>
+    ensures { result ≡ installation_in row.now }
+{
+    let place = whole(row, 0, 1, GREATEST_PLACE)?;
+    let ceiling = whole(row, 3, 1, MAX_CEILING)?;
+    let is_ended = flag(row, 4)?;
+    let last = last(row)?;
+    Ok(InstallationRow {
+        place,
+        ceiling,
+        is_ended,
+        last,
+    })
+}
+
+/// The name of the meter of an installation, if it has one.
+pub(crate) fn name(row: &Row) -> Result<Option<String>, RowFault>
+    ensures text { IfOk result (values.IsTextIn (column row.now 1)) }
+    ensures fault { IfErr result (λ fault. fault ≡ RowFault.Sql want_of_memory) }
+{
+    match row.get::<String>(1) {
+        Ok(name) => Ok(Some(name)),
+        Err(Error::SqliteFailure(ErrorCode::OutOfMemory)) => {
+            Err(RowFault::Sql(Error::SqliteFailure(ErrorCode::OutOfMemory)))
+        }
+        Err(_) => Ok(None),
+    }
 }

@@ -1,75 +1,235 @@
-//! What differences say to a person.
+//! What an audit says to a person.
+ghost use Rattle.std.specs.Prelude.{◌≡◌, ◌++◌, OnOk, codes, decimal};
+ghost use Rattle.std.specs.Fmt.{signed_decimal};
+ghost use Rattle.table_audit.specs.Texts as say;
+
 use crate::differences::{Difference, Table};
+use crate::findings::{Counts, Finding, Findings};
+use energy_core::Last;
+use itoa::Buffer;
 use meter_audit::{IntervalFault, RowFault};
-use std::fmt;
-use std::fmt::{Display, Formatter};
+use std::alloc::AllocError;
 
-impl Display for Table {
-    fn fmt<W: fmt::Write>(&self, f: &mut Formatter<W>) -> fmt::Result {
-        f.write_str(match self {
-            Table::Ranges => "ranges",
-            Table::Entries => "entries",
-            Table::Voids => "voids",
-            Table::Intervals => "intervals",
-        })
+// ---- pieces; want of memory leaves a part of each
+
+fn put(text: &mut Vec<u8>, bytes: &[u8]) -> Result<(), AllocError>
+    ensures { OnOk result (text.new.items ≡ text.old.items ++ bytes.now) }
+{
+    text.extend_from_slice(bytes)
+}
+
+fn put_word(text: &mut Vec<u8>, before: &[u8], word: &[u8]) -> Result<(), AllocError>
+    ensures { OnOk result (text.new.items ≡ text.old.items ++ before.now ++ word.now) }
+{
+    put(text, before)?;
+    put(text, word)
+}
+
+fn put_number(text: &mut Vec<u8>, before: &[u8], number: u64) -> Result<(), AllocError>
+    ensures { OnOk result (text.new.items ≡ text.old.items ++ before.now ++ decimal number) }
+{
+    put(text, before)?;
+    let mut buffer = Buffer::new();
+    put(text, buffer.format(number).as_bytes())
+}
+
+fn put_scale(text: &mut Vec<u8>, before: &[u8], sf: i16) -> Result<(), AllocError>
+    ensures { OnOk result (text.new.items ≡ text.old.items ++ before.now ++ signed_decimal sf) }
+{
+    let mut buffer = Buffer::new();
+    put_word(text, before, buffer.format(sf).as_bytes())
+}
+
+// ---- a difference
+
+fn table_name(table: Table) -> &'static [u8]
+    ensures { result.now ≡ say.table_name table }
+{
+    match table {
+        Table::Installations => b"installations",
+        Table::Ranges => b"ranges",
+        Table::Entries => b"entries",
+        Table::Voids => b"voids",
+        Table::Intervals => b"intervals",
     }
 }
 
-/// Why an entry can't come behind the one before it.
-fn write_fault<W: fmt::Write>(fault: &RowFault, f: &mut Formatter<W>) -> fmt::Result {
-    match fault {
-        RowFault::Place { wanted } => write!(f, "the next place is {wanted}"),
-        RowFault::OpenedAgain => f.write_str("the meter was opened before"),
-        RowFault::AfterClosing => f.write_str("the meter was closed before"),
-        RowFault::CannotBeVoided => f.write_str("a void names it, and it is no reading"),
-        RowFault::Unused => f.write_str("a column that its kind has no use for is not 0"),
-        RowFault::Scale { wanted } => write!(f, "the scale factor there is {wanted}"),
-        RowFault::Held(cause) => write!(f, "{cause}"),
-        RowFault::Rolls { wanted } => write!(f, "its neighbour gives it {wanted} rollovers"),
-        RowFault::Refused(fault) => write!(f, "{fault}"),
+/// Why an entry can't come there.
+fn put_cause(text: &mut Vec<u8>, cause: RowFault) -> Result<(), AllocError>
+    ensures { OnOk result (text.new.items ≡ say.with_cause text.old.items cause) }
+{
+    match cause {
+        RowFault::Place { wanted } => put_number(text, b"the next place is ", wanted),
+        RowFault::OpenedAgain => put(text, b"the meter was opened before"),
+        RowFault::AfterClosing => put(text, b"the meter was closed before"),
+        RowFault::CannotBeVoided => put(text, b"a void names it, and it is no reading"),
+        RowFault::Unused => put(text, b"a column that its kind has no use for is not 0"),
+        RowFault::Scale { wanted } => put_scale(text, b"the scale factor there is ", wanted),
+        RowFault::Held(why) => {
+            let number = u64::from(why.number());
+            put_number(text, b"it would be held, cause ", number)
+        }
+        RowFault::Rolls { wanted } => {
+            put_number(text, b"the rollovers there are ", u64::from(wanted))
+        }
+        RowFault::Refused(why) => {
+            let number = u64::from(why.number());
+            put_number(text, b"it would be refused, fault ", number)
+        }
     }
 }
 
-fn write_interval<W: fmt::Write>(fault: &IntervalFault, f: &mut Formatter<W>) -> fmt::Result {
+fn put_interval(text: &mut Vec<u8>, fault: IntervalFault) -> Result<(), AllocError>
+    ensures { OnOk result (text.new.items ≡ say.with_interval text.old.items fault) }
+{
     match fault {
         IntervalFault::Missing { start, wanted } => {
-            write!(f, "interval {start} has no row, entries give {wanted}")
+            put_number(text, b"interval ", start)?;
+            put_number(text, b" has no row, entries give ", wanted)
         }
         IntervalFault::Unwanted { start, has } => {
-            write!(f, "interval {start} has {has}, entries give none")
+            put_number(text, b"interval ", start)?;
+            put_number(text, b" has ", has)?;
+            put(text, b", entries give none")
         }
         IntervalFault::Differs { start, has, wanted } => {
-            write!(f, "interval {start} has {has}, entries give {wanted}")
+            put_number(text, b"interval ", start)?;
+            put_number(text, b" has ", has)?;
+            put_number(text, b", entries give ", wanted)
         }
     }
 }
 
-/// The words behind the meter's name.
-impl Display for Difference {
-    fn fmt<W: fmt::Write>(&self, f: &mut Formatter<W>) -> fmt::Result {
-        match self {
-            Difference::OutOfRange(table) => {
-                write!(f, "has a row in {table} with a value that none may have")
-            }
-            Difference::NotOpened => f.write_str("is opened by no lawful entry"),
-            Difference::Entry { place, fault } => {
-                write!(f, "entry {place} can't come there: ")?;
-                write_fault(fault, f)
-            }
-            Difference::Void { place } => {
-                write!(f, "void of entry {place} names none, or one that was named")
-            }
-            Difference::Interval(fault) => write_interval(fault, f),
-            Difference::Last { has, wanted } => write!(
-                f,
-                "last has {} {} {}, entries give {} {} {}",
-                has.at, has.raw, has.sf, wanted.at, wanted.raw, wanted.sf
-            ),
-            Difference::Total { has, wanted } => {
-                write!(f, "total has {has}, entries give {wanted}")
-            }
-            Difference::Ended { wanted: true } => f.write_str("is not ended, entries end it"),
-            Difference::Ended { wanted: false } => f.write_str("is ended, entries do not end it"),
+/// Where a counter stands: the moment, the number that it shows, and its scale factor.
+fn put_stand(text: &mut Vec<u8>, before: &[u8], last: Last) -> Result<(), AllocError>
+    ensures { OnOk result (text.new.items ≡ say.with_stand text.old.items before.now last) }
+{
+    put_number(text, before, last.at)?;
+    put_number(text, b" ", u64::from(last.raw))?;
+    put_scale(text, b" ", last.sf)
+}
+
+fn put_last(text: &mut Vec<u8>, has: Last, wanted: Last) -> Result<(), AllocError>
+    ensures { OnOk result (text.new.items ≡ say.with_stand
+        (say.with_stand text.old.items (codes "last has ") has) (codes ", entries give ") wanted) }
+{
+    put_stand(text, b"last has ", has)?;
+    put_stand(text, b", entries give ", wanted)
+}
+
+fn put_ended(text: &mut Vec<u8>, wanted: bool) -> Result<(), AllocError>
+    ensures { OnOk result (text.new.items ≡ say.with_ended text.old.items wanted) }
+{
+    if wanted {
+        put(text, b"is not ended, entries end it")
+    } else {
+        put(text, b"is ended, entries don't end it")
+    }
+}
+
+fn put_difference(text: &mut Vec<u8>, difference: Difference) -> Result<(), AllocError>
+    ensures { OnOk result (text.new.items ≡ say.with_difference text.old.items difference) }
+{
+    match difference {
+        Difference::OutOfRange(table) => {
+            put_word(text, b"has a row in ", table_name(table))?;
+            put(text, b" with a value that none may have")
+        }
+        Difference::Unnamed { place } => {
+            put_number(text, b"row ", place)?;
+            put(text, b" of installations names no meter")
+        }
+        Difference::Installation { has, wanted } => {
+            put_number(text, b"place has ", has)?;
+            put_number(text, b", the next is ", wanted)
+        }
+        Difference::NotOpened => put(text, b"is opened by no lawful entry"),
+        Difference::Entry { place, fault } => {
+            put_number(text, b"entry ", place)?;
+            put(text, b" can't come there: ")?;
+            put_cause(text, fault)
+        }
+        Difference::Void { place } => {
+            put_number(text, b"void of entry ", place)?;
+            put(text, b" names none, or one that another names")
+        }
+        Difference::Interval(fault) => put_interval(text, fault),
+        Difference::Last { has, wanted } => put_last(text, has, wanted),
+        Difference::Total { has, wanted } => {
+            put_number(text, b"total has ", has)?;
+            put_number(text, b", entries give ", wanted)
+        }
+        Difference::Ended { wanted } => put_ended(text, wanted),
+    }
+}
+
+// ---- lines
+
+fn put_meter(text: &mut Vec<u8>, meter: &Option<String>) -> Result<(), AllocError>
+    ensures { OnOk result (text.new.items ≡ say.with_meter text.old.items meter.now) }
+{
+    match meter {
+        None => Ok(()),
+        Some(name) => {
+            put_word(text, b"meter ", name.as_bytes())?;
+            put(text, b" ")
         }
     }
+}
+
+fn put_line(text: &mut Vec<u8>, finding: &Finding) -> Result<(), AllocError>
+    ensures { OnOk result (text.new.items ≡ say.with_line text.old.items finding.now) }
+{
+    put_meter(text, &finding.meter)?;
+    put_difference(text, finding.difference)?;
+    put(text, b"\n")
+}
+
+fn put_lines(text: &mut Vec<u8>, findings: &[Finding]) -> Result<(), AllocError>
+    ensures { OnOk result (text.new.items ≡ say.with_lines text.old.items findings.now) }
+{
+    for finding in findings {
+        put_line(text, finding)?;
+    }
+    Ok(())
+}
+
+fn put_more(text: &mut Vec<u8>, more: u64) -> Result<(), AllocError>
+    ensures { OnOk result (text.new.items ≡ say.with_more text.old.items more) }
+{
+    if more == 0 {
+        return Ok(());
+    }
+    put_number(text, b"and ", more)?;
+    put(text, b" more\n")
+}
+
+fn put_counts(text: &mut Vec<u8>, counts: &Counts) -> Result<(), AllocError>
+    ensures { OnOk result (text.new.items ≡ say.with_counts text.old.items counts.now) }
+{
+    put_number(text, b"fine: ", counts.meters)?;
+    put_number(text, b" meters, ", counts.entries)?;
+    put_number(text, b" entries, ", counts.intervals)?;
+    put(text, b" intervals\n")
+}
+
+fn put_end(text: &mut Vec<u8>, found: &Findings) -> Result<(), AllocError>
+    ensures { OnOk result (text.new.items ≡ say.with_end text.old.items found.now) }
+{
+    if found.first.len() == 0 {
+        return put_counts(text, &found.counts);
+    }
+    let all = (found.first.len() as u64).saturating_add(found.more);
+    put_number(text, b"", all)?;
+    put(text, b" differences\n")
+}
+
+/// Puts at the end of a text what an audit says: a line for each difference that was kept, how many came after these, and a
+/// last line. Want of memory leaves a part of it.
+pub fn put_findings(text: &mut Vec<u8>, found: &Findings) -> Result<(), AllocError>
+    ensures { OnOk result (text.new.items ≡ say.with_findings text.old.items found.now) }
+{
+    put_lines(text, found.first.as_slice())?;
+    put_more(text, found.more)?;
+    put_end(text, found)
 }

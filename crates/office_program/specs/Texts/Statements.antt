@@ -1,5 +1,5 @@
 -- The statement of the meters at a register, on a range of days.
-use Rattle.std.specs.Prelude.{◌≡◌, ℕ, List, [], ◌++◌, map, filter, All, is_some, true, Option, Some, None, Result, Ok, Err}
+use Rattle.std.specs.Prelude.{◌≡◌, ℕ, List, ◌++◌, map, filter, All, is_some, true, Option, Some, Result, Ok, Err}
 use Rattle.std.specs.Option.{option_map, option_and_then}
 use Rattle.std.specs.declared.alloc.Global.{Global}
 use Rattle.std.specs.declared.vec.Vec.{Vec}
@@ -16,7 +16,6 @@ use Rattle.energy_report.specs.Statements.{energy_within, tally_of, was_there}
 use Rattle.energy_report.specs.StatementTexts.{statement_text}
 use Rattle.interval_core.specs.declared.zone.Zone.{Zone}
 use Rattle.office_events.specs.declared.facts.Fact.{Fact}
-use Rattle.office_events.specs.declared.facts.HeldReading.{HeldReading}
 use Rattle.office_events.specs.declared.facts.Opening.{Opening}
 use Rattle.office_events.specs.declared.questions.Installation.{Installation}
 use Rattle.office_events.specs.declared.refusals.Refusal.{Refusal}
@@ -39,11 +38,6 @@ use Rattle.office_program.specs.Texts.EndTexts.{TellsEnd}
 
 -- ---- a meter
 
--- its readings that were held
-abbrev pub holds_at : List Fact → Option Opening → List HeldReading
-holds_at facts None = []
-holds_at facts (Some opening) = holds_of facts opening.meter
-
 -- what is told of the meter of a name, by its opening: all its entries, its energy by quarter hours, and how many of its
 -- readings were held
 abbrev pub told_of : Zone → DayRange → List Fact → (meter : List ℕ) → Option Opening
@@ -52,7 +46,7 @@ told_of zone range facts meter opening = record {
   meter = meter;
   entries = tally_of zone range (entries_at facts opening);
   mwh = energy_within zone range (rows_of_installed facts opening);
-  held = held_within zone range (holds_at facts opening);
+  held = held_within zone range (holds_of facts meter);
 }
 
 abbrev pub statement_of : Zone → DayRange → List Fact → (meter : List ℕ) → MeterStatement
@@ -76,8 +70,8 @@ energy_in zone range facts meter = option_map (energy_within zone range) (interv
 
 abbrev pub held_in : Zone → DayRange → List Fact → (meter : Option (List ℕ)) → Option HeldCounts
 held_in zone range facts meter =
-    option_map (λ opening. held_within zone range (holds_at facts (Some opening)))
-    (option_and_then (opening_of facts) meter)
+    option_and_then (λ name. option_map (λ opening. held_within zone range (holds_of facts name))
+    (opening_of facts name)) meter
 
 abbrev pub statement_in : Zone → DayRange → List Fact → (meter : List ℕ) → Option MeterStatement
 statement_in zone range facts meter =

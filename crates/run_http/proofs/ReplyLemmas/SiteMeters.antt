@@ -187,9 +187,11 @@ module _ {B : Type 0} (ledger : B → Ledger) where
       let known = tells past stands (kept.clean clean) in
       let are : rows ≡ site_of facts = same ∙ known.0 in
       let added = adds past (asks.stands past stands) clean (subst (AreRegistered facts) (sym are) (site_registered facts)) in
-      let items : w.items ≡ added.0.more = added.0.puts ∙ ap (λ (front : List RegisterMeters). front ++ added.0.more) empty in
-      (subst (λ (told : List RegisterMeters). AreOfRows facts (site_of facts) told) (sym items)
-      (subst (λ (those : List SiteRow). AreOfRows facts those added.0.more) are added.0.are), added.1 ∙ known.1)
+      let items : w.items ≡ added.0.more = added.0.puts ∙ ap (λ (front : List RegisterMeters). front ++ added.0.more) empty in (
+        subst (λ (told : List RegisterMeters). AreOfRows facts (site_of facts) told) (sym items)
+            (subst (λ (those : List SiteRow). AreOfRows facts those added.0.more) are added.0.are),
+        added.1 ∙ known.1,
+      )
 
   pub site_failed : (a b d : Office B) (v : Vec SiteRow Global) (rows : List SiteRow) (before after : List RegisterMeters) (why : Refusal)
       → rows ≡ v.items → OnlyAsks ledger a b (Ok v) → OnlyAsks {T = Unit {0}} ledger b d (Err why) → TellsSite ledger a b (Ok v)

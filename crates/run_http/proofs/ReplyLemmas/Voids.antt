@@ -31,11 +31,11 @@ use Rattle.run_http.proofs.ReplyLemmas.Places.{last_piece, one_piece_more, piece
 -- ---- a piece
 
 -- one entry more of those that were looked at
-pub one_more : (piece : List MeterEntry) (i : ℕ) (entry : MeterEntry) (before mid after : List MeterEntry) → i < length piece → entry ≡ get_or piece i entry
-    → mid ≡ before ++ voided_in (take i piece) → after ≡ mid ++ voided_in (entry ∷ []) → after ≡ before ++ voided_in (take (i + 1) piece)
-one_more piece i entry before mid after lt is kept more =
-    let next : take (i + 1) piece ≡ take i piece ++ entry ∷ [] =
-    take_more piece i entry lt ∙ ap (λ (x : MeterEntry). take i piece ++ x ∷ []) (sym is) in
+pub one_more : (piece : List MeterEntry) (i : ℕ) (any : MeterEntry) (before mid after : List MeterEntry) → i < length piece
+    → mid ≡ before ++ voided_in (take i piece) → after ≡ mid ++ voided_in (get_or piece i any ∷ []) → after ≡ before ++ voided_in (take (i + 1) piece)
+one_more piece i any before mid after lt kept more =
+    let entry = get_or piece i any in
+    let next : take (i + 1) piece ≡ take i piece ++ entry ∷ [] = take_more piece i any lt in
     more ∙ ap (λ front. front ++ voided_in (entry ∷ [])) kept ∙ append_assoc before (voided_in (take i piece)) (voided_in (entry ∷ []))
     ∙ ap (λ back. before ++ back) (sym (filter-append is_voided (take i piece) (entry ∷ [])) ∙ ap voided_in (sym next))
 

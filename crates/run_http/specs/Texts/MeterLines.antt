@@ -52,10 +52,13 @@ abbrev pub entries_text : List MeterEntry → List ℕ
 entries_text entries = flat_map entry_line entries ++ end_line (length entries)
 
 -- PLACE KIND MOMENT of an entry that a void names
+abbrev pub void_row_line : EntryRow → List ℕ
+void_row_line row =
+    decimal row.place ++ kind_word row.kind ++ decimal (moment_of row.entry) ++ codes "\n"
+
 abbrev pub void_line : MeterEntry → List ℕ
 void_line (Opening last) = codes "1 opening " ++ decimal last.at ++ codes "\n"
-void_line (Later row sf) =
-    decimal row.place ++ kind_word row.kind ++ decimal (moment_of row.entry) ++ codes "\n"
+void_line (Later row sf) = void_row_line row
 
 abbrev pub voids_text : List MeterEntry → List ℕ
 voids_text entries = flat_map void_line entries ++ end_line (length entries)

@@ -1,6 +1,5 @@
 //! The rows of a meter, as lines.
-ghost use Rattle.std.specs.Prelude.{◌≡◌, ◌++◌, ℤ, OnOk, flat_map};
-ghost use Rattle.office_books.specs.declared.entries.MeterEntry.TheVariants.{Later};
+ghost use Rattle.std.specs.Prelude.{◌≡◌, ◌++◌, OnOk, flat_map};
 ghost use Rattle.energy_core.specs.Account.{moment_of};
 ghost use Rattle.interval_core.specs.Lines.{end_line, intervals_text, share_line};
 ghost use Rattle.run_http.specs.Texts.MeterLines as lines;
@@ -159,8 +158,7 @@ fn moment(entry: &Entry) -> u64
 
 // Puts the line of a later entry that a void names.
 fn put_voided_row(text: &mut Vec<u8>, row: &EntryRow) -> Result<(), AllocError>
-    ensures { (sf : ℤ) → OnOk result (text.new.items
-        ≡ text.old.items ++ lines.void_line (Later row.now sf)) }
+    ensures { OnOk result (text.new.items ≡ text.old.items ++ lines.void_row_line row.now) }
 {
     put_number(text, b"", row.place)?;
     put_kind(text, row.kind)?;

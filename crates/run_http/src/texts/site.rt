@@ -134,11 +134,7 @@ fn put_rows(text: &mut Vec<u8>, rows: &[RegisterMeters]) -> Result<(), AllocErro
 
 /// Puts the registers and their meters at the end of a text, as JSON: `moment` is that of the question, in seconds since
 /// 1970-01-01 UTC, totals are mWh. Want of memory leaves a part of it.
-pub fn put_site(
-    text: &mut Vec<u8>,
-    moment: u64,
-    rows: &[RegisterMeters],
-) -> Result<(), AllocError>
+pub fn put_site(text: &mut Vec<u8>, moment: u64, rows: &[RegisterMeters]) -> Result<(), AllocError>
     ensures { OnOk result (text.new.items ≡ json.with_site text.old.items moment rows.now) }
 {
     put_number(text, b"{\"at\":", moment)?;

@@ -1,5 +1,5 @@
 -- What the queries find.
-use Rattle.std.proofs.Common.{◌≡◌, ◌&&◌, nat_lt, pos, ℕ, List, [], ◌∷◌, Bool, true, bytes_eq, refl}
+use Rattle.std.proofs.Common.{◌&&◌, nat_lt, pos, ℕ, List, [], ◌∷◌, Bool, true, bytes_eq, refl}
 use Rattle.sqlite.specs.declared.types.Value.TheVariants.{Int, Text}
 use Rattle.sqlite.specs.Order.{Row}
 use Rattle.sqlite.specs.Effect.{Database}

@@ -1,5 +1,5 @@
 -- What a row of the table is read as.
-use Rattle.std.proofs.Common.{◌≡◌, ◌≤◌, zero-le, ℕ, ℤ, pos, Bool, true, false, List, Option, Some, None, if◌then◌else◌, Ok, Err, Result, IfOk, IfErr, IsTrue, refl, subst, arith}
+use Rattle.std.proofs.Common.{◌≡◌, ◌≤◌, zero-le, ℕ, ℤ, Bool, true, false, List, Option, Some, None, if◌then◌else◌, Ok, Result, IfOk, IfErr, IsTrue, refl, subst, arith}
 use Rattle.sqlite.specs.declared.types.Value.{Value}
 use Rattle.sqlite.specs.declared.types.Value.TheVariants.{Null, Int, Real, Text, Blob}
 use Rattle.sqlite.specs.Order.{Row, column}

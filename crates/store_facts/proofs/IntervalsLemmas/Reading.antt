@@ -1,5 +1,5 @@
 -- What a row of the table is read as.
-use Rattle.std.proofs.Common.{◌≡◌, ◌≤◌, zero-le, ℕ, Option, Some, None, Ok, Err, Result, IfOk, IfErr, refl}
+use Rattle.std.proofs.Common.{◌≡◌, ◌≤◌, zero-le, ℕ, Option, Some, None, Ok, Result, IfOk, IfErr, refl}
 use Rattle.sqlite.specs.Order.{Row, column}
 use Rattle.interval_core.specs.declared.shares.Share.{Share}
 use Rattle.store_tables.specs.declared.faults.RowFault.{RowFault}

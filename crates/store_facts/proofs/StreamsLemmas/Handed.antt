@@ -1,5 +1,5 @@
 -- The rows of a query, handed on one by one.
-use Rattle.std.proofs.Common.{◌≡◌, inl, inr, List, [], ◌∷◌, ◌++◌, length, length-append, ℕ, ◌+◌, ◌≤◌, false, Option, Some, None, Ok, Err, Result, OnErr, IsErrAnd, refl, sym, ap, subst, arith, ◌∙◌}
+use Rattle.std.proofs.Common.{◌≡◌, inl, inr, List, [], ◌∷◌, ◌++◌, length, length-append, ℕ, ◌+◌, ◌≤◌, false, Ok, Err, Result, OnErr, IsErrAnd, refl, sym, ap, subst, arith, ◌∙◌}
 use Rattle.sqlite.specs.declared.error.Error.{Error}
 use Rattle.sqlite.specs.declared.error.Error.TheVariants.{InvalidQuery}
 use Rattle.std.specs.List.{AllByRecursion}
@@ -7,7 +7,7 @@ use Rattle.sqlite_keyed.proofs.ListLemmas.{all-append}
 use Rattle.sqlite.specs.Order.{Row}
 use Rattle.sqlite.specs.Store.{Ghosts}
 use Rattle.sqlite.specs.Held.{Held, state}
-use Rattle.sqlite.specs.State.{State, HasCleanDisk, Survives, IsUnchanged, Shown, CommitsShowing, FailsToQuery}
+use Rattle.sqlite.specs.State.{HasCleanDisk, Survives, IsUnchanged, Shown, CommitsShowing, FailsToQuery}
 use Rattle.sqlite.specs.Given.{IsPlain, HasGiven, HasBegun, IsRefused}
 use Rattle.sqlite.specs.Listing.{understood}
 use Rattle.sqlite.proofs.Callers.{begun_plain, given_begin, unchanged_then, never_commits}

@@ -1,5 +1,5 @@
 -- From the rows of a query to what a sink took.
-use Rattle.std.proofs.Common.{◌≡◌, inl, inr, zero-le, List, [], ◌∷◌, ◌++◌, length, take, map, ℕ, false, Ok, Err, Result, IfOk, IfErr, refl, sym, ap, ap₂, subst, ◌∙◌}
+use Rattle.std.proofs.Common.{◌≡◌, inl, inr, List, [], ◌∷◌, ◌++◌, length, take, map, ℕ, false, Ok, Err, Result, IfOk, IfErr, refl, sym, ap, ap₂, subst, ◌∙◌}
 use Rattle.std.specs.List.{AllByRecursion}
 use Rattle.sqlite.specs.declared.types.Value.TheVariants.{Null}
 use Rattle.sqlite.specs.Order.{Row}

@@ -1,7 +1,6 @@
 -- The held readings of the tables, in their order.
-use Rattle.std.proofs.Common.{◌≡◌, ℕ, ◌+◌, ◌≤◌, ◌&&◌, min, nat_le, nat_lt, Bool, true, false, cond, inl, inr, List, [], ◌∷◌, map, filter, reverse, length, refl, sym, ap, ap₂, subst, ◌∙◌}
+use Rattle.std.proofs.Common.{◌≡◌, ℕ, ◌+◌, ◌≤◌, ◌&&◌, min, nat_le, nat_lt, Bool, true, false, cond, List, [], ◌∷◌, map, filter, reverse, length, refl, sym, ap, ap₂, ◌∙◌}
 use Rattle.std.specs.List.{AllByRecursion}
-use Rattle.std.proofs.lemmas.Bool.{cases_Bool, cond-true, cond-false}
 use Rattle.sqlite_keyed.proofs.ListLemmas.{all_of, all-filter, filter-map, filter_all, ascending-filter}
 use Rattle.office_events.specs.declared.facts.HeldReading.{HeldReading}
 use Rattle.office_events.specs.declared.facts.Fact.{Fact}
@@ -15,7 +14,7 @@ use Rattle.office_books.specs.Holds.{holds_of, holds_within}
 use Rattle.store_tables.specs.Limits.{latest_moment}
 use Rattle.store_devices.specs.Polls.Rows.{Held, hold_place}
 use Rattle.store_facts.specs.Rows.{placed, held_row}
-use Rattle.store_facts.specs.Holds.{IsSoundReading, HasSoundReading, reading_of, is_of, is_between, AreReadingsOf, AreReadingsBetween, AreSoundHolds}
+use Rattle.store_facts.specs.Holds.{IsSoundReading, reading_of, is_of, is_between, AreReadingsOf, AreReadingsBetween, AreSoundHolds}
 use Rattle.store_queries.proofs.FindingLemmas.Rows.{all_reverse, in_turn, placed_falls}
 use Rattle.store_queries.proofs.MeteringLemmas.Spans.{one_by_one, bounded_rows}
 

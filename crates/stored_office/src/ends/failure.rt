@@ -1,4 +1,5 @@
 //! Why a command failed.
+use crate::audits::AuditFault;
 use crate::backups::CopyFault;
 use crate::files::FileFault;
 use device_scan::ScanFault;
@@ -53,6 +54,11 @@ pub enum Failure<'a> {
     Uncopied {
         path: &'a str,
         fault: CopyFault,
+    },
+    /// There is no audit.
+    Unaudited {
+        path: &'a str,
+        fault: AuditFault,
     },
     /// A device was not connected.
     Unconnected {
@@ -121,6 +127,10 @@ impl<'a> Display for Failure<'a> {
                 write!(f, "{path}: ")?;
                 f.write_str(why_unopened(*fault))
             }
+            Failure::Unaudited { path, fault } => {
+                write!(f, "{path}: ")?;
+                f.write_str(why_unaudited(*fault))
+            }
             Failure::Unconnected { host, port } => write!(
                 f,
                 "port {port} of {host} isn't answered: does the device run, and is this its address?"
@@ -172,5 +182,18 @@ fn why_unopened(fault: OpenFault) -> &'static str {
             "the zone in its table meta is no POSIX time zone: give a copy that is whole",
         OpenFault::Store => "the database in it failed: look at its rights and the disk's room",
         OpenFault::Memory => "memory ran out",
+    }
+}
+
+// Why an office was not audited, and what to do.
+fn why_unaudited(fault: AuditFault) -> &'static str {
+    match fault {
+        AuditFault::NotOurs =>
+            "it holds no office, or one of a later program: give the office's file, or its copy",
+        AuditFault::Earlier =>
+            "its tables are an earlier program's: let sunreg report open it once, or a copy that sunreg backup made",
+        AuditFault::Store => "the database in it failed: look at its rights and the disk's room",
+        AuditFault::Memory => "memory ran out",
+        AuditFault::Output => "standard output can't be written",
     }
 }

@@ -22,7 +22,7 @@ returns-then-len-lt256 g c =
     let same : length c.deref.result.now ≡ length c.in-Ok.piece.items = ap length c.deref.ensures.value in
     told g.B.Books.ledger c.args.office.now c.loop-turn.office c.entries.new.self c.args.meter.now (c.loop-turn.turn * 256) c.loop-turn.kept.items
     c.in-Ok.piece c.keep_voided.new.kept c.loop-turn.invariant.keeps c.loop-turn.invariant.are c.in-Ok.ensures.asks c.in-Ok.ensures.listed
-    (c.in_ok-keep_voided.ensures ∙ ap (λ (piece : List MeterEntry). c.loop-turn.kept.items ++ voided_in piece) c.deref.ensures.value)
+    (c.in_ok-keep_voided-in-Ok.ensures ∙ ap (λ (piece : List MeterEntry). c.loop-turn.kept.items ++ voided_in piece) c.deref.ensures.value)
     (omega (arith, same, c.len.ensures, c.deref.ensures.len, c.if-len-lt256.true))
 
 pub loop-turn-preserved : goal.loop-turn-preserved
@@ -40,7 +40,12 @@ loop-turn-preserved g c =
       are = subst (λ n. AreKept ledger a d meter n c.keep_voided.new.kept.items) next
           (more_kept ledger a b d meter (turn * 256) c.loop-turn.kept.items c.keep_voided.new.kept.items c.in-Ok.piece keeps c.loop-turn.invariant.are asks
           c.in-Ok.ensures.listed
-          (c.in_ok-keep_voided.ensures ∙ ap (λ (piece : List MeterEntry). c.loop-turn.kept.items ++ voided_in piece) c.deref.ensures.value));
+          (c.in_ok-keep_voided-in-Ok.ensures ∙ ap (λ (piece : List MeterEntry). c.loop-turn.kept.items ++ voided_in piece) c.deref.ensures.value));
       keeps = kept_on ledger a b d keeps (asked ledger b d c.in-Ok.piece asks);
       going = λ lt stopped. goes_on ledger b d c.in-Ok.piece asks (keeps.stays ∙ stopped);
     }
+
+pub returns : goal.returns
+returns g c =
+    no_room g.B.Books.ledger c.args.office.now c.loop-turn.office c.args.meter.now _
+    (c.loop-turn.invariant.going (omega (arith, c.loop-turn-test.false))) c.loop-turn.invariant.keeps

@@ -4,6 +4,7 @@ use Rattle.table_audit.proofs.lawful.tell_each.Given as goal
 
 abbrev pub invariant-told : goal.invariant-told
 invariant-told l = record {
+  told : 0 < length l.found.first.items;
   few : length l.found.first.items ≤ MOST;
   wanted : length l.wanted * 16 < 2 ^ 64;
   has : length l.has * 16 < 2 ^ 64;

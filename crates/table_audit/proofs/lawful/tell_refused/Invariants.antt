@@ -1,4 +1,4 @@
-use Rattle.std.proofs.Common.{◌≤◌, length}
+use Rattle.std.proofs.Common.{◌<◌, ◌≤◌, length}
 use Rattle.meter_audit.specs.Going.{IsSoundProgress}
 use Rattle.table_audit.specs.declared.differences.TheConstants.{MOST}
 use Rattle.table_audit.proofs.lawful.tell_refused.Given as goal
@@ -6,5 +6,6 @@ use Rattle.table_audit.proofs.lawful.tell_refused.Given as goal
 abbrev pub invariant-loop-index : goal.invariant-loop-index
 invariant-loop-index l = record {
   sound : IsSoundProgress l.meter l.progress;
+  told : 0 < length l.found.first.items;
   few : length l.found.first.items ≤ MOST;
 }

@@ -1,0 +1,82 @@
+//! The audit of an office in a database.
+ghost use Rattle.std.specs.Prelude.{◌≡◌, ◌↔◌, [], false, Err, IsTrue, IfOk, OnOk};
+ghost use Rattle.std.specs.Io.KnownBytes.{Appends};
+ghost use Rattle.sqlite.specs.Held.{state};
+ghost use Rattle.sqlite.specs.State.{HasCleanDisk};
+ghost use Rattle.store_tables.specs.Content.{Content};
+ghost use Rattle.store_files.specs.declared.layouts.Layout.{Layout as TheLayout};
+ghost use Rattle.store_files.specs.Layouts.{IsNamedAs};
+ghost use Rattle.table_audit.specs.Looking.{HoldsTables, OnlyLooks};
+ghost use Rattle.table_audit.specs.Meters.{TellsMeters};
+ghost use Rattle.table_audit.specs.Texts.{with_findings};
+
+use sqlite::{Alter, Connection, Error, ErrorCode};
+use std::alloc::Global;
+use std::io::Write;
+use store_files::{Layout, layout_of};
+use store_tables::RowFault;
+use sun_points::Sink;
+use table_audit::{Findings, audit_meters, put_findings};
+
+/// Why there is no audit.
+#[derive(Clone, Copy, Debug, PartialEq, Eq)]
+pub enum AuditFault {
+    /// The tables aren't those of an office.
+    NotOurs,
+    /// The tables are those of an earlier program.
+    Earlier,
+    /// The database failed.
+    Store,
+    Memory,
+    /// What is told can't be written.
+    Output,
+}
+
+/// Whether the tables of an office in a database have for each meter the rows of a lawful journal. Nothing is written to it.
+pub fn audit_stored<S: Alter>(
+    alloc: Global,
+    connection: &mut Connection<S>,
+) -> Result<Findings, AuditFault>
+    ensures foreign { ((layout : TheLayout) → ¬ IsNamedAs connection.old.schema layout)
+        → result ≡ Err AuditFault.NotOurs }
+    ensures looks { connection.old.in_transaction ≡ false
+        → OnlyLooks S.Store connection.old connection.new }
+    ensures tells { HasCleanDisk (state S.Store connection.new) → (content : Content)
+        → HoldsTables S.Store connection.old content → IfOk result (TellsMeters content) }
+{
+    if !connection.is_autocommit() {
+        return Err(AuditFault::NotOurs);
+    }
+    match layout_of(connection.schema()) {
+        None => return Err(AuditFault::NotOurs),
+        Some(Layout::First | Layout::Second) => return Err(AuditFault::Earlier),
+        Some(Layout::Third) => {}
+    }
+    match audit_meters(alloc, connection) {
+        Ok(findings) => Ok(findings),
+        Err(RowFault::Sql(Error::SqliteFailure(ErrorCode::OutOfMemory))) => {
+            Err(AuditFault::Memory)
+        }
+        Err(_) => Err(AuditFault::Store),
+    }
+}
+
+/// Writes what an audit tells, and answers whether all is fine.
+pub fn write_audit<W: Write>(
+    alloc: Global,
+    findings: &Findings,
+    output: &mut W,
+) -> Result<bool, AuditFault>
+    ensures fine { IfOk result (λ fine. IsTrue fine ↔ (findings.now.first.items ≡ [])) }
+    ensures told { OnOk result (Appends (W.contents output.old) (W.contents output.new)
+        (with_findings [] findings.now)) }
+{
+    let mut text = Vec::new(alloc);
+    if put_findings(&mut text, findings).is_err() {
+        return Err(AuditFault::Memory);
+    }
+    match output.take_text(text.as_slice()) {
+        Ok(()) => Ok(findings.is_fine()),
+        Err(_) => Err(AuditFault::Output),
+    }
+}

@@ -1,0 +1,125 @@
+-- Differences of a meter among those of others.
+use Rattle.std.proofs.Common.{◌≡◌, ◌↔◌, ◌+◌, ◌-◌, ◌^◌, ◌<◌, ◌≤◌, ℕ, zero, suc, min, Bool, true, false, List, [], ◌∷◌, ◌++◌, map, take, length, get_or, IsTrue, refl, sym, ap, subst, ◌∙◌, append_assoc, arith}
+use Rattle.std.proofs.lemmas.List.{take_all, take_at, take_more, length-map, length-append, length-take, length-take-le, map-append}
+use Rattle.sqlite.specs.Order.{Row}
+use Rattle.table_audit.specs.declared.differences.Difference.{Difference}
+use Rattle.table_audit.specs.declared.differences.Differences.{Differences}
+use Rattle.table_audit.specs.declared.differences.TheConstants.{MOST}
+use Rattle.table_audit.specs.declared.findings.Finding.{Finding}
+use Rattle.table_audit.specs.declared.findings.Findings.{Findings}
+use Rattle.table_audit.specs.declared.rows.MeterRows.{MeterRows}
+use Rattle.table_audit.specs.Meters.{IsFineMeter, up_to_most}
+use Rattle.table_audit.specs.Named.{difference_of, IsUnder, KeepsFirst}
+use Rattle.table_audit.specs.Telling.{Tells}
+use Rattle.table_audit.proofs.LookedAt.{all_more}
+
+-- ---- lists
+
+pub kept_below : {X : Type 0} (n : ℕ) (xs : List X) (x : X) → length xs < n → xs ++ x ∷ [] ≡ take n (xs ++ x ∷ [])
+kept_below n xs x lt = let long = length-append xs (x ∷ []) in sym (take_all n (xs ++ x ∷ []) (omega (arith, long, lt)))
+
+pub kept_full : {X : Type 0} (n : ℕ) (xs : List X) (x : X) → length xs ≤ n → n ≤ length xs → xs ≡ take n (xs ++ x ∷ [])
+kept_full n xs x few full = sym (take_at xs (x ∷ []) n (omega (arith, few, full)))
+
+take_again : {X : Type 0} (n : ℕ) (xs : List X) (x : X) → take n (take n xs ++ x ∷ []) ≡ take n (xs ++ x ∷ [])
+take_again zero xs x = refl
+take_again (suc n) [] x = refl
+take_again (suc n) (y ∷ ys) x = ap (λ l. y ∷ l) (take_again n ys x)
+
+none_taken : {X : Type 0} (n : ℕ) (xs : List X) → 0 < n → take n xs ≡ [] → xs ≡ []
+none_taken n [] lt none = refl
+none_taken n (x ∷ xs) lt none =
+    let long : min n (length (x ∷ xs)) ≡ 0 = sym (length-take n (x ∷ xs)) ∙ ap length none in absurd (omega (arith, lt, long))
+
+both_none : {X : Type 0} (xs ys : List X) → xs ++ ys ≡ [] → (xs ≡ []) × (ys ≡ [])
+both_none [] ys none = (refl, none)
+both_none (x ∷ xs) ys none = absurd (let f : x ∷ (xs ++ ys) ≡ [] = none in cc)
+
+none_mapped : {X Y : Type 0} (f : X → Y) (xs : List X) → map f xs ≡ [] → xs ≡ []
+none_mapped f [] none = refl
+none_mapped f (x ∷ xs) none = absurd (let g : f x ∷ map f xs ≡ [] = none in cc)
+
+-- ---- one more of a meter's differences
+
+append_none : {X : Type 0} (xs : List X) → xs ++ [] ≡ xs
+append_none [] = refl
+append_none (x ∷ xs) = ap (λ l. x ∷ l) (append_none xs)
+
+pub none_kept : (meter : List ℕ) (differences : List Difference) (old : Findings) → length old.first.items ≤ MOST → KeepsFirst meter (take 0 differences) old old
+none_kept meter differences old few = record {
+  added = [];
+  same = refl;
+  named = tt;
+  kept = sym (take_all MOST old.first.items few) ∙ ap (λ (l : List Finding). take MOST l) (sym (append_none old.first.items));
+}
+
+pub kept_more : (meter : List ℕ) (differences : List Difference) (i : ℕ) (d : Difference) (finding : Finding) (old mid new : Findings)
+    → i < length differences → KeepsFirst meter (take i differences) old mid
+    → IsUnder meter finding → finding.difference ≡ get_or differences i d → new.first.items ≡ take MOST (mid.first.items ++ finding ∷ [])
+    → KeepsFirst meter (take (i + 1) differences) old new
+kept_more meter differences i d finding old mid new lt kept under same put = record {
+  added = kept.added ++ finding ∷ [];
+  same = map-append difference_of kept.added (finding ∷ []) ∙ ap (λ (ds : List Difference). ds ++ finding.difference ∷ []) kept.same
+      ∙ ap (λ (x : Difference). take i differences ++ x ∷ []) same ∙ sym (take_more differences i d lt);
+  named = all_more (IsUnder meter) kept.added finding kept.named under;
+  kept = put ∙ ap (λ (xs : List Finding). take MOST (xs ++ finding ∷ [])) kept.kept ∙ take_again MOST (old.first.items ++ kept.added) finding
+      ∙ ap (λ (xs : List Finding). take MOST xs) (append_assoc old.first.items kept.added (finding ∷ []));
+}
+
+pub kept_length : (meter : List ℕ) (differences : List Difference) (i : ℕ) (old new : Findings) → i ≤ length differences
+    → KeepsFirst meter (take i differences) old new → length new.first.items ≡ min MOST (length old.first.items + i)
+kept_length meter differences i old new le kept =
+    let added : length kept.added ≡ i =
+    sym (length-map kept.added difference_of) ∙ ap (λ (ds : List Difference). length ds) kept.same ∙ length-take-le i differences le in
+    ap (λ (fs : List Finding). length fs) kept.kept ∙ length-take MOST (old.first.items ++ kept.added)
+    ∙ ap (min MOST) (length-append old.first.items kept.added ∙ ap (λ n. length old.first.items + n) added)
+
+pub more_counted : (old mid new long now i : ℕ) → mid ≡ up_to_most (old + (long + i - MOST)) → now ≡ min MOST (long + i)
+    → new ≡ up_to_most (mid + (now + 1 - MOST)) → new ≡ up_to_most (old + (long + (i + 1) - MOST))
+more_counted old mid new long now i was have is = omega (arith, was, have, is)
+
+pub all_counted : (old mid new long i more : ℕ) → mid ≡ up_to_most (old + (long + i - MOST)) → new ≡ up_to_most (mid + more)
+    → new ≡ up_to_most (old + (long + i - MOST) + more)
+all_counted old mid new long i more was is = omega (arith, was, is)
+
+pub all_kept : (meter : List ℕ) (differences : List Difference) (i : ℕ) (old mid new : Findings) → length differences ≤ i
+    → KeepsFirst meter (take i differences) old mid → new.first ≡ mid.first → KeepsFirst meter differences old new
+all_kept meter differences i old mid new le kept same = record {
+  added = kept.added;
+  same = kept.same ∙ take_all i differences le;
+  named = kept.named;
+  kept = ap (λ v. v.items) same ∙ kept.kept;
+}
+
+-- ---- nothing is told of what is fine
+
+none_told_named : (meter : List ℕ) (differences : List Difference) (old new : Findings) → KeepsFirst meter differences old new
+    → (new.first.items ≡ []) ↔ ((old.first.items ≡ []) × (differences ≡ []))
+none_told_named meter differences old new kept = (
+  λ none.
+      let two = both_none old.first.items kept.added (none_taken MOST (old.first.items ++ kept.added) (omega arith) (sym kept.kept ∙ none)) in
+      (two.0, sym kept.same ∙ ap (λ (fs : List Finding). map difference_of fs) two.1),
+  λ two.
+      let added : kept.added ≡ [] = none_mapped difference_of kept.added (kept.same ∙ two.1) in
+      kept.kept ∙ ap (λ (fs : List Finding). take MOST (fs ++ kept.added)) two.0 ∙ ap (λ (fs : List Finding). take MOST fs) added
+      ∙ take_all MOST [] (omega arith),
+)
+
+tells_none : (fine : Bool) (old new : Differences) → old.first.items ≡ [] → Tells fine old new → IsTrue fine ↔ (new.first.items ≡ [])
+tells_none true old new none same = (λ _. ap (λ (d : Differences). d.first.items) same ∙ none, λ _. refl)
+tells_none false old new none some = (
+  λ is. absurd (let f : false ≡ true = is in cc),
+  λ none. absurd (let long : length new.first.items ≡ 0 = ap (λ (ds : List Difference). length ds) none in omega (arith, long, some)),
+)
+
+pub told_named : (place : ℕ) (row : Row) (rows : MeterRows) (meter : List ℕ) (fine : Bool) (before found : Differences) (given : List Difference)
+    (old new last : Findings) → given ≡ found.first.items → last.first ≡ new.first
+    → before.first.items ≡ [] → IsTrue fine ↔ IsFineMeter place row rows → Tells fine before found
+    → KeepsFirst meter given old new → (last.first.items ≡ []) ↔ ((old.first.items ≡ []) × IsFineMeter place row rows)
+told_named place row rows meter fine before found given old new last given_is last_is none same tells kept =
+    let told = none_told_named meter found.first.items old new (subst (λ (ds : List Difference). KeepsFirst meter ds old new) given_is kept) in
+    let as_fine = tells_none fine before found none tells in
+    let items : last.first.items ≡ new.first.items = ap (λ v. v.items) last_is in (
+      λ is. let two = told.0 (sym items ∙ is) in (two.0, same.0 (as_fine.1 two.1)),
+      λ is. items ∙ told.1 (is.0, as_fine.0 (same.1 is.1)),
+    )

@@ -1,0 +1,123 @@
+-- What is said of an audit: a line for each difference, and a last one. Each definition gives a text with something at its end.
+use Rattle.std.specs.Prelude.{◌+◌, ℕ, ℤ, ◌==◌, Bool, true, false, List, [], ◌∷◌, ◌++◌, length, Option, Some, None, if◌then◌else◌}
+use Rattle.std.specs.Prelude.{codes, decimal, String, string_bytes}
+use Rattle.std.specs.Fmt.{signed_decimal}
+use Rattle.energy_core.specs.declared.entries.Last.{Last}
+use Rattle.energy_core.specs.Verdict.{cause_number}
+use Rattle.energy_core.specs.Admission.{fault_number}
+use Rattle.meter_audit.specs.declared.faults.RowFault.{RowFault}
+use Rattle.meter_audit.specs.declared.faults.RowFault.TheVariants as cause
+use Rattle.meter_audit.specs.declared.intervals.IntervalFault.{IntervalFault}
+use Rattle.meter_audit.specs.declared.intervals.IntervalFault.TheVariants as fault
+use Rattle.table_audit.specs.declared.differences.Difference.{Difference}
+use Rattle.table_audit.specs.declared.differences.Difference.TheVariants as difference
+use Rattle.table_audit.specs.declared.differences.Table.{Table}
+use Rattle.table_audit.specs.declared.differences.Table.TheVariants as table
+use Rattle.table_audit.specs.declared.findings.Counts.{Counts}
+use Rattle.table_audit.specs.declared.findings.Finding.{Finding}
+use Rattle.table_audit.specs.declared.findings.Findings.{Findings}
+use Rattle.table_audit.specs.Meters.{up_to_most}
+
+-- ---- a difference
+
+abbrev pub table_name : Table → List ℕ
+table_name table.Installations = codes "installations"
+table_name table.Ranges = codes "ranges"
+table_name table.Entries = codes "entries"
+table_name table.Voids = codes "voids"
+table_name table.Intervals = codes "intervals"
+
+-- why an entry can't come there; causes and faults by their numbers
+abbrev pub with_cause : List ℕ → RowFault → List ℕ
+with_cause text (cause.Place wanted) = text ++ codes "the next place is " ++ decimal wanted
+with_cause text cause.OpenedAgain = text ++ codes "the meter was opened before"
+with_cause text cause.AfterClosing = text ++ codes "the meter was closed before"
+with_cause text cause.CannotBeVoided = text ++ codes "a void names it, and it is no reading"
+with_cause text cause.Unused =
+    text ++ codes "a column that its kind has no use for is not 0"
+with_cause text (cause.Scale wanted) =
+    text ++ codes "the scale factor there is " ++ signed_decimal wanted
+with_cause text (cause.Held why) =
+    text ++ codes "it would be held, cause " ++ decimal (cause_number why)
+with_cause text (cause.Rolls wanted) =
+    text ++ codes "the rollovers there are " ++ decimal wanted
+with_cause text (cause.Refused why) =
+    text ++ codes "it would be refused, fault " ++ decimal (fault_number why)
+
+abbrev pub with_interval : List ℕ → IntervalFault → List ℕ
+with_interval text (fault.Missing start wanted) =
+    text ++ codes "interval " ++ decimal start ++ codes " has no row, entries give "
+    ++ decimal wanted
+with_interval text (fault.Unwanted start has) =
+    text ++ codes "interval " ++ decimal start ++ codes " has " ++ decimal has
+    ++ codes ", entries give none"
+with_interval text (fault.Differs start has wanted) =
+    text ++ codes "interval " ++ decimal start ++ codes " has " ++ decimal has
+    ++ codes ", entries give " ++ decimal wanted
+
+abbrev pub with_stand : List ℕ → (before : List ℕ) → Last → List ℕ
+with_stand text before last =
+    text ++ before ++ decimal last.at ++ codes " " ++ decimal last.raw ++ codes " "
+    ++ signed_decimal last.sf
+
+abbrev pub with_ended : List ℕ → Bool → List ℕ
+with_ended text true = text ++ codes "is not ended, entries end it"
+with_ended text false = text ++ codes "is ended, entries don't end it"
+
+abbrev pub with_difference : List ℕ → Difference → List ℕ
+with_difference text (difference.OutOfRange name) =
+    text ++ codes "has a row in " ++ table_name name ++ codes " with a value that none may have"
+with_difference text (difference.Unnamed place) =
+    text ++ codes "row " ++ decimal place ++ codes " of installations names no meter"
+with_difference text (difference.Installation has wanted) =
+    text ++ codes "place has " ++ decimal has ++ codes ", the next is " ++ decimal wanted
+with_difference text difference.NotOpened = text ++ codes "is opened by no lawful entry"
+with_difference text (difference.Entry place why) =
+    with_cause (text ++ codes "entry " ++ decimal place ++ codes " can't come there: ") why
+with_difference text (difference.Void place) =
+    text ++ codes "void of entry " ++ decimal place
+    ++ codes " names none, or one that another names"
+with_difference text (difference.Interval differs) = with_interval text differs
+with_difference text (difference.Last has wanted) =
+    with_stand (with_stand text (codes "last has ") has) (codes ", entries give ") wanted
+with_difference text (difference.Total has wanted) =
+    text ++ codes "total has " ++ decimal has ++ codes ", entries give " ++ decimal wanted
+with_difference text (difference.Ended wanted) = with_ended text wanted
+
+-- ---- lines
+
+abbrev pub with_meter : {Z : Type 0} → List ℕ → Option (String Z) → List ℕ
+with_meter text None = text
+with_meter text (Some name) = text ++ codes "meter " ++ string_bytes name ++ codes " "
+
+abbrev pub with_line : List ℕ → Finding → List ℕ
+with_line text finding =
+    with_difference (with_meter text finding.meter) finding.difference ++ codes "\n"
+
+abbrev pub with_lines : List ℕ → List Finding → List ℕ
+with_lines text [] = text
+with_lines text (finding ∷ findings) = with_lines (with_line text finding) findings
+
+-- the differences that no line tells
+abbrev pub with_more : List ℕ → ℕ → List ℕ
+with_more text more =
+    if more == 0 then text else text ++ codes "and " ++ decimal more ++ codes " more\n"
+
+abbrev pub with_counts : List ℕ → Counts → List ℕ
+with_counts text counts =
+    text ++ codes "fine: " ++ decimal counts.meters ++ codes " meters, "
+    ++ decimal counts.entries ++ codes " entries, " ++ decimal counts.intervals
+    ++ codes " intervals\n"
+
+abbrev pub with_total : List ℕ → ℕ → List ℕ
+with_total text all = text ++ decimal all ++ codes " differences\n"
+
+-- that all is fine, or how many differences there are
+abbrev pub with_end : List ℕ → Findings → List ℕ
+with_end text found =
+    if length found.first.items == 0 then with_counts text found.counts
+    else with_total text (up_to_most (length found.first.items + found.more))
+
+abbrev pub with_findings : List ℕ → Findings → List ℕ
+with_findings text found =
+    with_end (with_more (with_lines text found.first.items) found.more) found

@@ -1,0 +1,139 @@
+//! What an audit of all meters found.
+ghost use Rattle.std.specs.Prelude.{◌≡◌, ◌≤◌, ◌+◌, ◌-◌, ◌++◌, ◌∷◌, [], length, take, IsTrue, ◌↔◌};
+ghost use Rattle.std.specs.Prelude.{IfOk, OnOk, Some, None};
+ghost use Rattle.table_audit.specs.Named.{IsUnder};
+
+use crate::differences::{Difference, MOST};
+use crate::rows::MeterRows;
+use std::alloc::{AllocError, Global};
+
+/// A difference, and the meter of which it is.
+#[derive(Debug, Drop)]
+pub struct Finding {
+    /// The meter's name, unless a row of installations names none.
+    pub meter: Option<String>,
+    pub difference: Difference,
+}
+
+/// How many rows were looked at.
+#[derive(Clone, Copy, Debug, PartialEq, Eq)]
+pub struct Counts {
+    pub meters: u64,
+    pub entries: u64,
+    pub intervals: u64,
+}
+
+/// The first differences of all meters, how many came after these, and how many rows were looked at.
+#[derive(Debug, Drop)]
+pub struct Findings {
+    pub first: Vec<Finding>,
+    pub more: u64,
+    pub counts: Counts,
+}
+
+impl Findings {
+    ghost use Rattle.table_audit.specs.Meters.{none_counted, counted, up_to_most};
+    ghost use Rattle.table_audit.specs.Named.{KeepsFirst};
+
+    /// None yet.
+    pub(crate) fn new(alloc: Global) -> Findings
+        ensures none { result.first.items ≡ [] }
+        ensures more { result.more ≡ 0 }
+        ensures counts { result.counts ≡ none_counted }
+    {
+        Findings {
+            first: Vec::new(alloc),
+            more: 0,
+            counts: Counts {
+                meters: 0,
+                entries: 0,
+                intervals: 0,
+            },
+        }
+    }
+
+    /// Whether the tables are fine: there is no difference.
+    pub fn is_fine(&self) -> bool
+        ensures { IsTrue result ↔ (self.now.first.items ≡ []) }
+    {
+        self.first.is_empty()
+    }
+
+    /// One more, which is kept or counted.
+    pub(crate) fn push(&mut self, finding: Finding) -> Result<(), AllocError>
+        requires few { length self.old.first.items ≤ MOST }
+        ensures kept { OnOk result (self.new.first.items
+            ≡ take MOST (self.old.first.items ++ finding ∷ [])) }
+        ensures more { OnOk result (self.new.more
+            ≡ up_to_most (self.old.more + (length self.old.first.items + 1 - MOST))) }
+        ensures counts { OnOk result (self.new.counts ≡ self.old.counts) }
+        ensures few { OnOk result (length self.new.first.items ≤ MOST) }
+    {
+        let more = self.more;
+        if self.first.len() < MOST {
+            self.first.push(finding)?;
+        } else {
+            self.more = more.saturating_add(1);
+        }
+        Ok(())
+    }
+
+    /// The first differences of a meter, and how many came after these.
+    pub(crate) fn tell(
+        &mut self,
+        alloc: Global,
+        meter: &str,
+        found: &[Difference],
+        more: u64,
+    ) -> Result<(), AllocError>
+        requires few { length self.old.first.items ≤ MOST }
+        ensures first { OnOk result
+            (KeepsFirst meter.now found.now self.old self.new) }
+        ensures more { OnOk result (self.new.more ≡ up_to_most (self.old.more
+            + (length self.old.first.items + length found.now - MOST) + more)) }
+        ensures counts { OnOk result (self.new.counts ≡ self.old.counts) }
+        ensures few { OnOk result (length self.new.first.items ≤ MOST) }
+    {
+        let _so_far = self.more;
+        for difference in found {
+            let finding = under(alloc, meter, difference)?;
+            self.push(finding)?;
+        }
+        self.more = self.more.saturating_add(more);
+        Ok(())
+    }
+
+    /// A meter's rows were looked at.
+    pub(crate) fn count(&mut self, rows: &MeterRows)
+        ensures counts { self.new.counts ≡ counted (Some rows.now) self.old.counts }
+        ensures first { self.new.first ≡ self.old.first }
+    {
+        let entries = rows.entries.len() as u64;
+        let intervals = rows.intervals.len() as u64;
+        self.counts = Counts {
+            meters: self.counts.meters.saturating_add(1),
+            entries: self.counts.entries.saturating_add(entries),
+            intervals: self.counts.intervals.saturating_add(intervals),
+        };
+    }
+
+    /// A row of installations that names no meter was looked at.
+    pub(crate) fn count_unnamed(&mut self)
+        ensures counts { self.new.counts ≡ counted None self.old.counts }
+        ensures first { self.new.first ≡ self.old.first }
+    {
+        self.counts.meters = self.counts.meters.saturating_add(1);
+    }
+}
+
+/// A difference of the meter of this name.
+fn under(alloc: Global, meter: &str, difference: &Difference) -> Result<Finding, AllocError>
+    ensures meter { IfOk result (IsUnder meter.now) }
+    ensures difference { IfOk result (λ finding. finding.difference ≡ difference.now) }
+{
+    let name = String::from_str(alloc, meter)?;
+    Ok(Finding {
+        meter: Some(name),
+        difference: *difference,
+    })
+}

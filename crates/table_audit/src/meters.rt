@@ -1,0 +1,144 @@
+//! The rows of all meters.
+ghost use Rattle.std.specs.Prelude.{◌≡◌, ◌≤◌, ◌↔◌, [], false, length, IsTrue, IfOk, OnOk, Some, None};
+ghost use Rattle.table_audit.specs.Looking.{Finds};
+ghost use Rattle.table_audit.specs.Meters.{IsFineMeter, TellsRow, TellsRows, TellsMeters, counted};
+ghost use Rattle.table_audit.specs.Telling.{Tells};
+
+use crate::audit::audit_rows;
+use crate::differences::{Difference, Differences, MOST, Table};
+use crate::findings::{Finding, Findings};
+use crate::queries::{installations, meter_rows};
+use crate::reading::{installation, name};
+use crate::rows::MeterRows;
+use sqlite::{Alter, Connection, Error, ErrorCode, Row};
+use std::alloc::{AllocError, Global};
+use store_tables::RowFault;
+
+/// Tells of an installation whose place isn't the next one.
+fn tell_place(has: u64, wanted: u64, found: &mut Differences) -> Result<bool, AllocError>
+    requires few { length found.old.first.items ≤ MOST }
+    ensures placed { IfOk result (λ placed. IsTrue placed ↔ (has ≡ wanted)) }
+    ensures tells { IfOk result (λ placed. Tells placed found.old found.new) }
+    ensures few { OnOk result (length found.new.first.items ≤ MOST) }
+{
+    if has == wanted {
+        return Ok(true);
+    }
+    found.push(Difference::Installation { has, wanted })?;
+    Ok(false)
+}
+
+/// Whether a row of installations is at this place, and that of a meter whose rows are fine.
+fn audit_installation(
+    alloc: Global,
+    place: u64,
+    row: &Row,
+    rows: &MeterRows,
+    found: &mut Differences,
+) -> Result<bool, AllocError>
+    requires few { length found.old.first.items ≤ MOST }
+    ensures fine { IfOk result (λ fine. IsTrue fine ↔ IsFineMeter place row.now rows.now) }
+    ensures tells { IfOk result (λ fine. Tells fine found.old found.new) }
+    ensures few { OnOk result (length found.new.first.items ≤ MOST) }
+{
+    let Ok(installed) = installation(row) else {
+        found.push(Difference::OutOfRange(Table::Installations))?;
+        return Ok(false);
+    };
+    let placed = tell_place(installed.place, place, found)?;
+    let fine = audit_rows(alloc, &installed, rows, found)?;
+    Ok(placed && fine)
+}
+
+/// A row of installations that names a meter, and the rows of that meter.
+fn audit_named(
+    alloc: Global,
+    place: u64,
+    row: &Row,
+    meter: &str,
+    rows: &MeterRows,
+    findings: &mut Findings,
+) -> Result<(), AllocError>
+    requires few { length findings.old.first.items ≤ MOST }
+    ensures told { OnOk result ((findings.new.first.items ≡ [])
+        ↔ ((findings.old.first.items ≡ []) × IsFineMeter place row.now rows.now)) }
+    ensures counts { OnOk result
+        (findings.new.counts ≡ counted (Some rows.now) findings.old.counts) }
+    ensures few { OnOk result (length findings.new.first.items ≤ MOST) }
+{
+    let mut found = Differences::new(alloc);
+    let _fine = audit_installation(alloc, place, row, rows, &mut found)?;
+    findings.tell(alloc, meter, found.first.as_slice(), found.more)?;
+    findings.count(rows);
+    Ok(())
+}
+
+/// A row of installations that names no meter.
+fn audit_unnamed(place: u64, findings: &mut Findings) -> Result<(), AllocError>
+    requires few { length findings.old.first.items ≤ MOST }
+    ensures told { OnOk result ((findings.new.first.items ≡ []) → ⊥) }
+    ensures counts { OnOk result (findings.new.counts ≡ counted None findings.old.counts) }
+    ensures few { OnOk result (length findings.new.first.items ≤ MOST) }
+{
+    findings.push(Finding {
+        meter: None,
+        difference: Difference::Unnamed { place },
+    })?;
+    findings.count_unnamed();
+    Ok(())
+}
+
+/// A row of installations, which is to be at this place, and the rows of the meter that it names.
+fn audit_row<S: Alter>(
+    alloc: Global,
+    conn: &mut Connection<S>,
+    place: u64,
+    row: &Row,
+    findings: &mut Findings,
+) -> Result<(), RowFault>
+    requires mode { conn.old.in_transaction ≡ false }
+    requires few { length findings.old.first.items ≤ MOST }
+    ensures finds { Finds S.Store conn.old conn.new result
+        (λ content _. TellsRow content place row.now findings.old findings.new) }
+    ensures few { OnOk result (length findings.new.first.items ≤ MOST) }
+{
+    let Some(meter) = name(row)? else {
+        return match audit_unnamed(place, findings) {
+            Ok(()) => Ok(()),
+            Err(_) => Err(RowFault::Sql(Error::SqliteFailure(ErrorCode::OutOfMemory))),
+        };
+    };
+    let rows = meter_rows(conn, &meter)?;
+    match audit_named(alloc, place, row, &meter, &rows, findings) {
+        Ok(()) => Ok(()),
+        Err(_) => Err(RowFault::Sql(Error::SqliteFailure(ErrorCode::OutOfMemory))),
+    }
+}
+
+/// These rows of installations, and the rows of the meters that they name.
+fn audit_rows_of<S: Alter>(
+    alloc: Global,
+    conn: &mut Connection<S>,
+    rows: &[Row],
+) -> Result<Findings, RowFault>
+    requires mode { conn.old.in_transaction ≡ false }
+    ensures finds { Finds S.Store conn.old conn.new result (TellsRows rows.now) }
+    ensures few { IfOk result (λ findings. length findings.first.items ≤ MOST) }
+{
+    let mut findings = Findings::new(alloc);
+    for (index, row) in rows.iter().enumerate() {
+        audit_row(alloc, conn, index as u64 + 1, row, &mut findings)?;
+    }
+    Ok(findings)
+}
+
+/// Whether the tables have for each meter the rows of a lawful journal: the differences, and how many rows were looked at. The
+/// rows of one meter at a time are held in memory, and those of `installations`.
+pub fn audit_meters<S: Alter>(alloc: Global, conn: &mut Connection<S>) -> Result<Findings, RowFault>
+    requires mode { conn.old.in_transaction ≡ false }
+    ensures finds { Finds S.Store conn.old conn.new result TellsMeters }
+    ensures few { IfOk result (λ findings. length findings.first.items ≤ MOST) }
+{
+    let rows = installations(conn)?;
+    audit_rows_of(alloc, conn, &rows)
+}
