@@ -164,6 +164,25 @@ def card_of(tab, register):
     return tab.run(f"[...{card}.querySelectorAll('p, dd')].map(it => it.innerText)")
 
 
+def this_year(register):
+    """Where the page asks the days by which the figures of a register go."""
+    return f"/registers/{register}/days/2026-01-01/2027-01-01"
+
+
+def quarters(meter, day, zone=ZONE):
+    """Where it asks the quarter hours of a day, which is one of a zone."""
+    first = datetime.date.fromisoformat(day)
+    both = [datetime.datetime.combine(it, datetime.time(), zone) for it in (first, first + datetime.timedelta(1))]
+    return "/".join([f"/meters/{meter}/intervals", *(f"{it.timestamp():.0f}" for it in both)])
+
+
+def rows_asked(office):
+    """What rows were asked since the last look, each once; and it looks anew. Those of this year stand beside each card."""
+    found = sorted({it for it in office.log if it.startswith(("/meters/", "/registers/")) and not it.endswith("/2026-01-01/2027-01-01")})
+    office.log.clear()
+    return found
+
+
 def figures(office, register, day):
     """The energy of a register on a day, in its month and in its year, by its rows."""
     days = office.days(register)
@@ -175,9 +194,9 @@ def see_site(tab, office, origin):
     tab.ask("Page.navigate", url=f"{origin}/")
     holds("all registers have figures", tab.wait("document.querySelectorAll('dl').length === 4"), text_of(tab, "body"))
     wanted = ["/", "/icon.svg", "/page.css", "/page.js", "/site", "/status"]
-    wanted += [f"/registers/{it}/days" for it in ("import", "main", "old", LONG)]
-    same("what the first view asks", sorted(set(office.log)), sorted(wanted))
-    same("and each once", sorted(office.log), sorted(wanted))
+    wanted += [this_year(it) for it in ("import", "main", "old", LONG)]
+    same("what the first view asks, each once", sorted(office.log), sorted(wanted))
+    same("of which the files are four", len([it for it in office.log if it not in page_office.PARTS]), 6)
     holds("the office's moment", "14:05 on Thu 26 Nov 2026" in text_of(tab, "#moment"), text_of(tab, "#moment"))
     same("the browser's zone", text_of(tab, "#zone"), "Europe/Berlin")
     same("no trouble", tab.run("document.getElementById('trouble').hidden"), True)
@@ -237,6 +256,7 @@ def holds_day(tab, office, meter, day, zone=ZONE):
 def see_day(tab, office, origin):
     """A click on a register: its day, the days before and after, as file and as picture."""
     main, second = office.of_register("main")
+    rows_asked(office)
     tab.run("document.getElementById('open-main').click()")
     holds("a click shows the day", tab.wait("document.getElementById('sum')"), text_of(tab, "#detail"))
     holds("which is today", text_of(tab, "#heading").startswith("Thu 26 Nov 2026 main, meter m2"), text_of(tab, "#heading"))
@@ -249,6 +269,7 @@ def see_day(tab, office, origin):
     holds("the day before", tab.wait("heading.innerText.startsWith('Wed 25 Nov 2026') && document.getElementById('sum')"), text_of(tab, "#heading"))
     rows = holds_day(tab, office, second, "2026-11-25")
     same("it is whole", len(rows), 96)
+    same("what days ask", rows_asked(office), [quarters("m2", "2026-11-25"), quarters("m2", "2026-11-26"), "/registers/main/months"])
     tab.run("document.getElementById('file').click()")
     lines = [f"{datetime.datetime.fromtimestamp(start, ZONE).isoformat()},{kwh(mwh)}\r\n" for start, mwh in rows]
     same("its file", downloaded("main-2026-11-25.csv"), ("start,energy_kwh\r\n" + "".join(lines)).encode())
@@ -262,6 +283,7 @@ def see_day(tab, office, origin):
 def see_changes(tab, office, origin):
     """Days of a clock change, of an exchange, before it, and without a row."""
     main, second = office.of_register("main")
+    rows_asked(office)
     show(tab, "#main/2026-10-25", "Sun 25 Oct 2026")
     rows = holds_day(tab, office, second, "2026-10-25")
     same("a day of 25 hours", len(rows), 100)
@@ -280,12 +302,15 @@ def see_changes(tab, office, origin):
     said = text_of(tab, "#detail")
     office_kwh = kwh(office.days("main")["2026-06-09"][1], 3)
     holds("a day of the meter before", "Nothing is booked here." in said and f"figure of this day is {office_kwh} kWh" in said, said)
+    asked = [quarters(long.name, "2026-03-29"), *(quarters("m2", it) for it in ("2026-06-09", "2026-06-10", "2026-10-25"))]
+    same("what such days ask", rows_asked(office), [*asked, f"/registers/{LONG}/months"])
     holds_quiet("changes", tab, origin)
 
 
 def see_sums(tab, office, origin):
     """A month's days and a year's months."""
     days = office.days("main")
+    rows_asked(office)
     show(tab, "#main/2026-10", "Oct 2026")
     rows = {day: it for day, it in days.items() if day.startswith("2026-10")}
     same("the days of a month", table_of(tab), [[title(day), kwh(mwh), str(count)] for day, (count, mwh) in rows.items()])
@@ -298,7 +323,11 @@ def see_sums(tab, office, origin):
     for link, wanted in (("after", "Nov 2026"), ("before", "Oct 2026"), ("before", "Sep 2026")):
         tab.run(f"document.getElementById('{link}').click()")
         holds(f"the month {link}", tab.wait(f"heading.innerText.startsWith('{wanted}')"), text_of(tab, "#heading"))
+    same("what a month of this year asks", rows_asked(office), [])
     show(tab, "#main/2025-12", "Dec 2025")
+    same("what a month of another year asks", rows_asked(office), ["/registers/main/days/2025-12-01/2026-01-01"])
+    rows = {day: it for day, it in days.items() if day.startswith("2025-12")}
+    same("its days", table_of(tab), [[title(day), kwh(mwh), str(count)] for day, (count, mwh) in rows.items()])
     tab.run("document.getElementById('after').click()")
     holds("the month after a year's last", tab.wait("heading.innerText.startsWith('Jan 2026')"), text_of(tab, "#heading"))
     tab.run("document.getElementById('by-Year').click()")
@@ -309,10 +338,20 @@ def see_sums(tab, office, origin):
     holds_curve("a year", tab, sums)
     tab.run("document.getElementById('before').click()")
     holds("the year before", tab.wait("heading.innerText.startsWith('2025')"), text_of(tab, "#heading"))
+    holds("which is asked", tab.wait("document.getElementById('sum')"), text_of(tab, "#detail"))
     same("which began in November", [it[0] for it in table_of(tab)], ["Nov 2025", "Dec 2025"])
+    same("what another year asks", rows_asked(office), ["/registers/main/days/2025-01-01/2026-01-01"])
     same("before which there is none", tab.run("document.getElementById('before')"), None)
     tab.run("document.querySelector('.curve a').dispatchEvent(new MouseEvent('click', {bubbles: true, cancelable: true}))")
-    holds("a click on a bar leads on", tab.wait("heading.innerText.startsWith('Nov 2025')"), text_of(tab, "#heading"))
+    holds("a click on a bar leads on", tab.wait("heading.innerText.startsWith('Nov 2025') && document.getElementById('sum')"), text_of(tab, "#heading"))
+    same("the month in which it began", [it[0] for it in table_of(tab)][0], "Thu 20 Nov 2025")
+    same("is the first", tab.run("document.getElementById('before')"), None)
+    show(tab, "#main/2025-11-21", "Fri 21 Nov 2025")
+    tab.run("document.getElementById('before').click()")
+    holds("its first day", tab.wait("heading.innerText.startsWith('Thu 20 Nov 2025') && document.getElementById('sum')"), text_of(tab, "#heading"))
+    same("before which there is none too", tab.run("document.getElementById('before')"), None)
+    asked = [quarters("m2", "2025-11-20"), quarters("m2", "2025-11-21"), "/registers/main/days/2025-11-01/2025-12-01"]
+    same("what they ask", rows_asked(office), asked)
     holds_quiet("sums", tab, origin)
 
 
@@ -336,17 +375,20 @@ def see_zone(tab, office, origin):
 def see_today(tab, office):
     """Today is the office's day while readings come, also where the browser has another one by its zone."""
     meter, rows, at = office.of_register("main")[-1], list(office.of_register("main")[-1].rows), dict(office.at)
-    past = page_office.moment(2026, 11, 27, 0, 20)
+    past, eve = page_office.moment(2026, 11, 27, 0, 20), page_office.moment(2027, 1, 1, 0, 20)
     for zone, now, wanted in (
         ("America/New_York", past, "Fri 27 Nov 2026"), ("Europe/Berlin", past, "Fri 27 Nov 2026"), ("Asia/Tokyo", NOW + 21_600, "Thu 26 Nov 2026"),
+        ("America/New_York", eve, "Fri 1 Jan 2027"), ("Asia/Tokyo", eve - 7200, "Thu 31 Dec 2026"),
     ):
         meter.rows = rows + [(start, 1000) for start in range(rows[-1][0] + 900, now, 900)]
         office.now, office.at["main"] = now, now - 60
         tab.ask("Emulation.setTimezoneOverride", timezoneId=zone)
         tab.run("document.getElementById('again').click()")
-        first = "document.getElementById('open-main').closest('.card').querySelector('dl').innerText"
-        mwh = figures(office, "main", datetime.datetime.fromtimestamp(now, ZONE).date().isoformat())[0]
-        holds(f"today in {zone}", tab.wait(f"{first}.startsWith('Today\\n{wanted}\\n{kwh(mwh, 3)} kWh')"), tab.run(first))
+        # (while other years are asked it has none)
+        first = "(document.getElementById('open-main').closest('.card').querySelector('dl') || {innerText: ''}).innerText"
+        told = [kwh(mwh, 3) for mwh in figures(office, "main", datetime.datetime.fromtimestamp(now, ZONE).date().isoformat())]
+        holds(f"today in {zone}", tab.wait(f"{first}.startsWith('Today\\n{wanted}\\n{told[0]} kWh')"), tab.run(first))
+        same(f"its month and year in {zone}", card_of(tab, "main")[2:], [f"{it} kWh" for it in told[1:]])
     meter.rows, office.at, office.now = rows, at, NOW
     tab.forget()
 
@@ -355,22 +397,35 @@ def see_today(tab, office):
 
 def see_cut(tab, office, origin):
     """A text without its end, and a question that is refused, are told, and not shown."""
-    office.cut |= {"/registers/main/days", "/meters/m-house/intervals"}
-    office.short.add("/registers/old/days")
-    office.failing["/registers/import/days"] = 503
+    house = quarters("m-house", "2026-11-26")
+    office.cut |= {this_year("main"), house}
+    office.short.add(this_year("old"))
+    office.failing[this_year("import")] = 503
     tab.ask("Page.navigate", url="about:blank")
     tab.ask("Page.navigate", url=f"{origin}/")
     holds("all have come", tab.wait("document.querySelectorAll('dl, .card .warn').length === 4"), text_of(tab, "#devices"))
-    same("days that were cut", card_of(tab, "main")[1:], ["The reply to /registers/main/days was cut off, so that nothing of it is shown."])
-    same("days of which one lacks", card_of(tab, "old")[1:], ["The reply to /registers/old/days was cut off, so that nothing of it is shown."])
+    same("days that were cut", card_of(tab, "main")[1:], [f"The reply to {this_year('main')} was cut off, so that nothing of it is shown."])
+    same("days of which one lacks", card_of(tab, "old")[1:], [f"The reply to {this_year('old')} was cut off, so that nothing of it is shown."])
     means, _, remedy = words_of_tables("refused")[13]
-    same("days that were refused", card_of(tab, "import")[1:], [f"The office can't tell /registers/import/days: refused 13: {means}. What to do: {remedy}."])
+    same("days that were refused", card_of(tab, "import")[1:], [f"The office can't tell {this_year('import')}: refused 13: {means}. What to do: {remedy}."])
     holds("and others stand", len(card_of(tab, LONG)) == 4, card_of(tab, LONG))
-    del office.failing["/registers/import/days"]
+    del office.failing[this_year("import")]
     tab.run("location.hash = '#import/2026-11-26'")
-    cut = "The reply to /meters/m-house/intervals was cut off, so that nothing of it is shown."
+    cut = f"The reply to {house} was cut off, so that nothing of it is shown."
     holds("quarter hours that were cut", tab.wait(f"detail.innerText.includes({json.dumps(cut)})"), text_of(tab, "#detail"))
     same("no bar of it is drawn", tab.run("document.querySelectorAll('.curve').length"), 0)
+    office.short.clear()
+    office.failing["/registers/old/months"] = 503
+    tab.run("location.hash = '#old/2026-02-03'")
+    told = f"The office can't tell /registers/old/months: refused 13: {means}. What to do: {remedy}."
+    holds("months that were refused", tab.wait(f"detail.innerText.includes({json.dumps(told)})"), text_of(tab, "#detail"))
+    del office.failing["/registers/old/months"]
+    december = "/registers/main/days/2025-12-01/2026-01-01"
+    office.cut.discard(this_year("main"))
+    office.cut.add(december)
+    tab.run("location.hash = '#main/2025-12'")
+    told = f"The reply to {december} was cut off, so that nothing of it is shown."
+    holds("days of a month that were cut", tab.wait(f"detail.innerText.includes({json.dumps(told)})"), text_of(tab, "#detail"))
     office.cut.clear()
     office.short.clear()
     holds("whole again", tab.wait("document.querySelectorAll('dl').length === 4 && document.getElementById('sum')"), text_of(tab, "body"))

@@ -5,6 +5,7 @@ import functools
 import http.server
 import json
 import os
+import re
 import threading
 import zoneinfo
 
@@ -16,6 +17,8 @@ PARTS = {
     "/icon.svg": ("icon.svg", "image/svg+xml"),
 }
 ZONE = zoneinfo.ZoneInfo("Europe/Berlin")
+# The paths of rows.
+TARGET = re.compile(r"/(meters|registers)/([A-Za-z][A-Za-z0-9_-]{0,15})/(intervals|days|months)(?:/([^/]+)/([^/]+))?")
 # The longest name, with digits and dashes.
 LONG = "a-0_1-2_3-4_5-67"
 
@@ -63,6 +66,43 @@ class Meter:
     @property
     def total(self):
         return sum(mwh for _, mwh in self.rows)
+
+
+def number(word):
+    """A number of 1 to 19 digits."""
+    if not re.fullmatch("[0-9]{1,19}", word):
+        raise ValueError(word)
+    return int(word)
+
+
+def day(word):
+    """A day of the calendar."""
+    if not re.fullmatch("[0-9]{4}-[0-9]{2}-[0-9]{2}", word):
+        raise ValueError(word)
+    # (a year 0000 has no day in Python, but the days of 2000)
+    datetime.date.fromisoformat(word.replace("0000-", "2000-"))
+    return word
+
+
+def intervals_of(meters, from_, till):
+    """The rows of meters that start from a moment on, and before another."""
+    return [f"{start} {mwh}" for it in meters for start, mwh in it.rows if from_ <= start < till]
+
+
+def months_of(days):
+    """The rows of days, by their months."""
+    found = {}
+    for name, (count, mwh) in days.items():
+        before = found.get(name[:7], (0, 0))
+        found[name[:7]] = (before[0] + count, before[1] + mwh)
+    return found
+
+
+def lines_of(rows, wide, first="", end="~"):
+    """Rows as lines, from a first one on, and before an end."""
+    if end < first:
+        raise ValueError(end)
+    return [f"{name} {count:{wide}} {mwh:24}" for name, (count, mwh) in rows.items() if first <= name < end]
 
 
 class Office:
@@ -139,19 +179,26 @@ class Office:
             name, kind = PARTS[path]
             with open(os.path.join(WEB, name), encoding="utf-8") as file:
                 return 200, kind, file.read()
-        text = None
         if path in ("/site", "/status"):
             told = self.site() if path == "/site" else self.status()
             whole = json.dumps(told, separators=(",", ":")) + "\n"
             return 200, "application/json", whole[:-10] if path in self.cut else whole
-        words = path.split("/")
-        if words[1] == "registers" and words[3:] == ["days"] and self.of_register(words[2]):
-            rows = self.days(words[2])
-            text = [f"{day} {count:3} {mwh:24}" for day, (count, mwh) in rows.items()]
-        if words[1] == "meters" and words[3:] == ["intervals"]:
-            text = [f"{start} {mwh}" for it in self.meters if it.name == words[2] for start, mwh in it.rows]
-        if text is None:
-            return 404, "application/json", '{"fault":404}'
+        found = TARGET.fullmatch(path)
+        match found.groups() if found else []:
+            case ["meters", name, "intervals", str(first), str(end)]:
+                of, rows = [it for it in self.meters if it.name == name], lambda: intervals_of(of, number(first), number(end))
+            case ["registers", name, "days", str(first), str(end)]:
+                of, rows = self.of_register(name), lambda: lines_of(self.days(name), 3, day(first), day(end))
+            case ["registers", name, "months", None, None]:
+                of, rows = self.of_register(name), lambda: lines_of(months_of(self.days(name)), 4)
+            case _:
+                return 404, "application/json", '{"fault":404}'
+        try:
+            text = rows()
+        except ValueError:
+            return 400, "application/json", '{"fault":400}'
+        if not of:
+            return 404, "application/json", '{"refused":1}'
         end = [] if path in self.cut else [f"end {len(text)}"]
         return 200, "text/plain", "".join(f"{line}\n" for line in [*text[path in self.short :], *end])
 
@@ -164,8 +211,7 @@ def handler(office):
             body = text.encode()
             self.send_response(code)
             self.send_header("Content-Type", kind)
-            if kind != "text/plain":
-                self.send_header("Content-Length", str(len(body)))
+            self.send_header("Content-Length", str(len(body)))
             self.send_header("Connection", "close")
             if self.path in PARTS:
                 self.send_header("Content-Security-Policy", "default-src 'self'")

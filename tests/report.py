@@ -29,6 +29,8 @@ def quarter(day):
     return (0, 0, 1)[day] if day < 3 else 8_543 * day + 7
 
 
+# The readings that were held: one at every seventh noon of UTC, each for the next cause, and two in the last second of 2023 in the zone and the one after it.
+HELD = sorted([(BEGIN + DAY * day + DAY // 2, day // 7 % 8 + 1) for day in range(0, DAYS, 7)] + [(1704063599, 6), (1704063600, 6)])
 QUARTERS = [(BEGIN + DAY * day + 900 * at, quarter(day)) for day in range(DAYS) for at in range(96)]
 
 
@@ -39,6 +41,9 @@ def office(db):
         raw += 96 * quarter(day)
         entries.append(f"('m1', {day + 2}, 2, {BEGIN + DAY * (day + 1)}, {raw}, 0, 0, -3)")
     rows = [f"('m1', {start}, {mwh})" for start, mwh in QUARTERS]
+    polls = [f"({poll}, 'inv', 1, {moment}, {poll}, 3, 40094, 3)" for poll, (moment, _) in enumerate(HELD, 1)]
+    outcomes = [f"({poll}, {moment}, 1, 0)" for poll, (moment, _) in enumerate(HELD, 1)]
+    holds = [f"({poll}, 'm1', {poll}, {moment}, 5, 0, {cause})" for poll, (moment, cause) in enumerate(HELD, 1)]
     text = f"""BEGIN;
         INSERT INTO devices VALUES (1, 'inv', 1, 5, 1);
         INSERT INTO registers VALUES (1, 'main', 'inv', 3, 40094, 0, -3), (2, 'spare', 'inv', 3, 40194, 0, -3);
@@ -46,6 +51,9 @@ def office(db):
         INSERT INTO ranges VALUES ('m1', 4294967296);
         INSERT INTO entries VALUES {", ".join(entries)};
         INSERT INTO intervals VALUES {", ".join(rows)};
+        INSERT INTO polls VALUES {", ".join(polls)};
+        INSERT INTO outcomes VALUES {", ".join(outcomes)};
+        INSERT INTO holds VALUES {", ".join(holds)};
         COMMIT;"""
     subprocess.run(["bash", str(HERE / "schema.sh"), db, ZONE], check=True)
     subprocess.run(["sqlite3", "-bail", db], input=text, text=True, check=True)
@@ -128,19 +136,23 @@ def statement(unit, form, first, till):
     found = [it for it in readings if within(it[0])]
     total = sum(mwh for start, mwh in QUARTERS if within(start))
     stands = [found[0], found[-1]] if found else [None, None]
-    names = ["meter", "first", f"first_{unit}", "last", f"last_{unit}", f"energy_{unit}", "by_hand", "resets", "rescales", "voids"]
-    def row(nothing, number):
+    causes = [cause for moment, cause in HELD if within(moment)]
+    held = {str(cause): causes.count(cause) for cause in sorted(set(causes))}
+    names = ["meter", "first", f"first_{unit}", "last", f"last_{unit}", f"energy_{unit}", "by_hand", "resets", "rescales", "voids", "held"]
+    def joined(mark):
+        return mark.join(f"{cause}:{count}" for cause, count in held.items()) or "0"
+    def row(nothing, number, counts):
         pairs = [value for it in stands for value in ((number(it[0]), energy(unit, it[1])) if it else (nothing, nothing))]
-        return ["m1", *pairs, energy(unit, total), *[number(0)] * 4]
+        return ["m1", *pairs, energy(unit, total), *[number(0)] * 4, counts]
     if form == "json":
-        return [dict(zip(names, row(None, int)))] if there else []
+        return [dict(zip(names, row(None, int, held)))] if there else []
     table = io.StringIO()
     if form == "csv":
         writer = csv.writer(table)
         writer.writerow(names)
-        writer.writerows([row("", str)] if there else [])
+        writer.writerows([row("", str, joined(";"))] if there else [])
         return table.getvalue()
-    return (" ".join(row("-", str)) + "\n" if there else "") + f"end {int(there)}\n"
+    return (" ".join(row("-", str, joined(","))) + "\n" if there else "") + f"end {int(there)}\n"
 
 
 def hold_statement(db, unit, form, first, till):

@@ -306,7 +306,7 @@ def copies_what_changed(shards):
     north.meters["main-1"].read(NOVEMBER + 900 * 201, 1)
 
     def going_on(target):
-        if target.endswith("/intervals") and north.meters["main-1"].at < NOVEMBER + 900 * 204:
+        if "/intervals" in target and north.meters["main-1"].at < NOVEMBER + 900 * 204:
             north.meters["main-1"].read(north.meters["main-1"].at, 3)
         return before(target)
 
@@ -368,6 +368,62 @@ def plain(line):
     """A line of a bill, whose number of kWh may have lost zeros at its end."""
     *words, kwh = line.split("\t")
     return [*words, decimal.Decimal(kwh)]
+
+
+def reads_a_part(shards):
+    """Of a meter that goes far back its last rows are asked for, and all of them where these don't show what happened."""
+    mocks = Mocks(["west"])
+    office = mocks.offices["west"]
+    filled(office, 60 * 96)
+    sites = write_list("far", {"west": (mocks.url("west"), [])})
+    copy = lambda *words: shards.collect(sites, *words)
+    copy()
+    compare("two months", shards, mocks.sites())
+    meter, rows = office.meters["main-1"], office.meters["main-1"].rows
+    end = meter.at
+    of_part = f"/meters/main-1/intervals/{end - 35 * 86400}/{1 << 32}"
+    of_all = "/meters/main-1/intervals"
+
+    def copied(what, wanted, asked):
+        office.asked.clear()
+        same(what, copy()[1][0], wanted)
+        same(f"{what}: it is asked for", [it for it in office.asked if "intervals" in it], asked)
+
+    meter.read(end, 7)
+    copied("a reading behind two months", "west 1 meters 1 rows 1 days", [of_part])
+    compare("a reading behind two months", shards, mocks.sites())
+    # the last readings are voided: the office tells an earlier entry than at the last copy
+    for start in (end, end - 900):
+        meter.last -= rows.pop(start)
+    meter.at = end - 900
+    copied("voids of the last readings", "west 1 meters 2 rows 2 days", [f"/meters/main-1/intervals/{end - 900 - 35 * 86400}/{1 << 32}"])
+    compare("voids of the last readings", shards, mocks.sites())
+    # voids between readings: of the last weeks, and of the first day
+    rows[end - 900 * 96] += rows.pop(end - 900 * 97)
+    meter.read(end - 900, 3)
+    copied("a void of the last weeks", "west 1 meters 3 rows 2 days", [f"/meters/main-1/intervals/{end - 900 - 35 * 86400}/{1 << 32}"])
+    compare("a void of the last weeks", shards, mocks.sites())
+    rows[NOVEMBER + 86400] += rows.pop(NOVEMBER + 86400 - 900)
+    meter.read(end, 5)
+    copied("a void of the first day, which moves energy into the second", "west 1 meters 3 rows 3 days", [of_part, of_all])
+    compare("a void of the first day", shards, mocks.sites())
+    rows[NOVEMBER + 900 * 8] += 1
+    rows[NOVEMBER + 900 * 9] -= 1
+    meter.read(end + 900, 5)
+    copied("a void within the first day isn't seen", "west 1 meters 1 rows 1 days", [f"/meters/main-1/intervals/{end + 900 - 35 * 86400}/{1 << 32}"])
+    same("but found where all is read", copy("--whole")[1][0], "west 2 meters 2 rows 0 days")
+    compare("a void within the first day", shards, mocks.sites())
+    # a correction long ago that has another total
+    meter.last += 40
+    rows[NOVEMBER + 900 * 8] += 40
+    copied("another total long ago", "west 1 meters 1 rows 1 days", [f"/meters/main-1/intervals/{end + 1800 - 35 * 86400}/{1 << 32}", of_all])
+    compare("another total long ago", shards, mocks.sites())
+    office.has_parts = False
+    meter.read(end + 1800, 5)
+    copied("an office that tells no part", "west 1 meters 1 rows 1 days", [f"/meters/main-1/intervals/{end + 1800 - 35 * 86400}/{1 << 32}", of_all])
+    office.has_parts = True
+    compare("an office that tells no part", shards, mocks.sites())
+    same("nothing differs behind parts", shards.lines("SELECT * FROM energy.differences"), [])
 
 
 def tells_faults(shards, mocks):
@@ -544,7 +600,7 @@ def fails_at_each_call(shards):
     server = http.server.ThreadingHTTPServer(("127.0.0.1", 0), Between)
     server.engine, server.http = shards.one.http, server.server_port
     threading.Thread(target=server.serve_forever, daemon=True).start()
-    cases = {f"{how[0]}{at}": (how, at) for how in ("never arrives", "carried out") for at in range(1, 15)}
+    cases = {f"{how[0]}{at}": (how, at) for how in ("never arrives", "carried out") for at in range(1, 20)}
     mocks = Mocks(cases)
     for office in mocks.offices.values():
         filled(office, 100)
@@ -949,6 +1005,8 @@ def main():
         mocks = copies_what_changed(shards)
         tells_faults(shards, mocks)
         by_postgres(mocks)
+        drop_all(shards)
+        reads_a_part(shards)
     if "failures" in parts:
         drop_all(shards)
         fails_at_each_call(shards)

@@ -49,7 +49,7 @@ class Office:
     """An office whose meters are as they were made."""
 
     def __init__(self):
-        self.meters, self.has_site, self.asked = {}, True, []
+        self.meters, self.has_site, self.has_parts, self.asked = {}, True, True, []
 
     def add(self, name, register, at):
         self.meters[name] = Meter(name, register, at)
@@ -69,6 +69,8 @@ class Office:
             return 200, json.dumps(self.meters[found[1]].told(), separators=(",", ":"))
         if (found := re.fullmatch("/meters/([^/]+)/intervals", target)) and found[1] in self.meters:
             return 200, intervals_text(self.meters[found[1]].rows)
+        if (found := re.fullmatch("/meters/([^/]+)/intervals/([0-9]+)/([0-9]+)", target)) and found[1] in self.meters and self.has_parts:
+            return 200, intervals_text({start: mwh for start, mwh in self.meters[found[1]].rows.items() if int(found[2]) <= start < int(found[3])})
         if (found := re.fullmatch("/registers/([^/]+)/days", target)) and self.of(found[1]):
             return 200, days_text([meter.rows for meter in self.of(found[1])])
         return 404, '{"refused":1}'

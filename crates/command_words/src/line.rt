@@ -65,7 +65,7 @@ pub enum CommandLine<'a> {
         db: &'a str,
         to: &'a str,
     },
-    /// Whether the tables of an office's file have the rows of lawful journals.
+    /// Whether the rows of a file's meters are those of lawful journals.
     Audit {
         db: &'a str,
     },

@@ -293,7 +293,7 @@ const BACKUP: CommandText<'static> = CommandText {
 
 const AUDIT: CommandText<'static> = CommandText {
     name: "audit",
-    about: "Tells whether the rows of an office's meters agree",
+    about: "Checks each meter's rows against its entries; it only reads",
     after: "Example: sunreg audit --db office.db",
     options: &[DB],
 };

@@ -13,5 +13,6 @@ pub mod RowLinesLemmas
 pub mod Examples
 pub mod TallyLemmas
 pub mod EnergyLemmas
+pub mod HeldLemmas
 pub mod StatementLemmas
 mod StatementExamples

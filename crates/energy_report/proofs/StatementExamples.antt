@@ -5,21 +5,26 @@ use Rattle.std.specs.Fmt.{digits}
 use Rattle.energy_core.specs.Value.{unit_of}
 use Rattle.energy_core.specs.declared.entries.Entry.TheVariants as step
 use Rattle.energy_core.specs.declared.entries.Last.{Last}
+use Rattle.energy_core.specs.declared.verdicts.Cause.{Cause}
+use Rattle.energy_core.specs.declared.verdicts.Cause.TheVariants as cause
 use Rattle.interval_core.specs.declared.zone.Zone.{Zone}
 use Rattle.meter_journal.specs.declared.lines.EntryKind.{EntryKind}
 use Rattle.meter_journal.specs.declared.lines.EntryKind.TheVariants as kind
 use Rattle.office_books.specs.declared.entries.MeterEntry.{MeterEntry}
 use Rattle.office_books.specs.declared.entries.MeterEntry.TheVariants as entry
+use Rattle.office_events.specs.declared.facts.HeldReading.{HeldReading}
 use Rattle.energy_report.specs.declared.form.EnergyUnit.{EnergyUnit}
 use Rattle.energy_report.specs.declared.form.EnergyUnit.TheVariants.{KilowattHours, MilliwattHours}
 use Rattle.energy_report.specs.declared.form.Format.{Format}
 use Rattle.energy_report.specs.declared.form.Format.TheVariants.{Text, Csv, Json}
 use Rattle.energy_report.specs.declared.form.StatementForm.{StatementForm}
+use Rattle.energy_report.specs.declared.held_counts.HeldCounts.{HeldCounts}
 use Rattle.energy_report.specs.declared.meter_statement.MeterStatement.{MeterStatement}
 use Rattle.energy_report.specs.declared.tallies.EntryTally.{EntryTally}
 use Rattle.interval_core.specs.Ranges.{all_days}
+use Rattle.energy_report.specs.Held.{held_within, none_held}
 use Rattle.energy_report.specs.Statements.{energy_within, tally_of, worth_of}
-use Rattle.energy_report.specs.StatementTexts.{statement_text}
+use Rattle.energy_report.specs.StatementTexts.{held_some, held_text, statement_text}
 
 -- ---- A meter that counts Wh: it was installed at 0, read at 5, a number by hand was voided, it was reset from 7 to 0, and read by hand at 2
 
@@ -84,34 +89,79 @@ five_kwh = refl
 no_such_scale : worth_of (stood (pos 4)) ≡ 0
 no_such_scale = refl
 
+-- ---- readings that were held: three for another scale, one for a gap, and one past the last moment, which is in no range
+
+abbrev held_at : (moment : ℕ) → Cause → HeldReading
+held_at moment why = record { meter = codes "m1"; poll = 1; at = moment; raw = 5; sf = pos 0; cause = why }
+
+abbrev holds : List HeldReading
+holds = held_at 1500 cause.ScaleChanged ∷ held_at 2500 cause.GapTooLong ∷ held_at 3500 cause.ScaleChanged
+    ∷ held_at 4500 cause.ScaleChanged ∷ held_at 4102444801 cause.NotAccumulated ∷ []
+
+abbrev some_held : HeldCounts
+some_held = record {
+  not_accumulated = 0;
+  scale_changed = 3;
+  not_later = 0;
+  span_too_long = 0;
+  gap_too_long = 1;
+  too_fast = 0;
+  total_full = 0;
+  not_below_range = 0;
+}
+
+all_holds : (zone : Zone) → held_within zone all_days holds ≡ some_held
+all_holds zone = refl
+
+no_holds : (zone : Zone) → held_within zone all_days [] ≡ none_held
+no_holds zone = refl
+
+-- each cause with its own number, the most that a count has
+abbrev all_held : HeldCounts
+all_held = record {
+  not_accumulated = 18446744073709551615;
+  scale_changed = 2;
+  not_later = 3;
+  span_too_long = 4;
+  gap_too_long = 5;
+  too_fast = 6;
+  total_full = 7;
+  not_below_range = 8;
+}
+
+each_cause : held_text Text all_held ≡ codes "1:18446744073709551615,2:2,3:3,4:4,5:5,6:6,7:7,8:8"
+unfolding digits held_some
+each_cause = refl
+
 -- ---- texts: a meter with entries in the range, and one without
 
 abbrev m1 : MeterStatement
-m1 = record { meter = codes "m1"; entries = tally; mwh = 9000 }
+m1 = record { meter = codes "m1"; entries = tally; mwh = 9000; held = some_held }
 
 abbrev m2 : MeterStatement
 m2 = record {
   meter = codes "m2";
   entries = record { first = None; last = None; by_hand = 0; resets = 0; rescales = 0; voids = 0 };
   mwh = 0;
+  held = none_held;
 }
 
 abbrev form : EnergyUnit → Format → StatementForm
 form unit format = record { range = all_days; unit = unit; format = format }
 
 as_text : statement_text (form MilliwattHours Text) (m1 ∷ m2 ∷ [])
-    ≡ codes "m1 1000 0 5000 2000 9000 1 1 0 1\nm2 - - - - 0 0 0 0 0\nend 2\n"
-unfolding digits unit_of
+    ≡ codes "m1 1000 0 5000 2000 9000 1 1 0 1 2:3,5:1\nm2 - - - - 0 0 0 0 0 0\nend 2\n"
+unfolding digits held_some unit_of
 as_text = refl
 
 as_table : statement_text (form KilowattHours Csv) (m1 ∷ m2 ∷ [])
-    ≡ codes "meter,first,first_kwh,last,last_kwh,energy_kwh,by_hand,resets,rescales,voids\r\nm1,1000,0.000000,5000,0.002000,0.009000,1,1,0,1\r\nm2,,,,,0.000000,0,0,0,0\r\n"
-unfolding digits unit_of
+    ≡ codes "meter,first,first_kwh,last,last_kwh,energy_kwh,by_hand,resets,rescales,voids,held\r\nm1,1000,0.000000,5000,0.002000,0.009000,1,1,0,1,2:3;5:1\r\nm2,,,,,0.000000,0,0,0,0,0\r\n"
+unfolding digits held_some unit_of
 as_table = refl
 
 as_objects : statement_text (form MilliwattHours Json) (m1 ∷ m2 ∷ [])
-    ≡ codes "[{\"meter\":\"m1\",\"first\":1000,\"first_mwh\":\"0\",\"last\":5000,\"last_mwh\":\"2000\",\"energy_mwh\":\"9000\",\"by_hand\":1,\"resets\":1,\"rescales\":0,\"voids\":1},\n{\"meter\":\"m2\",\"first\":null,\"first_mwh\":null,\"last\":null,\"last_mwh\":null,\"energy_mwh\":\"0\",\"by_hand\":0,\"resets\":0,\"rescales\":0,\"voids\":0}]\n"
-unfolding digits unit_of
+    ≡ codes "[{\"meter\":\"m1\",\"first\":1000,\"first_mwh\":\"0\",\"last\":5000,\"last_mwh\":\"2000\",\"energy_mwh\":\"9000\",\"by_hand\":1,\"resets\":1,\"rescales\":0,\"voids\":1,\"held\":{\"2\":3,\"5\":1}},\n{\"meter\":\"m2\",\"first\":null,\"first_mwh\":null,\"last\":null,\"last_mwh\":null,\"energy_mwh\":\"0\",\"by_hand\":0,\"resets\":0,\"rescales\":0,\"voids\":0,\"held\":{}}]\n"
+unfolding digits held_some unit_of
 as_objects = refl
 
 no_meter : statement_text (form MilliwattHours Json) [] ≡ codes "[]\n"

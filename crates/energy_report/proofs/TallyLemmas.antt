@@ -11,7 +11,7 @@ use Rattle.office_books.specs.declared.entries.MeterEntry.{MeterEntry}
 use Rattle.interval_core.specs.declared.day_range.DayRange.{DayRange}
 use Rattle.energy_report.specs.declared.tallies.EntryTally.{EntryTally}
 use Rattle.energy_report.specs.RowLines.{counted}
-use Rattle.energy_report.specs.Statements.{count_of, is_corrected, is_manual, is_rescale, is_reset, is_voided, stand_of, stands_within, tally_of}
+use Rattle.energy_report.specs.Statements.{is_corrected, is_manual, is_rescale, is_reset, is_voided, stand_of, stands_within, tally_of}
 use Rattle.energy_report.proofs.SnocLemmas.{capped}
 
 count_push : {X : Type 0} (p : X → Bool) (xs : List X) (x : X) → count_by p (xs ++ x ∷ []) ≡ count_by p xs + cond (p x) 1 0
@@ -19,8 +19,8 @@ count_push {X} p xs x =
     let f : X → ℕ = λ y. cond (p y) 1 0 in
     omega (arith, sum_by-append f xs (x ∷ []), sum_by-cons f x [])
 
-counts : (p : MeterEntry → Bool) (before : List MeterEntry) (e : MeterEntry)
-    → counted (count_of p before + cond (p e) 1 0) ≡ count_of p (before ++ e ∷ [])
+pub counts : {X : Type 0} (p : X → Bool) (before : List X) (e : X)
+    → counted (counted (count_by p before) + cond (p e) 1 0) ≡ counted (count_by p (before ++ e ∷ []))
 counts p before e =
     capped 18446744073709551615 (count_by p before) (cond (p e) 1 0) ∙ ap counted (sym (count_push p before e))
 

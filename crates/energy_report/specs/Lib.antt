@@ -5,6 +5,8 @@ pub mod Rows
 pub mod Texts
 pub mod Writing
 pub mod RowLines
+pub mod Held
+pub mod HeldSinks
 pub mod Statements
 pub mod Energies
 pub mod StatementTexts

@@ -1,15 +1,19 @@
 -- The text of a statement: a row for each meter, in one of three formats, energies in one of two units. Moments are seconds since
 -- 1970-01-01 UTC.
-use Rattle.std.specs.Prelude.{ℕ, Bool, true, false, ◌++◌, List, [], length, codes, Option, Some, None}
-use Rattle.std.specs.List.{join_by}
+use Rattle.std.specs.Prelude.{ℕ, Bool, true, false, not, ◌==◌, ◌++◌, List, [], ◌∷◌, length, codes, Option, Some, None, if◌then◌else◌}
+use Rattle.std.specs.List.{filter, join_by}
 use Rattle.std.specs.Fmt.{decimal}
 use Rattle.energy_core.specs.declared.entries.Last.{Last}
+use Rattle.energy_core.specs.Verdict.{cause_number}
 use Rattle.energy_report.specs.declared.form.EnergyUnit.{EnergyUnit}
 use Rattle.energy_report.specs.declared.form.Format.{Format}
 use Rattle.energy_report.specs.declared.form.Format.TheVariants.{Text, Csv, Json}
 use Rattle.energy_report.specs.declared.form.StatementForm.{StatementForm}
+use Rattle.energy_report.specs.declared.held_counts.HeldCount.{HeldCount}
+use Rattle.energy_report.specs.declared.held_counts.HeldCounts.{HeldCounts}
 use Rattle.energy_report.specs.declared.meter_statement.MeterStatement.{MeterStatement}
 use Rattle.energy_report.specs.declared.tallies.EntryTally.{EntryTally}
+use Rattle.energy_report.specs.Held.{by_cause}
 use Rattle.energy_report.specs.Statements.{worth_of}
 use Rattle.energy_report.specs.Texts.{ending_by, energy_text, separator_by, unit_word}
 
@@ -35,6 +39,47 @@ worth_text format unit None = nothing format
 worth_text format unit (Some stand) =
     quote format ++ energy_text unit (worth_of stand) ++ quote format
 
+-- ---- readings that were held: `2:3,5:1` in a text are three for cause 2 and one for cause 5
+
+-- what stands between two counts; a table has commas between its fields
+abbrev pub held_mark : Format → List ℕ
+held_mark Text = codes ","
+held_mark Csv = codes ";"
+held_mark Json = codes ","
+
+-- the number of a cause, and how many were held for it
+abbrev pub count_text : Format → HeldCount → List ℕ
+count_text format one =
+    quote format ++ decimal (cause_number one.cause) ++ quote format ++ codes ":"
+    ++ decimal one.count
+
+abbrev pub counts_text : Format → List HeldCount → List ℕ
+counts_text format counts = join_by (count_text format) (held_mark format) counts
+
+-- those causes for which some were held, in order of their numbers
+unfoldable pub held_some : HeldCounts → List HeldCount
+held_some held = filter (λ one. not (one.count == 0)) (by_cause held)
+
+abbrev pub counts_or_zero : Format → List HeldCount → List ℕ
+counts_or_zero format [] = codes "0"
+counts_or_zero format (first ∷ counts) = counts_text format (first ∷ counts)
+
+-- a field, or a member's object
+abbrev pub held_text : Format → HeldCounts → List ℕ
+held_text Text held = counts_or_zero Text (held_some held)
+held_text Csv held = counts_or_zero Csv (held_some held)
+held_text Json held = codes "{" ++ counts_text Json (held_some held) ++ codes "}"
+
+-- what one count more puts behind those before it
+abbrev pub are_none : List HeldCount → Bool
+are_none [] = true
+are_none (first ∷ counts) = false
+
+abbrev pub count_piece : Format → (is_first : Bool) → HeldCount → List ℕ
+count_piece format is_first one =
+    if one.count == 0 then [] else
+    (if is_first then [] else held_mark format) ++ count_text format one
+
 -- ---- fields with a mark before each but the first: a line of text, or a record of a table
 
 abbrev pub stand_fields : StatementForm → (mark : List ℕ) → Option Last → List ℕ
@@ -51,6 +96,7 @@ fields form mark row =
     row.meter ++ stand_fields form mark row.entries.first
     ++ stand_fields form mark row.entries.last
     ++ mark ++ energy_text form.unit row.mwh ++ count_fields mark row.entries
+    ++ mark ++ held_text form.format row.held
 
 -- ---- an object
 
@@ -71,7 +117,8 @@ object unit row =
     ++ stand_members unit (codes "first") row.entries.first
     ++ stand_members unit (codes "last") row.entries.last
     ++ codes "\"energy_" ++ unit_word unit ++ codes "\":\"" ++ energy_text unit row.mwh
-    ++ codes "\"" ++ count_members row.entries ++ codes "}"
+    ++ codes "\"" ++ count_members row.entries ++ codes ",\"held\":" ++ held_text Json row.held
+    ++ codes "}"
 
 -- ---- rows, and what stands around them
 
@@ -86,7 +133,7 @@ row_text form row = row_by form.format form row
 abbrev pub csv_header : EnergyUnit → List ℕ
 csv_header unit =
     codes "meter,first,first_" ++ unit_word unit ++ codes ",last,last_" ++ unit_word unit
-    ++ codes ",energy_" ++ unit_word unit ++ codes ",by_hand,resets,rescales,voids\r\n"
+    ++ codes ",energy_" ++ unit_word unit ++ codes ",by_hand,resets,rescales,voids,held\r\n"
 
 abbrev pub opening_by : Format → EnergyUnit → List ℕ
 opening_by Text unit = []

@@ -3,6 +3,8 @@
 
 mod energy_within;
 mod form;
+mod held_counts;
+mod held_within;
 mod laws;
 mod meter_statement;
 mod report_rows;
@@ -16,6 +18,8 @@ mod tallies;
 
 pub use energy_within::EnergyWithin;
 pub use form::{EnergyUnit, Format, Period, ReportForm, StatementForm};
+pub use held_counts::{HeldCount, HeldCounts};
+pub use held_within::HeldWithin;
 pub use laws::{
     plain_reports_are_lists_of_days, ranges_add_up, rows_add_up, rows_are_shown, rows_are_whole,
 };

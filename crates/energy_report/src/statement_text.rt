@@ -1,20 +1,22 @@
 //! The text of a statement. No call takes memory.
-ghost use Rattle.std.specs.Prelude.{◌≡◌, ◌≤◌, ◌+◌, ◌++◌, length};
+ghost use Rattle.std.specs.Prelude.{◌≡◌, ◌≤◌, ◌+◌, ◌++◌, ◌&&◌, ◌==◌, length};
 ghost use Rattle.sun_points.specs.Writing.{GotText};
+ghost use Rattle.energy_core.specs.Verdict.{cause_number};
 ghost use Rattle.energy_report.specs.Statements.{worth_of};
 ghost use Rattle.energy_report.specs.StatementTexts as text;
 ghost use Rattle.energy_report.specs.Texts.{ending_by};
 
 use crate::form::{EnergyUnit, Format, StatementForm};
+use crate::held_counts::{HeldCount, HeldCounts};
 use crate::meter_statement::MeterStatement;
 use crate::row_text::{energy, unit_word};
-use crate::tallies::EntryTally;
+use crate::tallies::{EntryTally, both};
 use energy_core::{Last, MAX_SCALE, MIN_SCALE, energy_up_to};
 use script_text::Text;
 use std::io::{self, Write};
 use sun_points::Sink;
 
-// A row, or what stands around rows: it has at most 700 characters.
+// A row, or what stands around rows: it has at most 900 characters.
 type Page = Text<1024>;
 
 /// Writes the statement of meters: all of it, or a beginning where a write fails.
@@ -57,7 +59,7 @@ fn push_header(page: &mut Page, unit: EnergyUnit)
     page.push(unit_word(unit));
     page.push(b",energy_");
     page.push(unit_word(unit));
-    page.push(b",by_hand,resets,rescales,voids\r\n");
+    page.push(b",by_hand,resets,rescales,voids,held\r\n");
 }
 
 fn ending_page(form: &StatementForm, count: u64) -> Page
@@ -180,13 +182,93 @@ fn push_worth(page: &mut Page, format: Format, unit: EnergyUnit, stand: &Option<
     }
 }
 
+// ---- readings that were held
+
+fn held_mark(format: Format) -> &'static [u8]
+    ensures word { result.now ≡ text.held_mark format }
+    ensures size { length result.now ≤ 1 }
+{
+    match format {
+        Format::Text | Format::Json => b",",
+        Format::Csv => b";",
+    }
+}
+
+fn push_held(page: &mut Page, format: Format, held: &HeldCounts)
+    requires { length page.old ≤ 700 }
+    ensures bytes { page.new ≡ page.old ++ text.held_text format held.now }
+    ensures size { length page.new ≤ length page.old + 218 }
+{
+    match format {
+        Format::Text | Format::Csv => push_counts_or_zero(page, format, held),
+        Format::Json => {
+            page.push(b"{");
+            push_counts(page, format, held);
+            page.push(b"}");
+        }
+    }
+}
+
+fn push_counts_or_zero(page: &mut Page, format: Format, held: &HeldCounts)
+    requires { length page.old ≤ 700 }
+    ensures bytes { page.new ≡ page.old ++ text.counts_or_zero format (text.held_some held.now) }
+    ensures size { length page.new ≤ length page.old + 217 }
+{
+    let are_none = push_counts(page, format, held);
+    if are_none {
+        page.push(b"0");
+    }
+}
+
+// The counts of those causes for which some were held; and whether there are none.
+fn push_counts(page: &mut Page, format: Format, held: &HeldCounts) -> bool
+    requires { length page.old ≤ 710 }
+    ensures bytes { page.new ≡ page.old ++ text.counts_text format (text.held_some held.now) }
+    ensures none { result ≡ text.are_none (text.held_some held.now) }
+    ensures size { length page.new ≤ length page.old + 216 }
+{
+    let counts = held.by_cause();
+    let mut are_none = true;
+    for one in &counts {
+        push_count(page, format, are_none, one);
+        are_none = both(are_none, one.count == 0);
+    }
+    are_none
+}
+
+// A count that is not 0, and before it what stands between two.
+fn push_count(page: &mut Page, format: Format, is_first: bool, one: &HeldCount)
+    requires { length page.old ≤ 910 }
+    ensures bytes { page.new ≡ page.old ++ text.count_piece format is_first one.now }
+    ensures size { length page.new ≤ length page.old + 27 }
+{
+    if one.count == 0 {
+        return;
+    }
+    if !is_first {
+        page.push(held_mark(format));
+    }
+    push_one(page, format, one);
+}
+
+fn push_one(page: &mut Page, format: Format, one: &HeldCount)
+    requires { length page.old ≤ 911 }
+    ensures bytes { page.new ≡ page.old ++ text.count_text format one.now }
+    ensures size { length page.new ≤ length page.old + 26 }
+{
+    page.push(quote(format));
+    page.push_number(b"", one.cause.number());
+    page.push(quote(format));
+    page.push_number(b":", one.count);
+}
+
 // ---- fields
 
 fn push_fields(page: &mut Page, form: &StatementForm, mark: &[u8], row: &MeterStatement)
     requires room { length page.old ≤ 2 }
     requires few { length mark.now ≤ 1 }
     ensures bytes { page.new ≡ page.old ++ text.fields form.now mark.now row.now }
-    ensures size { length page.new ≤ length page.old + 400 }
+    ensures size { length page.new ≤ length page.old + 700 }
 {
     page.push(row.meter.as_bytes());
     push_stand_fields(page, form, mark, &row.entries.first);
@@ -194,6 +276,8 @@ fn push_fields(page: &mut Page, form: &StatementForm, mark: &[u8], row: &MeterSt
     page.push(mark);
     page.push(energy(form.unit, row.mwh).bytes());
     push_count_fields(page, mark, &row.entries);
+    page.push(mark);
+    push_held(page, form.format, &row.held);
 }
 
 fn push_stand_fields(page: &mut Page, form: &StatementForm, mark: &[u8], stand: &Option<Last>)
@@ -237,6 +321,8 @@ fn push_object(page: &mut Page, unit: EnergyUnit, row: &MeterStatement)
     page.push(energy(unit, row.mwh).bytes());
     page.push(b"\"");
     push_count_members(page, &row.entries);
+    page.push(b",\"held\":");
+    push_held(page, Format::Json, &row.held);
     page.push(b"}");
 }
 

@@ -141,7 +141,7 @@ fn is_rescale(entry: &MeterEntry) -> bool
 
 // ---- one entry more
 
-fn both(one: bool, other: bool) -> bool
+pub(crate) fn both(one: bool, other: bool) -> bool
     ensures { result ≡ one && other }
 {
     one && other
@@ -162,7 +162,7 @@ fn later(last: Option<Last>, counts: bool, stand: Last) -> Option<Last>
     if counts { Some(stand) } else { last }
 }
 
-fn tallied(count: u64, counts: bool) -> u64
+pub(crate) fn tallied(count: u64, counts: bool) -> u64
     ensures { result ≡ counted (count + (if counts then 1 else 0)) }
 {
     count.saturating_add(u64::from(counts))

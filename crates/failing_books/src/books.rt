@@ -9,7 +9,7 @@ use mb_wire::ReadSpan;
 use memory_books::ListBooks;
 use office_books::{Books, BooksFault, Failures, MeterEntry, Repeat, RowSink, Span, StoreFault};
 use office_events::{
-    Device, EntryPlace, Fact, Installation, Name, PlannedList, Poll, PollRow, Register,
+    Device, EntryPlace, Fact, HeldReading, Installation, Name, PlannedList, Poll, PollRow, Register,
 };
 
 /// Books in memory. The call of one number is refused, as by a store; no other fails but for want of memory.
@@ -232,6 +232,22 @@ impl Books for FailingBooks {
         }
         self.called()?;
         let found = self.books.register_intervals(register, span, sink);
+        self.failures.noted(found)
+    }
+
+    fn holds<K: RowSink<HeldReading>>(
+        &mut self,
+        meter: &Name,
+        span: Span,
+        sink: &mut K,
+    ) -> Result<(), BooksFault> {
+        if self.rows_come_first {
+            let handed = self.books.holds(meter, span, sink);
+            self.failures.noted(handed)?;
+            return self.called();
+        }
+        self.called()?;
+        let found = self.books.holds(meter, span, sink);
         self.failures.noted(found)
     }
 

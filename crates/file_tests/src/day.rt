@@ -24,8 +24,8 @@ pub(crate) const REPORTED: &[u8] = b"1970-01-01   4                   345000\nen
 pub(crate) const MONTH: &[u8] = b"1970-01    4                 0.345000\nend 1\n";
 
 /// What is stated of its meters: m1 from its opening to its exchange, and m2 from there to the number by hand.
-pub(crate) const STATED: &[u8] = b"m1 1000 5000000 2800 5300000 300000 0 0 0 0
-m2 2800 0 3700 45000 45000 1 0 0 0
+pub(crate) const STATED: &[u8] = b"m1 1000 5000000 2800 5300000 300000 0 0 0 0 0
+m2 2800 0 3700 45000 45000 1 0 0 0 0
 end 2
 ";
 

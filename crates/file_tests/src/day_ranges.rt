@@ -2,7 +2,7 @@
 use crate::commands::fill;
 use crate::files::{Files, path, remove};
 use energy_report::read_day;
-use interval_core::DayTotal;
+use interval_core::{Day, DayRange, DayTotal};
 use office_books::RowSink;
 use office_core::Office;
 use office_events::{Name, Refusal};
@@ -30,60 +30,94 @@ impl RowSink<DayTotal> for ToldDays {
 /// A range of days of a register, and what is told of it: nothing where there is no such register.
 struct Asked {
     register: &'static str,
-    from: &'static str,
-    till: &'static str,
+    from: Option<&'static str>,
+    till: Option<&'static str>,
     told: Option<(u32, u128)>,
 }
 
 /// The energy of the office is that of one day, 1970-01-01.
-static ASKED: [Asked; 6] = [
+static ASKED: [Asked; 10] = [
     Asked {
         register: "main",
-        from: "1970-01-01",
-        till: "1970-01-02",
+        from: Some("1970-01-01"),
+        till: Some("1970-01-02"),
         told: Some((1, 345_000)),
     },
     Asked {
         register: "main",
-        from: "0000-01-01",
-        till: "9999-12-31",
+        from: Some("0000-01-01"),
+        till: Some("9999-12-31"),
         told: Some((1, 345_000)),
     },
     Asked {
         register: "main",
-        from: "1970-01-02",
-        till: "1970-01-03",
+        from: Some("1970-01-02"),
+        till: Some("1970-01-03"),
         told: Some((0, 0)),
     },
     Asked {
         register: "main",
-        from: "1969-12-31",
-        till: "1970-01-01",
+        from: Some("1969-12-31"),
+        till: Some("1970-01-01"),
         told: Some((0, 0)),
     },
     Asked {
         register: "main",
-        from: "1970-01-02",
-        till: "1970-01-01",
+        from: Some("1970-01-02"),
+        till: Some("1970-01-01"),
+        told: Some((0, 0)),
+    },
+    Asked {
+        register: "main",
+        from: None,
+        till: Some("1970-01-02"),
+        told: Some((1, 345_000)),
+    },
+    Asked {
+        register: "main",
+        from: None,
+        till: Some("1970-01-01"),
+        told: Some((0, 0)),
+    },
+    Asked {
+        register: "main",
+        from: Some("1970-01-01"),
+        till: None,
+        told: Some((1, 345_000)),
+    },
+    Asked {
+        register: "main",
+        from: Some("1970-01-02"),
+        till: None,
         told: Some((0, 0)),
     },
     Asked {
         register: "roof",
-        from: "1970-01-01",
-        till: "1970-01-02",
+        from: Some("1970-01-01"),
+        till: Some("1970-01-02"),
         told: None,
     },
 ];
+
+// The day at an end of a range, where it is not open.
+fn end(word: Option<&str>) -> Result<Option<Day>, Fail> {
+    match word {
+        None => Ok(None),
+        Some(word) => Ok(Some(read_day(word).ok_or("no day")?)),
+    }
+}
 
 fn told<S: Alter + Drop>(
     office: &mut Office<SqlBooks<S>>,
     asked: &Asked,
 ) -> Result<Option<(u32, u128)>, Fail> {
-    let from = read_day(asked.from).ok_or("no day")?;
-    let till = read_day(asked.till).ok_or("no day")?;
+    let range = DayRange {
+        from: end(asked.from)?,
+        till: end(asked.till)?,
+    };
     let mut told = ToldDays { count: 0, mwh: 0 };
     let register = Name::new(asked.register.as_bytes());
-    match office.days_within(&register, from, till, &mut told) {
+    match office.days_within(&register, range, &mut told) {
         Ok(()) => Ok(Some((told.count, told.mwh))),
         Err(Refusal::NotFound) => Ok(None),
         Err(_) => Err(Fail::from("refused")),

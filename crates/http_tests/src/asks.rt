@@ -1,7 +1,10 @@
 //! What peers are replied.
 use crate::office::opened;
 use http_request::Status;
-use run_http::{PeerReply, RunRoute, StatusRoute, ask, reply_status, run_route};
+use run_http::{
+    PeerReply, RunRoute, StatusRoute, ask, entries_come_behind, reply_status, rows_before_stay,
+    run_route,
+};
 use run_status::Counts;
 use std::test::Fail;
 use web_page::PagePart;
@@ -138,4 +141,11 @@ fn a_request_is_asked_once_it_is_whole(rt: HostRuntime) -> Result<(), Fail> {
         _ => return Err(Fail::from("no reply")),
     }
     Ok(())
+}
+
+#[test]
+fn laws_of_copies_are_called(rt: HostRuntime) {
+    rows_before_stay();
+    entries_come_behind();
+    assert!(rt; PagePart::Script.body().len() > 0);
 }

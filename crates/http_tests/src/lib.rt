@@ -26,6 +26,8 @@ mod faults;
 #[cfg(test)]
 mod heads;
 #[cfg(test)]
+mod held_readings;
+#[cfg(test)]
 mod hosts;
 #[cfg(test)]
 mod limits;

@@ -1,12 +1,16 @@
 //! What a peer is replied who asks for rows of a meter.
-use crate::cases::reply;
+use crate::cases::{reply, serve};
 use crate::office::polled;
 use energy_core::{Entry, Last};
 use http_request::Status;
+use memory_books::ListBooks;
 use meter_journal::{EntryKind, EntryRow};
 use office_books::{MeterEntry, Span};
+use office_core::Office;
 use office_events::Name;
-use run_http::{RunRoute, StatusRoute, put_entries, reply_entries, reply_intervals, run_route};
+use run_http::{
+    RunRoute, StatusRoute, put_entries, reply_entries, reply_intervals, reply_voids, run_route,
+};
 use std::alloc::{AllocError, Global};
 use std::test::Fail;
 
@@ -149,6 +153,53 @@ fn each_kind_of_entry_has_its_line(rt: HostRuntime) -> Result<(), Fail> {
     Ok(())
 }
 
+static VOID: &[u8] =
+    b"POST /meters/m1/void HTTP/1.1\r\nContent-Length: 11\r\nOffice-Caller: desk\r\nOffice-Request: 4\r\n\r\n{\"place\":2}";
+
+// An office whose meter has a reading that was voided.
+fn voided(alloc: Global) -> Result<Office<ListBooks>, Fail> {
+    let mut office = polled(alloc)?;
+    if serve(alloc, &mut office, 2000, VOID)?.handled.is_err() {
+        return Err(Fail::from("not served"));
+    }
+    Ok(office)
+}
+
+// What is replied of the voids of a meter.
+fn voids(
+    alloc: Global,
+    mut office: Office<ListBooks>,
+    meter: &[u8],
+) -> Result<Vec<u8>, AllocError> {
+    let mut text = Vec::new(alloc);
+    reply_voids(alloc, &mut text, &mut office, &Name::new(meter))?;
+    Ok(text)
+}
+
+#[test]
+fn an_entry_that_was_voided_is_told(rt: HostRuntime) -> Result<(), Fail> {
+    let text = voids(rt.alloc(), voided(rt.alloc())?, b"m1")?;
+    let expected = text_reply(rt.alloc(), "2 reading 1900\nend 1\n")?;
+    assert!(rt; text.as_slice() == expected.as_bytes());
+    Ok(())
+}
+
+#[test]
+fn a_meter_may_have_no_voids(rt: HostRuntime) -> Result<(), Fail> {
+    let text = voids(rt.alloc(), polled(rt.alloc())?, b"m1")?;
+    let expected = text_reply(rt.alloc(), "end 0\n")?;
+    assert!(rt; text.as_slice() == expected.as_bytes());
+    Ok(())
+}
+
+#[test]
+fn no_voids_are_told_of_a_meter_that_is_none(rt: HostRuntime) -> Result<(), Fail> {
+    let text = voids(rt.alloc(), polled(rt.alloc())?, b"m2")?;
+    let expected = reply(rt.alloc(), "404 Not Found", "{\"refused\":1}")?;
+    assert!(rt; text.as_slice() == expected.as_bytes());
+    Ok(())
+}
+
 /// The route of a target.
 pub(crate) fn route_of(alloc: Global, target: &str) -> Result<Option<RunRoute>, AllocError> {
     let request = format!(in alloc; "GET {target} HTTP/1.1\r\n\r\n")?;
@@ -168,7 +219,9 @@ static NUMBERLESS: [&str; 10] = [
     "/meters/m1/intervals/0/10000000000000000000",
 ];
 
-static ELSEWHERE: [&str; 6] = [
+static ELSEWHERE: [&str; 8] = [
+    "/meters/m1/voids/",
+    "/meters/m1/void",
     "/meters/m1/entries",
     "/meters/m1",
     "/meters/m1/intervals",
@@ -202,6 +255,15 @@ fn a_target_may_ask_for_entries(rt: HostRuntime) -> Result<(), Fail> {
         from: 12,
     };
     assert!(rt; route_of(rt.alloc(), "/meters/m1/entries/12")? == Some(asked));
+    Ok(())
+}
+
+#[test]
+fn a_target_may_ask_for_voids(rt: HostRuntime) -> Result<(), Fail> {
+    let asked = RunRoute::Voids {
+        meter: Name::new(b"m1"),
+    };
+    assert!(rt; route_of(rt.alloc(), "/meters/m1/voids")? == Some(asked));
     Ok(())
 }
 

@@ -7,7 +7,7 @@ use interval_core::{Share, Zone};
 use mb_wire::ReadSpan;
 use office_books::{Books, BooksFault, MeterEntry, Repeat, RowSink, Span, read_count};
 use office_events::{
-    Device, EntryPlace, Fact, Installation, Name, PlannedList, Poll, PollRow, Register,
+    Device, EntryPlace, Fact, HeldReading, Installation, Name, PlannedList, Poll, PollRow, Register,
 };
 use std::alloc::Global;
 
@@ -199,6 +199,15 @@ impl<B: Books> Books for KeptBooks<B> {
         sink: &mut K,
     ) -> Result<(), BooksFault> {
         self.books.register_intervals(register, span, sink)
+    }
+
+    fn holds<K: RowSink<HeldReading>>(
+        &mut self,
+        meter: &Name,
+        span: Span,
+        sink: &mut K,
+    ) -> Result<(), BooksFault> {
+        self.books.holds(meter, span, sink)
     }
 
     fn book(&mut self, facts: Vec<Fact>) -> Result<(), BooksFault> {

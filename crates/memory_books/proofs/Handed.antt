@@ -10,15 +10,22 @@ use Rattle.office_books.specs.Rows.{TakesAll, HandsOn}
 use Rattle.office_books.specs.Spans.{rows_within}
 use Rattle.office_events.specs.declared.facts.Fact.{Fact}
 
+-- the sink took all rows that the facts say
+pub all_handed_on : {S T : Type 0} (takes : S → T → S → Type 0) (old new : Ledger) (before after : S) (rows : List Fact → List T)
+    → ((known : List Fact) → old.holds known → TakesAll takes before (rows known) after) → ((some : List T) × TakesAll takes before some after)
+    → HandsOn takes old new before after (Ok tt) rows
+all_handed_on {S} {T} takes old new before after rows all some = record {
+  begun = λ known holds clean.
+      let P : List T → Type 0 = λ taken. TakesAll takes before taken after in
+      (length (rows known), subst P (sym (take_all (length (rows known)) (rows known) (omega arith))) (all known holds));
+  whole = λ known holds clean. all known holds;
+  some = some;
+}
+
+-- ... of those that came one by one, all whose quarter hours are asked for
 pub handed_on : {S : Type 0} (takes : S → Share → S → Type 0) (span : Span) (old new : Ledger) (before after : S) (rows : List Fact → List Share)
     → ((known : List Fact) → old.holds known → TakesAll (TakesWithin takes span) before (rows known) after) → TakesSome (TakesWithin takes span) before after
     → HandsOn takes old new before after (Ok tt) (λ known. rows_within span (rows known))
 handed_on takes span old new before after rows all some =
-    let asked : (known : List Fact) → List Share = λ known. rows_within span (rows known) in
-    record {
-      begun = λ known holds clean.
-          let P : List Share → Type 0 = λ taken. TakesAll takes before taken after in
-          (length (asked known), subst P (sym (take_all (length (asked known)) (asked known) (omega arith))) (takes_asked takes span before after (rows known) (all known holds)));
-      whole = λ known holds clean. takes_asked takes span before after (rows known) (all known holds);
-      some = (rows_within span some.0, takes_asked takes span before after some.0 some.1);
-    }
+    all_handed_on takes old new before after (λ known. rows_within span (rows known))
+    (λ known holds. takes_asked takes span before after (rows known) (all known holds)) (rows_within span some.0, takes_asked takes span before after some.0 some.1)

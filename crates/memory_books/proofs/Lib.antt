@@ -3,3 +3,4 @@ pub mod Adding
 pub mod Counting
 pub mod Handed
 pub mod Reading
+pub mod Holding

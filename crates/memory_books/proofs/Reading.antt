@@ -16,7 +16,7 @@ use Rattle.memory_books.specs.Looking.{failures_in}
 use Rattle.memory_books.proofs.Adding.{one_still}
 
 -- the facts in the order in which the list has them
-in_turn : (books : ListBooks) (facts known : List Fact) → facts ≡ books.facts.items → AreListed books known → reverse facts ≡ known
+pub in_turn : (books : ListBooks) (facts known : List Fact) → facts ≡ books.facts.items → AreListed books known → reverse facts ≡ known
 in_turn books facts known is listed = ap reverse (is ∙ listed.facts) ∙ reverse-reverse known
 
 -- books whose tables alone have come further hold what they held

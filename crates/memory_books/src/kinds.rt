@@ -1,15 +1,24 @@
 //! Each kind of fact.
 ghost use Rattle.std.specs.Prelude.{◌≡◌, ◌∷◌, [], length};
-ghost use Rattle.office_rules.specs.Facts.{as_device, openings_in, moment_in};
+ghost use Rattle.office_rules.specs.Facts.{as_device, as_hold, openings_in, moment_in};
 
 use energy_core::Entry;
-use office_events::{Device, Fact};
+use office_events::{Device, Fact, HeldReading};
 
 pub(crate) fn device_in(fact: &Fact) -> Option<Device>
     ensures { result ≡ as_device fact.now }
 {
     match fact {
         Fact::Device(device) => Some(*device),
+        _ => None,
+    }
+}
+
+pub(crate) fn hold_in(fact: &Fact) -> Option<HeldReading>
+    ensures { result ≡ as_hold fact.now }
+{
+    match fact {
+        Fact::Hold(held) => Some(*held),
         _ => None,
     }
 }

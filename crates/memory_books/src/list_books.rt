@@ -13,7 +13,7 @@ use interval_core::{Share, Zone};
 use mb_wire::ReadSpan;
 use office_books::{Books, BooksFault, MeterEntry, Repeat, RowSink, Span};
 use office_events::{
-    Device, EntryPlace, Fact, Installation, Name, PlannedList, Poll, PollRow, Register,
+    Device, EntryPlace, Fact, HeldReading, Installation, Name, PlannedList, Poll, PollRow, Register,
 };
 use std::alloc::{AllocError, Global};
 
@@ -261,6 +261,16 @@ impl Books for ListBooks {
         self.ready()?;
         self.tables
             .register_intervals(&self.facts, register, span, sink);
+        Ok(())
+    }
+
+    fn holds<K: RowSink<HeldReading>>(
+        &mut self,
+        meter: &Name,
+        span: Span,
+        sink: &mut K,
+    ) -> Result<(), BooksFault> {
+        lookups::hand_holds(&self.facts, meter, span, sink);
         Ok(())
     }
 

@@ -1,11 +1,15 @@
 //! What stands in a list of facts, the earliest first.
-ghost use Rattle.std.specs.Prelude.{◌≡◌, reverse, IfOk};
+ghost use Rattle.std.specs.Prelude.{◌≡◌, ◌∷◌, ◌&&◌, [], reverse, IfOk};
 ghost use Rattle.std.specs.List.{filter_map};
-ghost use Rattle.office_rules.specs.Facts.{as_device, devices_in};
+ghost use Rattle.office_rules.specs.Facts.{as_device, devices_in, same};
+ghost use Rattle.office_books.specs.Holds.{holds_of, holds_within};
+ghost use Rattle.office_books.specs.Rows.{TakesAll};
+ghost use Rattle.office_books.specs.Spans.{is_within};
 ghost use Rattle.memory_books.specs.Looking.{latest_first};
 
-use crate::kinds::device_in;
-use office_events::{Device, Fact};
+use crate::kinds::{device_in, hold_in};
+use office_books::{RowSink, Span};
+use office_events::{Device, Fact, HeldReading, Name};
 use std::alloc::{AllocError, Global};
 
 /// All devices of these facts.
@@ -24,4 +28,42 @@ pub(crate) fn devices(alloc: Global, facts: &[Fact]) -> Result<Vec<Device>, Allo
 {
     let devices = all_devices(alloc, facts)?;
     Ok(devices)
+}
+
+/// Whether a held reading is one of the meter, and its moment is asked for.
+fn is_asked(held: &HeldReading, meter: &Name, span: Span) -> bool
+    ensures { result ≡ (same held.now.meter meter.now && is_within span held.now.at) }
+{
+    held.meter.is(meter) && span.contains(held.at)
+}
+
+/// Hands on the reading that a fact holds, where it is asked for.
+fn hand_hold<K: RowSink<HeldReading>>(fact: &Fact, meter: &Name, span: Span, sink: &mut K)
+    ensures { TakesAll K.takes sink.old (holds_within span (holds_of (fact.now ∷ []) meter.now))
+        sink.new }
+{
+    match hold_in(fact) {
+        Some(held) => {
+            if is_asked(&held, meter, span) {
+                sink.put(held);
+            }
+        }
+        None => {}
+    }
+}
+
+/// Hands on the readings of a meter that were held and whose moments are asked for, in the order in which they were recorded.
+/// This takes no memory.
+pub(crate) fn hand_holds<K: RowSink<HeldReading>>(
+    facts: &[Fact],
+    meter: &Name,
+    span: Span,
+    sink: &mut K,
+)
+    ensures { TakesAll K.takes sink.old
+        (holds_within span (holds_of (latest_first facts.now) meter.now)) sink.new }
+{
+    for fact in facts {
+        hand_hold(fact, meter, span, sink);
+    }
 }

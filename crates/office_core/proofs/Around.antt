@@ -1,5 +1,5 @@
 -- Which seconds a day can have by the clocks of some zone.
-use Rattle.std.proofs.Common.{◌≡◌, ℕ, ◌<◌, ◌≤◌, true, false, arith}
+use Rattle.std.proofs.Common.{◌≡◌, ℕ, ◌<◌, ◌≤◌, true, false, Option, Some, None, refl, arith}
 use Rattle.std.specs.Prelude.{ℤ, pos, negsuc, ◌+ℤ◌, ◌-ℤ◌, ◌*ℤ◌, ◌<ℤ◌, ◌≤ℤ◌, ◌&&◌, nat_le, nat_lt}
 use Rattle.std.specs.Int.{int_div_euclid}
 use Rattle.std.specs.Ordering.{MatchOrdering, int_cmp, is_le, is_lt}
@@ -18,7 +18,9 @@ use Rattle.jiff_tz.specs.Tzif as table
 use Rattle.jiff_tz.specs.Zone.{offset_at}
 use Rattle.interval_core.specs.declared.zone.Zone.{Zone}
 use Rattle.interval_core.specs.Zone.{day_at, offset_of, rule_of}
-use Rattle.office_core.specs.DayRange.{is_between, utc_start}
+use Rattle.interval_core.specs.Ranges.{begins_by_number, ends_after_number}
+use Rattle.office_books.specs.Spans.{is_within}
+use Rattle.office_core.specs.DayRange.{span_between, utc_start}
 
 -- no clock is further from UTC than 25:59:59
 offset_bound : (zone : TimeZone) (n : ℤ) → IsOffsetSeconds (offset_at zone n)
@@ -56,7 +58,7 @@ before : (till off : ℤ) (start : ℕ) → IsOffsetSeconds off → (int_div_euc
 before till off start bound lt = omega (arith, signed_arith, bound.0, lt)
 
 -- a moment whose day is asked for lies between the beginnings of the days two before and two behind
-pub lies_around : (from till : Date) (zone : Zone) (start : ℕ) → is_between from till (day_at zone start) ≡ true
+lies_around : (from till : Date) (zone : Zone) (start : ℕ) → (is_le (int_cmp (epoch_day from) (day_at zone start)) && is_lt (int_cmp (day_at zone start) (epoch_day till))) ≡ true
     → (nat_le (utc_start (epoch_day from -ℤ pos 2)) start && nat_lt start (utc_start (epoch_day till +ℤ pos 2))) ≡ true
 lies_around from till zone start is =
     let day = day_at zone start in
@@ -69,3 +71,10 @@ lies_around from till zone start is =
     let has_begun : nat_le (utc_start (epoch_day from -ℤ pos 2)) start ≡ true = grind (arith, nat_tests, low) in
     let ends_later : nat_lt start (utc_start (epoch_day till +ℤ pos 2)) ≡ true = grind (arith, nat_tests, high) in
     and_from _ _ has_begun ends_later
+
+-- and so a span has each moment whose day a range has, whatever ends are open
+pub has_each : (from till : Option Date) (zone : Zone) (start : ℕ)
+    → (begins_by_number from (day_at zone start) && ends_after_number till (day_at zone start)) ≡ true → is_within (span_between from till) start ≡ true
+has_each (Some from) (Some till) zone start is = lies_around from till zone start is
+has_each (Some from) None zone start is = refl
+has_each None till zone start is = refl

@@ -1,6 +1,6 @@
--- The days that are asked for, by rows of a span that lies around theirs.
-use Rattle.std.proofs.Common.{◌≡◌, ℕ, ◌<◌, Bool, true, false, cond, List, [], ◌∷◌, length, refl, sym, ap, subst, ◌∙◌, inl, inr, arith}
-use Rattle.std.specs.Prelude.{ℤ, ◌<ℤ◌, Contains, filter, map}
+-- The days that a range has, by rows of a span that lies around theirs.
+use Rattle.std.proofs.Common.{◌≡◌, ℕ, ◌<◌, Bool, true, false, cond, Option, Some, None, List, [], ◌∷◌, length, refl, sym, ap, subst, ◌∙◌, inl, inr, arith}
+use Rattle.std.specs.Prelude.{ℤ, ◌<ℤ◌, ◌&&◌, Contains, filter, map}
 use Rattle.std.specs.Ordering.{int_eq}
 use Rattle.std.proofs.lemmas.Bool.{cases_Bool, cond-true, cond-false}
 use Rattle.std.proofs.lemmas.Bool.Decides.{Decides-int_eq}
@@ -9,13 +9,14 @@ use Rattle.interval_core.specs.declared.shares.Share.{Share}
 use Rattle.interval_core.specs.declared.zone.Zone.{Zone}
 use Rattle.interval_core.specs.Account.{starts_of, energy_of}
 use Rattle.interval_core.specs.Zone.{day_at}
+use Rattle.interval_core.specs.Ranges.{begins_by, begins_by_number, days_in, ends_after, ends_after_number, has_day, is_in}
+use Rattle.interval_core.specs.declared.day_range.DayRange.{DayRange}
 use Rattle.interval_core.specs.Days.{DayAccount, account_of, days_of, rows_on, distinct_count, account_on, AreAccounts, AreInOrder, AccountsAreOne}
 use Rattle.interval_core.specs.declared.totals.DayTotal.{DayTotal}
-use Rattle.jiff_core.specs.declared.civil.date.Date.{Date}
 use Rattle.office_books.specs.declared.spans.Span.{Span}
 use Rattle.office_books.specs.declared.spans.Span.TheVariants as span
 use Rattle.office_books.specs.Spans.{is_within, rows_within}
-use Rattle.office_core.specs.DayRange.{is_between, accounts_between, totals_between}
+use Rattle.office_core.specs.DayRange.{accounts_within}
 
 -- ---- filters after one another
 
@@ -158,25 +159,44 @@ by_test : (asked : Span) (rows : List Share) → rows_within asked rows ≡ filt
 by_test span.All rows = sym (all_kept rows)
 by_test (span.Between from till) rows = refl
 
-accounts_of : (from till : Date) (totals : List DayTotal) → map account_of (totals_between from till totals) ≡ accounts_between from till (map account_of totals)
-accounts_of from till [] = refl
-accounts_of from till (total ∷ totals) =
-    let rest = accounts_of from till totals in
-    elim (is_between from till (account_of total).day) as (λ b. map account_of (cond b (total ∷ totals_between from till totals) (totals_between from till totals))
-    ≡ cond b (account_of total ∷ accounts_between from till (map account_of totals)) (accounts_between from till (map account_of totals))) [
-      | true ↦ ap (λ l. account_of total ∷ l) rest
-      | false ↦ rest
+-- a range has a day by its date if it has it by its number
+is_in_number : (range : DayRange) (total : DayTotal) → is_in range total.day ≡ has_day range (account_of total).day
+is_in_number range total =
+    elim range.from as (λ from. (begins_by from total.day && ends_after range.till total.day)
+    ≡ (begins_by_number from (account_of total).day && ends_after_number range.till (account_of total).day)) [
+      | None ↦ elim range.till as (λ till. ends_after till total.day ≡ ends_after_number till (account_of total).day) [
+        | None ↦ refl
+        | Some last ↦ refl
+      ]
+      | Some first ↦ elim range.till as (λ till. (begins_by (Some first) total.day && ends_after till total.day)
+          ≡ (begins_by_number (Some first) (account_of total).day && ends_after_number till (account_of total).day)) [
+            | None ↦ refl
+            | Some last ↦ refl
+          ]
     ]
 
-pub days_between : (zone : Zone) (from till : Date) (asked : Span) → ((start : ℕ) → is_between from till (day_at zone start) ≡ true → is_within asked start ≡ true)
+accounts_of : (range : DayRange) (days : List DayTotal) → map account_of (days_in range days) ≡ accounts_within range (map account_of days)
+accounts_of range [] = refl
+accounts_of range (day ∷ days) =
+    let rest = accounts_of range days in
+    let P : Bool → Type 0 = λ b. map account_of (cond (is_in range day.day) (day ∷ days_in range days) (days_in range days))
+    ≡ cond b (account_of day ∷ accounts_within range (map account_of days)) (accounts_within range (map account_of days)) in
+    subst P (is_in_number range day)
+    (elim (is_in range day.day) as (λ b. map account_of (cond b (day ∷ days_in range days) (days_in range days))
+    ≡ cond b (account_of day ∷ accounts_within range (map account_of days)) (accounts_within range (map account_of days))) [
+      | true ↦ ap (λ l. account_of day ∷ l) rest
+      | false ↦ rest
+    ])
+
+pub days_within : (zone : Zone) (range : DayRange) (asked : Span) → ((start : ℕ) → has_day range (day_at zone start) ≡ true → is_within asked start ≡ true)
     → AccountsAreOne → (rows : List Share) (totals kept : List DayTotal) → AreAccounts zone (rows_within asked rows) (map account_of totals)
-    → kept ≡ totals_between from till totals
-    → (all : List DayAccount) × AreAccounts zone rows all × (map account_of kept ≡ accounts_between from till all)
-days_between zone from till asked around one rows totals kept are is =
+    → kept ≡ days_in range totals
+    → (all : List DayAccount) × AreAccounts zone rows all × (map account_of kept ≡ accounts_within range all)
+days_within zone range asked around one rows totals kept are is =
     let all = one zone rows in
     let tested = subst (λ (l : List Share). AreAccounts zone l (map account_of totals)) (by_test asked rows) are in (
       all.0,
       all.1,
-      ap (map account_of) is ∙ accounts_of from till totals
-          ∙ same_days zone (is_between from till) (λ row. is_within asked row.start) (λ row on. around row.start on) one rows (map account_of totals) all.0 tested all.1,
+      ap (map account_of) is ∙ accounts_of range totals
+          ∙ same_days zone (has_day range) (λ row. is_within asked row.start) (λ row on. around row.start on) one rows (map account_of totals) all.0 tested all.1,
     )

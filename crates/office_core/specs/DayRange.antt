@@ -1,12 +1,13 @@
--- The days of a register from one day on and before another.
-use Rattle.std.specs.Prelude.{◌≡◌, ℕ, ◌*◌, ◌<◌, ◌^◌, ℤ, pos, negsuc, Bool, ◌&&◌, length, List, map, filter, Option, Some, Result, MatchResult, OnOk, OnErr}
+-- The days of a register that a range has.
+use Rattle.std.specs.Prelude.{◌≡◌, ℕ, ◌*◌, ◌<◌, ◌^◌, ℤ, pos, negsuc, ◌+ℤ◌, ◌-ℤ◌, length, List, map, filter, Option, Some, None, Result, MatchResult, OnOk, OnErr}
 use Rattle.std.specs.Option.{option_and_then}
-use Rattle.std.specs.Ordering.{int_cmp, is_le, is_lt}
 use Rattle.std.specs.declared.alloc.Global.{Global}
 use Rattle.std.specs.declared.vec.Vec.{Vec}
 use Rattle.jiff_core.specs.declared.civil.date.Date.{Date}
 use Rattle.jiff.specs.Words.{epoch_day}
 use Rattle.interval_core.specs.Days.{DayAccount, account_of}
+use Rattle.interval_core.specs.Ranges.{has_day}
+use Rattle.interval_core.specs.declared.day_range.DayRange.{DayRange}
 use Rattle.interval_core.specs.declared.totals.DayTotal.{DayTotal}
 use Rattle.interval_core.specs.declared.zone.Zone.{Zone}
 use Rattle.office_events.specs.declared.facts.Fact.{Fact}
@@ -15,6 +16,8 @@ use Rattle.office_rules.specs.Facts.{register_of}
 use Rattle.office_rules.specs.History.{facts_of}
 use Rattle.office_rules.specs.Lawful.{AreLawful}
 use Rattle.office_books.specs.declared.failures.Failures.{Failures}
+use Rattle.office_books.specs.declared.spans.Span.{Span}
+use Rattle.office_books.specs.declared.spans.Span.TheVariants as span
 use Rattle.office_books.specs.Ledgers.{Ledger}
 use Rattle.office_books.specs.Rows.{TakesAll}
 use Rattle.office_core.specs.declared.office.Office.{Office}
@@ -23,74 +26,75 @@ use Rattle.office_core.specs.Failing.{IsOutside}
 use Rattle.office_core.specs.Standing.{After, books_in}
 use Rattle.office_core.specs.Taking.{failures_of}
 
--- The day is the first one or later, and it is before the other.
-abbrev pub is_between : (from till : Date) → (day : ℤ) → Bool
-is_between from till day =
-    is_le (int_cmp (epoch_day from) day) && is_lt (int_cmp day (epoch_day till))
-
--- Of these days those that are asked for, in their order.
-abbrev pub accounts_between : (from till : Date) → List DayAccount → List DayAccount
-accounts_between from till accounts =
-    filter (λ account. is_between from till account.day) accounts
-
-abbrev pub totals_between : (from till : Date) → List DayTotal → List DayTotal
-totals_between from till totals =
-    filter (λ total. is_between from till (epoch_day total.day)) totals
+-- Of these days those that the range has, in their order.
+abbrev pub accounts_within : DayRange → List DayAccount → List DayAccount
+accounts_within range accounts = filter (λ account. has_day range account.day) accounts
 
 -- when a day begins by UTC, in seconds since 1970-01-01; earlier days are put there too
 abbrev pub utc_start : ℤ → ℕ
 utc_start (pos n) = n * 86_400
 utc_start (negsuc n) = 0
 
--- These are, of the days of the register of a name, those that are asked for.
-pub record AreDaysBetween (zone : Zone) (facts : List Fact) (register : Option (List ℕ))
-    (from till : Date) (days : List DayAccount) : Type 0 where
+-- The moments around the days from one on and before another: two days more at each end, since the clocks of no zone are so
+-- far from UTC. Where an end is open, all.
+abbrev pub span_between : (from till : Option Date) → Span
+span_between (Some from) (Some till) =
+    span.Between (utc_start (epoch_day from -ℤ pos 2)) (utc_start (epoch_day till +ℤ pos 2))
+span_between (Some from) None = span.All
+span_between None till = span.All
+
+abbrev pub span_of : DayRange → Span
+span_of range = span_between range.from range.till
+
+-- These are, of the days of the register of a name, those that the range has.
+pub record AreDaysWithin (zone : Zone) (facts : List Fact) (register : Option (List ℕ))
+    (range : DayRange) (days : List DayAccount) : Type 0 where
   pub all : List DayAccount
   pub are : AreDaysNamed zone facts register all
-  pub asked : days ≡ accounts_between from till all
+  pub asked : days ≡ accounts_within range all
 
 -- The sink took them, in order. A number of 64 bits counts them.
-pub record TakesDaysBetween {S : Type 0} (takes : S → DayTotal → S → Type 0) (zone : Zone)
-    (facts : List Fact) (register : Option (List ℕ)) (from till : Date) (before after : S) :
+pub record TakesDaysWithin {S : Type 0} (takes : S → DayTotal → S → Type 0) (zone : Zone)
+    (facts : List Fact) (register : Option (List ℕ)) (range : DayRange) (before after : S) :
     Type 0 where
   pub days : List DayTotal
-  pub are : AreDaysBetween zone facts register from till (map account_of days)
+  pub are : AreDaysWithin zone facts register range (map account_of days)
   pub few : length days < 2 ^ 64
   pub took : TakesAll takes before days after
 
 -- They are asked for, and answered as all days are.
-pub record HandsDaysBetween {S : Type 0} (takes : S → DayTotal → S → Type 0) (zone : Zone)
-    (facts : List Fact) (register : Option (List ℕ)) (from till : Date) (old new : Failures)
+pub record HandsDaysWithin {S : Type 0} (takes : S → DayTotal → S → Type 0) (zone : Zone)
+    (facts : List Fact) (register : Option (List ℕ)) (range : DayRange) (old new : Failures)
     (before after : S) (result : Result (Unit {0}) Refusal) : Type 0 where
   pub answer : let there = is_there (option_and_then (register_of facts) register) in
       IsFound (there ≡ Some tt) there old new result
-  pub whole : OnOk result (TakesDaysBetween takes zone facts register from till before after)
+  pub whole : OnOk result (TakesDaysWithin takes zone facts register range before after)
   pub none : OnErr result (after ≡ before)
 
 -- So books answer of the facts that they hold, if no wrong answer of a store was taken as true,
-abbrev pub DaysBetweenIn : {S : Type 0} → (S → DayTotal → S → Type 0) → (old new : Ledger)
+abbrev pub DaysWithinIn : {S : Type 0} → (S → DayTotal → S → Type 0) → (old new : Ledger)
     → (before after : S) → Result (Unit {0}) Refusal → (register : Option (List ℕ))
-    → (from till : Date) → Type 0
-DaysBetweenIn takes old new before after result register from till =
+    → DayRange → Type 0
+DaysWithinIn takes old new before after result register range =
     (known : List Fact) → AreLawful known → old.holds known → new.is_clean
-    → HandsDaysBetween takes old.zone known register from till old.failures new.failures
+    → HandsDaysWithin takes old.zone known register range old.failures new.failures
     before after result
 
 -- as a list, where the register is recorded,
-abbrev pub ListsDaysBetween : (old new : Ledger) → (register : List ℕ) → (from till : Date)
+abbrev pub ListsDaysWithin : (old new : Ledger) → (register : List ℕ) → DayRange
     → Result (Vec DayTotal Global) Refusal → Type 0
-ListsDaysBetween old new register from till result =
+ListsDaysWithin old new register range result =
     (known : List Fact) → AreLawful known → old.holds known → new.is_clean
     → MatchResult result
-    (λ days. AreDaysBetween old.zone known (Some register) from till (map account_of days.items)
+    (λ days. AreDaysWithin old.zone known (Some register) range (map account_of days.items)
     × (new.failures ≡ old.failures))
     (IsOutside (Unit {0}) old.failures new.failures)
 
 -- and so does the office, of what it accepted.
-abbrev pub TellsDaysBetween : {B S : Type 0} → (S → DayTotal → S → Type 0) → (B → Ledger)
+abbrev pub TellsDaysWithin : {B S : Type 0} → (S → DayTotal → S → Type 0) → (B → Ledger)
     → (old new : Office B) → (before after : S) → Result (Unit {0}) Refusal
-    → (register : Option (List ℕ)) → (from till : Date) → Type 0
-TellsDaysBetween takes ledger old new before after result register from till =
+    → (register : Option (List ℕ)) → DayRange → Type 0
+TellsDaysWithin takes ledger old new before after result register range =
     After ledger old new (λ past.
-    HandsDaysBetween takes (ledger (books_in old)).zone (facts_of past) register from till
+    HandsDaysWithin takes (ledger (books_in old)).zone (facts_of past) register range
     (failures_of ledger old) (failures_of ledger new) before after result)

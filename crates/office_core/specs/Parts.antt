@@ -1,10 +1,12 @@
--- Questions for a part of what there is: the quarter hours of a span, entries from a place on, the meters at a register.
+-- Questions for a part of what there is: the quarter hours of a span, the held readings of one, entries from a place on, the
+-- meters at a register.
 use Rattle.std.specs.Prelude.{◌≡◌, ◌⊎◌, ℕ, List, Option, Some, None, Result, Ok, Err}
 use Rattle.std.specs.Option.{option_map, option_and_then}
 use Rattle.std.specs.declared.alloc.Global.{Global}
 use Rattle.std.specs.declared.vec.Vec.{Vec}
 use Rattle.interval_core.specs.declared.shares.Share.{Share}
 use Rattle.office_events.specs.declared.facts.Fact.{Fact}
+use Rattle.office_events.specs.declared.facts.HeldReading.{HeldReading}
 use Rattle.office_events.specs.declared.questions.Installation.{Installation}
 use Rattle.office_events.specs.declared.refusals.Refusal.{Refusal}
 use Rattle.office_events.specs.declared.refusals.Refusal.TheVariants as refusal
@@ -14,6 +16,7 @@ use Rattle.office_books.specs.declared.entries.MeterEntry.{MeterEntry}
 use Rattle.office_books.specs.declared.failures.Failures.{Failures}
 use Rattle.office_books.specs.declared.spans.Span.{Span}
 use Rattle.office_books.specs.Entries.{entries_at, first_from, installations_of}
+use Rattle.office_books.specs.Holds.{holds_of, holds_within}
 use Rattle.office_books.specs.Ledgers.{Ledger}
 use Rattle.office_books.specs.Spans.{rows_within}
 use Rattle.office_core.specs.Asking.{intervals_of}
@@ -25,6 +28,14 @@ use Rattle.office_core.specs.Taking.{failures_of}
 -- The rows of a meter whose quarter hours are asked for, where there is a meter of the name.
 abbrev pub intervals_within : List Fact → (meter : Option (List ℕ)) → Span → Option (List Share)
 intervals_within facts meter span = option_map (rows_within span) (intervals_of facts meter)
+
+-- Its readings that were held, those whose moments are asked for, in the order in which they were recorded.
+abbrev pub holds_at : List Fact → (meter : List ℕ) → Span → Option (List HeldReading)
+holds_at facts meter span =
+    option_map (λ opening. holds_within span (holds_of facts meter)) (opening_of facts meter)
+
+abbrev pub holds_named : List Fact → (meter : Option (List ℕ)) → Span → Option (List HeldReading)
+holds_named facts meter span = option_and_then (λ name. holds_at facts name span) meter
 
 -- Its entries from a place on, at most so many.
 abbrev pub entries_within : List Fact → (meter : Option (List ℕ)) → (from most : ℕ)

@@ -1,30 +1,24 @@
-//! Days from one on and before another, and the quarter hours among which theirs are.
+//! The days of a range, and the quarter hours among which theirs are.
 ghost use Rattle.std.specs.Prelude.{◌≡◌, ℕ, true, pos, ◌+ℤ◌, ◌-ℤ◌};
 ghost use Rattle.jiff.specs.Words.{epoch_day};
+ghost use Rattle.interval_core.specs.Ranges.{days_in, has_day};
 ghost use Rattle.interval_core.specs.Zone.{day_at};
 ghost use Rattle.interval_core.specs.declared.zone.Zone.{Zone};
 ghost use Rattle.office_books.specs.Spans.{is_within};
 ghost use Rattle.office_core.specs.DayRange as range;
-ghost use Rattle.office_core.specs.DayRange.{totals_between, utc_start};
+ghost use Rattle.office_core.specs.DayRange.{span_of, utc_start};
 
-use interval_core::{Day, DayTotal};
+use interval_core::{Day, DayRange, DayTotal};
 use office_books::Span;
 
 /// The clocks of no zone are so many days from UTC.
 const MARGIN: i32 = 2;
 
-/// Whether a day is asked for.
-fn is_between(from: Day, till: Day, day: Day) -> bool
-    ensures { result ≡ range.is_between from till (epoch_day day) }
+/// Drops the days that the range hasn't.
+pub fn keep_within(days: &mut Vec<DayTotal>, range: &DayRange)
+    ensures { days.new.items ≡ days_in range.now days.old.items }
 {
-    from <= day && day < till
-}
-
-/// Drops the days that are not asked for.
-pub fn keep_between(days: &mut Vec<DayTotal>, from: Day, till: Day)
-    ensures { days.new.items ≡ totals_between from till days.old.items }
-{
-    days.retain(|total| is_between(from, till, total.day));
+    days.retain(|total| range.has(total.day));
 }
 
 /// When a day begins by UTC.
@@ -48,13 +42,28 @@ fn latest(day: Day) -> u64
     begin_of(day.to_plain().to_unix_epoch_day() + MARGIN)
 }
 
-/// A span that has each quarter hour whose day is asked for, whatever the zone.
-pub fn span_around(from: Day, till: Day) -> Span
-    ensures { (zone : Zone) (start : ℕ) → range.is_between from till (day_at zone start) ≡ true
+/// The moments around the days from one on and before another; where an end is open, all.
+fn span_between(from: Option<Day>, till: Option<Day>) -> Span
+    ensures { result ≡ range.span_between from till }
+{
+    let Some(first) = from else {
+        return Span::All;
+    };
+    let Some(last) = till else {
+        return Span::All;
+    };
+    Span::Between {
+        from: earliest(first),
+        till: latest(last),
+    }
+}
+
+/// A span that has each quarter hour whose day the range has, whatever the zone. Of a range with both its ends it has no more
+/// than two days more at each end; where an end is open, it is all.
+pub fn span_around(range: DayRange) -> Span
+    ensures span { result ≡ span_of range }
+    ensures around { (zone : Zone) (start : ℕ) → has_day range (day_at zone start) ≡ true
         → is_within result start ≡ true }
 {
-    Span::Between {
-        from: earliest(from),
-        till: latest(till),
-    }
+    span_between(range.from, range.till)
 }

@@ -13,6 +13,7 @@ mod reopened_office;
 mod results;
 mod site;
 
+pub use day_range::span_around;
 pub use event_run::run;
 pub use laws::{events_are_left_whole, runs_are_left_whole};
 pub use office::Office;

@@ -13,11 +13,12 @@ ghost use Rattle.office_booking.specs.Sessions.Ranges.{AsksInRange};
 ghost use Rattle.office_books.specs.Repeats.{repeat_of};
 ghost use Rattle.office_core.specs.Asking.{OnlyAsks, TakesRows, intervals_of};
 ghost use Rattle.office_core.specs.Asking.{TellsRow, TellsDays, TellsRows};
-ghost use Rattle.office_core.specs.DayRange.{TellsDaysBetween};
+ghost use Rattle.office_core.specs.DayRange.{TellsDaysWithin};
 ghost use Rattle.office_core.specs.Events as events;
 ghost use Rattle.office_core.specs.Failing.{IsNotForWantOfDay};
 ghost use Rattle.office_core.specs.Leaving.{BooksStand};
-ghost use Rattle.office_core.specs.Parts.{ListsAccepted, entries_within, intervals_within, meters_named};
+ghost use Rattle.office_core.specs.Parts.{ListsAccepted, entries_within, holds_named};
+ghost use Rattle.office_core.specs.Parts.{intervals_within, meters_named};
 ghost use Rattle.office_core.specs.Reopening.{HandsBackUnopened, LeavesOpening, Passed};
 ghost use Rattle.office_core.specs.Reopening.{asking_moment};
 ghost use Rattle.office_core.specs.Site.{TellsSite};
@@ -31,10 +32,12 @@ use crate::decisions::{asks_planned, decide, is_command, stops};
 use crate::reopened_office::reopen;
 use crate::site::SiteRow;
 use crate::{questions, site};
-use interval_core::{Day, DayTotal, Share};
+use interval_core::{DayRange, DayTotal, Share};
 use office_booking::{Outgoing, Slot, carry_out, settle_event};
 use office_books::{Books, MeterEntry, Repeat, RowSink, Span};
-use office_events::{Answer, Device, Event, Installation, Name, Note, PollRow, Refusal, Register};
+use office_events::{
+    Answer, Device, Event, HeldReading, Installation, Name, Note, PollRow, Refusal, Register,
+};
 use office_rules::facts_are_lawful;
 use std::alloc::Global;
 
@@ -247,8 +250,8 @@ impl<B: Books> Office<B> {
         number: u64,
         request: &[u8],
     ) -> Result<Repeat, Refusal>
-        ensures found { TellsRow B.ledger self.old self.new result
-            (λ facts. option_and_then (λ name. repeat_of facts name number request.now) caller.now) }
+        ensures found { TellsRow B.ledger self.old self.new result (λ facts.
+            option_and_then (λ name. repeat_of facts name number request.now) caller.now) }
         ensures asks { OnlyAsks B.ledger self.old self.new result }
         ensures no_day { IfErr result IsNotForWantOfDay }
     {
@@ -308,6 +311,25 @@ impl<B: Books> Office<B> {
         questions::intervals_of_span(&mut self.books, meter, span, sink)
     }
 
+    /// Hands on the readings of a meter that were held and whose moments are asked for, in the order in which they were recorded.
+    pub fn holds<K: RowSink<HeldReading>>(
+        &mut self,
+        meter: &Option<Name>,
+        span: Span,
+        sink: &mut K,
+    ) -> Result<(), Refusal>
+        ensures rows { TellsRows K.takes B.ledger self.old self.new sink.old sink.new result
+            (λ facts. holds_named facts meter.now span) }
+        ensures puts { TakesRows K.takes sink.old sink.new }
+        ensures asks { OnlyAsks B.ledger self.old self.new result }
+        ensures no_day { IfErr result IsNotForWantOfDay }
+    {
+        if self.stopped {
+            return Err(Refusal::Stopped);
+        }
+        questions::holds(&mut self.books, meter, span, sink)
+    }
+
     /// The installations at a register as they stand, ended ones too, in the order in which they were installed. `None` is a name
     /// that no register can have.
     pub fn meters(&mut self, register: &Option<Name>) -> Result<Vec<Installation>, Refusal>
@@ -359,17 +381,16 @@ impl<B: Books> Office<B> {
         questions::days(self.alloc, &mut self.books, register, sink)
     }
 
-    /// Of the days of a register those from one on and before another, handed on as all of them are. Only the quarter hours of
-    /// these days, and of two days more at each end, are read.
+    /// Of the days of a register those that a range has, handed on as all of them are. Where the range has both its ends, only
+    /// the quarter hours of its days, and of two days more at each end, are read.
     pub fn days_within<K: RowSink<DayTotal>>(
         &mut self,
         register: &Option<Name>,
-        from: Day,
-        till: Day,
+        range: DayRange,
         sink: &mut K,
     ) -> Result<(), Refusal>
-        ensures days { TellsDaysBetween K.takes B.ledger self.old self.new sink.old sink.new result
-            register.now from till }
+        ensures days { TellsDaysWithin K.takes B.ledger self.old self.new sink.old sink.new result
+            register.now range }
         ensures puts { TakesRows K.takes sink.old sink.new }
         ensures asks { OnlyAsks B.ledger self.old self.new result }
     {
@@ -377,7 +398,7 @@ impl<B: Books> Office<B> {
             return Err(Refusal::Stopped);
         }
         facts_are_lawful();
-        questions::days_within(self.alloc, &mut self.books, register, from, till, sink)
+        questions::days_within(self.alloc, &mut self.books, register, range, sink)
     }
 
     /// Each register of each device with the latest meter at it, if any ever was: the devices, and the registers of each, in

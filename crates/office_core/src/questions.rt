@@ -9,15 +9,16 @@ ghost use Rattle.office_books.specs.Repeats.{repeat_of};
 ghost use Rattle.office_books.specs.Rows.{TakesAll};
 ghost use Rattle.office_core.specs.Asking.{ListsDays, Asks, DaysIn, FoundIn, RowsIn, TakesRows};
 ghost use Rattle.office_core.specs.Asking.{answered, intervals_of};
-ghost use Rattle.office_core.specs.DayRange.{DaysBetweenIn, ListsDaysBetween};
+ghost use Rattle.office_core.specs.DayRange.{DaysWithinIn, ListsDaysWithin};
 ghost use Rattle.office_core.specs.Failing.{IsNotForWantOfDay};
-ghost use Rattle.office_core.specs.Parts.{ListsIn, entries_within, intervals_within, meters_named};
+ghost use Rattle.office_core.specs.Parts.{ListsIn, entries_within, holds_named, intervals_within};
+ghost use Rattle.office_core.specs.Parts.{meters_named};
 
-use crate::day_range::{keep_between, span_around};
+use crate::day_range::{keep_within, span_around};
 use crate::day_sink::DaySink;
-use interval_core::{Day, DayTotal, Share, accounts_are_one};
+use interval_core::{DayRange, DayTotal, Share, accounts_are_one};
 use office_books::{Books, BooksFault, MeterEntry, Repeat, RowSink, Span};
-use office_events::{Device, Installation, Name, PollRow, Refusal, Register};
+use office_events::{Device, HeldReading, Installation, Name, PollRow, Refusal, Register};
 use office_rules::registers_are_in_turn;
 use std::alloc::Global;
 
@@ -177,6 +178,27 @@ pub fn intervals_of_span<B: Books, K: RowSink<Share>>(
     Ok(())
 }
 
+/// Hands on the readings of a meter that were held and whose moments are asked for, in the order in which they were recorded.
+pub fn holds<B: Books, K: RowSink<HeldReading>>(
+    books: &mut B,
+    meter: &Option<Name>,
+    span: Span,
+    sink: &mut K,
+) -> Result<(), Refusal>
+    ensures rows { RowsIn K.takes (B.ledger books.old) (B.ledger books.new) sink.old sink.new result
+        (λ known. holds_named known meter.now span) }
+    ensures puts { TakesRows K.takes sink.old sink.new }
+    ensures asks { Asks (B.ledger books.old) (B.ledger books.new) result }
+    ensures no_day { IfErr result IsNotForWantOfDay }
+{
+    let Some(named) = meter else {
+        return Err(Refusal::NotFound);
+    };
+    found(books.meter(named))?;
+    books.holds(named, span, sink)?;
+    Ok(())
+}
+
 /// The installations at a register as they stand, ended ones too, in the order in which they were installed.
 pub fn meters<B: Books>(
     books: &mut B,
@@ -260,35 +282,33 @@ pub fn days<B: Books, K: RowSink<DayTotal>>(
     Ok(())
 }
 
-/// Of the days of a register that is recorded those from one on and before another.
-fn days_between<B: Books>(
+/// Of the days of a register that is recorded those that a range has.
+fn days_in<B: Books>(
     alloc: Global,
     books: &mut B,
     register: &Name,
-    from: Day,
-    till: Day,
+    range: &DayRange,
 ) -> Result<Vec<DayTotal>, Refusal>
-    ensures days { ListsDaysBetween (B.ledger books.old) (B.ledger books.new) register.now from till
-        result }
+    ensures days { ListsDaysWithin (B.ledger books.old) (B.ledger books.new) register.now
+        range.now result }
     ensures asks { Asks (B.ledger books.old) (B.ledger books.new) result }
 {
     accounts_are_one();
-    let mut days = days_of(alloc, books, register, span_around(from, till))?;
-    keep_between(&mut days, from, till);
+    let mut days = days_of(alloc, books, register, span_around(*range))?;
+    keep_within(&mut days, range);
     Ok(days)
 }
 
-/// Hands on the energy of a register by the civil days of the books' zone from one on and before another, in order.
+/// Hands on the energy of a register by the civil days of the books' zone that a range has, in order.
 pub fn days_within<B: Books, K: RowSink<DayTotal>>(
     alloc: Global,
     books: &mut B,
     register: &Option<Name>,
-    from: Day,
-    till: Day,
+    range: DayRange,
     sink: &mut K,
 ) -> Result<(), Refusal>
-    ensures days { DaysBetweenIn K.takes (B.ledger books.old) (B.ledger books.new) sink.old sink.new
-        result register.now from till }
+    ensures days { DaysWithinIn K.takes (B.ledger books.old) (B.ledger books.new) sink.old sink.new
+        result register.now range }
     ensures puts { TakesRows K.takes sink.old sink.new }
     ensures asks { Asks (B.ledger books.old) (B.ledger books.new) result }
 {
@@ -296,7 +316,7 @@ pub fn days_within<B: Books, K: RowSink<DayTotal>>(
         return Err(Refusal::NotFound);
     };
     found(books.register(named))?;
-    let asked = days_between(alloc, books, named, from, till)?;
+    let asked = days_in(alloc, books, named, &range)?;
     hand_on(&asked, sink);
     Ok(())
 }

@@ -1,5 +1,5 @@
--- The numbers under which refusals and the causes of a failed store stand in texts.
-use Rattle.std.specs.Prelude.{ℕ}
+-- The numbers under which refusals and the causes of a failed store stand in texts, and counts of 64 bits.
+use Rattle.std.specs.Prelude.{ℕ, ◌+◌, ◌-◌, ◌^◌, min}
 use Rattle.office_events.specs.declared.refusals.Refusal.{Refusal}
 use Rattle.office_events.specs.declared.refusals.Refusal.TheVariants as refusal
 use Rattle.office_events.specs.declared.refusals.StoreCause.{StoreCause}
@@ -28,3 +28,7 @@ abbrev pub store_number : StoreCause → ℕ
 store_number store.Refused = 1
 store_number store.Damaged = 2
 store_number store.NoDay = 3
+
+-- A count goes up by one, and stays at the greatest number of 64 bits.
+abbrev pub one_more : ℕ → ℕ
+one_more n = min (n + 1) (2 ^ 64 - 1)

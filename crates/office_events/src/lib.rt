@@ -7,6 +7,7 @@ mod events;
 mod facts;
 mod limits;
 mod names;
+mod observer;
 mod questions;
 mod refusals;
 mod terms;
@@ -27,6 +28,7 @@ pub use limits::{
 };
 pub use meter_journal::{EntryKind, EntryRow};
 pub use names::Name;
+pub use observer::Observer;
 pub use questions::{EntryPlace, Installation, PollRow};
 pub use read_plan::PlannedList;
 pub use refusals::{Refusal, StoreCause};

@@ -58,7 +58,8 @@ pub record IsUnavailable (past : History) (had_stopped : Bool) (before after : F
 -- What is replied, over how the books failed before and after. A reply is cut off where the books fail while
 -- its rows are handed on.
 abbrev pub IsServed : Zone → (past : History) → (at : ℕ) → (read : List ℕ) → (had_stopped : Bool)
-    → (before after : Failures) → (cut : Option Refusal) → (reply : List ℕ) → (later : History) → Type 0
+    → (before after : Failures) → (cut : Option Refusal) → (reply : List ℕ) → (later : History)
+    → Type 0
 IsServed zone past at read had_stopped before after None reply later =
     (IsAnswered zone past at read reply later × (after ≡ before))
     ⊎ IsUnavailable past had_stopped before after reply later

@@ -5,3 +5,4 @@ pub mod TextsLemmas
 pub mod AskingLemmas
 pub mod PlacesLemmas
 pub mod StatementLemmas
+mod MeterSums

@@ -1,6 +1,6 @@
 -- What is told of meters, question by question.
-use Rattle.std.proofs.Common.{◌≡◌, inl, inr, ℕ, zero, suc, ◌+◌, ◌<◌, Bool, true, false, cond, Option, Some, None, List, [], ◌∷◌, ◌++◌, map, reverse, take, drop, length, get_or, refl, sym, ap, subst, ◌∙◌, append-nil, append_assoc, arith}
-use Rattle.std.specs.Prelude.{Result, Ok, Err, All, filter, is_ok, is_some}
+use Rattle.std.proofs.Common.{◌≡◌, inl, inr, ℕ, zero, suc, ◌+◌, ◌-◌, ◌^◌, ◌<◌, Bool, true, false, cond, Option, Some, None, List, [], ◌∷◌, ◌++◌, map, reverse, take, drop, length, get_or, refl, sym, ap, subst, ◌∙◌, append-nil, append_assoc, arith}
+use Rattle.std.specs.Prelude.{Result, Ok, Err, ◌&&◌, All, filter, is_ok, is_some, min, nat_le, sum_by}
 use Rattle.command_io.specs.declared.status.ExitStatus.{ExitStatus}
 use Rattle.command_io.specs.declared.status.ExitStatus.TheVariants.{Failed}
 use Rattle.sun_points.specs.Writing.{GotText}
@@ -8,12 +8,16 @@ use Rattle.std.specs.List.{find}
 use Rattle.std.specs.Option.{option_map, option_and_then}
 use Rattle.std.specs.declared.alloc.Global.{Global}
 use Rattle.std.specs.declared.vec.Vec.{Vec}
-use Rattle.std.proofs.lemmas.Bool.{cond-false, cond-true}
+use Rattle.std.proofs.lemmas.Bool.{cases_Bool, cond-false, cond-true}
 use Rattle.std.proofs.lemmas.List.{map-append}
 use Rattle.std.proofs.lemmas.List.Elements.{All-append, All-cons, All-filter, All-head, All-map, All-tail, filter-append}
 use Rattle.interval_core.specs.declared.shares.Share.{Share}
+use Rattle.interval_core.specs.declared.limits.TheConstants.{LAST_MOMENT}
 use Rattle.interval_core.specs.declared.zone.Zone.{Zone}
+use Rattle.interval_core.specs.Ranges.{has_day, has_moment}
+use Rattle.interval_core.specs.Zone.{day_at}
 use Rattle.office_events.specs.declared.facts.Fact.{Fact}
+use Rattle.office_events.specs.declared.facts.HeldReading.{HeldReading}
 use Rattle.office_events.specs.declared.facts.Opening.{Opening}
 use Rattle.office_events.specs.declared.questions.Installation.{Installation}
 use Rattle.office_events.specs.declared.refusals.Refusal.{Refusal}
@@ -26,24 +30,33 @@ use Rattle.office_rules.proofs.Lists.{reverse_cons}
 use Rattle.office_rules.proofs.Lookups.{same_itself}
 use Rattle.office_books.specs.declared.entries.MeterEntry.{MeterEntry}
 use Rattle.office_books.specs.declared.failures.Failures.{Failures}
+use Rattle.office_books.specs.declared.spans.Span.{Span}
+use Rattle.office_books.specs.declared.spans.Span.TheVariants as span
+use Rattle.office_books.specs.Holds.{holds_of, holds_within}
+use Rattle.office_books.specs.Spans.{is_within, rows_within}
 use Rattle.office_books.specs.Entries.{entries_at, first_from, installations_of}
 use Rattle.office_books.specs.Ledgers.{Ledger}
 use Rattle.office_books.specs.Rows.{TakesAll}
 use Rattle.office_core.specs.Asking.{IsFound, OnlyAsks, TellsRows, intervals_of, is_there, rows_in}
 use Rattle.office_core.specs.Failing.{IsOutside}
-use Rattle.office_core.specs.Parts.{IsListed, ListsAccepted, entries_within, meters_named}
+use Rattle.office_core.specs.Parts.{IsListed, ListsAccepted, entries_within, holds_named, intervals_within, meters_named}
 use Rattle.office_core.specs.Standing.{After}
 use Rattle.office_core.specs.Taking.{failures_of}
 use Rattle.office_core.specs.declared.office.Office.{Office}
 use Rattle.energy_report.specs.declared.energy_within.EnergyWithin.{EnergyWithin}
+use Rattle.energy_report.specs.declared.held_counts.HeldCounts.{HeldCounts}
+use Rattle.energy_report.specs.declared.held_within.HeldWithin.{HeldWithin}
 use Rattle.energy_report.specs.declared.meter_statement.MeterStatement.{MeterStatement}
 use Rattle.interval_core.specs.declared.day_range.DayRange.{DayRange}
 use Rattle.energy_report.specs.declared.tallies.EntryTally.{EntryTally}
 use Rattle.energy_report.specs.Energies.{AddsShare, IsFresh}
+use Rattle.energy_report.specs.Held.{held_within}
+use Rattle.energy_report.specs.HeldSinks.{CountsReading, HasCountedNone}
 use Rattle.energy_report.specs.Statements.{energy_within, tally_of, was_there}
 use Rattle.energy_report.proofs.EnergyLemmas.{added_up}
+use Rattle.energy_report.proofs.HeldLemmas.{counted_all}
 use Rattle.office_program.specs.Texts.EndTexts.{IsTold}
-use Rattle.office_program.specs.Texts.Statements.{AreRecorded, Keeps, States, Tells, energy_in, statement_in, statement_of, statements_in, statements_of, tally_in, told_of}
+use Rattle.office_program.specs.Texts.Statements.{AnswersOf, AreRecorded, Keeps, States, energy_in, held_in, statement_in, statement_of, statements_in, statements_of, tally_in, told_of}
 use Rattle.office_program.proofs.AskingLemmas.{found_ok, found_so, refused_on}
 use Rattle.office_program.proofs.PlacesLemmas.{last_piece, one_piece_more, piece_at}
 
@@ -64,6 +77,34 @@ listed_err : {T : Type 0} (rows : Option (List T)) (before after : Failures) (wh
 listed_err None before after why (inl is) = inl (ap (λ w. Err w) is.0, is.1)
 listed_err None before after why (inr out) = inr out
 listed_err (Some rows) before after why out = inr out
+
+-- ---- lists of which some pass
+
+fails_too : (p q : Bool) → (p ≡ true → q ≡ true) → q ≡ false → p ≡ false
+fails_too true q implies isnt = absurd (let e : false ≡ true = sym isnt ∙ implies refl in cc e)
+fails_too false q implies isnt = refl
+
+-- what passes one test is among what passes another that it implies
+filter_among : {X : Type 0} (p q : X → Bool) → ((x : X) → p x ≡ true → q x ≡ true) → (xs : List X) → filter p (filter q xs) ≡ filter p xs
+filter_among p q implies [] = refl
+filter_among p q implies (x ∷ xs) =
+    let rest = filter_among p q implies xs in
+    elim (cases_Bool (q x)) [
+      | inl is ↦ ap (filter p) (cond-true _ _ _ is) ∙ ap (λ l. cond (p x) (x ∷ l) l) rest
+      | inr isnt ↦ ap (filter p) (cond-false _ _ _ isnt) ∙ rest ∙ sym (cond-false _ _ _ (fails_too (p x) (q x) (implies x) isnt))
+    ]
+
+all_pass : {X : Type 0} (xs : List X) → filter (λ x. true) xs ≡ xs
+all_pass [] = refl
+all_pass (x ∷ xs) = ap (λ l. x ∷ l) (all_pass xs)
+
+by_test : (asked : Span) (rows : List Share) → rows_within asked rows ≡ filter (λ row. is_within asked row.start) rows
+by_test span.All rows = sym (all_pass rows)
+by_test (span.Between from till) rows = refl
+
+and_second : (a b : Bool) → (a && b) ≡ true → b ≡ true
+and_second true b is = is
+and_second false b is = absurd (cc is)
 
 module _ {B : Type 0} (ledger : B → Ledger) (zone : Zone) (range : DayRange) where
   -- ---- entries
@@ -95,7 +136,7 @@ module _ {B : Type 0} (ledger : B → Ledger) (zone : Zone) (range : DayRange) w
   pub tally_told : (a b d : Office B) (meter : Option (List ℕ)) (n : ℕ) (tally more : EntryTally) (v : Vec MeterEntry Global)
       → Keeps ledger a b → IsTallied a b meter n tally → OnlyAsks ledger b d (Ok v)
       → ListsAccepted ledger b d (Ok v) (λ facts. entries_within facts meter (n + 1) 256)
-      → Takes tally more v.items → length v.items < 256 → Tells ledger a d (Ok more) (λ facts. tally_in zone range facts meter)
+      → Takes tally more v.items → length v.items < 256 → AnswersOf ledger a d (Ok more) (λ facts. tally_in zone range facts meter)
   tally_told a b d meter n tally more v kept told asks lists took few = λ past stands clean.
       let facts = facts_of past in
       let known = lists past (kept.stands past stands) clean in
@@ -112,7 +153,7 @@ module _ {B : Type 0} (ledger : B → Ledger) (zone : Zone) (range : DayRange) w
 
   pub tally_refused : (a b d : Office B) (meter : Option (List ℕ)) (n : ℕ) (why : Refusal) → Keeps ledger a b
       → ListsAccepted {T = MeterEntry} ledger b d (Err why) (λ facts. entries_within facts meter (n + 1) 256)
-      → Tells {T = EntryTally} ledger a d (Err why) (λ facts. tally_in zone range facts meter)
+      → AnswersOf {T = EntryTally} ledger a d (Err why) (λ facts. tally_in zone range facts meter)
   tally_refused a b d meter n why kept lists = λ past stands clean.
       let facts = facts_of past in
       let o = option_and_then (opening_of facts) meter in
@@ -123,62 +164,128 @@ module _ {B : Type 0} (ledger : B → Ledger) (zone : Zone) (range : DayRange) w
 
   -- ---- energy
 
-  energy_of_rows : (rows : Option (List Share)) (from to : EnergyWithin) → IsFresh zone range from → is_there rows ≡ Some tt
-      → TakesAll AddsShare from (rows_in rows) to → option_map (energy_within zone range) rows ≡ Some to.mwh
-  energy_of_rows None from to fresh is took = absurd (cc is)
-  energy_of_rows (Some rows) from to fresh is took = ap Some (sym (added_up zone range rows from to fresh took))
+  -- the rows of the range are among those of a span around it
+  abbrev pub IsAround : Span → Type 0
+  IsAround span = (zone : Zone) (start : ℕ) → has_day range (day_at zone start) ≡ true → is_within span start ≡ true
 
-  no_rows : (rows : Option (List Share)) → is_there rows ≡ None → option_map (energy_within zone range) rows ≡ None
-  no_rows None is = refl
-  no_rows (Some rows) is = absurd (cc is)
+  energy_around : (span : Span) → IsAround span → (rows : List Share) → energy_within zone range (rows_within span rows) ≡ energy_within zone range rows
+  energy_around span around rows =
+      ap (λ (those : List Share). min (sum_by (λ row. row.mwh) those) (2 ^ 128 - 1))
+      (ap (filter (λ row. has_moment zone range row.start)) (by_test span rows)
+      ∙ filter_among (λ (row : Share). has_moment zone range row.start) (λ row. is_within span row.start)
+      (λ row has. around zone row.start (and_second (nat_le row.start LAST_MOMENT) (has_day range (day_at zone row.start)) has)) rows)
 
-  pub energy_told : (a d : Office B) (meter : Option (List ℕ)) (from to : EnergyWithin) (mwh : ℕ) → IsFresh zone range from → mwh ≡ to.mwh
-      → TellsRows AddsShare ledger a d from to (Ok tt) (λ facts. intervals_of facts meter)
-      → Tells ledger a d (Ok mwh) (λ facts. energy_in zone range facts meter)
-  energy_told a d meter from to mwh fresh is rows = λ past stands clean.
+  energy_of_rows : (span : Span) → IsAround span → (rows : Option (List Share)) (from to : EnergyWithin) → IsFresh zone range from
+      → is_there (option_map (rows_within span) rows) ≡ Some tt → TakesAll AddsShare from (rows_in (option_map (rows_within span) rows)) to
+      → option_map (energy_within zone range) rows ≡ Some to.mwh
+  energy_of_rows span around None from to fresh is took = absurd (cc is)
+  energy_of_rows span around (Some rows) from to fresh is took =
+      ap Some (sym (added_up zone range (rows_within span rows) from to fresh took ∙ energy_around span around rows))
+
+  no_rows : (span : Span) (rows : Option (List Share)) → is_there (option_map (rows_within span) rows) ≡ None → option_map (energy_within zone range) rows ≡ None
+  no_rows span None is = refl
+  no_rows span (Some rows) is = absurd (cc is)
+
+  pub energy_told : (a d : Office B) (meter : Option (List ℕ)) (span : Span) (from to : EnergyWithin) (mwh : ℕ) → IsAround span → IsFresh zone range from
+      → mwh ≡ to.mwh → TellsRows AddsShare ledger a d from to (Ok tt) (λ facts. intervals_within facts meter span)
+      → AnswersOf ledger a d (Ok mwh) (λ facts. energy_in zone range facts meter)
+  energy_told a d meter span from to mwh around fresh is rows = λ past stands clean.
       let facts = facts_of past in
       let hands = rows past stands clean in
-      let there = found_ok ⊥ (is_there (intervals_of facts meter)) (failures_of ledger a) (failures_of ledger d) tt hands.answer in
+      let there = found_ok ⊥ (is_there (intervals_within facts meter span)) (failures_of ledger a) (failures_of ledger d) tt hands.answer in
       found_so (Unit {0}) (energy_in zone range facts meter) (failures_of ledger a) (failures_of ledger d) mwh
-      (energy_of_rows (intervals_of facts meter) from to fresh there.0 hands.whole ∙ ap Some (sym is)) there.1
+      (energy_of_rows span around (intervals_of facts meter) from to fresh there.0 hands.whole ∙ ap Some (sym is)) there.1
 
-  pub energy_refused : (a d : Office B) (meter : Option (List ℕ)) (from to : EnergyWithin) (why : Refusal)
-      → TellsRows AddsShare ledger a d from to (Err why) (λ facts. intervals_of facts meter)
-      → Tells {T = ℕ} ledger a d (Err why) (λ facts. energy_in zone range facts meter)
-  energy_refused a d meter from to why rows = λ past stands clean.
+  pub energy_refused : (a d : Office B) (meter : Option (List ℕ)) (span : Span) (from to : EnergyWithin) (why : Refusal)
+      → TellsRows AddsShare ledger a d from to (Err why) (λ facts. intervals_within facts meter span)
+      → AnswersOf {T = ℕ} ledger a d (Err why) (λ facts. energy_in zone range facts meter)
+  energy_refused a d meter span from to why rows = λ past stands clean.
       let facts = facts_of past in
       let hands = rows past stands clean in
-      refused_on ⊥ (Unit {0}) (is_there (intervals_of facts meter)) (energy_in zone range facts meter)
-      (failures_of ledger a) (failures_of ledger a) (failures_of ledger d) why (λ none. tt) (no_rows (intervals_of facts meter)) refl hands.answer
+      refused_on ⊥ (Unit {0}) (is_there (intervals_within facts meter span)) (energy_in zone range facts meter)
+      (failures_of ledger a) (failures_of ledger a) (failures_of ledger d) why (λ none. tt) (no_rows span (intervals_of facts meter)) refl hands.answer
+
+  -- ---- readings that were held
+
+  abbrev holds_if : List Fact → (name : List ℕ) → Opening → List HeldReading
+  holds_if facts name opening = holds_within span.All (holds_of facts name)
+
+  abbrev held_if : List Fact → (name : List ℕ) → Opening → HeldCounts
+  held_if facts name opening = held_within zone range (holds_of facts name)
+
+  held_of_name : (facts : List Fact) (name : List ℕ) (o : Option Opening) (from to : HeldWithin) → HasCountedNone zone range from
+      → is_there (option_map (holds_if facts name) o) ≡ Some tt → TakesAll CountsReading from (rows_in (option_map (holds_if facts name) o)) to
+      → option_map (held_if facts name) o ≡ Some to.counts
+  held_of_name facts name None from to fresh is took = absurd (cc is)
+  held_of_name facts name (Some x) from to fresh is took =
+      ap Some (sym (counted_all zone range (holds_if facts name x) from to fresh took ∙ ap (held_within zone range) (all_pass (holds_of facts name))))
+
+  held_of_holds : (facts : List Fact) (meter : Option (List ℕ)) (from to : HeldWithin) → HasCountedNone zone range from
+      → is_there (holds_named facts meter span.All) ≡ Some tt → TakesAll CountsReading from (rows_in (holds_named facts meter span.All)) to
+      → held_in zone range facts meter ≡ Some to.counts
+  held_of_holds facts None from to fresh is took = absurd (cc is)
+  held_of_holds facts (Some name) from to fresh is took = held_of_name facts name (opening_of facts name) from to fresh is took
+
+  no_holds : (facts : List Fact) (meter : Option (List ℕ)) → is_there (holds_named facts meter span.All) ≡ None → held_in zone range facts meter ≡ None
+  no_holds facts None is = refl
+  no_holds facts (Some name) is = nothing (holds_if facts name) (held_if facts name) (opening_of facts name) is
+
+  pub held_told : (a d : Office B) (meter : Option (List ℕ)) (from to : HeldWithin) (held : HeldCounts) → HasCountedNone zone range from
+      → held ≡ to.counts → TellsRows CountsReading ledger a d from to (Ok tt) (λ facts. holds_named facts meter span.All)
+      → AnswersOf ledger a d (Ok held) (λ facts. held_in zone range facts meter)
+  held_told a d meter from to held fresh is rows = λ past stands clean.
+      let facts = facts_of past in
+      let hands = rows past stands clean in
+      let there = found_ok ⊥ (is_there (holds_named facts meter span.All)) (failures_of ledger a) (failures_of ledger d) tt hands.answer in
+      found_so (Unit {0}) (held_in zone range facts meter) (failures_of ledger a) (failures_of ledger d) held
+      (held_of_holds facts meter from to fresh there.0 hands.whole ∙ ap Some (sym is)) there.1
+
+  pub holds_refused : (a d : Office B) (meter : Option (List ℕ)) (from to : HeldWithin) (why : Refusal)
+      → TellsRows CountsReading ledger a d from to (Err why) (λ facts. holds_named facts meter span.All)
+      → AnswersOf {T = HeldCounts} ledger a d (Err why) (λ facts. held_in zone range facts meter)
+  holds_refused a d meter from to why rows = λ past stands clean.
+      let facts = facts_of past in
+      let hands = rows past stands clean in
+      refused_on ⊥ (Unit {0}) (is_there (holds_named facts meter span.All)) (held_in zone range facts meter)
+      (failures_of ledger a) (failures_of ledger a) (failures_of ledger d) why (λ none. tt) (no_holds facts meter) refl hands.answer
 
   -- ---- a meter
 
   abbrev by_opening : List Fact → (meter : List ℕ) → Opening → MeterStatement
   by_opening facts meter opening = told_of zone range facts meter (Some opening)
 
-  both_told : (facts : List Fact) (meter : List ℕ) (o : Option Opening) (tally : EntryTally) (mwh : ℕ)
+  all_told : (facts : List Fact) (meter : List ℕ) (o : Option Opening) (tally : EntryTally) (mwh : ℕ) (held : HeldCounts)
       → option_map (λ x. tally_of zone range (entries_at facts (Some x))) o ≡ Some tally
       → option_map (energy_within zone range) (option_map (rows_of_opening facts) o) ≡ Some mwh
-      → option_map (by_opening facts meter) o ≡ Some (record { meter = meter; entries = tally; mwh = mwh })
-  both_told facts meter None tally mwh first second = absurd (cc first)
-  both_told facts meter (Some x) tally mwh first second =
+      → option_map (held_if facts meter) o ≡ Some held
+      → option_map (by_opening facts meter) o ≡ Some (record { meter = meter; entries = tally; mwh = mwh; held = held })
+  all_told facts meter None tally mwh held first second third = absurd (cc first)
+  all_told facts meter (Some x) tally mwh held first second third =
       let t : tally_of zone range (entries_at facts (Some x)) ≡ tally = some_same _ _ first in
       let e : energy_within zone range (rows_of_opening facts x) ≡ mwh = some_same _ _ second in
-      ap (λ (y : EntryTally). Some (let s : MeterStatement = record { meter = meter; entries = y; mwh = energy_within zone range (rows_of_opening facts x) } in s)) t
-      ∙ ap (λ n. Some (let s : MeterStatement = record { meter = meter; entries = tally; mwh = n } in s)) e
+      let h : held_within zone range (holds_of facts meter) ≡ held = some_same _ _ third in
+      let made : EntryTally → ℕ → HeldCounts → MeterStatement = λ tally mwh held. record { meter = meter; entries = tally; mwh = mwh; held = held } in
+      ap (λ y. Some (made y (energy_within zone range (rows_of_opening facts x)) (held_within zone range (holds_of facts meter)))) t
+      ∙ ap (λ n. Some (made tally n (held_within zone range (holds_of facts meter)))) e
+      ∙ ap (λ y. Some (made tally mwh y)) h
 
-  pub statement_told : (a b d : Office B) (meter : List ℕ) (tally : EntryTally) (mwh : ℕ) → OnlyAsks ledger a b (Ok tally) → OnlyAsks ledger b d (Ok mwh)
-      → Tells ledger a b (Ok tally) (λ facts. tally_in zone range facts (Some meter))
-      → Tells ledger b d (Ok mwh) (λ facts. energy_in zone range facts (Some meter))
-      → Tells ledger a d (Ok (record { meter = meter; entries = tally; mwh = mwh })) (λ facts. statement_in zone range facts meter)
-  statement_told a b d meter tally mwh first second told energy = λ past stands clean.
+  pub statement_told : (a b d e : Office B) (meter : List ℕ) (tally : EntryTally) (mwh : ℕ) (held : HeldCounts)
+      → OnlyAsks ledger a b (Ok tally) → OnlyAsks ledger b d (Ok mwh) → OnlyAsks ledger d e (Ok held)
+      → AnswersOf ledger a b (Ok tally) (λ facts. tally_in zone range facts (Some meter))
+      → AnswersOf ledger b d (Ok mwh) (λ facts. energy_in zone range facts (Some meter))
+      → AnswersOf ledger d e (Ok held) (λ facts. held_in zone range facts (Some meter))
+      → AnswersOf ledger a e (Ok (record { meter = meter; entries = tally; mwh = mwh; held = held })) (λ facts. statement_in zone range facts meter)
+  statement_told a b d e meter tally mwh held first second third told energy counts = λ past stands clean.
       let facts = facts_of past in
+      let later = first.stands past stands in
       let t = found_ok (Unit {0}) (tally_in zone range facts (Some meter)) (failures_of ledger a) (failures_of ledger b) tally
-      (told past stands (second.clean clean)) in
-      let e = found_ok (Unit {0}) (energy_in zone range facts (Some meter)) (failures_of ledger b) (failures_of ledger d) mwh
-      (energy past (first.stands past stands) clean) in
-      found_so (Unit {0}) (statement_in zone range facts meter) (failures_of ledger a) (failures_of ledger d) _
-      (both_told facts meter (opening_of facts meter) tally mwh t.0 e.0) (e.1 ∙ t.1)
+      (told past stands (second.clean (third.clean clean))) in
+      let n = found_ok (Unit {0}) (energy_in zone range facts (Some meter)) (failures_of ledger b) (failures_of ledger d) mwh
+      (energy past later (third.clean clean)) in
+      let h = found_ok (Unit {0}) (held_in zone range facts (Some meter)) (failures_of ledger d) (failures_of ledger e) held
+      (counts past (second.stands past later) clean) in
+      found_so (Unit {0}) (statement_in zone range facts meter) (failures_of ledger a) (failures_of ledger e) _
+      (all_told facts meter (opening_of facts meter) tally mwh held t.0 n.0 h.0) (h.1 ∙ n.1 ∙ t.1)
 
   gone : {Y Z : Type 0} (f : Opening → Y) (g : Opening → Z) (o : Option Opening) → option_map f o ≡ None → option_map g o ≡ None
   gone f g None is = refl
@@ -190,8 +297,8 @@ module _ {B : Type 0} (ledger : B → Ledger) (zone : Zone) (range : DayRange) w
   gone_rows facts g (Some x) is = absurd (cc is)
 
   pub entries_refused : (a b : Office B) (meter : List ℕ) (why : Refusal)
-      → Tells {T = EntryTally} ledger a b (Err why) (λ facts. tally_in zone range facts (Some meter))
-      → Tells {T = MeterStatement} ledger a b (Err why) (λ facts. statement_in zone range facts meter)
+      → AnswersOf {T = EntryTally} ledger a b (Err why) (λ facts. tally_in zone range facts (Some meter))
+      → AnswersOf {T = MeterStatement} ledger a b (Err why) (λ facts. statement_in zone range facts meter)
   entries_refused a b meter why told = λ past stands clean.
       let facts = facts_of past in
       refused_on (Unit {0}) (Unit {0}) (tally_in zone range facts (Some meter)) (statement_in zone range facts meter)
@@ -200,13 +307,23 @@ module _ {B : Type 0} (ledger : B → Ledger) (zone : Zone) (range : DayRange) w
       (told past stands clean)
 
   pub rows_refused : (a b d : Office B) (meter : List ℕ) (why : Refusal) → Keeps ledger a b
-      → Tells {T = ℕ} ledger b d (Err why) (λ facts. energy_in zone range facts (Some meter))
-      → Tells {T = MeterStatement} ledger a d (Err why) (λ facts. statement_in zone range facts meter)
+      → AnswersOf {T = ℕ} ledger b d (Err why) (λ facts. energy_in zone range facts (Some meter))
+      → AnswersOf {T = MeterStatement} ledger a d (Err why) (λ facts. statement_in zone range facts meter)
   rows_refused a b d meter why kept told = λ past stands clean.
       let facts = facts_of past in
       refused_on (Unit {0}) (Unit {0}) (energy_in zone range facts (Some meter)) (statement_in zone range facts meter)
       (failures_of ledger a) (failures_of ledger b) (failures_of ledger d) why (λ u. u)
       (gone_rows facts (by_opening facts meter) (opening_of facts meter)) kept.failures (told past (kept.stands past stands) clean)
+
+  pub held_refused : (a b d : Office B) (meter : List ℕ) (why : Refusal) → Keeps ledger a b
+      → AnswersOf {T = HeldCounts} ledger b d (Err why) (λ facts. held_in zone range facts (Some meter))
+      → AnswersOf {T = MeterStatement} ledger a d (Err why) (λ facts. statement_in zone range facts meter)
+  held_refused a b d meter why kept told = λ past stands clean.
+      let facts = facts_of past in
+      refused_on (Unit {0}) (Unit {0}) (held_in zone range facts (Some meter)) (statement_in zone range facts meter)
+      (failures_of ledger a) (failures_of ledger b) (failures_of ledger d) why (λ u. u)
+      (gone (held_if facts meter) (by_opening facts meter) (opening_of facts meter)) kept.failures
+      (told past (kept.stands past stands) clean)
 
   -- ---- the meters at a register
 
@@ -224,7 +341,7 @@ module _ {B : Type 0} (ledger : B → Ledger) (zone : Zone) (range : DayRange) w
   by_name facts meter (Some x) s is = some_same _ _ is
 
   pub one_stated : (a b : Office B) (row : Installation) (before after : List MeterStatement) (s : MeterStatement) → was_there zone range row ≡ true
-      → after ≡ before ++ s ∷ [] → Tells ledger a b (Ok s) (λ facts. statement_in zone range facts row.opening.meter)
+      → after ≡ before ++ s ∷ [] → AnswersOf ledger a b (Ok s) (λ facts. statement_in zone range facts row.opening.meter)
       → States ledger zone range (row ∷ []) a b before after (Ok tt)
   one_stated a b row before after s there put told = λ past stands clean recorded.
       let facts = facts_of past in
@@ -236,7 +353,7 @@ module _ {B : Type 0} (ledger : B → Ledger) (zone : Zone) (range : DayRange) w
       )
 
   pub no_room : (a b : Office B) (row : Installation) (before after : List MeterStatement) (s : MeterStatement)
-      → Tells ledger a b (Ok s) (λ facts. statement_in zone range facts row.opening.meter)
+      → AnswersOf ledger a b (Ok s) (λ facts. statement_in zone range facts row.opening.meter)
       → States ledger zone range (row ∷ []) a b before after (Err refusal.Memory)
   no_room a b row before after s told = λ past stands clean recorded.
       let facts = facts_of past in
@@ -251,7 +368,7 @@ module _ {B : Type 0} (ledger : B → Ledger) (zone : Zone) (range : DayRange) w
   outside f (Some x) before after why some (inr fails) = fails
 
   pub one_refused : (a b : Office B) (row : Installation) (before after : List MeterStatement) (why : Refusal)
-      → Tells {T = MeterStatement} ledger a b (Err why) (λ facts. statement_in zone range facts row.opening.meter)
+      → AnswersOf {T = MeterStatement} ledger a b (Err why) (λ facts. statement_in zone range facts row.opening.meter)
       → States ledger zone range (row ∷ []) a b before after (Err why)
   one_refused a b row before after why told = λ past stands clean recorded.
       let facts = facts_of past in
@@ -342,7 +459,7 @@ module _ {B : Type 0} (ledger : B → Ledger) (zone : Zone) (range : DayRange) w
       → listed ≡ v.items → OnlyAsks ledger a b (Ok v) → Keeps ledger b d
       → ListsAccepted ledger a b (Ok v) (λ facts. meters_named facts register)
       → States ledger zone range listed b d [] rows (Ok tt)
-      → Tells ledger a d (Ok rows) (λ facts. statements_in zone range facts register)
+      → AnswersOf ledger a d (Ok rows) (λ facts. statements_in zone range facts register)
   statements_told a b d register v listed rows same asks kept lists states = λ past stands clean.
       let facts = facts_of past in
       let known = lists past stands (kept.clean clean) in
@@ -356,7 +473,7 @@ module _ {B : Type 0} (ledger : B → Ledger) (zone : Zone) (range : DayRange) w
       → listed ≡ v.items → OnlyAsks ledger a b (Ok v) → OnlyAsks {T = Unit {0}} ledger b d (Err why)
       → ListsAccepted ledger a b (Ok v) (λ facts. meters_named facts register)
       → States ledger zone range listed b d [] rows (Err why)
-      → Tells {T = List MeterStatement} ledger a d (Err why) (λ facts. statements_in zone range facts register)
+      → AnswersOf {T = List MeterStatement} ledger a d (Err why) (λ facts. statements_in zone range facts register)
   statements_failed a b d register v listed rows why same asks more lists states = λ past stands clean.
       let facts = facts_of past in
       let known = lists past stands (more.clean clean) in
@@ -370,7 +487,7 @@ module _ {B : Type 0} (ledger : B → Ledger) (zone : Zone) (range : DayRange) w
 
   pub meters_refused : (a b : Office B) (register : Option (List ℕ)) (why : Refusal)
       → ListsAccepted {T = Installation} ledger a b (Err why) (λ facts. meters_named facts register)
-      → Tells {T = List MeterStatement} ledger a b (Err why) (λ facts. statements_in zone range facts register)
+      → AnswersOf {T = List MeterStatement} ledger a b (Err why) (λ facts. statements_in zone range facts register)
   meters_refused a b register why lists = λ past stands clean.
       let facts = facts_of past in
       refused_on ⊥ (Unit {0}) (is_there (meters_named facts register)) (statements_in zone range facts register)

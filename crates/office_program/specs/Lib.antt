@@ -6,3 +6,4 @@ pub mod Statement
 pub mod HttpPort
 pub mod PortRound
 pub mod Texts
+pub mod Laws

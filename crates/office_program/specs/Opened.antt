@@ -36,6 +36,6 @@ pub record WithAsked {B : Type 0} (ledger : B → Ledger) (past : History)
 -- Of books that stand after what was accepted before this is told, if no wrong answer of a store was taken as true by the
 -- time that they are handed back.
 abbrev pub OverStanding : {B : Type 0} → (B → Ledger) → (books back : B)
-    → (Tells : (past : History) → Type 0) → Type 0
-OverStanding ledger books back Tells =
-    (past : History) → BooksStand (ledger books) past → (ledger back).is_clean → Tells past
+    → (Holds : (past : History) → Type 0) → Type 0
+OverStanding ledger books back Holds =
+    (past : History) → BooksStand (ledger books) past → (ledger back).is_clean → Holds past

@@ -4,6 +4,7 @@
 mod command_end;
 mod entering;
 mod http_port;
+mod laws;
 mod port_round;
 mod ranged_report;
 mod report;
@@ -15,6 +16,7 @@ pub use entering::{
     MOST_FILE, NamedFiles, Shown, check_books, enter_books, inputs_act_once, requests_are_repeated,
 };
 pub use http_port::{ServeEnd, serve_books};
+pub use laws::statements_add_up;
 pub use port_round::{PATIENCE, PollEnd, poll_books};
 pub use ranged_report::report_range_books;
 pub use report::report_books;

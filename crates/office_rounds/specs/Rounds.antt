@@ -28,7 +28,8 @@ pub record RoundState : Type 0 where
   pub failures : Failures
 
 abbrev pub round_state : (printed moments : Option (List ℕ)) → (failures : Failures) → RoundState
-round_state printed moments failures = record { printed = printed; moments = moments; failures = failures }
+round_state printed moments failures =
+    record { printed = printed; moments = moments; failures = failures }
 
 -- what is known of the link
 pub record Wire : Type 0 where

@@ -3,9 +3,7 @@
 
 mod device_events;
 mod feed;
-mod observer;
 mod turns;
 
 pub use device_events::DeviceEvent;
-pub use observer::Observer;
 pub use turns::{MOST_STEPS, turn};

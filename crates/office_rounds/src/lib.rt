@@ -12,6 +12,6 @@ mod round_end;
 mod steps;
 
 pub use device_rounds::{Round, Stage, Sum};
-pub use driver::{DeviceEvent, Observer, turn};
+pub use driver::{DeviceEvent, turn};
 pub use fault::RoundFault;
 pub use round::{MOST_TAKES, round_over};

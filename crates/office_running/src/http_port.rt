@@ -19,7 +19,7 @@ use office_core::Office;
 use office_events::Name;
 use run_http::{
     PeerReply, RunRoute, StatusRoute, ask, reply_energy, reply_entries, reply_intervals,
-    reply_metrics, reply_site, reply_status, run_route,
+    reply_metrics, reply_site, reply_status, reply_voids, run_route,
 };
 use run_schedule::{MOST_PEERS, PEER_SECONDS, Peers, place_for};
 use std::alloc::{AllocError, Global};
@@ -240,7 +240,7 @@ impl Serving {
     }
 
     // The reply to the question which registers and meters there are.
-    #[tactic(auto, using(crate::proofs::Going::goes_looked))]
+    #[tactic(auto, using(crate::proofs::Going::goes_meters))]
     fn reply_site<B: Books>(&self, office: &mut Office<B>, moment: u64) -> PeerReply
         ensures { (names : List (List ℕ)) → Goes names moment B.ledger office.old office.new }
     {
@@ -285,6 +285,18 @@ impl Serving {
         }
     }
 
+    // The reply to the question which entries of a meter voids name.
+    #[tactic(auto, using(crate::proofs::Going::goes_rows))]
+    fn reply_voids<B: Books>(&self, office: &mut Office<B>, meter: &Option<Name>) -> PeerReply
+        ensures { (names : List (List ℕ)) (at : ℕ) → Goes names at B.ledger office.old office.new }
+    {
+        let mut text = Vec::new(self.alloc);
+        match reply_voids(self.alloc, &mut text, office, meter) {
+            Ok(()) => PeerReply::Replied(text),
+            Err(_) => PeerReply::Failed,
+        }
+    }
+
     // The reply to the question for the energy of a register.
     #[tactic(auto, using(crate::proofs::Going::goes_energy))]
     fn reply_energy<B: Books>(
@@ -320,6 +332,7 @@ impl Serving {
             Some(RunRoute::Site) => self.reply_site(office, now.moment),
             Some(RunRoute::Intervals { meter, span }) => self.reply_intervals(office, &meter, span),
             Some(RunRoute::Entries { meter, from }) => self.reply_entries(office, &meter, from),
+            Some(RunRoute::Voids { meter }) => self.reply_voids(office, &meter),
             Some(RunRoute::Energy { register, form }) => {
                 self.reply_energy(office, &register, &form)
             }

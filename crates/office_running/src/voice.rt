@@ -1,7 +1,7 @@
 //! What is kept and told of what the office is fed.
 use crate::leftovers::Left;
-use office_events::{Answer, Event, Name, Note, Refusal};
-use office_rounds::{Observer, Sum};
+use office_events::{Answer, Event, Name, Note, Observer, Refusal};
+use office_rounds::Sum;
 use poll_core::Closing;
 use run_status::{
     DeviceLack, Lack, RunMonitor, Told, ToldNumber, Topic, put, put_head, put_held, put_lack,
@@ -23,7 +23,7 @@ pub(crate) enum Standing {
     Unreachable,
 }
 
-/// Who is shown what the office is fed: a desk, the lines that are to be printed, and what is to be said to people. A line for
+/// Who is shown what the office is fed: a monitor, the lines that are to be printed, and what is to be said to people. A line for
 /// which there was no memory is left out, or is cut off.
 #[derive(Drop)]
 pub(crate) struct Voice {
@@ -222,7 +222,14 @@ impl Voice {
         }
         let now = standing_by(sum);
         self.tell_standing(at, name, before, now);
-        let _done = put_sum(&mut self.lines, at, name, sum);
+        let _done = put_sum(
+            &mut self.lines,
+            at,
+            name,
+            sum.answered,
+            sum.silent,
+            sum.failed,
+        );
         now
     }
 

@@ -4,7 +4,6 @@ use Rattle.std.specs.Prelude.{IfOk, OnOk}
 use Rattle.sqlite.specs.Store.{Ghosts}
 use Rattle.sqlite.specs.Held.{Held, state}
 use Rattle.sqlite.specs.State.{HasCleanDisk}
-use Rattle.interval_core.specs.declared.shares.Share.{Share}
 use Rattle.interval_core.specs.declared.zone.Zone.{Zone}
 use Rattle.office_events.specs.declared.facts.Fact.{Fact}
 use Rattle.office_books.specs.declared.faults.BooksFault.{BooksFault}
@@ -81,9 +80,9 @@ told_on Q (Ok x) q = q
 told_on Q (Err e) q = tt
 
 -- rows are handed on as the tables hand them on
-pub hands_on : {S K : Type 0} {AreSound : List Fact → Type 0} (g : Ghosts S) (old new : Held S) (n m : Failures) (zone : Zone) (takes : K → Share → K → Type 0) (before after : K)
-    (rows : List Fact → List Share) (found : Result (Unit {0}) RowFault) (answer : Result (Unit {0}) BooksFault) → answer ≡ answer_of found
-    → metering.HandsOn g old new takes before after found rows AreSound
+pub hands_on : {S K T : Type 0} {IsRow : T → Type 0} {AreSound : List Fact → Type 0} (g : Ghosts S) (old new : Held S) (n m : Failures) (zone : Zone) (takes : K → T → K → Type 0) (before after : K)
+    (rows : List Fact → List T) (found : Result (Unit {0}) RowFault) (answer : Result (Unit {0}) BooksFault) → answer ≡ answer_of found
+    → metering.HandsOn g old new takes before after found IsRow rows AreSound
     → HandsOn takes (ledger_of g old n zone) (ledger_of g new m zone) before after answer rows
 hands_on g old new n m zone takes before after rows found answer is hands = record {
   begun = λ content h clean. hands.begun h.zone content h.holds clean;

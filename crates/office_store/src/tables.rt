@@ -6,7 +6,7 @@ use interval_core::{Share, Zone};
 use mb_wire::ReadSpan;
 use office_books::{Books, BooksFault, MeterEntry, Repeat, RowSink, Span};
 use office_events::{
-    Device, EntryPlace, Fact, Installation, Name, PlannedList, Poll, PollRow, Register,
+    Device, EntryPlace, Fact, HeldReading, Installation, Name, PlannedList, Poll, PollRow, Register,
 };
 use sqlite::Alter;
 
@@ -155,6 +155,16 @@ impl<S: Alter + Drop> Books for SqlBooks<S> {
         sink: &mut K,
     ) -> Result<(), BooksFault> {
         let found = store_queries::register_intervals(&mut self.connection, register, span, sink);
+        answered(&mut self.failures, found)
+    }
+
+    fn holds<K: RowSink<HeldReading>>(
+        &mut self,
+        meter: &Name,
+        span: Span,
+        sink: &mut K,
+    ) -> Result<(), BooksFault> {
+        let found = store_queries::holds(&mut self.connection, meter, span, sink);
         answered(&mut self.failures, found)
     }
 

@@ -1,8 +1,8 @@
 //! Devices that are polled at once, and a witness that is shown what is fed.
 use crate::links::{SECOND_REPLY, first_reply};
 use crate::offices::{Tried, list, office_with};
-use office_events::{Name, Piece};
-use office_rounds::{DeviceEvent, Observer, Round, turn};
+use office_events::{Name, Observer, Piece};
+use office_rounds::{DeviceEvent, Round, turn};
 use poll_core::Closing;
 use std::alloc::Global;
 use std::process::Abort;

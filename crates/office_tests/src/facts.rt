@@ -1,13 +1,13 @@
 //! Facts of one device, `inv`, with one register, `main`, and books that hold them.
 use crate::offices::{empty_books, inv};
-use energy_core::Entry;
+use energy_core::{Cause, Entry};
 use mb_wire::{ReadFunction, ReadSpan};
 use memory_books::ListBooks;
 use meter_journal::EntryKind;
 use office_books::Books;
 use office_events::{
-    BookedEntry, Device, EndedPoll, Fact, Name, Opening, Poll, Register, ScaleSource, Timeout,
-    VoidedEntry, Window,
+    BookedEntry, Device, EndedPoll, Fact, HeldReading, Name, Opening, Poll, Register, ScaleSource,
+    Timeout, VoidedEntry, Window,
 };
 use std::alloc::Global;
 
@@ -24,6 +24,8 @@ pub(crate) enum Booked {
     Void(&'static [u8], u64, u64),
     Poll(u64),
     Ended(EndedPoll),
+    /// A reading of m1 by a poll, at this moment, that showed so much and was held.
+    Hold(u64, u64, u32, Cause),
 }
 
 fn device() -> Option<Fact> {
@@ -68,6 +70,17 @@ fn void(meter: &[u8], place: u64, at: u64) -> Option<Fact> {
     Some(Fact::Void(VoidedEntry { meter, place, at }))
 }
 
+fn hold(poll: u64, at: u64, raw: u32, cause: Cause) -> Option<Fact> {
+    Some(Fact::Hold(HeldReading {
+        meter: Name::new(b"m1")?,
+        poll,
+        at,
+        raw,
+        sf: 0,
+        cause,
+    }))
+}
+
 /// The poll of a number.
 pub(crate) fn poll(number: u64) -> Option<Poll> {
     Some(Poll {
@@ -89,6 +102,7 @@ fn fact(booked: &Booked) -> Option<Fact> {
         Booked::Void(meter, place, at) => void(meter, place, at),
         Booked::Poll(number) => Some(Fact::Poll(poll(number)?)),
         Booked::Ended(ended) => Some(Fact::Outcome(ended)),
+        Booked::Hold(poll, at, raw, cause) => hold(poll, at, raw, cause),
     }
 }
 

@@ -11,8 +11,6 @@ mod benches;
 #[cfg(test)]
 mod chances;
 #[cfg(test)]
-mod desks;
-#[cfg(test)]
 mod facts;
 #[cfg(test)]
 mod failing_links;
@@ -62,6 +60,8 @@ mod round_breaks;
 mod round_faults;
 #[cfg(test)]
 mod rounds;
+#[cfg(test)]
+mod run_monitors;
 mod runs;
 #[cfg(test)]
 mod sayings;

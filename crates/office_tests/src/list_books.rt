@@ -1,10 +1,13 @@
 //! What is looked up in books in memory is what was booked.
 use crate::facts::{Booked, books_of, poll};
+use crate::kept_rows::KeptRows;
+use energy_core::Cause;
 use memory_books::ListBooks;
 use meter_journal::EntryKind;
-use office_books::Books;
-use office_events::{EndedPoll, EntryPlace, Installation, Name, Poll, PollRow};
+use office_books::{Books, Span};
+use office_events::{EndedPoll, EntryPlace, HeldReading, Installation, Name, Poll, PollRow};
 use poll_core::Outcome;
+use std::alloc::Global;
 
 const ENDED: EndedPoll = EndedPoll {
     poll: 2,
@@ -118,4 +121,76 @@ fn a_void_gives_way(rt: HostRuntime) {
     assert!(rt; is_voided(&entry(&mut books, b"m1", 3), 1_500_000));
     assert!(rt; entry(&mut books, b"m1", 4).is_none());
     assert!(rt; books.latest() == Ok(9000));
+}
+
+// Of two readings of a meter that were held one went too fast, and one shows a counter that does not count.
+static HELD: [Booked; 7] = [
+    Booked::Device,
+    Booked::Register,
+    Booked::Opening(b"m1", 1000),
+    Booked::Poll(1),
+    Booked::Poll(2),
+    Booked::Hold(1, 1900, 60_000, Cause::TooFast),
+    Booked::Hold(2, 2000, 0, Cause::NotAccumulated),
+];
+
+// Moments that are asked for, and the moments and causes of the readings that were held then.
+static HELD_IN: [(Span, &[(u64, Cause)]); 4] = [
+    (
+        Span::All,
+        &[(1900, Cause::TooFast), (2000, Cause::NotAccumulated)],
+    ),
+    (
+        Span::Between {
+            from: 1900,
+            till: 2000,
+        },
+        &[(1900, Cause::TooFast)],
+    ),
+    (
+        Span::Between {
+            from: 1901,
+            till: 2001,
+        },
+        &[(2000, Cause::NotAccumulated)],
+    ),
+    (
+        Span::Between {
+            from: 2001,
+            till: u64::MAX,
+        },
+        &[],
+    ),
+];
+
+fn were_held(rows: &[HeldReading], expected: &[(u64, Cause)]) -> bool {
+    for (row, (at, cause)) in rows.iter().zip(expected) {
+        if row.at != *at || row.cause != *cause {
+            return false;
+        }
+    }
+    rows.len() == expected.len()
+}
+
+// The held readings of a meter whose moments are asked for.
+fn held(
+    alloc: Global,
+    books: &mut ListBooks,
+    meter: &[u8],
+    span: Span,
+) -> Option<Vec<HeldReading>> {
+    let mut kept = KeptRows::new(alloc);
+    books.holds(&Name::new(meter)?, span, &mut kept).ok()?;
+    kept.into_rows().ok()
+}
+
+#[test]
+fn held_readings_are_asked_for_by_their_moments(rt: HostRuntime) {
+    let mut books = books_of(rt.alloc(), &HELD).expect(&rt, "two held readings");
+    for (span, expected) in &HELD_IN {
+        let rows = held(rt.alloc(), &mut books, b"m1", *span);
+        assert!(rt; were_held(&rows.expect(&rt, "rows"), expected));
+    }
+    let rows = held(rt.alloc(), &mut books, b"m2", Span::All);
+    assert!(rt; rows.expect(&rt, "no row").is_empty());
 }

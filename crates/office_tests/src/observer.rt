@@ -1,6 +1,5 @@
 //! A witness that writes down what it is shown.
-use office_events::{Answer, Command, Event, Note, Refusal};
-use office_rounds::Observer;
+use office_events::{Answer, Command, Event, Note, Observer, Refusal};
 use poll_core::{Closing, Outcome};
 use std::alloc::Global;
 

@@ -1,5 +1,8 @@
 pub mod Handed
 pub mod Rows
+pub mod Asking
+pub mod Places
+pub mod Voids
+pub mod SiteMeters
 pub mod Spelled
-pub mod Asked
 pub mod Energy

@@ -1,9 +1,13 @@
+pub mod Copies
 pub mod StatusRoute
 pub mod MeterTargets
 pub mod Answer
+pub mod Several
+pub mod SiteMeters
 pub mod SiteReply
 pub mod MetricsReply
 pub mod MeterReplies
+pub mod Voids
 pub mod RegisterTargets
 pub mod RegisterReplies
 pub mod Texts

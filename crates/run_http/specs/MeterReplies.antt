@@ -19,7 +19,7 @@ abbrev pub KeepsRow : KeptRows → Share → KeptRows → Type 0
 KeepsRow old row new = new.is_whole ≡ true
     → (old.is_whole ≡ true) × (new.rows.items ≡ old.rows.items ++ row ∷ [])
 
--- The office is asked, once, and so it answers by what it has accepted, unless there was no memory for the rows.
+-- The office is asked, and so it answers by what it has accepted, unless there was no memory for the rows.
 pub record AsksRows {B T : Type 0} (ledger : B → Ledger) (old new : Office B)
     (says : List Fact → Option (List T)) {E : Type 0}
     (result : Result (Result (Vec T Global) Refusal) E) : Type 0 where
@@ -35,7 +35,7 @@ with_rows_reply text (Ok rows) before =
     with_reply Fine (codes "text/plain") (text rows.items) before
 with_rows_reply text (Err why) before = with_refusal why before
 
--- The office is asked, once, and what it answers is the reply, unless there was no memory for that.
+-- The office is asked, and what it answers is the reply, unless there was no memory for that.
 pub record RepliesRows {B T : Type 0} (ledger : B → Ledger) (old new : Office B)
     (says : List Fact → Option (List T)) (text : List T → List ℕ) (from to : List ℕ) {E : Type 0}
     (result : Result (Unit {0}) E) : Type 0 where

@@ -1,5 +1,5 @@
 -- What a target asks of the rows of a meter: `/meters/NAME/intervals/FROM/TILL` the quarter hours that start at FROM or later,
--- and before TILL, and `/meters/NAME/entries/PLACE` the entries from PLACE on.
+-- and before TILL, `/meters/NAME/entries/PLACE` the entries from PLACE on, and `/meters/NAME/voids` those that voids name.
 use Rattle.std.specs.Prelude.{ℕ, ◌+◌, ◌==◌, List, length, take, drop, position, bytes_eq, if◌then◌else◌, Option, Some, None, codes}
 use Rattle.http_request.specs.Values.{digits_in}
 use Rattle.http_request.specs.declared.status.Status.TheVariants.{BadRequest}
@@ -7,7 +7,7 @@ use Rattle.office_events.specs.Names.{named}
 use Rattle.office_books.specs.declared.spans.Span.{Span}
 use Rattle.office_books.specs.declared.spans.Span.TheVariants.{Between}
 use Rattle.run_http.specs.declared.route.RunRoute.{RunRoute}
-use Rattle.run_http.specs.declared.route.RunRoute.TheVariants.{Own, Intervals, Entries}
+use Rattle.run_http.specs.declared.route.RunRoute.TheVariants.{Own, Intervals, Entries, Voids}
 use Rattle.run_http.specs.declared.route.StatusRoute.TheVariants.{Rejected}
 
 -- what follows a word that a text begins with
@@ -55,7 +55,8 @@ rows_asked name (Some text) entries = intervals_in name text
 
 abbrev pub rows_in : (name text : List ℕ) → Option RunRoute
 rows_in name text =
-    rows_asked name (after (codes "intervals/") text) (after (codes "entries/") text)
+    if bytes_eq text (codes "voids") then Some (Voids (named name))
+    else rows_asked name (after (codes "intervals/") text) (after (codes "entries/") text)
 
 abbrev pub meter_cut : (text : List ℕ) → Option ℕ → Option RunRoute
 meter_cut text None = None

@@ -1,25 +1,22 @@
 -- The replies to questions for the energy of a register, by what the office answers to them.
-use Rattle.std.specs.Prelude.{◌≡◌, ℕ, ◌<◌, ◌^◌, false, length, List, map, filter, Option, Some, Result, Ok, Err, IfOk, OnOk, OnErr, codes}
+use Rattle.std.specs.Prelude.{◌≡◌, ℕ, false, List, map, Option, Some, Result, Ok, Err, IfOk, OnOk, codes}
 use Rattle.std.specs.Option.{option_and_then}
 use Rattle.std.specs.Io.KnownBytes.{Appends}
-use Rattle.interval_core.specs.Ranges.{days_in, has_day}
 use Rattle.energy_report.specs.Texts.{report_text}
 use Rattle.energy_report.specs.Writing.{Finishes}
 use Rattle.energy_report.specs.declared.form.ReportForm.{ReportForm}
-use Rattle.interval_core.specs.declared.day_range.DayRange.{DayRange}
 use Rattle.energy_report.specs.declared.report_rows.ReportRows.{ReportRows}
 use Rattle.http_request.specs.declared.status.Status.TheVariants.{Fine}
-use Rattle.interval_core.specs.Days.{DayAccount, account_of}
+use Rattle.interval_core.specs.Days.{account_of}
 use Rattle.interval_core.specs.declared.totals.DayTotal.{DayTotal}
 use Rattle.interval_core.specs.declared.zone.Zone.{Zone}
-use Rattle.office_events.specs.declared.facts.Fact.{Fact}
 use Rattle.office_events.specs.declared.refusals.Refusal.{Refusal}
 use Rattle.office_rules.specs.Facts.{register_of}
 use Rattle.office_rules.specs.History.{History, facts_of}
 use Rattle.office_books.specs.Ledgers.{Ledger}
-use Rattle.office_books.specs.Rows.{TakesAll}
 use Rattle.office_books.specs.declared.failures.Failures.{Failures}
-use Rattle.office_core.specs.Asking.{AreDaysNamed, IsFound, OnlyAsks, is_there}
+use Rattle.office_core.specs.Asking.{IsFound, OnlyAsks, is_there}
+use Rattle.office_core.specs.DayRange.{AreDaysWithin}
 use Rattle.office_core.specs.Standing.{After, books_in}
 use Rattle.office_core.specs.Taking.{failures_of}
 use Rattle.office_core.specs.declared.office.Office.{Office}
@@ -32,56 +29,17 @@ pub record PutsLast {W E : Type 0} (contents : W → Option (List ℕ))
   pub finishes : Finishes contents old new
   pub whole : OnOk result (new.failed ≡ false)
 
--- Of days those that a range has, in their order.
-abbrev pub accounts_in : DayRange → List DayAccount → List DayAccount
-accounts_in range accounts = filter (λ account. has_day range account.day) accounts
-
--- These are, of the days of the register of a name, those that the range has.
-pub record AreDaysAsked (zone : Zone) (facts : List Fact) (register : Option (List ℕ))
-    (range : DayRange) (days : List DayAccount) : Type 0 where
-  pub all : List DayAccount
-  pub are : AreDaysNamed zone facts register all
-  pub asked : days ≡ accounts_in range all
-
--- The sink took them, in order, and maybe other days. A number of 64 bits counts all that it took.
-pub record TakesDaysAsked {S : Type 0} (takes : S → DayTotal → S → Type 0) (zone : Zone)
-    (facts : List Fact) (register : Option (List ℕ)) (range : DayRange) (before after : S) :
-    Type 0 where
-  pub days : List DayTotal
-  pub are : AreDaysAsked zone facts register range (map account_of (days_in range days))
-  pub few : length days < 2 ^ 64
-  pub took : TakesAll takes before days after
-
--- They are asked for, and answered as all days are.
-pub record HandsDaysAsked {S : Type 0} (takes : S → DayTotal → S → Type 0) (zone : Zone)
-    (facts : List Fact) (register : Option (List ℕ)) (range : DayRange) (old new : Failures)
-    (before after : S) (result : Result (Unit {0}) Refusal) : Type 0 where
-  pub answer : let there = is_there (option_and_then (register_of facts) register) in
-      IsFound (there ≡ Some tt) there old new result
-  pub whole : OnOk result (TakesDaysAsked takes zone facts register range before after)
-  pub none : OnErr result (after ≡ before)
-
--- So it is of what an office had accepted.
-abbrev pub TellsDaysAsked : {B S : Type 0} → (S → DayTotal → S → Type 0) → (B → Ledger)
-    → (old new : Office B) → (before after : S) → Result (Unit {0}) Refusal
-    → (register : Option (List ℕ)) → DayRange → Type 0
-TellsDaysAsked takes ledger old new before after result register range =
-    After ledger old new (λ past.
-    HandsDaysAsked takes (ledger (books_in old)).zone (facts_of past) register range
-    (failures_of ledger old) (failures_of ledger new) before after result)
-
--- the report on the register's days in the range, by the clocks of the zone, in the form that was
--- asked for
+-- the report on those days of the register that the range of the form has, by the clocks of the zone
 abbrev pub IsReport : Zone → History → (register : Option (List ℕ)) → ReportForm
     → (Is : List ℕ → Type 0) → Type 0
 IsReport zone past register form Is =
     (days : List DayTotal)
-    × AreDaysAsked zone (facts_of past) register form.range (map account_of days)
+    × AreDaysWithin zone (facts_of past) register form.range (map account_of days)
     × Is (report_text form days)
 
 -- It is told; or why there is none: there is no register of the name, the books or memory failed, or the office had stopped.
 -- Only days of a register take memory of the office's own.
-pub record TellsEnergy (zone : Zone) (past : History) (register : Option (List ℕ))
+pub record ReportsDays (zone : Zone) (past : History) (register : Option (List ℕ))
     (form : ReportForm) (before after : Failures) (answer : Result (Unit {0}) Refusal)
     (Is : List ℕ → Type 0) : Type 0 where
   pub found : let there = is_there (option_and_then (register_of (facts_of past)) register) in
@@ -89,11 +47,11 @@ pub record TellsEnergy (zone : Zone) (past : History) (register : Option (List �
   pub report : OnOk answer (IsReport zone past register form Is)
 
 -- So it is by what an office had accepted.
-abbrev pub TellsAccepted : {B : Type 0} → (B → Ledger) → (old new : Office B)
+abbrev pub TellsDaysReport : {B : Type 0} → (B → Ledger) → (old new : Office B)
     → (register : Option (List ℕ)) → ReportForm → Result (Unit {0}) Refusal → (Is : List ℕ → Type 0)
     → Type 0
-TellsAccepted ledger old new register form answer Is = After ledger old new
-    (λ past. TellsEnergy (ledger (books_in old)).zone past register form
+TellsDaysReport ledger old new register form answer Is = After ledger old new
+    (λ past. ReportsDays (ledger (books_in old)).zone past register form
     (failures_of ledger old) (failures_of ledger new) answer Is)
 
 -- The office is asked, once, and the report is written, unless there was no memory for it.
@@ -103,7 +61,7 @@ pub record AsksEnergy {B : Type 0} (ledger : B → Ledger) (old new : Office B)
   pub answer : Result (Unit {0}) Refusal
   pub asks : OnlyAsks ledger old new answer
   pub gives : IfOk result (λ told. told ≡ answer)
-  pub tells : OnOk result (TellsAccepted ledger old new register form answer (Appends had holds))
+  pub tells : OnOk result (TellsDaysReport ledger old new register form answer (Appends had holds))
 
 -- the report, or what any other question is refused by
 abbrev pub with_energy_reply : Result (Unit {0}) Refusal → (report : List ℕ) → List ℕ → List ℕ
@@ -118,5 +76,5 @@ pub record RepliesEnergy {B : Type 0} (ledger : B → Ledger) (old new : Office 
   pub report : List ℕ
   pub asks : OnlyAsks ledger old new answer
   pub tells : OnOk result
-      (TellsAccepted ledger old new register form answer (λ text. report ≡ text))
+      (TellsDaysReport ledger old new register form answer (λ text. report ≡ text))
   pub puts : OnOk result (to ≡ with_energy_reply answer report from)

@@ -1,4 +1,5 @@
 pub mod SiteText
+pub mod Families
 pub mod EnergyLines
 pub mod MeterLines
 pub mod MetricsText

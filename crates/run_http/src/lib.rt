@@ -4,6 +4,7 @@
 
 mod answer;
 mod kept_rows;
+mod laws;
 mod meter_replies;
 mod meter_targets;
 mod metrics;
@@ -12,12 +13,17 @@ mod register_targets;
 mod reply_link;
 mod route;
 mod site;
+mod site_meters;
 mod texts;
+mod voids;
 
 pub use answer::{PeerReply, ask};
+pub use laws::{entries_come_behind, rows_before_stay};
 pub use meter_replies::{MOST_ENTRIES, reply_entries, reply_intervals};
 pub use metrics::reply_metrics;
 pub use register_replies::reply_energy;
 pub use route::{RunRoute, StatusRoute, reply_status, run_route};
 pub use site::reply_site;
+pub use site_meters::RegisterMeters;
 pub use texts::{put_entries, put_metrics, put_site};
+pub use voids::reply_voids;

@@ -68,6 +68,11 @@ fn entries_asked(name: &[u8], place: Option<u64>) -> RunRoute
 fn rows_in(name: &[u8], text: &[u8]) -> Option<RunRoute>
     ensures { result ≡ targets.rows_in name.now text.now }
 {
+    if text == b"voids".as_slice() {
+        return Some(RunRoute::Voids {
+            meter: Name::new(name),
+        });
+    }
     match after(b"intervals/", text) {
         Some(text) => intervals_in(name, text),
         None => match after(b"entries/", text) {

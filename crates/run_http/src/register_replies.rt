@@ -1,15 +1,13 @@
 //! What a peer is replied who asks for the energy of a register.
 ghost use Rattle.std.specs.Prelude.{◌≡◌, IfOk, OnOk};
-ghost use Rattle.office_core.specs.Asking.{OnlyAsks, TakesRows};
-ghost use Rattle.run_http.specs.RegisterReplies.{AsksEnergy, PutsLast, RepliesEnergy, TellsDaysAsked};
+ghost use Rattle.run_http.specs.RegisterReplies.{AsksEnergy, PutsLast, RepliesEnergy};
 ghost use Rattle.run_http.specs.RegisterReplies.{with_energy_reply};
 
 use crate::route::put_reply;
 use crate::site::put_refusal;
 use energy_report::{ReportForm, ReportRows};
 use http_request::Status;
-use interval_core::{DayRange, DayTotal};
-use office_books::{Books, RowSink};
+use office_books::Books;
 use office_core::Office;
 use office_events::{Name, Refusal};
 use std::alloc::{AllocError, Global};
@@ -37,28 +35,6 @@ fn put_rest<W: Write>(
     }
 }
 
-// Hands on the days of a register that a range has; where it is open at an end, all days of the register. Only the quarter
-// hours of a range that is closed, and of two days more at each end, are read.
-fn days_asked<B: Books, K: RowSink<DayTotal>>(
-    office: &mut Office<B>,
-    register: &Option<Name>,
-    range: DayRange,
-    sink: &mut K,
-) -> Result<(), Refusal>
-    ensures days { TellsDaysAsked K.takes B.ledger office.old office.new sink.old sink.new result
-        register.now range }
-    ensures puts { TakesRows K.takes sink.old sink.new }
-    ensures asks { OnlyAsks B.ledger office.old office.new result }
-{
-    match range.from {
-        Some(from) => match range.till {
-            Some(till) => office.days_within(register, from, till, sink),
-            None => office.days(register, sink),
-        },
-        None => office.days(register, sink),
-    }
-}
-
 // Asks the office for the days of a register, and writes the report on them in a form.
 fn put_energy<B: Books, W: Write>(
     office: &mut Office<B>,
@@ -70,7 +46,7 @@ fn put_energy<B: Books, W: Write>(
         (W.contents output.old) (W.contents output.new) result }
 {
     let mut rows = ReportRows::to(*form, output);
-    let told = days_asked(office, register, form.range, &mut rows);
+    let told = office.days_within(register, form.range, &mut rows);
     put_rest(told, &mut rows)
 }
 

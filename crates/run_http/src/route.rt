@@ -46,6 +46,10 @@ pub enum RunRoute {
         meter: Option<Name>,
         from: u64,
     },
+    /// Those of its entries that voids name.
+    Voids {
+        meter: Option<Name>,
+    },
     /// The energy of a register in the form of a report, which the office is asked for, as text. `None` is a name that no
     /// register can have.
     Energy {

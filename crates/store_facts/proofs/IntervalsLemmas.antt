@@ -3,7 +3,6 @@ pub mod Kept
 pub mod Upserts
 pub mod Writes
 pub mod Loops
-pub mod Handed
-pub mod Shared
+pub mod Reading
 pub mod Joins
 pub mod Replaced

@@ -14,4 +14,6 @@ pub mod ListPoints
 pub mod Standing
 pub mod Following
 pub mod Committed
+pub mod StreamsLemmas
 pub mod IntervalsLemmas
+pub mod HoldsLemmas

@@ -1,11 +1,13 @@
 //! The facts of the office in the tables of the books: which rows stand for which facts.
 #![tactic(auto)]
 
+pub mod holds;
 pub mod intervals;
 mod meter_rows;
 mod names;
 mod points;
 mod rows;
+mod streams;
 
 pub use intervals::{
     book_step, meter_intervals, meter_intervals_between, register_intervals,

@@ -4,6 +4,7 @@ pub mod Found
 pub mod Spans
 pub mod Shared
 pub mod Handed
+pub mod HeldReadings
 pub mod Shapes
 pub mod Journals
 pub mod Entering

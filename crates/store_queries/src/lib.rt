@@ -5,9 +5,10 @@ mod finding;
 mod metering;
 
 pub use finding::{
-    devices, latest, list, pending, poll, poll_count, read_count, reads, register, register_count, registers, repeat,
+    devices, latest, list, pending, poll, poll_count, read_count, reads, register, register_count,
+    registers, repeat,
 };
 pub use metering::{
-    entry, installation, installation_count, intervals, journal_rows, meter, meter_entries,
+    entry, holds, installation, installation_count, intervals, journal_rows, meter, meter_entries,
     meters_at, register_intervals, tally,
 };

@@ -1,6 +1,7 @@
 //! Look-ups of meters over the tables of the books.
 
 mod entries;
+mod held_readings;
 mod installations;
 mod journal;
 mod listing;
@@ -11,6 +12,7 @@ mod rows;
 mod streams;
 
 pub use entries::entry;
+pub use held_readings::holds;
 pub use journal::journal_rows;
 pub use listing::meter_entries;
 pub use meters::{installation, installation_count, meter};

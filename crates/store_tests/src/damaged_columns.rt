@@ -1,7 +1,7 @@
 //! The columns of the tables, with what none of them can be.
 
 /// A table and a column of it, a text that it can't be, and a number past its range.
-pub(crate) static COLUMNS: [(&str, &str, &str, &str); 59] = [
+pub(crate) static COLUMNS: [(&str, &str, &str, &str); 63] = [
     ("meta", "version", "'x'", "9"),
     ("meta", "zone", "'x'", "7"),
     ("devices", "place", "'x'", "0"),
@@ -48,7 +48,11 @@ pub(crate) static COLUMNS: [(&str, &str, &str, &str); 59] = [
     ("polls", "function", "'x'", "5"),
     ("polls", "address", "'x'", "65536"),
     ("polls", "count", "'x'", "126"),
+    ("holds", "poll", "'x'", "0"),
     ("holds", "moment", "'x'", "4102444801"),
+    ("holds", "raw", "'x'", "4294967296"),
+    ("holds", "sf", "'x'", "32768"),
+    ("holds", "cause", "'x'", "9"),
     ("outcomes", "moment", "'x'", "4102444801"),
     ("outcomes", "outcome", "'x'", "6"),
     ("outcomes", "code", "'x'", "256"),
@@ -65,15 +69,11 @@ pub(crate) static COLUMNS: [(&str, &str, &str, &str); 59] = [
 
 /// Columns by which rows are found, or which no look-up reads: a row with a value that they can't have is not believed, since
 /// it is not found.
-pub(crate) static UNREAD: [(&str, &str); 13] = [
+pub(crate) static UNREAD: [(&str, &str); 9] = [
     ("meta", "id"),
     ("points", "device"),
     ("holds", "place"),
     ("holds", "meter"),
-    ("holds", "poll"),
-    ("holds", "raw"),
-    ("holds", "sf"),
-    ("holds", "cause"),
     ("outcomes", "poll"),
     ("intervals", "meter"),
     ("replies", "caller"),

@@ -22,6 +22,8 @@ mod facts;
 #[cfg(test)]
 mod faults;
 #[cfg(test)]
+mod held_readings;
+#[cfg(test)]
 mod interval_rows;
 #[cfg(test)]
 mod latest;

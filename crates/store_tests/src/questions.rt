@@ -1,7 +1,7 @@
 //! All look-ups of books.
 use interval_core::Share;
 use office_books::{Books, BooksFault, RowSink, Span, StoreFault};
-use office_events::Name;
+use office_events::{HeldReading, Name};
 
 /// Takes rows, and forgets them.
 #[derive(Drop)]
@@ -11,6 +11,12 @@ impl RowSink<Share> for NoRows {
     ghost takes = { λ _ _ _. Unit {0} };
 
     fn put(&mut self, _row: Share) {}
+}
+
+impl RowSink<HeldReading> for NoRows {
+    ghost takes = { λ _ _ _. Unit {0} };
+
+    fn put(&mut self, _row: HeldReading) {}
 }
 
 /// The names that are looked up.
@@ -53,6 +59,7 @@ fn ask_meters<B: Books>(books: &mut B, names: &AskedNames) -> bool {
         && look(books.entries(&names.m1, 1, 9))
         && look(books.intervals(&names.m1, Span::All, &mut NoRows))
         && look(books.register_intervals(&names.main, Span::All, &mut NoRows))
+        && look(books.holds(&names.m1, Span::All, &mut NoRows))
 }
 
 fn ask_polls<B: Books>(books: &mut B, names: &AskedNames) -> bool {

@@ -2,8 +2,9 @@
 use crate::offices::{Files, OWN_HOST, over_office};
 use command_words::FormWords;
 use energy_report::{
-    DayRange, EnergyUnit, Format, Period, RangeFault, ReportForm, StatementForm, read_range,
+    EnergyUnit, Format, Period, RangeFault, ReportForm, StatementForm, read_range,
 };
+use interval_core::DayRange;
 use stored_office::{Ending, Task, ending_of_done};
 
 // Whether no form is asked for.

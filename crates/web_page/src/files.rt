@@ -233,8 +233,8 @@ const MONTHS = ["Jan", "Feb", "Mar", "Apr", "May", "Jun", "Jul", "Aug", "Sep", "
 // What was answered last.
 let site = null;
 let status = null;
-const daysOf = new Map(); // by register
-const quartersOf = new Map(); // by meter
+const answers = new Map(); // texts of rows, by path
+const used = new Set(); // the paths that were wanted when it asked last
 let trouble = "";
 let answeredAt = 0;
 // What is looked at: a register, and a day, a month or a year of it.
@@ -289,33 +289,66 @@ async function askRows(path, form) {
   return rows;
 }
 
-async function askDays(name) {
-  const form = /^(\d{4}-\d\d-\d\d) +(\d+) +(\d+)$/;
-  const rows = await askRows(`/registers/${encodeURIComponent(name)}/days`, form);
+async function askSums(path) {
+  const rows = await askRows(path, /^(\d{4}-\d\d(?:-\d\d)?) +(\d+) +(\d+)$/);
   return rows.map((row) => ({ name: row[1], count: Number(row[2]), mwh: BigInt(row[3]) }));
 }
 
-async function askQuarters(meter) {
-  const rows = await askRows(`/meters/${encodeURIComponent(meter)}/intervals`, /^(\d+) (\d+)$/);
+async function askQuarters(path) {
+  const rows = await askRows(path, /^(\d+) (\d+)$/);
   return rows.map((row) => ({ start: Number(row[1]), mwh: BigInt(row[2]) }));
 }
 
-// Asks for a text unless what is kept was asked while the register stood as it does now.
-async function keep(kept, name, register, asking) {
-  const known = kept.get(name);
-  const isSame = known && JSON.stringify(known.register) === JSON.stringify(register);
+const pathOf = (...words) => words.map((word) => `/${encodeURIComponent(word)}`).join("");
+const daysPath = (name, first, end) => pathOf("registers", name, "days", first, end);
+
+// The first day of the year in which it is now, and that of the year after. By the office's zone it
+// may be another day, up to two before or after the one here, so these may be two years.
+function boundsOfNow() {
+  const now = dayAt(dateOf(site.at));
+  const [first, last] = [later(now, -2), later(now, 2)].map((day) => day.slice(0, YEAR));
+  return [firstOf(first), firstOf(later(last, 1))];
+}
+
+// Where the days of this year are asked, by which a register's figures go,
+const yearPath = (name) => daysPath(name, ...boundsOfNow());
+// where its months, which tell how far back it goes,
+const monthsPath = (name) => pathOf("registers", name, "months");
+
+// where the days of the year that is looked at, or of the month,
+function spanPath({ register, period }) {
+  const span = period.slice(0, period.length === YEAR ? YEAR : MONTH);
+  const first = firstOf(later(span, 0));
+  if (first >= boundsOfNow()[0]) return yearPath(register);
+  return daysPath(register, first, firstOf(later(span, 1)));
+}
+
+// and where the quarter hours of a day, which is one of the browser's zone.
+function quartersPath(meter, day) {
+  const [from, till] = [0, 1].map((count) => Math.max(0, startOf(day, count)));
+  return pathOf("meters", meter, "intervals", from, till);
+}
+
+// Asks for a text unless what is kept was asked while the register stood as it does now, or may
+// stay where that has changed.
+async function keep(path, register, asking, mayStay = false) {
+  if (used.has(path)) return;
+  used.add(path);
+  const known = answers.get(path);
+  const isSame = known && (mayStay || JSON.stringify(known.register) === JSON.stringify(register));
   if (isSame && !known.fault && Date.now() - known.at < KEPT) return;
   const next = { register, at: Date.now(), rows: null, fault: "" };
   try {
-    next.rows = await asking(name);
+    next.rows = await asking(path);
   } catch (fault) {
     if (fault instanceof NoAnswer || !(fault instanceof Fault)) throw fault;
     next.fault = fault.message;
   }
-  kept.set(name, next);
+  answers.set(path, next);
   drawSoon();
 }
 
+const rowsOf = (path) => (answers.get(path) || {}).rows || [];
 const registerOf = (name) => site && site.registers.find((it) => it.register === name);
 
 async function askAll() {
@@ -324,21 +357,28 @@ async function askAll() {
   trouble = "";
   answeredAt = Date.now();
   drawSoon();
+  used.clear();
   // one after another, so that the office can poll in between
   for (const it of site.registers) {
-    if (it.meter !== null) await keep(daysOf, it.register, it, askDays);
+    if (it.meter !== null) await keep(yearPath(it.register), it, askSums);
   }
   const open = place && registerOf(place.register);
-  if (open && open.meter !== null && place.period.length === DAY) await askOpen(open);
+  if (open && open.meter !== null) await askOpen(place, open);
+  for (const [path, kept] of answers) {
+    if (!used.has(path) && Date.now() - kept.at >= KEPT) answers.delete(path);
+  }
 }
 
-// Asks for the quarter hours of the meter that is looked at, and forgets those of others. Those of
-// a day that was over at the last look stay.
-async function askOpen(register) {
-  for (const meter of quartersOf.keys()) if (meter !== register.meter) quartersOf.delete(meter);
-  const known = quartersOf.get(register.meter);
-  const isOver = known && place.period < dayAt(dateOf(known.register.at));
-  await keep(quartersOf, register.meter, isOver ? known.register : register, askQuarters);
+// Asks for what is looked at. How far back a register goes stays, and so do the quarter hours of a
+// day that was over at the last look.
+async function askOpen(open, register) {
+  await keep(monthsPath(open.register), register, askSums, true);
+  await keep(spanPath(open), register, askSums);
+  if (open.period.length !== DAY) return;
+  const path = quartersPath(register.meter, open.period);
+  const known = answers.get(path);
+  const isOver = known && open.period < dayAt(dateOf(known.register.at));
+  await keep(path, register, askQuarters, isOver);
 }
 
 let timer = 0;
@@ -407,6 +447,9 @@ function later(period, count) {
   return date.toISOString().slice(0, size);
 }
 
+// The first day of a day, a month or a year.
+const firstOf = (period) => `${period}-01-01`.slice(0, DAY);
+
 function titleOf(period) {
   const [year, month, day] = partsOf(period);
   const words = [MONTHS[month - 1], year];
@@ -434,8 +477,9 @@ function momentText(seconds) {
 // The office's day of now. Its zone isn't told, so it is the day by the browser's, but for this:
 // where the last row is of another day than the last reading is here, the zones differ, and that
 // day stands.
-function today(register, days) {
+function today(register) {
   const now = dayAt(dateOf(site.at));
+  const days = rowsOf(yearPath(register.register));
   if (!days.length) return now;
   const last = days[days.length - 1].name;
   const isOther = last !== dayAt(dateOf(register.at)) && site.at - register.at < HALF_DAY;
@@ -501,12 +545,12 @@ function figure(title, period, mwh) {
 }
 
 function figures(register) {
-  const kept = daysOf.get(register.register);
+  const kept = answers.get(yearPath(register.register));
   if (!kept) return [make("p", {}, "Its days are being asked.")];
   if (kept.fault) return [make("p", { class: "warn" }, kept.fault)];
   const of = (title, period) =>
     figure(title, period, sumOf(kept.rows.filter((row) => row.name.startsWith(period))));
-  const day = today(register, kept.rows);
+  const day = today(register);
   return [make("dl", {},
     ...of("Today", day),
     ...of("This month", day.slice(0, MONTH)),
@@ -519,8 +563,7 @@ function card(register) {
     return make("article", { class: "card" }, make("h3", {}, name),
       make("p", {}, "No meter was installed at it, so nothing of it is booked."));
   }
-  const kept = daysOf.get(name);
-  const href = linkTo(name, today(register, (kept && kept.rows) || []));
+  const href = linkTo(name, today(register));
   const counter = BigInt(register.last) * 10n ** BigInt(register.sf + 3);
   return make("article", { class: "card" },
     make("h3", {}, make("a", { href, id: `open-${name}` }, name)),
@@ -566,6 +609,7 @@ function monthsOrDays(register, days) {
   }
   const [year, month] = partsOf(period);
   const room = isYear ? 12 : civil(year, month + 1, 0).getUTCDate();
+  const now = today(register);
   const dayLabel = (index) => (index % 5 === 4 || index === 0 ? `${index + 1}` : "");
   const bars = [...Array(room).keys()].map((index) => {
     const name = `${period}-${two(index + 1)}`;
@@ -578,7 +622,7 @@ function monthsOrDays(register, days) {
       count: sum ? sum.count : 0,
       label: isYear ? MONTHS[index] : dayLabel(index),
       href: sum ? linkTo(register.register, name) : "",
-      isAhead: name > today(register, days),
+      isAhead: name > now,
     };
   });
   return { room, bars };
@@ -699,7 +743,7 @@ function fileLink(bars) {
 
 // Whether the bars of a day are all that the office has of it.
 function comparison(sum, days, register) {
-  const isNow = place.period === today(register, days);
+  const isNow = place.period === today(register);
   const row = days.find((it) => it.name === place.period);
   const office = row ? row.mwh : 0n;
   if (sum === office) {
@@ -716,8 +760,12 @@ function comparison(sum, days, register) {
 function around(register, days) {
   const { period } = place;
   const size = period.length;
-  const last = today(register, days);
-  const first = days.length ? days[0].name : last;
+  const last = today(register);
+  const months = rowsOf(monthsPath(register.register));
+  const begun = months.length ? months[0].name : last;
+  // (with which day its first month begins matters in that month alone, whose days are here)
+  const rows = days.filter((row) => row.name.startsWith(begun));
+  const first = rows.length ? rows[0].name : firstOf(begun);
   const word = { [DAY]: "Day", [MONTH]: "Month", [YEAR]: "Year" }[size];
   const link = (id, text, to, isThere) => (isThere
     ? make("a", { class: "button", id, href: linkTo(register.register, to) }, text)
@@ -741,16 +789,30 @@ function around(register, days) {
   ];
 }
 
-function detailParts(register, days, kept) {
+// Where all is asked that the place shows.
+function pathsOf(register) {
+  const paths = [yearPath(place.register), monthsPath(place.register), spanPath(place)];
+  if (place.period.length === DAY) paths.push(quartersPath(register.meter, place.period));
+  return paths;
+}
+
+function detailParts(register) {
   const isDay = place.period.length === DAY;
   const whose = isDay ? `meter ${register.meter}` : "all of its meters";
   const heading = make("h2", { id: "heading", tabindex: -1 },
     `${titleOf(place.period)} `, make("small", {}, `${place.register}, ${whose}`));
-  if (!days) return [heading, make("p", {}, "Its days are being asked.")];
-  if (days.fault) return [heading, make("p", { class: "warn" }, days.fault)];
-  const parts = [heading, ...around(register, days.rows)];
+  const [year, months, days, kept] = pathsOf(register).map((path) => answers.get(path));
+  const asked = [make("p", {}, "Its days are being asked.")];
+  const failed = (it) => [make("p", { class: "warn" }, it.fault)];
+  for (const it of [year, months]) {
+    if (!it) return [heading, ...asked];
+    if (it.fault) return [heading, ...failed(it)];
+  }
+  const parts = [heading, ...around(register, (days && days.rows) || [])];
+  if (!days) return [...parts, ...asked];
+  if (days.fault) return [...parts, ...failed(days)];
   if (isDay && !kept) return [...parts, make("p", {}, "Its quarter hours are being asked.")];
-  if (isDay && kept.fault) return [...parts, make("p", { class: "warn" }, kept.fault)];
+  if (isDay && kept.fault) return [...parts, ...failed(kept)];
   const drawn = isDay ? quarters(kept.rows) : monthsOrDays(register, days.rows);
   const some = drawn.bars.filter((bar) => bar.mwh !== null);
   const sum = sumOf(some);
@@ -778,11 +840,10 @@ function drawDetail() {
       make("p", {}, make("a", { class: "button", id: "close", href: "#" }, "Close")),
     ]);
   } else {
-    const days = daysOf.get(place.register);
-    const kept = place.period.length === DAY ? quartersOf.get(register.meter) : null;
-    const told = kept && [kept.at, kept.fault];
-    const state = [place, register, days, told, Math.floor(site.at / QUARTER)];
-    fill("detail", state, () => detailParts(register, days, kept));
+    const kept = pathsOf(register).map((path) => [path, answers.get(path)]);
+    const told = kept.map(([path, it]) => it && [path, it.at, it.fault]);
+    const state = [place, register, told, Math.floor(site.at / QUARTER)];
+    fill("detail", state, () => detailParts(register));
   }
 }
 
@@ -848,7 +909,8 @@ function draw() {
   if (!site || !status) return;
   document.getElementById("moment").textContent =
     `The office's moment is ${momentText(site.at)}. It is asked anew each minute.`;
-  fill("devices", [site, status.devices, [...daysOf]], deviceParts);
+  const years = site.registers.map((it) => answers.get(yearPath(it.register)));
+  fill("devices", [site, status.devices, years], deviceParts);
   drawDetail();
   fill("notes", status, noteParts);
 }
@@ -873,7 +935,10 @@ function go() {
   if (place && heading && !(before && before.register === place.register)) heading.focus();
   const opener = !place && before && document.getElementById(`open-${before.register}`);
   if (opener) opener.focus();
-  if (place && place.period.length === DAY) refresh();
+  const register = place && registerOf(place.register);
+  const isHere = register && place.period.length !== DAY &&
+    pathsOf(register).every((path) => answers.has(path));
+  if (place && !isHere) refresh();
 }
 
 function press(event) {
@@ -889,7 +954,7 @@ function press(event) {
 window.addEventListener("hashchange", go);
 document.addEventListener("keydown", press);
 document.getElementById("again").addEventListener("click", () => {
-  for (const kept of [...daysOf.values(), ...quartersOf.values()]) kept.at = 0;
+  for (const kept of answers.values()) kept.at = 0;
   refresh();
 });
 document.addEventListener("visibilitychange", () => {

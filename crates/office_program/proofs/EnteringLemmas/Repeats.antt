@@ -172,13 +172,13 @@ fed history at asked =
     (reads_in_all (facts_of history) c) (kind_of c)
 
 -- the later history goes on from this one
-abbrev GoesOn : History → History → Type 0
-GoesOn later history = (more : History) × (later ≡ more ++ history)
+abbrev GrowsTo : History → History → Type 0
+GrowsTo later history = (more : History) × (later ≡ more ++ history)
 
 keeps_acted : (later more history : History) (one : Answered) (asked : Asked) → one.event ≡ event.Asked asked
     → later ≡ more ++ with_answer history one.at (event.Asked asked) one.result → AreAccepted later
     → Acted history one.at asked one.result (kept_of (facts_of history) (event.Asked asked)) (refusal_of history one.at (event.Asked asked))
-    → KeepsEntry later (entry.Ask asked) × GoesOn later history
+    → KeepsEntry later (entry.Ask asked) × GrowsTo later history
 keeps_acted later more history one asked is goes accepted (inl again) =
     let here : later ≡ more ++ history =
     goes ∙ ap (λ (r : Result Answer Refusal). more ++ with_answer history one.at (event.Asked asked) r) again.1 in
@@ -199,7 +199,7 @@ keeps_acted later more history one asked is goes accepted (inr new) =
 
 keeps_asked : (later more history : History) (one : Answered) (asked : Asked) (before after : Failures) → one.event ≡ event.Asked asked
     → later ≡ more ++ with_answer history one.at one.event one.result → AreAccepted later → IsAnswer history one.at one.event before after one.result
-    → IsOk one.result → KeepsEntry later (entry.Ask asked) × GoesOn later history
+    → IsOk one.result → KeepsEntry later (entry.Ask asked) × GrowsTo later history
 keeps_asked later more history one asked before after is goes accepted (inl told) ok =
     let P : Event → Type 0 = λ e. later ≡ more ++ with_answer history one.at e one.result in
     let Q : Event → Type 0 = λ e. one.result ≡ decision_of history one.at e in
@@ -225,7 +225,7 @@ unlike : (read : ReadRequest) (raw : ℕ) (sf : ℤ) → IsSameRequest (asked_li
 unlike read raw sf = record { caller = refl; number = refl; request = refl }
 
 keeps_entry : (later more history : History) (e : Entry) (came : Came) (before after : Failures) → IsCameOf e came → later ≡ more ++ with_came history came → AreAccepted later
-    → IsCameAnswered history before after came → HasActed came → KeepsEntry later e × GoesOn later history
+    → IsCameAnswered history before after came → HasActed came → KeepsEntry later e × GrowsTo later history
 keeps_entry later more history (entry.Ask asked) (course.Asked one) before after is goes accepted answered ok =
     keeps_asked later more history one asked before after (is.2 ∙ ap event.Asked is.1) goes accepted answered.answer ok
 keeps_entry later more history (entry.Read read) (course.Asked one) before after is goes accepted answered ok =

@@ -1,27 +1,23 @@
 -- The report of a register on a range of days, in a form: its rows, or why there are none.
-use Rattle.std.specs.Prelude.{◌≡◌, ℕ, ◌<◌, ◌^◌, length, List, map, filter, Option, Some, Result, Ok, Err, OnOk, OnErr, if◌then◌else◌}
+use Rattle.std.specs.Prelude.{◌≡◌, ℕ, List, map, Option, Some, Result, Ok, Err, if◌then◌else◌}
 use Rattle.std.specs.Option.{option_and_then}
 use Rattle.std.specs.declared.io.Write as writers
 use Rattle.command_io.specs.declared.status.ExitStatus.{ExitStatus}
 use Rattle.command_io.specs.declared.status.ExitStatus.TheVariants.{Fine, Failed, Refused}
-use Rattle.interval_core.specs.Ranges.{days_in, has_day}
 use Rattle.energy_report.specs.Texts.{report_text}
 use Rattle.energy_report.specs.Writing.{Finishes}
 use Rattle.energy_report.specs.declared.form.ReportForm.{ReportForm}
-use Rattle.interval_core.specs.declared.day_range.DayRange.{DayRange}
 use Rattle.energy_report.specs.declared.report_rows.ReportRows.{ReportRows}
-use Rattle.interval_core.specs.Days.{DayAccount, account_of}
+use Rattle.interval_core.specs.Days.{account_of}
 use Rattle.interval_core.specs.declared.totals.DayTotal.{DayTotal}
 use Rattle.interval_core.specs.declared.zone.Zone.{Zone}
-use Rattle.office_events.specs.declared.facts.Fact.{Fact}
 use Rattle.office_events.specs.declared.refusals.Refusal.{Refusal}
 use Rattle.office_rules.specs.Facts.{register_of}
 use Rattle.office_rules.specs.History.{History, facts_of}
-use Rattle.office_books.specs.Ledgers.{Ledger}
-use Rattle.office_books.specs.Rows.{TakesAll}
 use Rattle.office_books.specs.declared.books.Books as stores
 use Rattle.office_books.specs.declared.failures.Failures.{Failures}
-use Rattle.office_core.specs.Asking.{AreDaysNamed, IsFound, is_there}
+use Rattle.office_core.specs.Asking.{IsFound, is_there}
+use Rattle.office_core.specs.DayRange.{AreDaysWithin}
 use Rattle.office_core.specs.Standing.{After, books_in}
 use Rattle.office_core.specs.Taking.{failures_of}
 use Rattle.office_core.specs.declared.office.Office.{Office}
@@ -29,51 +25,13 @@ use Rattle.script_text.specs.AnswerText.{refused_line}
 use Rattle.office_program.specs.Texts.EndTexts.{IsTold, TellsEnd}
 use Rattle.office_program.specs.Texts.Reports.{meant_by}
 
--- Of days those that a range has, in their order.
-abbrev pub accounts_in : DayRange → List DayAccount → List DayAccount
-accounts_in range accounts = filter (λ account. has_day range account.day) accounts
-
--- These are, of the days of the register of a name, those that the range has.
-pub record AreDaysAsked (zone : Zone) (facts : List Fact) (register : Option (List ℕ))
-    (range : DayRange) (days : List DayAccount) : Type 0 where
-  pub all : List DayAccount
-  pub are : AreDaysNamed zone facts register all
-  pub asked : days ≡ accounts_in range all
-
--- The sink took them, in order, and maybe other days. A number of 64 bits counts all that it took.
-pub record TakesDaysAsked {S : Type 0} (takes : S → DayTotal → S → Type 0) (zone : Zone)
-    (facts : List Fact) (register : Option (List ℕ)) (range : DayRange) (before after : S) :
-    Type 0 where
-  pub days : List DayTotal
-  pub are : AreDaysAsked zone facts register range (map account_of (days_in range days))
-  pub few : length days < 2 ^ 64
-  pub took : TakesAll takes before days after
-
--- They are asked for, and answered as all days are.
-pub record HandsDaysAsked {S : Type 0} (takes : S → DayTotal → S → Type 0) (zone : Zone)
-    (facts : List Fact) (register : Option (List ℕ)) (range : DayRange) (old new : Failures)
-    (before after : S) (result : Result (Unit {0}) Refusal) : Type 0 where
-  pub answer : let there = is_there (option_and_then (register_of facts) register) in
-      IsFound (there ≡ Some tt) there old new result
-  pub whole : OnOk result (TakesDaysAsked takes zone facts register range before after)
-  pub none : OnErr result (after ≡ before)
-
--- So it is of what an office had accepted.
-abbrev pub TellsDaysAsked : {B S : Type 0} → (S → DayTotal → S → Type 0) → (B → Ledger)
-    → (old new : Office B) → (before after : S) → Result (Unit {0}) Refusal
-    → (register : Option (List ℕ)) → DayRange → Type 0
-TellsDaysAsked takes ledger old new before after result register range =
-    After ledger old new (λ past.
-    HandsDaysAsked takes (ledger (books_in old)).zone (facts_of past) register range
-    (failures_of ledger old) (failures_of ledger new) before after result)
-
 -- The rows of the register's days in the range, by the clocks of the zone, in the form that was asked for; or the
 -- reason alone.
 abbrev pub IsRangedReport : Zone → History → (register : Option (List ℕ)) → ReportForm
     → Result (Unit {0}) Refusal → (text : List ℕ) → Type 0
 IsRangedReport zone past register form (Ok done) text =
     (days : List DayTotal)
-    × AreDaysAsked zone (facts_of past) register form.range (map account_of days)
+    × AreDaysWithin zone (facts_of past) register form.range (map account_of days)
     × (text ≡ report_text form days)
 IsRangedReport zone past register form (Err why) text = text ≡ refused_line why
 

@@ -8,8 +8,10 @@ use Rattle.command_io.specs.declared.status.ExitStatus.{ExitStatus}
 use Rattle.command_io.specs.declared.status.ExitStatus.TheVariants.{Fine, Refused}
 use Rattle.energy_report.specs.declared.form.StatementForm.{StatementForm}
 use Rattle.energy_report.specs.declared.meter_statement.MeterStatement.{MeterStatement}
+use Rattle.energy_report.specs.declared.held_counts.HeldCounts.{HeldCounts}
 use Rattle.interval_core.specs.declared.day_range.DayRange.{DayRange}
 use Rattle.energy_report.specs.declared.tallies.EntryTally.{EntryTally}
+use Rattle.energy_report.specs.Held.{held_within}
 use Rattle.energy_report.specs.Statements.{energy_within, tally_of, was_there}
 use Rattle.energy_report.specs.StatementTexts.{statement_text}
 use Rattle.interval_core.specs.declared.zone.Zone.{Zone}
@@ -22,6 +24,7 @@ use Rattle.office_rules.specs.History.{History, facts_of}
 use Rattle.office_rules.specs.Intervals.{rows_of_installed}
 use Rattle.office_books.specs.declared.failures.Failures.{Failures}
 use Rattle.office_books.specs.Entries.{entries_at}
+use Rattle.office_books.specs.Holds.{holds_of}
 use Rattle.office_books.specs.Ledgers.{KeepsFacts, Ledger}
 use Rattle.office_books.specs.declared.books.Books as stores
 use Rattle.office_core.specs.Asking.{IsFound, OnlyAsks, intervals_of}
@@ -35,13 +38,15 @@ use Rattle.office_program.specs.Texts.EndTexts.{TellsEnd}
 
 -- ---- a meter
 
--- what is told of the meter of a name, by its opening: all its entries, and its energy by quarter hours
+-- what is told of the meter of a name, by its opening: all its entries, its energy by quarter hours, and how many of its
+-- readings were held
 abbrev pub told_of : Zone → DayRange → List Fact → (meter : List ℕ) → Option Opening
     → MeterStatement
 told_of zone range facts meter opening = record {
   meter = meter;
   entries = tally_of zone range (entries_at facts opening);
   mwh = energy_within zone range (rows_of_installed facts opening);
+  held = held_within zone range (holds_of facts meter);
 }
 
 abbrev pub statement_of : Zone → DayRange → List Fact → (meter : List ℕ) → MeterStatement
@@ -63,14 +68,19 @@ tally_in zone range facts meter =
 abbrev pub energy_in : Zone → DayRange → List Fact → (meter : Option (List ℕ)) → Option ℕ
 energy_in zone range facts meter = option_map (energy_within zone range) (intervals_of facts meter)
 
+abbrev pub held_in : Zone → DayRange → List Fact → (meter : Option (List ℕ)) → Option HeldCounts
+held_in zone range facts meter =
+    option_and_then (λ name. option_map (λ opening. held_within zone range (holds_of facts name))
+    (opening_of facts name)) meter
+
 abbrev pub statement_in : Zone → DayRange → List Fact → (meter : List ℕ) → Option MeterStatement
 statement_in zone range facts meter =
     option_map (λ opening. told_of zone range facts meter (Some opening)) (opening_of facts meter)
 
 -- So an office answers of what it accepted. It takes memory of its own.
-abbrev pub Tells : {B T : Type 0} → (B → Ledger) → (old new : Office B) → Result T Refusal
+abbrev pub AnswersOf : {B T : Type 0} → (B → Ledger) → (old new : Office B) → Result T Refusal
     → (List Fact → Option T) → Type 0
-Tells ledger old new result found = After ledger old new (λ past.
+AnswersOf ledger old new result found = After ledger old new (λ past.
     IsFound (Unit {0}) (found (facts_of past)) (failures_of ledger old) (failures_of ledger new)
     result)
 
@@ -87,10 +97,10 @@ pub record Keeps {B : Type 0} (ledger : B → Ledger) (old new : Office B) : Typ
   pub zone : (ledger (books_in new)).zone ≡ (ledger (books_in old)).zone
 
 -- So they do where none was refused; and where one was, the office was only asked.
-abbrev pub GoesOn : {B : Type 0} → (B → Ledger) → (old new : Office B)
+abbrev pub KeepsUnlessRefused : {B : Type 0} → (B → Ledger) → (old new : Office B)
     → Result (Unit {0}) Refusal → Type 0
-GoesOn ledger old new (Ok done) = Keeps ledger old new
-GoesOn ledger old new (Err why) = OnlyAsks {T = Unit {0}} ledger old new (Err why)
+KeepsUnlessRefused ledger old new (Ok done) = Keeps ledger old new
+KeepsUnlessRefused ledger old new (Err why) = OnlyAsks {T = Unit {0}} ledger old new (Err why)
 
 -- ---- the meters at a register
 

@@ -1,38 +1,14 @@
 //! The report of a register on a range of days, in a form.
-ghost use Rattle.office_core.specs.Asking.{OnlyAsks, TakesRows};
-ghost use Rattle.office_program.specs.Texts.RangedReports.{PrintsRest, ReportsRange, TellsDaysAsked};
+ghost use Rattle.office_program.specs.Texts.RangedReports.{PrintsRest, ReportsRange};
 ghost use Rattle.office_program.specs.Texts.Reports.{Asks};
 
 use crate::texts::end_texts::print_refusal;
 use command_io::ExitStatus;
 use energy_report::{ReportForm, ReportRows};
-use interval_core::{DayRange, DayTotal};
-use office_books::{Books, RowSink};
+use office_books::Books;
 use office_core::Office;
 use office_events::{Name, Refusal};
 use std::io::Write;
-
-// Hands on the days of a register that a range has; where it is open at an end, all days of the register. Only the quarter
-// hours of a range that is closed, and of two days more at each end, are read.
-fn days_asked<B: Books, K: RowSink<DayTotal>>(
-    office: &mut Office<B>,
-    register: &Option<Name>,
-    range: DayRange,
-    sink: &mut K,
-) -> Result<(), Refusal>
-    ensures days { TellsDaysAsked K.takes B.ledger office.old office.new sink.old sink.new result
-        register.now range }
-    ensures puts { TakesRows K.takes sink.old sink.new }
-    ensures asks { OnlyAsks B.ledger office.old office.new result }
-{
-    match range.from {
-        Some(from) => match range.till {
-            Some(till) => office.days_within(register, from, till, sink),
-            None => office.days(register, sink),
-        },
-        None => office.days(register, sink),
-    }
-}
 
 // What is left to write of a report, or why there is none.
 fn print_rest<W: Write>(told: Result<(), Refusal>, rows: &mut ReportRows<'_, W>) -> ExitStatus
@@ -64,6 +40,6 @@ pub fn report_range<B: Books, W: Write>(
     ensures asks { Asks B.ledger office.old office.new }
 {
     let mut rows = ReportRows::to(*form, output);
-    let told = days_asked(office, register, form.range, &mut rows);
+    let told = office.days_within(register, form.range, &mut rows);
     print_rest(told, &mut rows)
 }

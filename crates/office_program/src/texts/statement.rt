@@ -3,16 +3,17 @@ ghost use Rattle.std.specs.Prelude.{◌∷◌, []};
 ghost use Rattle.office_core.specs.Asking.{OnlyAsks};
 ghost use Rattle.office_program.specs.Texts.Reports.{Asks};
 ghost use Rattle.office_program.specs.Texts.Statements as statements;
-ghost use Rattle.office_program.specs.Texts.Statements.{GoesOn, PrintsStatement, States, Tells};
+ghost use Rattle.office_program.specs.Texts.Statements.{AnswersOf, KeepsUnlessRefused, PrintsStatement, States};
 
 use crate::texts::end_texts::{ended, print_refusal};
 use command_io::ExitStatus;
 use energy_report::{
-    DayRange, EnergyWithin, EntryTally, MeterStatement, StatementForm, was_there, write_statement,
+    EnergyWithin, EntryTally, HeldCounts, HeldWithin, MeterStatement, StatementForm, was_there,
+    write_statement,
 };
-use interval_core::Zone;
-use office_books::Books;
-use office_core::Office;
+use interval_core::{DayRange, Zone};
+use office_books::{Books, Span};
+use office_core::{Office, span_around};
 use office_events::{Installation, Name, Refusal};
 use std::alloc::Global;
 use std::io::Write;
@@ -29,7 +30,7 @@ fn tally<B: Books>(
     range: &DayRange,
     meter: &Option<Name>,
 ) -> Result<EntryTally, Refusal>
-    ensures tells { Tells B.ledger office.old office.new result
+    ensures tells { AnswersOf B.ledger office.old office.new result
         (λ facts. statements.tally_in zone.now range.now facts meter.now) }
     ensures asks { OnlyAsks B.ledger office.old office.new result }
 {
@@ -48,20 +49,38 @@ fn tally<B: Books>(
     Err(Refusal::Memory)
 }
 
-// The energy of a meter in a range.
+// The energy of a meter in a range. Of its quarter hours those around the days of the range are asked for.
 fn energy<B: Books>(
     office: &mut Office<B>,
     zone: &Zone,
     range: &DayRange,
     meter: &Option<Name>,
 ) -> Result<u128, Refusal>
-    ensures tells { Tells B.ledger office.old office.new result
+    ensures tells { AnswersOf B.ledger office.old office.new result
         (λ facts. statements.energy_in zone.now range.now facts meter.now) }
     ensures asks { OnlyAsks B.ledger office.old office.new result }
 {
     let mut energy = EnergyWithin::new(*zone, *range);
-    match office.intervals(meter, &mut energy) {
+    match office.intervals_within(meter, span_around(*range), &mut energy) {
         Ok(()) => Ok(energy.mwh()),
+        Err(why) => Err(why),
+    }
+}
+
+// How many readings of a meter in a range were held.
+fn held<B: Books>(
+    office: &mut Office<B>,
+    zone: &Zone,
+    range: &DayRange,
+    meter: &Option<Name>,
+) -> Result<HeldCounts, Refusal>
+    ensures tells { AnswersOf B.ledger office.old office.new result
+        (λ facts. statements.held_in zone.now range.now facts meter.now) }
+    ensures asks { OnlyAsks B.ledger office.old office.new result }
+{
+    let mut held = HeldWithin::new(*zone, *range);
+    match office.holds(meter, Span::All, &mut held) {
+        Ok(()) => Ok(held.counts()),
         Err(why) => Err(why),
     }
 }
@@ -73,7 +92,7 @@ fn meter_statement<B: Books>(
     range: &DayRange,
     meter: &Name,
 ) -> Result<MeterStatement, Refusal>
-    ensures tells { Tells B.ledger office.old office.new result
+    ensures tells { AnswersOf B.ledger office.old office.new result
         (λ facts. statements.statement_in zone.now range.now facts meter.now) }
     ensures asks { OnlyAsks B.ledger office.old office.new result }
 {
@@ -82,11 +101,15 @@ fn meter_statement<B: Books>(
         Err(why) => Err(why),
         Ok(entries) => match energy(office, zone, range, &name) {
             Err(why) => Err(why),
-            Ok(mwh) => Ok(MeterStatement {
-                meter: *meter,
-                entries,
-                mwh,
-            }),
+            Ok(mwh) => match held(office, zone, range, &name) {
+                Err(why) => Err(why),
+                Ok(held) => Ok(MeterStatement {
+                    meter: *meter,
+                    entries,
+                    mwh,
+                    held,
+                }),
+            },
         },
     }
 }
@@ -101,7 +124,7 @@ fn add_statement<B: Books>(
 ) -> Result<(), Refusal>
     ensures states { States B.ledger zone.now range.now (row.now ∷ []) office.old office.new
         rows.old.items rows.new.items result }
-    ensures asks { GoesOn B.ledger office.old office.new result }
+    ensures asks { KeepsUnlessRefused B.ledger office.old office.new result }
 {
     if !was_there(zone, range, row) {
         return Ok(());
@@ -125,7 +148,7 @@ fn add_statements<B: Books>(
 ) -> Result<(), Refusal>
     ensures states { States B.ledger zone.now range.now listed.now office.old office.new
         rows.old.items rows.new.items result }
-    ensures asks { GoesOn B.ledger office.old office.new result }
+    ensures asks { KeepsUnlessRefused B.ledger office.old office.new result }
 {
     for row in listed {
         match add_statement(rows, office, zone, range, row) {
@@ -144,7 +167,7 @@ fn statements<B: Books>(
     range: &DayRange,
     register: &Option<Name>,
 ) -> Result<Vec<MeterStatement>, Refusal>
-    ensures tells { Tells B.ledger office.old office.new (statements.items_of result)
+    ensures tells { AnswersOf B.ledger office.old office.new (statements.items_of result)
         (λ facts. statements.statements_in zone.now range.now facts register.now) }
     ensures asks { OnlyAsks B.ledger office.old office.new result }
 {
@@ -161,8 +184,8 @@ fn statements<B: Books>(
 }
 
 /// Prints what a bill on the days of a range is checked by: of each meter that was there at the register, in the order in which they
-/// were installed, where its counter stood at its first and last entry in the range, its energy in it and its corrections. Where the
-/// office refuses that, `refused N` alone. `None` is a name that no register can have.
+/// were installed, where its counter stood at its first and last entry in the range, its energy in it, its corrections, and how many of
+/// its readings were held. Where the office refuses that, `refused N` alone. `None` is a name that no register can have.
 pub fn report_statement<B: Books, W: Write>(
     alloc: Global,
     office: &mut Office<B>,

@@ -15,7 +15,7 @@ use Rattle.office_core.specs.Taking.{IsAnswer, IsTold}
 use Rattle.office_rounds.specs.FedEvents.{history_behind}
 use Rattle.office_rounds.specs.DeviceRounds.Rounds.{heard}
 use Rattle.office_rounds.specs.declared.device_rounds.round.Round.{Round}
-use Rattle.office_rounds.specs.Driver.Showing.{Shown, shown}
+use Rattle.office_events.specs.Showing.{Shown, shown}
 use Rattle.office_rounds.specs.Driver.Turns.{IsNext, Table, Wished, answered_for, first_wish, next_by, next_of, place_of, table, table_after, table_behind, told, wished}
 use Rattle.office_rounds.specs.Driver.Going.{FeedsNext, Going, OfficeGoesOn, Scene, Start, TakesTurn, start}
 

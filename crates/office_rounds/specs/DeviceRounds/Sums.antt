@@ -1,18 +1,15 @@
 -- How the polls of a round ended.
-use Rattle.std.specs.Prelude.{ℕ, ◌+◌, ◌-◌, ◌^◌, ◌==◌, min, List, [], ◌∷◌, if◌then◌else◌}
+use Rattle.std.specs.Prelude.{ℕ, ◌==◌, List, [], ◌∷◌, if◌then◌else◌}
 use Rattle.std.specs.List.{list_any}
 use Rattle.poll_core.specs.declared.outcome.Outcome.{Outcome}
 use Rattle.poll_core.specs.declared.outcome.Outcome.TheVariants.{Answered, Exception, Silent, Malformed, Lost}
 use Rattle.office_events.specs.declared.answers.Note.{Note}
 use Rattle.office_events.specs.declared.answers.Note.TheVariants as note
+use Rattle.office_events.specs.Numbers.{one_more}
 use Rattle.office_rounds.specs.declared.device_rounds.polls.Sum.{Sum}
 
 abbrev pub none : Sum
 none = record { answered = 0; silent = 0; failed = 0 }
-
--- one more; it stays at 2^64 - 1
-abbrev pub one_more : ℕ → ℕ
-one_more n = min (n + 1) (2 ^ 64 - 1)
 
 abbrev pub ended : Outcome → Sum → Sum
 ended Answered sum = record sum { answered = one_more sum.answered }

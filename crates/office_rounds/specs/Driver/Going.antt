@@ -9,7 +9,7 @@ use Rattle.office_core.specs.Taking.{failures_of}
 use Rattle.office_core.specs.declared.office.Office.{Office}
 use Rattle.office_rounds.specs.Rounds.{IsFed, round_state}
 use Rattle.office_rounds.specs.declared.device_rounds.round.Round.{Round}
-use Rattle.office_rounds.specs.Driver.Showing.{Shown}
+use Rattle.office_events.specs.Showing.{Shown}
 use Rattle.office_rounds.specs.Driver.Turns.{AreNext, AreShown, Table, Wished, first_wish, next_by, table, table_behind}
 
 -- the office, how its books failed so far, the rounds, and the witness
@@ -42,8 +42,8 @@ AreAt at (one ∷ earlier) = AreAt at earlier × (one.at ≡ at)
 pub record Going {B V : Type 0} (ledger : B → Ledger) (sees : V → Shown → V → Type 0)
     (past : History) (begun : Start V)
     (at : ℕ) (fed : List Answered) (first : Option Wished) (now : Scene B V) : Type 0 where
-  pub leaves : IsFed ledger past (round_state None None begun.failures) (round_state None None now.failures)
-      now.office fed
+  pub leaves : IsFed ledger past (round_state None None begun.failures)
+      (round_state None None now.failures) now.office fed
   pub next : AreNext past begun.table fed
   pub timed : AreAt at fed
   pub rounds : table first now.rounds ≡ table_behind past begun.table fed

@@ -14,7 +14,7 @@ use Rattle.office_rounds.specs.DeviceRounds.Rounds.{answered, heard, is_wishing,
 use Rattle.office_rounds.specs.declared.device_rounds.round.Round.{Round}
 use Rattle.office_rounds.specs.declared.device_rounds.stage.Stage.{Stage}
 use Rattle.office_rounds.specs.declared.device_rounds.stage.Stage.TheVariants.{Off, Joining, Starting, Waiting, Leaving}
-use Rattle.office_rounds.specs.Driver.Showing.{Shown, shown}
+use Rattle.office_events.specs.Showing.{Shown, shown}
 use Rattle.office_rounds.specs.declared.driver.device_events.DeviceEvent.{DeviceEvent}
 use Rattle.office_rounds.specs.declared.driver.device_events.DeviceEvent.TheVariants.{Connected, Received, Closed, Tick}
 

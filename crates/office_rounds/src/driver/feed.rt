@@ -6,10 +6,9 @@ ghost use Rattle.office_rounds.specs.Driver.Turns.{answered_for, wished};
 ghost use Rattle.office_rounds.specs.Driver.Going.{FeedsOne};
 
 use crate::device_rounds::{Round, first_wishing, hear_all};
-use crate::driver::observer::Observer;
 use office_books::Books;
 use office_core::Office;
-use office_events::{Answer, Event, Refusal};
+use office_events::{Answer, Event, Observer, Refusal};
 
 // A round takes what was answered to what was fed for it.
 fn answer_for(rounds: &mut [Round], place: Option<usize>, answer: Result<Answer, Refusal>)

@@ -8,10 +8,9 @@ ghost use Rattle.office_rounds.specs.DeviceRounds.Rounds.{joined, leaving};
 use crate::device_rounds::{Round, Stage};
 use crate::driver::device_events::DeviceEvent;
 use crate::driver::feed::{feed_one, first_wish};
-use crate::driver::observer::Observer;
 use office_books::Books;
 use office_core::Office;
-use office_events::{Event, Name, Piece};
+use office_events::{Event, Name, Observer, Piece};
 use poll_core::Closing;
 
 /// How many wishes of the rounds a turn feeds at most, after what happened; what is wished then stays wished, and the next

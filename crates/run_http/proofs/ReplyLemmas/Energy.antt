@@ -2,7 +2,6 @@
 use Rattle.std.proofs.Common.{◌≡◌, ℕ, Bool, Option, Some, List, [], ◌∷◌, ◌++◌, Result, Ok, Err, IsErr, sym, subst, ap, ◌∙◌, append-nil, append_assoc}
 use Rattle.std.specs.Prelude.{OnOk}
 use Rattle.std.specs.Io.KnownBytes.{Appends}
-use Rattle.interval_core.specs.Ranges.{days_in}
 use Rattle.energy_report.specs.Texts.{report_text}
 use Rattle.energy_report.specs.Writing.{GotUnless, HasTaken, IsFresh, TakesDay}
 use Rattle.energy_report.specs.declared.form.ReportForm.{ReportForm}
@@ -12,13 +11,13 @@ use Rattle.interval_core.specs.declared.zone.Zone.{Zone}
 use Rattle.office_books.specs.Ledgers.{Ledger}
 use Rattle.office_books.specs.declared.failures.Failures.{Failures}
 use Rattle.office_books.specs.Rows.{TakesAll}
+use Rattle.office_core.specs.DayRange.{HandsDaysWithin, TellsDaysWithin}
 use Rattle.office_core.specs.Standing.{books_in}
 use Rattle.office_core.specs.Taking.{failures_of}
 use Rattle.office_core.specs.declared.office.Office.{Office}
 use Rattle.office_events.specs.declared.refusals.Refusal.{Refusal}
 use Rattle.office_rules.specs.History.{History, facts_of}
-use Rattle.run_http.specs.RegisterReplies.{AsksEnergy, HandsDaysAsked, IsReport, PutsLast, RepliesEnergy, TellsAccepted, TellsDaysAsked, with_energy_reply}
-use Rattle.run_http.proofs.ReplyLemmas.Asked.{rows_of_range}
+use Rattle.run_http.specs.RegisterReplies.{AsksEnergy, IsReport, PutsLast, RepliesEnergy, TellsDaysReport, with_energy_reply}
 
 -- days that were taken one by one were taken all
 taken_all : {W : Type 0} (contents : W → Option (List ℕ)) (days more : List DayTotal) (from at to : ReportRows W)
@@ -36,7 +35,7 @@ taken_all contents days (day ∷ more) from at to has took =
 written : {W : Type 0} (E : Type 0) (contents : W → Option (List ℕ)) (zone : Zone) (past : History) (register : Option (List ℕ)) (form : ReportForm)
     (before after : Failures) (from to left : ReportRows W) (output : W) (answer told : Result (Unit {0}) Refusal)
     → IsFresh contents form output from
-    → HandsDaysAsked (TakesDay contents) zone (facts_of past) register form.range before after from to answer
+    → HandsDaysWithin (TakesDay contents) zone (facts_of past) register form.range before after from to answer
     → OnOk answer (PutsLast {E = E} contents (Ok told) to left)
     → OnOk answer (IsReport zone past register form (Appends (contents output) (contents left.output.now)))
 written {W} E contents zone past register form before after from to left output (Ok done) told fresh hands last =
@@ -44,18 +43,17 @@ written {W} E contents zone past register form before after from to left output 
     let taken = taken_all contents [] days from from to fresh.taken hands.whole.took in
     let P : Bool → Type 0 = λ failed. GotUnless failed (report_text from.form days) (contents from.output.now) (contents left.output.now) in
     let got = subst P last.whole (last.finishes.finished from days taken hands.whole.few) in
-    let text : report_text from.form days ≡ report_text form (days_in form.range days) =
-    ap (λ those. report_text those days) fresh.form ∙ rows_of_range form days in
+    let text : report_text from.form days ≡ report_text form days = ap (λ those. report_text those days) fresh.form in
     let Q : List ℕ → Type 0 = λ those. Appends (contents from.output.now) (contents left.output.now) those in
-    (days_in form.range days, hands.whole.are, rw (sym fresh.output) (subst Q text got))
+    (days, hands.whole.are, rw (sym fresh.output) (subst Q text got))
 written E contents zone past register form before after from to left output (Err why) told fresh hands last = tt
 
 -- So the office is asked for them: what was written of the report is what holds the writer in the end.
 pub tells : {B W E : Type 0} (ledger : B → Ledger) (contents : W → Option (List ℕ)) (old new : Office B) (register : Option (List ℕ)) (form : ReportForm)
     (from to left : ReportRows W) (output holds : W) (answer : Result (Unit {0}) Refusal) (result : Result (Result (Unit {0}) Refusal) E)
-    → IsFresh contents form output from → TellsDaysAsked (TakesDay contents) ledger old new from to answer register form.range
+    → IsFresh contents form output from → TellsDaysWithin (TakesDay contents) ledger old new from to answer register form.range
     → OnOk answer (PutsLast contents result to left) → holds ≡ left.output.now
-    → OnOk result (TellsAccepted ledger old new register form answer (Appends (contents output) (contents holds)))
+    → OnOk result (TellsDaysReport ledger old new register form answer (Appends (contents output) (contents holds)))
 tells {E = E} ledger contents old new register form from to left output holds answer (Ok told) fresh days last end = λ past stands clean.
     let zone = (ledger (books_in old)).zone in
     let hands = days past stands clean in

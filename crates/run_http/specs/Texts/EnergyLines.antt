@@ -5,6 +5,8 @@ use Rattle.std.specs.List.{flat_map}
 use Rattle.sun_points.specs.Decimal.{magnitude_text}
 use Rattle.office_events.specs.declared.questions.Installation.{Installation}
 use Rattle.office_core.specs.declared.site.SiteRow.{SiteRow}
+use Rattle.run_http.specs.Texts.Families.{family_text}
+use Rattle.run_http.specs.declared.texts.families.MetricKind.TheVariants.{Counter, Gauge}
 
 -- Within the quotes of a label a backslash (92), a quote (34) and a line feed (10) are escaped.
 abbrev pub label_byte : ℕ → List ℕ
@@ -60,7 +62,10 @@ abbrev pub with_meters : List ℕ → List SiteRow → List ℕ
 with_meters text rows =
     with_entries
     (with_energies
-    (text ++ codes "# HELP sunreg_energy_watthours_total Energy of a meter that is open.\n# TYPE sunreg_energy_watthours_total counter") rows
-    ++ codes "\n# HELP sunreg_last_entry_timestamp_seconds Moment of the last entry of a meter.\n# TYPE sunreg_last_entry_timestamp_seconds gauge")
+    (text ++ family_text (codes "sunreg_energy_watthours_total")
+    (codes "Energy of a meter that is open.") Counter) rows
+    ++ codes "\n"
+    ++ family_text (codes "sunreg_last_entry_timestamp_seconds")
+    (codes "Moment of the last entry of a meter.") Gauge)
     rows
     ++ codes "\n"

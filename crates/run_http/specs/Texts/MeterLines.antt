@@ -1,6 +1,7 @@
--- The entries of a meter as lines, and then how many there are.
+-- The entries of a meter as lines, or those that voids name, and then how many there are.
 use Rattle.std.specs.Prelude.{ℕ, ℤ, Bool, true, false, List, ◌++◌, length, flat_map, codes, decimal}
 use Rattle.std.specs.Fmt.{signed_decimal}
+use Rattle.energy_core.specs.Account.{moment_of}
 use Rattle.energy_core.specs.declared.entries.Entry.{Entry}
 use Rattle.energy_core.specs.declared.entries.Entry.TheVariants.{Step, Change}
 use Rattle.energy_core.specs.declared.entries.Last.{Last}
@@ -49,3 +50,15 @@ entry_line (Later row sf) = later_line row sf
 
 abbrev pub entries_text : List MeterEntry → List ℕ
 entries_text entries = flat_map entry_line entries ++ end_line (length entries)
+
+-- PLACE KIND MOMENT of an entry that a void names
+abbrev pub void_row_line : EntryRow → List ℕ
+void_row_line row =
+    decimal row.place ++ kind_word row.kind ++ decimal (moment_of row.entry) ++ codes "\n"
+
+abbrev pub void_line : MeterEntry → List ℕ
+void_line (Opening last) = codes "1 opening " ++ decimal last.at ++ codes "\n"
+void_line (Later row sf) = void_row_line row
+
+abbrev pub voids_text : List MeterEntry → List ℕ
+voids_text entries = flat_map void_line entries ++ end_line (length entries)

@@ -1,16 +1,19 @@
--- `/metrics`: the counts, the devices and the meters that are open, in Prometheus's text format, version 0.0.4. Each definition gives a text with something at its end.
+-- `/metrics`: the counts, the devices and the meters that are open, in Prometheus's text format, version 0.0.4. Each definition
+-- gives a text with something at its end.
 use Rattle.std.specs.Prelude.{ℕ, Bool, true, false, List, [], ◌∷◌, ◌++◌, Option, Some, None, codes, decimal, slice_index}
 use Rattle.run_status.specs.declared.status.counts.Counts.{Counts}
 use Rattle.run_status.specs.declared.status.status.DeviceState.{DeviceState}
 use Rattle.office_core.specs.declared.site.SiteRow.{SiteRow}
 use Rattle.run_http.specs.Texts.EnergyLines.{with_meters}
+use Rattle.run_http.specs.Texts.Families.{family_text}
+use Rattle.run_http.specs.declared.texts.families.MetricKind.TheVariants.{Counter, Gauge}
 use Rattle.run_status.specs.Status.StatusText.{with_name}
 
 abbrev pub with_outcomes : List ℕ → Counts → List ℕ
 with_outcomes text counts =
-    text ++ codes
-    "# HELP sunreg_polls_total Polls that ended, by outcome.\n# TYPE sunreg_polls_total counter\n"
-    ++ codes "sunreg_polls_total{outcome=\"answered\"} " ++ decimal counts.answered
+    text
+    ++ family_text (codes "sunreg_polls_total") (codes "Polls that ended, by outcome.") Counter
+    ++ codes "\nsunreg_polls_total{outcome=\"answered\"} " ++ decimal counts.answered
     ++ codes "\nsunreg_polls_total{outcome=\"exception\"} " ++ decimal counts.exceptions
     ++ codes "\nsunreg_polls_total{outcome=\"silent\"} " ++ decimal counts.silent
     ++ codes "\nsunreg_polls_total{outcome=\"malformed\"} " ++ decimal counts.malformed
@@ -18,15 +21,19 @@ with_outcomes text counts =
 
 abbrev pub with_readings : List ℕ → Counts → List ℕ
 with_readings text counts =
-    text ++ codes "\n# HELP sunreg_readings_total Readings that were accepted.\n# TYPE sunreg_readings_total counter\n"
-    ++ codes "sunreg_readings_total " ++ decimal counts.readings
-    ++ codes "\n# HELP sunreg_refusals_total Events of devices that the office refused.\n# TYPE sunreg_refusals_total counter\n"
-    ++ codes "sunreg_refusals_total " ++ decimal counts.refusals
+    text ++ codes "\n"
+    ++ family_text (codes "sunreg_readings_total") (codes "Readings that were accepted.") Counter
+    ++ codes "\nsunreg_readings_total " ++ decimal counts.readings ++ codes "\n"
+    ++ family_text (codes "sunreg_refusals_total")
+    (codes "Events of devices that the office refused.") Counter
+    ++ codes "\nsunreg_refusals_total " ++ decimal counts.refusals
 
 abbrev pub with_causes : List ℕ → List ℕ → List ℕ
 with_causes text held =
-    text ++ codes "\n# HELP sunreg_held_readings_total Readings that were held, by cause.\n# TYPE sunreg_held_readings_total counter\n"
-    ++ codes "sunreg_held_readings_total{cause=\"not_accumulated\"} "
+    text ++ codes "\n"
+    ++ family_text (codes "sunreg_held_readings_total")
+    (codes "Readings that were held, by cause.") Counter
+    ++ codes "\nsunreg_held_readings_total{cause=\"not_accumulated\"} "
     ++ decimal (slice_index held 0)
     ++ codes "\nsunreg_held_readings_total{cause=\"scale_changed\"} "
     ++ decimal (slice_index held 1)
@@ -65,8 +72,12 @@ abbrev pub with_devices : List ℕ → List DeviceState → List ℕ
 with_devices text devices =
     with_moments
     (with_states
-    (text ++ codes "\n# HELP sunreg_device_connected Whether a round of a device goes on.\n# TYPE sunreg_device_connected gauge") devices
-    ++ codes "\n# HELP sunreg_last_reading_timestamp_seconds When the latest reading of a device was accepted.\n# TYPE sunreg_last_reading_timestamp_seconds gauge")
+    (text ++ codes "\n"
+    ++ family_text (codes "sunreg_device_connected")
+    (codes "Whether a round of a device goes on.") Gauge) devices
+    ++ codes "\n"
+    ++ family_text (codes "sunreg_last_reading_timestamp_seconds")
+    (codes "When the latest reading of a device was accepted.") Gauge)
     devices
     ++ codes "\n"
 

@@ -4,6 +4,7 @@ ghost use Rattle.std.specs.Fmt.{digit_glyph};
 ghost use Rattle.sun_points.specs.Decimal.{low_digits, magnitude_text};
 ghost use Rattle.run_http.specs.Texts.EnergyLines as energy;
 
+use crate::texts::families::{MetricKind, put_family, put_next_family};
 use office_core::SiteRow;
 use office_events::{Installation, Name};
 use run_status::{put, put_number};
@@ -148,14 +149,18 @@ fn put_entries(text: &mut Vec<u8>, rows: &[SiteRow]) -> Result<(), AllocError>
 pub(crate) fn put_meters(text: &mut Vec<u8>, rows: &[SiteRow]) -> Result<(), AllocError>
     ensures { OnOk result (text.new.items ≡ energy.with_meters text.old.items rows.now) }
 {
-    put(
+    put_family(
         text,
-        b"# HELP sunreg_energy_watthours_total Energy of a meter that is open.\n# TYPE sunreg_energy_watthours_total counter",
+        b"sunreg_energy_watthours_total",
+        b"Energy of a meter that is open.",
+        MetricKind::Counter,
     )?;
     put_energies(text, rows)?;
-    put(
+    put_next_family(
         text,
-        b"\n# HELP sunreg_last_entry_timestamp_seconds Moment of the last entry of a meter.\n# TYPE sunreg_last_entry_timestamp_seconds gauge",
+        b"sunreg_last_entry_timestamp_seconds",
+        b"Moment of the last entry of a meter.",
+        MetricKind::Gauge,
     )?;
     put_entries(text, rows)?;
     put(text, b"\n")

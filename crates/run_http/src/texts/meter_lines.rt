@@ -1,5 +1,6 @@
 //! The rows of a meter, as lines.
 ghost use Rattle.std.specs.Prelude.{◌≡◌, ◌++◌, OnOk, flat_map};
+ghost use Rattle.energy_core.specs.Account.{moment_of};
 ghost use Rattle.interval_core.specs.Lines.{end_line, intervals_text, share_line};
 ghost use Rattle.run_http.specs.Texts.MeterLines as lines;
 
@@ -141,5 +142,59 @@ pub fn put_entries(text: &mut Vec<u8>, entries: &[MeterEntry]) -> Result<(), All
     ensures { OnOk result (text.new.items ≡ text.old.items ++ lines.entries_text entries.now) }
 {
     put_entry_lines(text, entries)?;
+    put_end(text, entries.len())
+}
+
+// ---- those that voids name
+
+fn moment(entry: &Entry) -> u64
+    ensures { result ≡ moment_of entry.now }
+{
+    match *entry {
+        Entry::Step { at, .. } => at,
+        Entry::Change { at, .. } => at,
+    }
+}
+
+// Puts the line of a later entry that a void names.
+fn put_voided_row(text: &mut Vec<u8>, row: &EntryRow) -> Result<(), AllocError>
+    ensures { OnOk result (text.new.items ≡ text.old.items ++ lines.void_row_line row.now) }
+{
+    put_number(text, b"", row.place)?;
+    put_kind(text, row.kind)?;
+    put_number(text, b"", moment(&row.entry))?;
+    put(text, b"\n")
+}
+
+// Puts the line of an entry that a void names.
+fn put_void(text: &mut Vec<u8>, entry: &MeterEntry) -> Result<(), AllocError>
+    ensures { OnOk result (text.new.items ≡ text.old.items ++ lines.void_line entry.now) }
+{
+    match entry {
+        MeterEntry::Opening(last) => {
+            put_number(text, b"1 opening ", last.at)?;
+            put(text, b"\n")
+        }
+        MeterEntry::Later { row, .. } => put_voided_row(text, row),
+    }
+}
+
+// Puts a line for each entry that a void names.
+fn put_void_lines(text: &mut Vec<u8>, entries: &[MeterEntry]) -> Result<(), AllocError>
+    ensures { OnOk result (text.new.items
+        ≡ text.old.items ++ flat_map lines.void_line entries.now) }
+{
+    for entry in entries {
+        put_void(text, entry)?;
+    }
+    Ok(())
+}
+
+/// Puts the place, the kind and the moment of each of these entries of a meter, which voids name, at the end of a text, a line each,
+/// and then how many there are. Want of memory leaves a part of it.
+pub fn put_voids(text: &mut Vec<u8>, entries: &[MeterEntry]) -> Result<(), AllocError>
+    ensures { OnOk result (text.new.items ≡ text.old.items ++ lines.voids_text entries.now) }
+{
+    put_void_lines(text, entries)?;
     put_end(text, entries.len())
 }

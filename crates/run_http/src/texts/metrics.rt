@@ -3,6 +3,7 @@ ghost use Rattle.std.specs.Prelude.{◌≡◌, OnOk};
 ghost use Rattle.run_http.specs.Texts.MetricsText as metrics;
 
 use crate::texts::energy_lines::put_meters;
+use crate::texts::families::{MetricKind, put_family, put_next_family};
 use office_core::SiteRow;
 use run_status::{Counts, DeviceState, put, put_name, put_number};
 use std::alloc::AllocError;
@@ -10,13 +11,15 @@ use std::alloc::AllocError;
 fn put_outcomes(text: &mut Vec<u8>, counts: &Counts) -> Result<(), AllocError>
     ensures { OnOk result (text.new.items ≡ metrics.with_outcomes text.old.items counts.now) }
 {
-    put(
+    put_family(
         text,
-        b"# HELP sunreg_polls_total Polls that ended, by outcome.\n# TYPE sunreg_polls_total counter\n",
+        b"sunreg_polls_total",
+        b"Polls that ended, by outcome.",
+        MetricKind::Counter,
     )?;
     put_number(
         text,
-        b"sunreg_polls_total{outcome=\"answered\"} ",
+        b"\nsunreg_polls_total{outcome=\"answered\"} ",
         counts.answered,
     )?;
     put_number(
@@ -44,28 +47,34 @@ fn put_outcomes(text: &mut Vec<u8>, counts: &Counts) -> Result<(), AllocError>
 fn put_readings(text: &mut Vec<u8>, counts: &Counts) -> Result<(), AllocError>
     ensures { OnOk result (text.new.items ≡ metrics.with_readings text.old.items counts.now) }
 {
-    put(
+    put_next_family(
         text,
-        b"\n# HELP sunreg_readings_total Readings that were accepted.\n# TYPE sunreg_readings_total counter\n",
+        b"sunreg_readings_total",
+        b"Readings that were accepted.",
+        MetricKind::Counter,
     )?;
-    put_number(text, b"sunreg_readings_total ", counts.readings)?;
-    put(
+    put_number(text, b"\nsunreg_readings_total ", counts.readings)?;
+    put_next_family(
         text,
-        b"\n# HELP sunreg_refusals_total Events of devices that the office refused.\n# TYPE sunreg_refusals_total counter\n",
+        b"sunreg_refusals_total",
+        b"Events of devices that the office refused.",
+        MetricKind::Counter,
     )?;
-    put_number(text, b"sunreg_refusals_total ", counts.refusals)
+    put_number(text, b"\nsunreg_refusals_total ", counts.refusals)
 }
 
 fn put_causes(text: &mut Vec<u8>, held: &[u64; 8]) -> Result<(), AllocError>
     ensures { OnOk result (text.new.items ≡ metrics.with_causes text.old.items held.now) }
 {
-    put(
+    put_next_family(
         text,
-        b"\n# HELP sunreg_held_readings_total Readings that were held, by cause.\n# TYPE sunreg_held_readings_total counter\n",
+        b"sunreg_held_readings_total",
+        b"Readings that were held, by cause.",
+        MetricKind::Counter,
     )?;
     put_number(
         text,
-        b"sunreg_held_readings_total{cause=\"not_accumulated\"} ",
+        b"\nsunreg_held_readings_total{cause=\"not_accumulated\"} ",
         held[0],
     )?;
     put_number(
@@ -154,14 +163,18 @@ fn put_moments(text: &mut Vec<u8>, devices: &[DeviceState]) -> Result<(), AllocE
 fn put_devices(text: &mut Vec<u8>, devices: &[DeviceState]) -> Result<(), AllocError>
     ensures { OnOk result (text.new.items ≡ metrics.with_devices text.old.items devices.now) }
 {
-    put(
+    put_next_family(
         text,
-        b"\n# HELP sunreg_device_connected Whether a round of a device goes on.\n# TYPE sunreg_device_connected gauge",
+        b"sunreg_device_connected",
+        b"Whether a round of a device goes on.",
+        MetricKind::Gauge,
     )?;
     put_states(text, devices)?;
-    put(
+    put_next_family(
         text,
-        b"\n# HELP sunreg_last_reading_timestamp_seconds When the latest reading of a device was accepted.\n# TYPE sunreg_last_reading_timestamp_seconds gauge",
+        b"sunreg_last_reading_timestamp_seconds",
+        b"When the latest reading of a device was accepted.",
+        MetricKind::Gauge,
     )?;
     put_moments(text, devices)?;
     put(text, b"\n")

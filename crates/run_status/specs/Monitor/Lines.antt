@@ -9,7 +9,6 @@ use Rattle.office_events.specs.declared.answers.Note.TheVariants as note
 use Rattle.office_events.specs.declared.events.Event.{Event}
 use Rattle.office_events.specs.declared.events.Event.TheVariants as event
 use Rattle.office_events.specs.declared.refusals.Refusal.{Refusal}
-use Rattle.office_rounds.specs.declared.device_rounds.polls.Sum.{Sum}
 
 -- the moment, and the name of the device; `-` for a name that no device can have
 abbrev pub with_head : (at : ℕ) → (name : Option (List ℕ)) → List ℕ → List ℕ
@@ -49,8 +48,9 @@ abbrev pub with_lines : (at : ℕ) → (name : Option (List ℕ)) → Event → 
 with_lines at name e answer notes text =
     with_notes at name notes (with_answer at name e answer text)
 
-abbrev pub with_sum : (at : ℕ) → (name : Option (List ℕ)) → Sum → List ℕ → List ℕ
-with_sum at name sum text =
-    with_head at name text ++ codes " round answered " ++ decimal sum.answered ++ codes " silent "
-    ++ decimal sum.silent
-    ++ codes " failed " ++ decimal sum.failed ++ codes "\n"
+abbrev pub with_sum : (at : ℕ) → (name : Option (List ℕ)) → (answered silent failed : ℕ)
+    → List ℕ → List ℕ
+with_sum at name answered silent failed text =
+    with_head at name text ++ codes " round answered " ++ decimal answered
+    ++ codes " silent " ++ decimal silent
+    ++ codes " failed " ++ decimal failed ++ codes "\n"

@@ -1,4 +1,4 @@
--- What a desk keeps of an event that was fed.
+-- What a monitor keeps of an event that was fed.
 use Rattle.std.specs.Prelude.{◌≡◌, ℕ, Bool, true, false, List, slice_get, slice_set, Option, Some, None, Result, Ok, Err, if◌then◌else◌}
 use Rattle.std.specs.List.{list_any}
 use Rattle.office_events.specs.declared.answers.Answer.{Answer}
@@ -10,7 +10,7 @@ use Rattle.office_events.specs.declared.refusals.Refusal.{Refusal}
 use Rattle.run_status.specs.Status.Counts.{noted_all, refused}
 use Rattle.run_status.specs.declared.status.counts.Counts.{Counts}
 use Rattle.run_status.specs.declared.status.status.DeviceState.{DeviceState}
-use Rattle.office_rounds.specs.Driver.Showing.{Shown}
+use Rattle.office_events.specs.Showing.{Shown}
 use Rattle.run_status.specs.Monitor.Output.{IsSentFor, queues_of}
 use Rattle.run_status.specs.declared.monitor.run_monitor.RunMonitor.{RunMonitor}
 
@@ -66,7 +66,7 @@ abbrev pub counted : Result Answer Refusal → List Note → Counts → Counts
 counted (Ok given) notes counts = noted_all notes counts
 counted (Err why) notes counts = noted_all notes (refused counts)
 
--- what a desk keeps
+-- what a monitor keeps
 pub record Keeps (old : RunMonitor) (shown : Shown) (new : RunMonitor) : Type 0 where
   pub counts : new.counts ≡ counted shown.answer shown.notes old.counts
   pub states : new.states.items

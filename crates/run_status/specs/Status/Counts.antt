@@ -6,7 +6,7 @@ use Rattle.poll_core.specs.declared.outcome.Outcome.{Outcome}
 use Rattle.poll_core.specs.declared.outcome.Outcome.TheVariants.{Answered, Exception, Silent, Malformed, Lost}
 use Rattle.office_events.specs.declared.answers.Note.{Note}
 use Rattle.office_events.specs.declared.answers.Note.TheVariants as note
-use Rattle.office_rounds.specs.DeviceRounds.Sums.{one_more}
+use Rattle.office_events.specs.Numbers.{one_more}
 use Rattle.run_status.specs.declared.status.counts.Counts.{Counts}
 
 abbrev pub nothing : Counts

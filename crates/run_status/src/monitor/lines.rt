@@ -4,7 +4,6 @@ ghost use Rattle.run_status.specs.Monitor.Lines as lines;
 
 use crate::status::{put, put_number, put_word};
 use office_events::{Answer, Event, Name, Note, Refusal};
-use office_rounds::Sum;
 use poll_core::Closing;
 use std::alloc::AllocError;
 
@@ -119,13 +118,21 @@ pub fn put_lines(
     put_notes(text, at, name, notes)
 }
 
-/// Puts how the polls of a round ended.
-pub fn put_sum(text: &mut Vec<u8>, at: u64, name: &Option<Name>, sum: Sum) -> Result<(), AllocError>
-    ensures { OnOk result (text.new.items ≡ lines.with_sum at name.now sum text.old.items) }
+/// Puts how many polls of a round were answered, how many were silent, and how many ended otherwise.
+pub fn put_sum(
+    text: &mut Vec<u8>,
+    at: u64,
+    name: &Option<Name>,
+    answered: u64,
+    silent: u64,
+    failed: u64,
+) -> Result<(), AllocError>
+    ensures { OnOk result (text.new.items
+        ≡ lines.with_sum at name.now answered silent failed text.old.items) }
 {
     put_head(text, at, name)?;
-    put_number(text, b" round answered ", sum.answered)?;
-    put_number(text, b" silent ", sum.silent)?;
-    put_number(text, b" failed ", sum.failed)?;
+    put_number(text, b" round answered ", answered)?;
+    put_number(text, b" silent ", silent)?;
+    put_number(text, b" failed ", failed)?;
     put(text, b"\n")
 }

@@ -1,9 +1,8 @@
-//! The desk: counts, how each device stands, and the frames that are to be sent to each.
+//! The monitor of a run: counts, how each device stands, and the frames that are to be sent to each.
 use crate::monitor::device_state::{followed, unconnected};
 use crate::monitor::output::put_frames;
 use crate::status::{Counts, DeviceState};
-use office_events::{Answer, Event, Name, Note, Refusal};
-use office_rounds::Observer;
+use office_events::{Answer, Event, Name, Note, Observer, Refusal};
 use std::alloc::{AllocError, Global};
 use std::mem;
 
@@ -24,7 +23,7 @@ impl RunMonitor {
     ghost use Rattle.run_status.specs.Monitor.Output.{IsSentTo, queues_of, taken_at};
     ghost use Rattle.run_status.specs.Monitor.Watching.{unconnected};
 
-    /// A desk for devices of these names, of which none is connected.
+    /// A monitor for devices of these names, of which none is connected.
     pub fn new(alloc: Global, names: &[Option<Name>]) -> Result<RunMonitor, AllocError>
         ensures counts { IfOk result (λ monitor. monitor.counts ≡ nothing) }
         ensures states { IfOk result (λ monitor. monitor.states.items ≡ map unconnected names.now) }

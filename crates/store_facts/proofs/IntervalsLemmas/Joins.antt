@@ -1,13 +1,13 @@
 -- What the queries find.
-use Rattle.std.proofs.Common.{◌≡◌, ◌<◌, ◌≤◌, ◌<ℤ◌, ◌⊎◌, ◌&&◌, nat_le, nat_lt, le-leb, lt-ltb, le-ltb, Some, inl, inr, pos, ℕ, List, [], ◌∷◌, ◌++◌, map, filter, flat_map, Bool, true, false, bytes_eq, if◌then◌else◌, Ordering, Less, Equal, Greater, is_gt, refl, sym, ap, ap₂, subst, ◌∙◌, arith, IsPermutation}
+use Rattle.std.proofs.Common.{◌≡◌, ◌<◌, ◌≤◌, ◌<ℤ◌, ◌⊎◌, ◌&&◌, nat_lt, inl, inr, pos, ℕ, List, [], ◌∷◌, ◌++◌, map, filter, flat_map, Bool, true, false, bytes_eq, if◌then◌else◌, Ordering, Less, Equal, Greater, is_gt, refl, sym, ap, ap₂, subst, ◌∙◌, arith, IsPermutation}
 use Rattle.std.specs.List.{AllByRecursion, list_all}
-use Rattle.std.specs.Ordering.{ordering_then, int_cmp, is_ge, is_lt, MatchOrdering}
+use Rattle.std.specs.Ordering.{ordering_then, int_cmp, MatchOrdering}
 use Rattle.std.specs.Cmp.{int_ranks}
 use Rattle.std.proofs.lemmas.Int.{ints}
-use Rattle.std.proofs.lemmas.Bool.{cases_Bool, lt-leb}
+use Rattle.std.proofs.lemmas.Bool.{cases_Bool}
 use Rattle.std.proofs.lemmas.List.{map-append}
-use Rattle.std.proofs.lemmas.List.Elements.{filter-append, All-from_recursion, recursion_from_All}
-use Rattle.std.proofs.lemmas.List.Sorted.{All-permutation, IsPermutation-refl, IsPermutation-sym, IsPermutation-trans, IsPermutation-map}
+use Rattle.std.proofs.lemmas.List.Elements.{filter-append}
+use Rattle.std.proofs.lemmas.List.Sorted.{IsPermutation-refl, IsPermutation-sym, IsPermutation-trans, IsPermutation-map}
 use Rattle.sqlite.specs.declared.types.Value.TheVariants.{Int, Text}
 use Rattle.sqlite.specs.Order.{Row, value_cmp}
 use Rattle.sqlite.specs.Effect.{Database}
@@ -16,14 +16,10 @@ use Rattle.sqlite.specs.Tree.{IsAscending}
 use Rattle.sqlite.specs.Query.{Query, IsAnswer, Output, output, output_cmp, page}
 use Rattle.sqlite.specs.Program.{overlay}
 use Rattle.sqlite_sql.proofs.QueryLemmas.{output_cmp_total}
-use Rattle.sqlite.specs.Ops.{binary, is_true, from_truth}
-use Rattle.sqlite.specs.Collation.TheVariants.{Binary}
-use Rattle.sqlite_sql.specs.declared.ops.BinaryOp.TheVariants.{Compare}
-use Rattle.sqlite_sql.specs.declared.ops.CompareOp.TheVariants.{Ge, Lt}
 use Rattle.sqlite_value.proofs.OrderLemmas.{value_cmp-Int}
 use Rattle.interval_core.specs.declared.shares.Share.{Share}
 use Rattle.sqlite_keyed.specs.Lists.{pairs}
-use Rattle.sqlite_keyed.proofs.ListLemmas.{all-filter, all-append, all_map, map-map, filter-map, ascending-map, ascending_from_map, ascending_weaker, IsPermutation-filter, IsPermutation-flat_map, IsPermutation-flat_map_each}
+use Rattle.sqlite_keyed.proofs.ListLemmas.{all-append, all_map, map-map, filter-map, ascending-map, ascending_from_map, ascending_weaker, IsPermutation-filter, IsPermutation-flat_map, IsPermutation-flat_map_each}
 use Rattle.store_tables.specs.Schema.{books_schema, intervals_table, installations_table}
 use Rattle.store_tables.specs.Content.{Content, AreTables}
 use Rattle.store_tables.specs.Answer.{AreFound, FirstFirst}
@@ -38,39 +34,10 @@ use Rattle.store_facts.specs.Intervals.Trees.{intervals}
 use Rattle.store_facts.specs.Intervals.Rows.{Interval, interval_columns, share_shown, is_of, start_of, IsSoundInterval}
 use Rattle.store_facts.specs.Intervals.Handing.{HaveIntervals, AreSharesOfMeter, AreSoundIntervals, Lying, HaveLying, lies_at, is_between, ComesAfter, AreSharesOfMeterBetween, AreSoundLying}
 use Rattle.store_facts.proofs.IntervalsLemmas.Texts as text
+use Rattle.store_facts.proofs.StreamsLemmas.Compared.{all_found, at_least_is, below_is}
+use Rattle.store_facts.proofs.StreamsLemmas.Shared.{Tells}
 
-all_found : {X : Type 0} (P : X → Type 0) (p : X → Bool) (xs found : List X) → IsPermutation (filter p xs) found → AllByRecursion P xs → AllByRecursion P found
-all_found P p xs found same all = recursion_from_All P found (All-permutation P _ _ same (All-from_recursion P _ (all-filter P p xs all)))
-
--- ---- numbers that are compared
-
-truth_back : (b : Bool) → is_true (from_truth (Some b)) ≡ b
-truth_back true = refl
-truth_back false = refl
-
-at_least : (a b : ℕ) → is_ge (int_cmp (pos a) (pos b)) ≡ nat_le b a
-at_least a b = go (int_cmp (pos a) (pos b)) (int_ranks (pos a) (pos b))
-  where
-    go : (o : Ordering) → MatchOrdering o (pos a <ℤ pos b) (pos a ≡ pos b) (pos b <ℤ pos a) → is_ge o ≡ nat_le b a
-    go Less h = sym (lt-leb b a (omega (arith, ints)))
-    go Equal h = sym (le-leb b a (omega (arith, ints)))
-    go Greater h = sym (le-leb b a (omega (arith, ints)))
-
-below : (a b : ℕ) → is_lt (int_cmp (pos a) (pos b)) ≡ nat_lt a b
-below a b = go (int_cmp (pos a) (pos b)) (int_ranks (pos a) (pos b))
-  where
-    go : (o : Ordering) → MatchOrdering o (pos a <ℤ pos b) (pos a ≡ pos b) (pos b <ℤ pos a) → is_lt o ≡ nat_lt a b
-    go Less h = sym (lt-ltb a b (omega (arith, ints)))
-    go Equal h = sym (le-ltb a b (omega (arith, ints)))
-    go Greater h = sym (le-ltb a b (omega (arith, ints)))
-
-at_least_is : (a b : ℕ) → is_true (binary (Compare Ge Binary) (Int (pos a)) (Int (pos b))) ≡ nat_le b a
-unfolding binary
-at_least_is a b = truth_back _ ∙ (ap is_ge (value_cmp-Int (pos a) (pos b)) ∙ at_least a b)
-
-below_is : (a b : ℕ) → is_true (binary (Compare Lt Binary) (Int (pos a)) (Int (pos b))) ≡ nat_lt a b
-unfolding binary
-below_is a b = truth_back _ ∙ (ap is_lt (value_cmp-Int (pos a) (pos b)) ∙ below a b)
+-- ---- tests one after the other
 
 and_first : (a b c : Bool) → a && (b && c) ≡ (a && b) && c
 and_first true b c = refl
@@ -80,18 +47,18 @@ and_first false b c = refl
 
 pub of_meter : (meter : List ℕ) (db : Database) (content : Content) (is : List Interval) (rows : List Row) → AreTables db content → HaveIntervals is content
     → IsAnswer (scan 14 text.meter_intervals_tests text.shares_project text.meter_intervals_order no_limit) (overlay db.trees []) (Text meter ∷ []) rows
-    → (found : List Interval) × (rows ≡ map share_shown found) × AreSharesOfMeter meter is (map (λ i. i.share) found) × (AreSoundIntervals is → AllByRecursion IsSoundInterval found)
+    → Tells share_shown (λ i. i.share) IsSoundInterval (AreSharesOfMeter meter) AreSoundIntervals is rows
 of_meter meter db content is rows has have a =
     let there = tree_at books_schema.tables 9 intervals_table refl in
     let apart = has.apart intervals there in
     let it = selected intervals text.meter_intervals_tests text.shares_project text.meter_intervals_order no_limit (Text meter ∷ []) interval_columns (is_of meter) share_shown (FirstFirst start_of)
     (λ n i. rw (text_is i.meter meter, and_true (bytes_eq i.meter meter)) refl) (λ n i. refl) (λ m n i j le. in_order i.share.start j.share.start le)
     db.trees rows is (laid_from false interval_columns (db.trees intervals) (content intervals) is apart.keyed (has.rows intervals there) have) a in
-    (it.0, it.2, (it.0, it.1, refl), λ sound. all_found IsSoundInterval (is_of meter) is it.0 it.1.all sound)
+    record { found = it.0; shows = it.2; are = (it.0, it.1, refl); sound = λ sound. all_found IsSoundInterval (is_of meter) is it.0 it.1.all sound }
 
 pub of_meter_between : (meter : List ℕ) (from till : ℕ) (db : Database) (content : Content) (is : List Interval) (rows : List Row) → AreTables db content → HaveIntervals is content
     → IsAnswer (scan 14 text.meter_between_tests text.shares_project text.meter_intervals_order no_limit) (overlay db.trees []) (Text meter ∷ Int (pos from) ∷ Int (pos till) ∷ []) rows
-    → (found : List Interval) × (rows ≡ map share_shown found) × AreSharesOfMeterBetween meter from till is (map (λ i. i.share) found) × (AreSoundIntervals is → AllByRecursion IsSoundInterval found)
+    → Tells share_shown (λ i. i.share) IsSoundInterval (AreSharesOfMeterBetween meter from till) AreSoundIntervals is rows
 of_meter_between meter from till db content is rows has have a =
     let there = tree_at books_schema.tables 9 intervals_table refl in
     let apart = has.apart intervals there in
@@ -99,7 +66,7 @@ of_meter_between meter from till db content is rows has have a =
     let it = selected intervals text.meter_between_tests text.shares_project text.meter_intervals_order no_limit (Text meter ∷ Int (pos from) ∷ Int (pos till) ∷ []) interval_columns asked share_shown (FirstFirst start_of)
     (λ n i. rw (text_is i.meter meter, at_least_is i.share.start from, below_is i.share.start till, and_true (nat_lt i.share.start till)) refl) (λ n i. refl) (λ m n i j le. in_order i.share.start j.share.start le)
     db.trees rows is (laid_from false interval_columns (db.trees intervals) (content intervals) is apart.keyed (has.rows intervals there) have) a in
-    (it.0, it.2, (it.0, it.1, refl), λ sound. all_found IsSoundInterval asked is it.0 it.1.all sound)
+    record { found = it.0; shows = it.2; are = (it.0, it.1, refl); sound = λ sound. all_found IsSoundInterval asked is it.0 it.1.all sound }
 
 -- ---- the order of two numbers
 
@@ -192,8 +159,7 @@ module _ (params : Row) (tests : List Term) (passes : Installed × Interval → 
   sound_pairs (i ∷ is) rows sound = all-append (λ (p : Installed × Interval). IsSoundInterval p.1) (map (λ r. (i, r)) rows) (pairs is rows) (all_map (λ (p : Installed × Interval). IsSoundInterval p.1) (λ r. (i, r)) rows sound) (sound_pairs is rows sound)
 
   pub of_pairs : (db : Database) (content : Content) (lying : Lying) (rows : List Row) → AreTables db content → HaveLying lying content → IsAnswer query (overlay db.trees []) params rows
-      → (found : List (Installed × Interval)) × (rows ≡ map (λ p. share_shown p.1) found) × AreShown passes lying (map (λ p. p.1.share) found)
-      × (AreSoundLying lying → AllByRecursion (λ p. IsSoundInterval p.1) found)
+      → Tells (λ (p : Installed × Interval). share_shown p.1) (λ (p : Installed × Interval). p.1.share) (λ (p : Installed × Interval). IsSoundInterval p.1) (AreShown passes) AreSoundLying lying rows
   of_pairs db content lying rows has have a =
       let first = tree_at books_schema.tables 4 installations_table refl in
       let second = tree_at books_schema.tables 9 intervals_table refl in
@@ -216,17 +182,16 @@ module _ (params : Row) (tests : List Term) (passes : Installed × Interval → 
       let are : AreFound passes ComesAfter (pairs lying.installed lying.rows) found = record {
         all = IsPermutation-trans _ _ _ before (IsPermutation-map bare _ _ moved.1);
         order = ascending-map ComesAfter bare moved.0 up;
-      } in (
-        found,
-        a.shown ∙ (ap (page query params) (ap (map (λ (o : Output). o.1)) moved.2 ∙ shown_all moved.0)),
-        (found, are, refl),
-        λ sound. all_found (λ (p : Installed × Interval). IsSoundInterval p.1) passes (pairs lying.installed lying.rows) found are.all (sound_pairs lying.installed lying.rows sound),
-      )
+      } in
+      record {
+        found = found;
+        shows = a.shown ∙ (ap (page query params) (ap (map (λ (o : Output). o.1)) moved.2 ∙ shown_all moved.0));
+        are = (found, are, refl);
+        sound = λ sound. all_found (λ (p : Installed × Interval). IsSoundInterval p.1) passes (pairs lying.installed lying.rows) found are.all (sound_pairs lying.installed lying.rows sound);
+      }
 
 abbrev Shows : (passes : Installed × Interval → Bool) → Lying → List Row → Type 0
-Shows passes lying rows =
-    (found : List (Installed × Interval)) × (rows ≡ map (λ p. share_shown p.1) found) × AreShown passes lying (map (λ p. p.1.share) found)
-    × (AreSoundLying lying → AllByRecursion (λ p. IsSoundInterval p.1) found)
+Shows passes = Tells (λ (p : Installed × Interval). share_shown p.1) (λ (p : Installed × Interval). p.1.share) (λ (p : Installed × Interval). IsSoundInterval p.1) (AreShown passes) AreSoundLying
 
 pub at_register : (register : List ℕ) (db : Database) (content : Content) (lying : Lying) (rows : List Row) → AreTables db content → HaveLying lying content
     → IsAnswer text.register_intervals_query (overlay db.trees []) (Text register ∷ []) rows → Shows (lies_at register) lying rows

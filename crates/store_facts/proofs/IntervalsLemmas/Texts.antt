@@ -13,7 +13,7 @@ use Rattle.sqlite_schema.specs.declared.command.Conflict.TheVariants.{Abort}
 use Rattle.sqlite_schema.specs.declared.command.Upsert.{Upsert}
 use Rattle.sqlite_sql.specs.Term.{op2}
 use Rattle.sqlite_sql.specs.declared.ops.BinaryOp.TheVariants.{Compare, Arith}
-use Rattle.sqlite_sql.specs.declared.ops.CompareOp.TheVariants.{Eq, Ge, Lt}
+use Rattle.sqlite_sql.specs.declared.ops.CompareOp.TheVariants.{Eq}
 use Rattle.sqlite_sql.specs.declared.ops.ArithOp.TheVariants.{Add}
 use Rattle.sqlite.specs.Collation.TheVariants.{Binary}
 use Rattle.sqlite_tied.specs.Compute.{everything}
@@ -23,6 +23,7 @@ use Rattle.sqlite.proofs.Callers.{IsPlain, command_of}
 use Rattle.store_tables.specs.Schema.{books_schema}
 use Rattle.store_tables.proofs.Failures.{Suits, suits_scan}
 use Rattle.store_tables.proofs.Scans.{scan, no_limit, is_param, rising}
+use Rattle.store_facts.proofs.StreamsLemmas.Compared.{is_at_least, is_below}
 
 -- ---- add_share
 
@@ -119,13 +120,6 @@ unfolding understood everything
 meter_intervals_suits meter = suits_scan 14 meter_intervals_tests shares_project meter_intervals_order no_limit meter_intervals names (Text meter ∷ []) (refl, refl, refl) meter_intervals_plain meter_intervals_unlisted meter_intervals_is refl
 
 -- ---- meter_intervals_between
-
--- a column of the second table, or of the first, is at least a parameter, and less than one
-abbrev pub is_at_least : (table column param : ℕ) → Term
-is_at_least table column param = op2 (Compare Ge Binary) (col table column) (col 0 param)
-
-abbrev pub is_below : (table column param : ℕ) → Term
-is_below table column param = op2 (Compare Lt Binary) (col table column) (col 0 param)
 
 abbrev pub meter_between : List ℕ
 meter_between = codes "SELECT start, mwh FROM intervals WHERE meter = ?1 AND start >= ?2 AND start < ?3 ORDER BY start"

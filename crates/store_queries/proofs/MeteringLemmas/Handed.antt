@@ -4,7 +4,6 @@ use Rattle.std.specs.List.{AllByRecursion}
 use Rattle.sqlite.specs.Store.{Ghosts}
 use Rattle.sqlite.specs.Held.{Held, state}
 use Rattle.sqlite.specs.State.{HasCleanDisk}
-use Rattle.interval_core.specs.declared.shares.Share.{Share}
 use Rattle.office_books.specs.Rows.{TakesAll, TakesFirst}
 use Rattle.office_events.specs.declared.facts.Fact.{Fact}
 use Rattle.store_tables.specs.declared.faults.RowFault.{RowFault}
@@ -12,18 +11,18 @@ use Rattle.store_tables.specs.Content.{Content}
 use Rattle.store_tables.specs.Failing.{IsFault}
 use Rattle.store_tables.proofs.StepLemmas.{on_ok}
 use Rattle.store_tables.proofs.Failures.{on_err, less_fault}
-use Rattle.store_facts.specs.Intervals.Handing as tables
+use Rattle.store_facts.specs.Handing as tables
 use Rattle.store_facts.specs.Holding.{HoldsFacts, OnlyLooks}
 use Rattle.store_facts.specs.Tables.{AreOf}
 use Rattle.store_queries.specs.Metering.Looking.{HandsOn}
 use Rattle.store_queries.proofs.FindingLemmas.Looking.{Touched, looks_asked, seen, since}
 
-module _ {S K : Type 0} (g : Ghosts S) (takes : K → Share → K → Type 0) (says : List Fact → List Share) (AreSound : List Fact → Type 0) where
+module _ {S K T : Type 0} (g : Ghosts S) (takes : K → T → K → Type 0) (IsRow : T → Type 0) (says : List Fact → List T) (AreSound : List Fact → Type 0) where
   -- a call failed before it asked
-  pub not_asked : (a b : Held S) (sink : K) (r : Result (Unit {0}) RowFault) (T : RowFault → Type 0) → ((zone : List ℕ) → OnlyLooks g zone a b)
-      → ((zone : List ℕ) (facts : List Fact) → HoldsFacts g zone a facts → HasCleanDisk (state g b) → IfErr r (IsFault (state g a) (state g b) (AreSound facts))) → IsErrAnd r T → HandsOn g a b takes sink sink r says AreSound
-  not_asked a b sink (Ok x) T looks fault is = absurd is
-  not_asked a b sink (Err e) T looks fault is = record {
+  pub not_asked : (a b : Held S) (sink : K) (r : Result (Unit {0}) RowFault) (Why : RowFault → Type 0) → ((zone : List ℕ) → OnlyLooks g zone a b)
+      → ((zone : List ℕ) (facts : List Fact) → HoldsFacts g zone a facts → HasCleanDisk (state g b) → IfErr r (IsFault (state g a) (state g b) (AreSound facts))) → IsErrAnd r Why → HandsOn g a b takes sink sink r IsRow says AreSound
+  not_asked a b sink (Ok x) Why looks fault is = absurd is
+  not_asked a b sink (Err e) Why looks fault is = record {
     begun = λ zone facts holds clean. (0, refl);
     whole = λ zone facts holds clean. tt;
     some = ([], tt, refl);
@@ -32,30 +31,30 @@ module _ {S K : Type 0} (g : Ghosts S) (takes : K → Share → K → Type 0) (s
     mode = (looks []).mode;
   }
 
-  -- the tables are those of the facts, and say these shares
-  pub record Tells {Tables : Type 0} (Have : Tables → Content → Type 0) (AreSharesOf : Tables → List Share → Type 0) (IsSound : Tables → Type 0) (facts : List Fact) (content : Content) : Type 0 where
+  -- the tables are those of the facts, and say these rows
+  pub record Tells {Tables : Type 0} (Have : Tables → Content → Type 0) (AreRowsOf : Tables → List T → Type 0) (IsSound : Tables → Type 0) (facts : List Fact) (content : Content) : Type 0 where
     pub rows : Tables
     pub there : Have rows content
-    pub says_so : (all : List Share) → AreSharesOf rows all → all ≡ says facts
+    pub says_so : (all : List T) → AreRowsOf rows all → all ≡ says facts
     pub sound : AreSound facts → IsSound rows
 
-  begun_so : (before after : K) (shares : List Share) (AreShares : List Share → Type 0) → ((all : List Share) → AreShares all → all ≡ shares)
-      → (after ≡ before) ⊎ ((all : List Share) × AreShares all × TakesFirst takes before all after) → TakesFirst takes before shares after
-  begun_so before after shares AreShares says_so (inl none) = (0, none)
-  begun_so before after shares AreShares says_so (inr some) = subst (λ (l : List Share). TakesFirst takes before l after) (says_so some.0 some.1) some.2
+  begun_so : (before after : K) (rows : List T) (Are : List T → Type 0) → ((all : List T) → Are all → all ≡ rows)
+      → (after ≡ before) ⊎ ((all : List T) × Are all × TakesFirst takes before all after) → TakesFirst takes before rows after
+  begun_so before after rows Are says_so (inl none) = (0, none)
+  begun_so before after rows Are says_so (inr some) = subst (λ (l : List T). TakesFirst takes before l after) (says_so some.0 some.1) some.2
 
-  pub handed : {Tables : Type 0} (old mid new : Held S) (before after : K) (r : Result (Unit {0}) RowFault) (Have : Tables → Content → Type 0) (AreSharesOf : Tables → List Share → Type 0) (IsSound : Tables → Type 0)
-      → Touched g old mid → tables.HandsOn g mid new takes before after r Have AreSharesOf IsSound
-      → ((zone : List ℕ) (facts : List Fact) (content : Content) → AreOf zone facts content → Tells Have AreSharesOf IsSound facts content) → HandsOn g old new takes before after r says AreSound
-  handed old mid new before after r Have AreSharesOf IsSound touched hands tells = record {
+  pub handed : {Tables : Type 0} (old mid new : Held S) (before after : K) (r : Result (Unit {0}) RowFault) (Have : Tables → Content → Type 0) (AreRowsOf : Tables → List T → Type 0) (IsSound : Tables → Type 0)
+      → Touched g old mid → tables.HandsOn g mid new takes before after r IsRow Have AreRowsOf IsSound
+      → ((zone : List ℕ) (facts : List Fact) (content : Content) → AreOf zone facts content → Tells Have AreRowsOf IsSound facts content) → HandsOn g old new takes before after r IsRow says AreSound
+  handed old mid new before after r Have AreRowsOf IsSound touched hands tells = record {
     begun = λ zone facts holds clean.
         let has = seen g old mid touched zone facts holds (hands.asks.clean clean) in
         let told = tells zone facts has.content has.are in
-        begun_so before after (says facts) (AreSharesOf told.rows) told.says_so (hands.begun clean has.content has.tables told.rows told.there);
+        begun_so before after (says facts) (AreRowsOf told.rows) told.says_so (hands.begun clean has.content has.tables told.rows told.there);
     whole = λ zone facts holds clean.
         let has = seen g old mid touched zone facts holds (hands.asks.clean clean) in
         let told = tells zone facts has.content has.are in
-        on_ok r (λ (h : (all : List Share) × AreSharesOf told.rows all × TakesAll takes before all after). subst (λ (l : List Share). TakesAll takes before l after) (told.says_so h.0 h.1) h.2)
+        on_ok r (λ (h : (all : List T) × AreRowsOf told.rows all × TakesAll takes before all after). subst (λ (l : List T). TakesAll takes before l after) (told.says_so h.0 h.1) h.2)
         (hands.whole clean has.content has.tables told.rows told.there);
     some = hands.some;
     fault = λ zone facts holds clean.

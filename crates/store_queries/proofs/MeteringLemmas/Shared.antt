@@ -113,7 +113,7 @@ module _ (kept : MetersAreKept) (facts : List Fact) (lawful : AreLawful facts) w
       (ascending-filter (λ i j. starts_before i j ≡ true) asked own (rising_rows meter shares (rising_found meter (opening_of facts meter) refl)))
       (IsPermutation-trans _ _ _ (IsPermutation-sym _ _ same_rows) h.1.all) h.1.order in
       h.2 ∙ ap (map (λ (i : Interval). i.share)) (here ∙ filter-map asked (interval_of meter) shares) ∙ shares_back meter _
-      ∙ bounded_rows from till low high low_is high_is shares (meter_in_time turn facts lawful meter)
+      ∙ bounded_rows (λ (share : Share). share.start) from till low high low_is high_is shares (meter_in_time turn facts lawful meter)
 
   -- ---- the rows of a register
 
@@ -293,4 +293,4 @@ module _ (kept : MetersAreKept) (facts : List Fact) (lawful : AreLawful facts) w
         (ascending-filter (λ (p q : Pair). comes_before p q ≡ true) asked (wanted os) (in_turn os rise))
         (IsPermutation-trans _ _ _ (IsPermutation-sym _ _ same_pairs) h.1.all) h.1.order in
         h.2 ∙ ap (map share_of) found ∙ sym (filter-map kept_shares share_of (wanted os)) ∙ ap (filter kept_shares) (shares_are os)
-        ∙ bounded_rows from till low high low_is high_is (rows_of_register facts register) (register_in_time turn facts lawful register)
+        ∙ bounded_rows (λ (share : Share). share.start) from till low high low_is high_is (rows_of_register facts register) (register_in_time turn facts lawful register)

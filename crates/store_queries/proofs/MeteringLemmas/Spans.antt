@@ -1,4 +1,4 @@
--- Of the interval rows of the tables those that are asked for.
+-- Of the rows of the tables those that are asked for.
 use Rattle.std.proofs.Common.{◌≡◌, ℕ, ◌+◌, ◌≤◌, ◌&&◌, min, nat_le, nat_lt, Bool, true, false, cond, inl, inr, List, [], ◌∷◌, ◌++◌, filter, Option, Some, None, refl, sym, ap, ap₂, subst, ◌∙◌, arith, le-leb, leb-true, leb-false, lt-ltb, le-ltb, ltb-true, ltb-false}
 use Rattle.std.specs.List.{AllByRecursion, flat_map, find}
 use Rattle.std.proofs.lemmas.Bool.{cases_Bool, cond-true, cond-false, lt-leb}
@@ -65,12 +65,12 @@ module _ (turn : RegistersAreInTurn) (facts : List Fact) (lawful : AreLawful fac
 
 -- ---- bounds past it stand for it
 
-module _ (from till low high : ℕ) (low_is : low ≡ min from (latest_moment + 1)) (high_is : high ≡ min till (latest_moment + 1)) where
-  abbrev asked : Share → Bool
-  asked share = nat_le from share.start && nat_lt share.start till
+module _ {X : Type 0} (moment : X → ℕ) (from till low high : ℕ) (low_is : low ≡ min from (latest_moment + 1)) (high_is : high ≡ min till (latest_moment + 1)) where
+  abbrev asked : X → Bool
+  asked x = nat_le from (moment x) && nat_lt (moment x) till
 
-  abbrev bounded : Share → Bool
-  bounded share = nat_le low share.start && nat_lt share.start high
+  abbrev bounded : X → Bool
+  bounded x = nat_le low (moment x) && nat_lt (moment x) high
 
   same_low : (n : ℕ) → n ≤ latest_moment → nat_le low n ≡ nat_le from n
   same_low n le = elim (cases_Bool (nat_le from n)) [
@@ -84,10 +84,10 @@ module _ (from till low high : ℕ) (low_is : low ≡ min from (latest_moment + 
     | inr off ↦ le-ltb n high (omega (arith, le, high_is, ltb-false n till off)) ∙ sym off
   ]
 
-  pub bounded_rows : (rows : List Share) → AllByRecursion InTime rows → filter bounded rows ≡ filter asked rows
+  pub bounded_rows : (rows : List X) → AllByRecursion (λ x. moment x ≤ latest_moment) rows → filter bounded rows ≡ filter asked rows
   bounded_rows [] h = refl
   bounded_rows (x ∷ xs) h =
-      ap₂ (λ b l. cond b (x ∷ l) l) (ap₂ (λ a b. a && b) (same_low x.start h.0) (same_high x.start h.0)) (bounded_rows xs h.1)
+      ap₂ (λ b l. cond b (x ∷ l) l) (ap₂ (λ a b. a && b) (same_low (moment x) h.0) (same_high (moment x) h.0)) (bounded_rows xs h.1)
 
 -- ---- two tests, one after the other
 

@@ -3,19 +3,18 @@ use Rattle.std.specs.Prelude.{◌≡◌, ℕ, false, List, Result, IfErr, OnOk}
 use Rattle.sqlite.specs.Store.{Ghosts}
 use Rattle.sqlite.specs.Held.{Held, state}
 use Rattle.sqlite.specs.State.{HasCleanDisk}
-use Rattle.interval_core.specs.declared.shares.Share.{Share}
 use Rattle.office_books.specs.Rows.{TakesAll, TakesFirst}
 use Rattle.office_events.specs.declared.facts.Fact.{Fact}
 use Rattle.store_tables.specs.declared.faults.RowFault.{RowFault}
 use Rattle.store_facts.specs.Holding.{HoldsFacts, OnlyLooks}
-use Rattle.store_facts.specs.Intervals.Handing.{TookSome, IsStreamFault}
+use Rattle.store_facts.specs.Handing.{TookSome, IsStreamFault}
 
 -- What the sink took begins the rows that the facts say, and at Ok is all of them. It took nothing but rows in their ranges,
--- whatever the connection holds. Damage is told only where the facts have what the tables, or the office, can't, and any other
+-- as `IsRow` has them, whatever the connection holds. Damage is told only where the facts have what the tables, or the office, can't, and any other
 -- fault is one of the store's own.
-pub record HandsOn {S K : Type 0} (g : Ghosts S) (old new : Held S) (takes : K → Share → K → Type 0)
+pub record HandsOn {S K T : Type 0} (g : Ghosts S) (old new : Held S) (takes : K → T → K → Type 0)
     (before after : K)
-    (result : Result (Unit {0}) RowFault) (rows : List Fact → List Share)
+    (result : Result (Unit {0}) RowFault) (IsRow : T → Type 0) (rows : List Fact → List T)
     (AreSound : List Fact → Type 0) : Type 0 where
   pub begun : (zone : List ℕ) (facts : List Fact) → HoldsFacts g zone old facts
       → HasCleanDisk (state g new)
@@ -23,7 +22,7 @@ pub record HandsOn {S K : Type 0} (g : Ghosts S) (old new : Held S) (takes : K �
   pub whole : (zone : List ℕ) (facts : List Fact) → HoldsFacts g zone old facts
       → HasCleanDisk (state g new)
       → OnOk result (TakesAll takes before (rows facts) after)
-  pub some : TookSome takes before after
+  pub some : TookSome IsRow takes before after
   pub fault : (zone : List ℕ) (facts : List Fact) → HoldsFacts g zone old facts
       → HasCleanDisk (state g new)
       → IfErr result

@@ -4,13 +4,14 @@ use Rattle.std.specs.List.{AllByRecursion}
 use Rattle.office_events.specs.declared.facts.Opening.{Opening}
 use Rattle.office_events.specs.declared.facts.Fact.{Fact}
 use Rattle.office_events.specs.Names.{is_name}
-use Rattle.office_rules.specs.Facts.{openings_in, voids_in}
+use Rattle.office_rules.specs.Facts.{openings_in, voids_in, holds_in}
 use Rattle.office_rules.specs.Intervals.{rows_of_meter}
 use Rattle.office_rules.specs.Lawful.{AreLawful}
 use Rattle.store_tables.specs.Meters.Rows.{IsSoundInstalled, IsSoundRanged}
 use Rattle.store_tables.specs.declared.meters.rows.Installation as stored
 use Rattle.store_tables.specs.Entries.Rows.{IsSoundEntered, IsSoundVoided}
 use Rattle.store_facts.specs.Intervals.Rows.{IsSoundShare}
+use Rattle.store_facts.specs.Holds.{IsSoundReading}
 use Rattle.store_facts.specs.Rows.{placed, installed_row, ranged, entries_of, voided}
 
 -- the texts of an opening are names
@@ -41,3 +42,7 @@ pub record HasReadableJournals (facts : List Fact) : Type 0 where
 abbrev pub HasReadableIntervals : List Fact → Type 0
 HasReadableIntervals facts =
     (meter : List ℕ) → AllByRecursion IsSoundShare (rows_of_meter facts meter)
+
+-- So can the readings that were held.
+abbrev pub HasReadableHolds : List Fact → Type 0
+HasReadableHolds facts = AllByRecursion IsSoundReading (holds_in facts)

@@ -1,9 +1,12 @@
 //! Point lists.
-ghost use Rattle.std.specs.Prelude.{◌≡◌, [], false, IfOk, IfErr, IsUtf8};
+ghost use Rattle.std.specs.Prelude.{◌≡◌, false, Some, IfOk, IfErr, IsUtf8};
 ghost use Rattle.office_rules.specs.Facts.{list_of};
 ghost use Rattle.read_plan.specs.PlannedLists.{IsPlanned};
 ghost use Rattle.point_list.specs.Points.{IsPointList};
+ghost use Rattle.sqlite.specs.declared.error.ErrorCode.TheVariants.{OutOfMemory};
+ghost use Rattle.sqlite.specs.declared.error.Error.TheVariants.{SqliteFailure};
 ghost use Rattle.store_tables.specs.Failing.{IsRowFault};
+ghost use Rattle.store_tables.specs.declared.faults.RowFault.TheVariants.{Sql};
 ghost use Rattle.office_books.specs.Plans.{read_count_of, reads_from};
 ghost use Rattle.store_facts.specs.Rows.{points_of};
 ghost use Rattle.store_queries.specs.Finding.Finding.{Finds, OfLawful};
@@ -84,7 +87,23 @@ pub fn read_count<S: Alter>(
     }
 }
 
-/// The registers of the reads of that plan from one on: at most so many.
+/// The registers of the reads of a list's plan from one on: at most so many.
+fn spans_of(
+    alloc: Global,
+    list: &PlannedList,
+    from: u64,
+    most: usize,
+) -> Result<Vec<ReadSpan>, RowFault>
+    ensures spans { IfOk result (λ v. v.items ≡ reads_from from most (Some list.now)) }
+    ensures fault { IfErr result (λ e. e ≡ Sql (SqliteFailure OutOfMemory)) }
+{
+    match reads_from(alloc, list, from, most) {
+        Ok(spans) => Ok(spans),
+        Err(_) => Err(want_of_memory()),
+    }
+}
+
+/// The registers of the reads of the plan of a device from one on: at most so many.
 pub fn reads<S: Alter>(
     alloc: Global,
     conn: &mut Connection<S>,
@@ -100,8 +119,5 @@ pub fn reads<S: Alter>(
     let Some(list) = list(alloc, conn, device)? else {
         return Ok(Vec::new(alloc));
     };
-    let Ok(spans) = reads_from(alloc, &list, from, most) else {
-        return Err(want_of_memory());
-    };
-    Ok(spans)
+    spans_of(alloc, &list, from, most)
 }

@@ -27,8 +27,8 @@ fn listed(
     from: u64,
     most: u32,
 ) -> Result<Vec<MeterEntry>, RowFault>
-    ensures listed { IfOk result (λ v.
-        v.items ≡ first_from from most (reverse (listed_rows opening.now (latest_first rows.now)))) }
+    ensures listed { IfOk result (λ v. v.items ≡
+        first_from from most (reverse (listed_rows opening.now (latest_first rows.now)))) }
     ensures fault { IfErr result (λ e. e ≡ Sql (SqliteFailure OutOfMemory)) }
 {
     match list_entries(alloc, opening, rows, from, most) {

@@ -3,6 +3,7 @@ ghost use Rattle.std.specs.Prelude.{◌≡◌, ◌+◌, false, min, IsUtf8};
 ghost use Rattle.office_books.specs.Spans.{rows_within};
 ghost use Rattle.office_rules.specs.Intervals.{rows_of_meter, rows_of_register};
 ghost use Rattle.store_tables.specs.Limits.{latest_moment};
+ghost use Rattle.store_facts.specs.Intervals.Rows.{IsSoundShare};
 ghost use Rattle.store_queries.specs.Metering.Looking.{HandsOn};
 ghost use Rattle.store_queries.specs.Metering.Sound.{HasReadableIntervals};
 
@@ -14,8 +15,8 @@ use sqlite::{Alter, Connection};
 use store_facts::{intervals as tables, text};
 use store_tables::{LATEST_MOMENT, RowFault, check_open};
 
-/// A bound of the quarter hours that are asked for, where none starts past the latest moment.
-fn bound(moment: u64) -> u64
+/// A bound of the moments that are asked for, where none is past the latest moment.
+pub(super) fn bound(moment: u64) -> u64
     ensures { result ≡ min moment (latest_moment + 1) }
 {
     moment.min(LATEST_MOMENT + 1)
@@ -30,7 +31,7 @@ pub fn intervals<S: Alter, K: RowSink<Share>>(
 ) -> Result<(), RowFault>
     requires { conn.old.in_transaction ≡ false }
     ensures { HandsOn S.Store conn.old conn.new K.takes sink.old sink.new result
-        (λ facts. rows_within span (rows_of_meter facts meter.now))
+        IsSoundShare (λ facts. rows_within span (rows_of_meter facts meter.now))
         (λ facts. IsUtf8 meter.now × HasReadableIntervals facts) }
 {
     meters_are_kept();
@@ -55,7 +56,7 @@ pub fn register_intervals<S: Alter, K: RowSink<Share>>(
 ) -> Result<(), RowFault>
     requires { conn.old.in_transaction ≡ false }
     ensures { HandsOn S.Store conn.old conn.new K.takes sink.old sink.new result
-        (λ facts. rows_within span (rows_of_register facts register.now))
+        IsSoundShare (λ facts. rows_within span (rows_of_register facts register.now))
         (λ facts. IsUtf8 register.now × HasReadableIntervals facts) }
 {
     meters_are_kept();

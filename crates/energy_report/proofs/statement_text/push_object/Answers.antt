@@ -1,6 +1,7 @@
 use Rattle.std.proofs.Common.{◌≡◌, ◌++◌, ℕ, List, ap, ◌∙◌}
 use Rattle.std.specs.Prelude.{codes}
-use Rattle.energy_report.specs.StatementTexts.{count_members, stand_members}
+use Rattle.energy_report.specs.declared.form.Format.TheVariants.{Json}
+use Rattle.energy_report.specs.StatementTexts.{count_members, held_text, stand_members}
 use Rattle.energy_report.specs.Texts.{energy_text, unit_word}
 use Rattle.energy_report.proofs.StatementLemmas.{pushed}
 use Rattle.energy_report.proofs.statement_text.push_object.Goals as goal
@@ -49,4 +50,10 @@ returns c =
     let t11 = t10 ++ count_members row.entries in
     let e11 : c.push_count_members.new.page ≡ page ++ t11 =
     pushed page c.push-8.new.self c.push_count_members.new.page t10 (count_members row.entries) e10 c.push_count_members.ensures.bytes in
-    pushed page c.push_count_members.new.page c.push-9.new.self t11 (codes "}") e11 c.push-9.ensures.bytes
+    let t12 = t11 ++ codes ",\"held\":" in
+    let e12 : c.push-9.new.self ≡ page ++ t12 =
+    pushed page c.push_count_members.new.page c.push-9.new.self t11 (codes ",\"held\":") e11 c.push-9.ensures.bytes in
+    let t13 = t12 ++ held_text Json row.held in
+    let e13 : c.push_held.new.page ≡ page ++ t13 =
+    pushed page c.push-9.new.self c.push_held.new.page t12 (held_text Json row.held) e12 c.push_held.ensures.bytes in
+    pushed page c.push_held.new.page c.push-10.new.self t13 (codes "}") e13 c.push-10.ensures.bytes

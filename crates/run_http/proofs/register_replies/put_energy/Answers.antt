@@ -5,17 +5,17 @@ use Rattle.run_http.proofs.register_replies.put_energy.Goals as goal
 pub returns : goal.returns
 returns g c =
     let from = c.to-rows.result in
-    let to = c.days_asked-told.new.sink in
+    let to = c.days_within-told.new.sink in
     let left = c.put_rest.new.rows in
-    let taken = taken_by g.W.Write.contents c.days_asked-told.ensures.puts.0 from to c.days_asked-told.ensures.puts.1 in
+    let taken = taken_by g.W.Write.contents c.days_within-told.ensures.puts.0 from to c.days_within-told.ensures.puts.1 in
     let rest = c.put_rest.ensures.output in
     let last = c.output-1.given in
     let end : c.output-1.given.0 ≡ left.output.now = search rules in
     record {
-      answer = c.days_asked-told.result;
-      asks = c.days_asked-told.ensures.asks;
+      answer = c.days_within-told.result;
+      asks = c.days_within-told.ensures.asks;
       gives = c.put_rest.ensures.gives;
       tells =
-          tells g.B.Books.ledger g.W.Write.contents c.args.office.now c.days_asked-told.new.office c.args.register.now c.args.form.now from to left c.args.output.now
-          c.output-1.given.0 c.days_asked-told.result c.put_rest.result c.to-rows.ensures.fresh c.days_asked-told.ensures.days c.put_rest.ensures.last end;
+          tells g.B.Books.ledger g.W.Write.contents c.args.office.now c.days_within-told.new.self c.args.register.now c.args.form.now from to left c.args.output.now
+          c.output-1.given.0 c.days_within-told.result c.put_rest.result c.to-rows.ensures.fresh c.days_within-told.ensures.days c.put_rest.ensures.last end;
     }

@@ -19,5 +19,8 @@ returns-in-Some-Intervals g c = c.reply_intervals.ensures (texts c.args.names.no
 pub returns-in-Some-Entries : goal.returns-in-Some-Entries
 returns-in-Some-Entries g c = c.reply_entries.ensures (texts c.args.names.now) c.args.now.moment
 
+pub returns-in-Some-Voids : goal.returns-in-Some-Voids
+returns-in-Some-Voids g c = c.reply_voids.ensures (texts c.args.names.now) c.args.now.moment
+
 pub returns-in-Some-Energy : goal.returns-in-Some-Energy
 returns-in-Some-Energy g c = c.reply_energy.ensures (texts c.args.names.now) c.args.now.moment

@@ -1,7 +1,7 @@
 use Rattle.std.proofs.Common.{refl, arith, List, ℕ}
 use Rattle.office_core.specs.declared.site.SiteRow.{SiteRow}
 use Rattle.run_http.specs.Texts.EnergyLines as text
-use Rattle.office_rounds.proofs.DeviceRoundsLemmas.Loops.{all_on, one_on}
+use Rattle.office_events.proofs.Loops.{all_on, one_on}
 use Rattle.run_http.proofs.texts.energy_lines.put_entries.Goals as goal
 
 pub loop-row-preserved : goal.loop-row-preserved

@@ -1,7 +1,7 @@
 use Rattle.std.proofs.Common.{refl, arith, List, ℕ}
 use Rattle.run_status.specs.declared.status.status.DeviceState.{DeviceState}
 use Rattle.run_http.specs.Texts.MetricsText as text
-use Rattle.office_rounds.proofs.DeviceRoundsLemmas.Loops.{all_on, one_on}
+use Rattle.office_events.proofs.Loops.{all_on, one_on}
 use Rattle.run_http.proofs.texts.metrics.put_moments.Goals as goal
 
 pub loop-device-preserved : goal.loop-device-preserved

@@ -3,7 +3,7 @@ use Rattle.run_status.specs.declared.status.status.DeviceState.{DeviceState}
 use Rattle.std.specs.Prelude.{codes}
 use Rattle.run_status.specs.Status.StatusText.{with_name}
 use Rattle.run_http.specs.Texts.MetricsText as text
-use Rattle.office_rounds.proofs.DeviceRoundsLemmas.Loops.{all_on, one_on}
+use Rattle.office_events.proofs.Loops.{all_on, one_on}
 use Rattle.run_http.proofs.texts.metrics.put_states.Goals as goal
 
 pub loop-device-preserved : goal.loop-device-preserved

@@ -2,7 +2,7 @@ use Rattle.std.proofs.Common.{refl, arith, List, ℕ}
 use Rattle.run_status.specs.declared.advice.lacks.DeviceLack.{DeviceLack}
 use Rattle.std.specs.Prelude.{codes}
 use Rattle.run_status.specs.Status.LackingText as text
-use Rattle.office_rounds.proofs.DeviceRoundsLemmas.Loops.{all_on, one_on}
+use Rattle.office_events.proofs.Loops.{all_on, one_on}
 use Rattle.run_status.proofs.status.lacking.put_more_lacks.Goals as goal
 
 pub loop-lack-preserved : goal.loop-lack-preserved

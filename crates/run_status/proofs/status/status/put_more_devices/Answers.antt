@@ -2,7 +2,7 @@ use Rattle.std.proofs.Common.{refl, arith, List, ℕ}
 use Rattle.run_status.specs.declared.status.status.DeviceState.{DeviceState}
 use Rattle.std.specs.Prelude.{codes}
 use Rattle.run_status.specs.Status.StatusText as text
-use Rattle.office_rounds.proofs.DeviceRoundsLemmas.Loops.{all_on, one_on}
+use Rattle.office_events.proofs.Loops.{all_on, one_on}
 use Rattle.run_status.proofs.status.status.put_more_devices.Goals as goal
 
 pub loop-device-preserved : goal.loop-device-preserved

@@ -2,13 +2,15 @@ use Rattle.std.proofs.Common.{pos, [], ◌∷◌}
 use Rattle.sqlite.specs.declared.types.Value.TheVariants.{Int, Text}
 use Rattle.store_tables.proofs.Scans.{scan, no_limit}
 use Rattle.store_facts.specs.Intervals.Handing.{HaveIntervals, AreSharesOfMeterBetween, AreSoundIntervals}
+use Rattle.store_facts.specs.Intervals.Rows.{Interval, share_shown, share_in, IsSoundShare, IsSoundInterval}
+use Rattle.store_facts.proofs.IntervalsLemmas.Reading.{fair_share}
 use Rattle.store_facts.proofs.IntervalsLemmas.Texts as text
-use Rattle.store_facts.proofs.IntervalsLemmas.Shared.{hands_on}
+use Rattle.store_facts.proofs.StreamsLemmas.Shared.{hands_on}
 use Rattle.store_facts.proofs.IntervalsLemmas.Joins.{of_meter_between}
 use Rattle.store_facts.proofs.intervals.streams.meter_intervals_between.Goals as goal
 
 pub returns : goal.returns
 returns g c =
     hands_on g.S.Store text.meter_between (Text c.args.meter.now ∷ Int (pos c.args.from) ∷ Int (pos c.args.till) ∷ []) (scan 14 text.meter_between_tests text.shares_project text.meter_intervals_order no_limit) text.names c.args.conn.now c.hand_on.new.conn g.K.RowSink.takes c.args.sink.now c.hand_on.new.sink c.hand_on.result
-    HaveIntervals (AreSharesOfMeterBetween c.args.meter.now c.args.from c.args.till) AreSoundIntervals (λ i. i) text.meter_between_is text.meter_between_unlisted text.meter_between_plain (text.meter_between_suits c.args.meter.now c.args.from c.args.till) (of_meter_between c.args.meter.now c.args.from c.args.till)
+    share_shown (λ (i : Interval). i.share) IsSoundInterval share_in fair_share IsSoundShare HaveIntervals (AreSharesOfMeterBetween c.args.meter.now c.args.from c.args.till) AreSoundIntervals text.meter_between_is text.meter_between_unlisted text.meter_between_plain (text.meter_between_suits c.args.meter.now c.args.from c.args.till) (of_meter_between c.args.meter.now c.args.from c.args.till)
     c.hand_on.ensures.asks c.hand_on.ensures.some (rw (c.params-to_sql.ensures, c.params-to_sql-2.ensures, c.params-to_sql-3.ensures, c.number-from.ensures, c.number-till.ensures) at c.hand_on.ensures.reads)

@@ -1,6 +1,6 @@
 use Rattle.std.proofs.Common.{refl, arith}
 use Rattle.office_rounds.specs.DeviceRounds.Sums as sums
-use Rattle.office_rounds.proofs.DeviceRoundsLemmas.Loops.{all_on, one_on}
+use Rattle.office_events.proofs.Loops.{all_on, one_on}
 use Rattle.office_rounds.proofs.device_rounds.polls.Sum.note_all.Goals as goal
 
 pub loop-note-preserved : goal.loop-note-preserved

@@ -1,6 +1,6 @@
 use Rattle.std.proofs.Common.{refl, arith}
 use Rattle.run_status.specs.Status.Counts.{noted, noted_all}
-use Rattle.office_rounds.proofs.DeviceRoundsLemmas.Loops.{all_on, one_on}
+use Rattle.office_events.proofs.Loops.{all_on, one_on}
 use Rattle.run_status.proofs.status.counts.Counts.note_all.Goals as goal
 
 pub loop-note-preserved : goal.loop-note-preserved

@@ -1,0 +1,81 @@
+-- How many readings of a meter in a range were held, by the cause of it.
+use Rattle.std.specs.Prelude.{ℕ, ◌+◌, Bool, ◌&&◌, ◌==◌, List, [], ◌∷◌, if◌then◌else◌}
+use Rattle.std.specs.List.{count_by}
+use Rattle.energy_core.specs.declared.verdicts.Cause.{Cause}
+use Rattle.energy_core.specs.declared.verdicts.Cause.TheVariants as cause
+use Rattle.energy_core.specs.Verdict.{cause_number}
+use Rattle.interval_core.specs.declared.day_range.DayRange.{DayRange}
+use Rattle.interval_core.specs.declared.zone.Zone.{Zone}
+use Rattle.interval_core.specs.Ranges.{has_moment}
+use Rattle.office_events.specs.declared.facts.HeldReading.{HeldReading}
+use Rattle.energy_report.specs.declared.held_counts.HeldCount.{HeldCount}
+use Rattle.energy_report.specs.declared.held_counts.HeldCounts.{HeldCounts}
+use Rattle.energy_report.specs.RowLines.{counted}
+
+-- the two are one cause
+abbrev pub is_one : (one other : Cause) → Bool
+is_one one other = cause_number one == cause_number other
+
+-- The reading was held for the cause, and its moment is in the range.
+abbrev pub is_held_within : Zone → DayRange → (why : Cause) → HeldReading → Bool
+is_held_within zone range why held = has_moment zone range held.at && is_one held.cause why
+
+-- How many were; the count stays at the greatest number of 64 bits.
+abbrev pub held_for : Zone → DayRange → List HeldReading → (why : Cause) → ℕ
+held_for zone range holds why = counted (count_by (is_held_within zone range why) holds)
+
+-- The held readings of a list whose moments are in the range, counted by their causes.
+abbrev pub held_within : Zone → DayRange → List HeldReading → HeldCounts
+held_within zone range holds = record {
+  not_accumulated = held_for zone range holds cause.NotAccumulated;
+  scale_changed = held_for zone range holds cause.ScaleChanged;
+  not_later = held_for zone range holds cause.NotLater;
+  span_too_long = held_for zone range holds cause.SpanTooLong;
+  gap_too_long = held_for zone range holds cause.GapTooLong;
+  too_fast = held_for zone range holds cause.TooFast;
+  total_full = held_for zone range holds cause.TotalFull;
+  not_below_range = held_for zone range holds cause.NotBelowRange;
+}
+
+-- the counts with their causes, in order of the causes' numbers
+abbrev pub by_cause : HeldCounts → List HeldCount
+by_cause counts =
+    record { cause = cause.NotAccumulated; count = counts.not_accumulated }
+    ∷ record { cause = cause.ScaleChanged; count = counts.scale_changed }
+    ∷ record { cause = cause.NotLater; count = counts.not_later }
+    ∷ record { cause = cause.SpanTooLong; count = counts.span_too_long }
+    ∷ record { cause = cause.GapTooLong; count = counts.gap_too_long }
+    ∷ record { cause = cause.TooFast; count = counts.too_fast }
+    ∷ record { cause = cause.TotalFull; count = counts.total_full }
+    ∷ record { cause = cause.NotBelowRange; count = counts.not_below_range }
+    ∷ []
+
+-- ---- readings that come one by one
+
+abbrev pub none_held : HeldCounts
+none_held = record {
+  not_accumulated = 0;
+  scale_changed = 0;
+  not_later = 0;
+  span_too_long = 0;
+  gap_too_long = 0;
+  too_fast = 0;
+  total_full = 0;
+  not_below_range = 0;
+}
+
+abbrev pub one_more : (count : ℕ) → (counts : Bool) → ℕ
+one_more count counts = counted (count + (if counts then 1 else 0))
+
+-- One reading more, where it counts: it is one of its cause, and of no other.
+abbrev pub with_one : HeldCounts → (counts : Bool) → (why : Cause) → HeldCounts
+with_one old counts why = record {
+  not_accumulated = one_more old.not_accumulated (counts && is_one why cause.NotAccumulated);
+  scale_changed = one_more old.scale_changed (counts && is_one why cause.ScaleChanged);
+  not_later = one_more old.not_later (counts && is_one why cause.NotLater);
+  span_too_long = one_more old.span_too_long (counts && is_one why cause.SpanTooLong);
+  gap_too_long = one_more old.gap_too_long (counts && is_one why cause.GapTooLong);
+  too_fast = one_more old.too_fast (counts && is_one why cause.TooFast);
+  total_full = one_more old.total_full (counts && is_one why cause.TotalFull);
+  not_below_range = one_more old.not_below_range (counts && is_one why cause.NotBelowRange);
+}

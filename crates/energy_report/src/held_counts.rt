@@ -1,0 +1,120 @@
+//! How many readings of a meter were held, by the cause of it.
+ghost use Rattle.std.specs.Prelude.{◌≡◌, ◌+◌, ◌&&◌, ◌==◌, if◌then◌else◌};
+ghost use Rattle.energy_core.specs.Verdict.{cause_number};
+ghost use Rattle.energy_report.specs.Held as held;
+ghost use Rattle.energy_report.specs.RowLines.{counted};
+
+use crate::tallies::{both, tallied};
+use energy_core::Cause;
+
+/// How many readings were held for each cause. A count stays at the greatest number.
+#[derive(Clone, Copy, Debug, PartialEq, Eq)]
+pub struct HeldCounts {
+    /// The counter showed 0, as one does that does not count.
+    pub not_accumulated: u64,
+    /// The scale was another than at the last entry.
+    pub scale_changed: u64,
+    /// The last entry was as late, or later.
+    pub not_later: u64,
+    /// Too many quarter hours had passed since the last entry.
+    pub span_too_long: u64,
+    /// The counter could have made a full turn.
+    pub gap_too_long: u64,
+    /// The counter went further than the ceiling allows.
+    pub too_fast: u64,
+    /// The energy would have passed the most that a meter can have.
+    pub total_full: u64,
+    /// The counter showed a number that is not below its range.
+    pub not_below_range: u64,
+}
+
+/// How many readings were held for a cause.
+#[derive(Clone, Copy, Debug, PartialEq, Eq)]
+pub struct HeldCount {
+    pub cause: Cause,
+    pub count: u64,
+}
+
+impl HeldCounts {
+    /// No readings.
+    pub fn none() -> HeldCounts
+        ensures { result ≡ held.none_held }
+    {
+        HeldCounts {
+            not_accumulated: 0,
+            scale_changed: 0,
+            not_later: 0,
+            span_too_long: 0,
+            gap_too_long: 0,
+            too_fast: 0,
+            total_full: 0,
+            not_below_range: 0,
+        }
+    }
+
+    /// The counts with their causes, in order of the causes' numbers.
+    pub fn by_cause(&self) -> [HeldCount; 8]
+        ensures { result ≡ held.by_cause self.now }
+    {
+        [
+            HeldCount {
+                cause: Cause::NotAccumulated,
+                count: self.not_accumulated,
+            },
+            HeldCount {
+                cause: Cause::ScaleChanged,
+                count: self.scale_changed,
+            },
+            HeldCount {
+                cause: Cause::NotLater,
+                count: self.not_later,
+            },
+            HeldCount {
+                cause: Cause::SpanTooLong,
+                count: self.span_too_long,
+            },
+            HeldCount {
+                cause: Cause::GapTooLong,
+                count: self.gap_too_long,
+            },
+            HeldCount {
+                cause: Cause::TooFast,
+                count: self.too_fast,
+            },
+            HeldCount {
+                cause: Cause::TotalFull,
+                count: self.total_full,
+            },
+            HeldCount {
+                cause: Cause::NotBelowRange,
+                count: self.not_below_range,
+            },
+        ]
+    }
+
+    // With one reading more for a cause, where it counts.
+    pub(crate) fn with_one(&self, counts: bool, cause: Cause) -> HeldCounts
+        ensures { result ≡ held.with_one self.now counts cause }
+    {
+        HeldCounts {
+            not_accumulated: one_more(self.not_accumulated, counts, cause, Cause::NotAccumulated),
+            scale_changed: one_more(self.scale_changed, counts, cause, Cause::ScaleChanged),
+            not_later: one_more(self.not_later, counts, cause, Cause::NotLater),
+            span_too_long: one_more(self.span_too_long, counts, cause, Cause::SpanTooLong),
+            gap_too_long: one_more(self.gap_too_long, counts, cause, Cause::GapTooLong),
+            too_fast: one_more(self.too_fast, counts, cause, Cause::TooFast),
+            total_full: one_more(self.total_full, counts, cause, Cause::TotalFull),
+            not_below_range: one_more(self.not_below_range, counts, cause, Cause::NotBelowRange),
+        }
+    }
+}
+
+// One more, where the reading counts and its cause is that of the count.
+fn one_more(count: u64, counts: bool, cause: Cause, counted_cause: Cause) -> u64
+    ensures { result ≡ held.one_more count (counts && held.is_one cause counted_cause) }
+{
+    tallied(
+        count,
+        both(counts, cause.number() == counted_cause.number()),
+    )
+}

@@ -1,0 +1,4 @@
+-- What lines, steps and facts leave of what was copied of a meter.
+pub mod StayingEntries
+pub mod StayingShares
+pub mod StayingRows

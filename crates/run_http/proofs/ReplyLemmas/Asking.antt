@@ -1,0 +1,125 @@
+-- Questions that are asked one after the other.
+use Rattle.std.proofs.Common.{◌≡◌, inr, true, refl, sym, ap, subst, ◌∙◌}
+use Rattle.std.specs.Prelude.{Result, Ok, Err}
+use Rattle.office_events.specs.declared.refusals.Refusal.{Refusal}
+use Rattle.office_events.specs.declared.refusals.Refusal.TheVariants as refusal
+use Rattle.office_books.specs.Ledgers.{Ledger}
+use Rattle.office_core.specs.Asking.{CountsAsked, OnlyAsks}
+use Rattle.office_core.specs.Standing.{is_stopped}
+use Rattle.office_core.specs.Taking.{failures_of}
+use Rattle.office_core.specs.declared.office.Office.{Office}
+use Rattle.run_http.specs.Several.{Keeps}
+
+abbrev reason_of : {T : Type 0} → Result T Refusal → Refusal
+reason_of (Ok x) = refusal.NotFound
+reason_of (Err why) = why
+
+abbrev refusal_as : {T : Type 0} → Refusal → Result T Refusal
+refusal_as why = Err why
+
+module _ {B : Type 0} (ledger : B → Ledger) where
+  pub unasked : (a : Office B) → Keeps ledger a a
+  unasked a = record {
+    stands = λ past stands. stands;
+    keeps = record { facts = λ known holds. holds; left = λ left may. may };
+    notes = refl;
+    outgoing = refl;
+    stays = refl;
+    failures = refl;
+    clean = λ clean. clean;
+    zone = refl;
+  }
+
+  pub asked : {T : Type 0} (a b : Office B) (x : T) → OnlyAsks ledger a b (Ok x) → Keeps ledger a b
+  asked a b x asks = record {
+    stands = asks.stands;
+    keeps = asks.keeps;
+    notes = asks.notes;
+    outgoing = asks.outgoing;
+    stays = asks.stays;
+    failures = asks.counts;
+    clean = asks.clean;
+    zone = asks.zone;
+  }
+
+  pub kept_on : (a b c : Office B) → Keeps ledger a b → Keeps ledger b c → Keeps ledger a c
+  kept_on a b c first more = record {
+    stands = λ past stands. more.stands past (first.stands past stands);
+    keeps = record {
+      facts = λ known holds. more.keeps.facts known (first.keeps.facts known holds);
+      left = λ left may. more.keeps.left left (first.keeps.left left may);
+    };
+    notes = more.notes ∙ first.notes;
+    outgoing = more.outgoing ∙ first.outgoing;
+    stays = more.stays ∙ first.stays;
+    failures = more.failures ∙ first.failures;
+    clean = λ clean. first.clean (more.clean clean);
+    zone = more.zone ∙ first.zone;
+  }
+
+  -- a question after others
+  pub asked_after : {T : Type 0} (a b c : Office B) (result : Result T Refusal) → Keeps ledger a b → OnlyAsks ledger b c result → OnlyAsks ledger a c result
+  asked_after a b c result first more = record {
+    stands = λ past stands. more.stands past (first.stands past stands);
+    keeps = record {
+      facts = λ known holds. more.keeps.facts known (first.keeps.facts known holds);
+      left = λ left may. more.keeps.left left (first.keeps.left left may);
+    };
+    notes = more.notes ∙ first.notes;
+    outgoing = more.outgoing ∙ first.outgoing;
+    stopped = (λ is. sym first.stays ∙ more.stopped.0 is, λ is. more.stopped.1 (first.stays ∙ is));
+    stays = more.stays ∙ first.stays;
+    counts = subst (λ was. CountsAsked was (failures_of ledger c) result) first.failures more.counts;
+    clean = λ clean. first.clean (more.clean clean);
+    zone = more.zone ∙ first.zone;
+  }
+
+  -- an office that answered goes on
+  pub goes_on : {T : Type 0} (a b : Office B) (x : T) → OnlyAsks ledger a b (Ok x) → is_stopped a ≡ true → ⊥
+  goes_on a b x asks stopped = let e = asks.stopped.1 stopped in cc e
+
+  -- what was left where it went on, as another answer
+  pub answered_as : {U : Type 0} (a b : Office B) (y : U) → (is_stopped a ≡ true → ⊥) → Keeps ledger a b → OnlyAsks ledger a b (Ok y)
+  answered_as a b y goes kept = record {
+    stands = kept.stands;
+    keeps = kept.keeps;
+    notes = kept.notes;
+    outgoing = kept.outgoing;
+    stopped = (λ is. absurd (cc is), λ is. absurd (goes is));
+    stays = kept.stays;
+    counts = kept.failures;
+    clean = kept.clean;
+    zone = kept.zone;
+  }
+
+  -- no memory was left after it answered
+  pub without_memory : {U : Type 0} (a b : Office B) → (is_stopped a ≡ true → ⊥) → Keeps ledger a b
+      → OnlyAsks {T = U} ledger a b (Err refusal.Memory)
+  without_memory a b goes kept = record {
+    stands = kept.stands;
+    keeps = kept.keeps;
+    notes = kept.notes;
+    outgoing = kept.outgoing;
+    stopped = (λ is. absurd (cc is), λ is. absurd (goes is));
+    stays = kept.stays;
+    counts = inr (tt, kept.failures);
+    clean = kept.clean;
+    zone = kept.zone;
+  }
+
+  -- the same refusal of another question
+  pub refused_as : {T U : Type 0} (a b : Office B) (why : Refusal) → OnlyAsks {T = T} ledger a b (Err why) → OnlyAsks {T = U} ledger a b (Err why)
+  refused_as {T} {U} a b why asks = record {
+    stands = asks.stands;
+    keeps = asks.keeps;
+    notes = asks.notes;
+    outgoing = asks.outgoing;
+    stopped = (
+      λ is. asks.stopped.0 (ap (refusal_as {T = T}) (ap reason_of is)),
+      λ is. ap (refusal_as {T = U}) (ap reason_of (asks.stopped.1 is)),
+    );
+    stays = asks.stays;
+    counts = asks.counts;
+    clean = asks.clean;
+    zone = asks.zone;
+  }

@@ -1,0 +1,142 @@
+-- Entries that voids name, kept piece by piece.
+use Rattle.std.proofs.Common.{◌≡◌, ◌⊎◌, ℕ, ◌+◌, ◌<◌, true, Option, Some, None, List, ◌∷◌, [], ◌++◌, take, drop, length, get_or, refl, sym, ap, subst, ◌∙◌, append_assoc}
+use Rattle.std.specs.Prelude.{Result, Ok, Err}
+use Rattle.std.specs.Option.{option_map, option_and_then}
+use Rattle.std.specs.declared.alloc.Global.{Global}
+use Rattle.std.specs.declared.vec.Vec.{Vec}
+use Rattle.std.proofs.lemmas.List.{take_more}
+use Rattle.std.proofs.lemmas.List.Elements.{filter-append}
+use Rattle.office_events.specs.declared.facts.Fact.{Fact}
+use Rattle.office_events.specs.declared.facts.Opening.{Opening}
+use Rattle.office_events.specs.declared.refusals.Refusal.{Refusal}
+use Rattle.office_events.specs.declared.refusals.Refusal.TheVariants as refusal
+use Rattle.office_rules.specs.Facts.{opening_of}
+use Rattle.office_rules.specs.History.{facts_of}
+use Rattle.office_books.specs.declared.entries.MeterEntry.{MeterEntry}
+use Rattle.office_books.specs.declared.failures.Failures.{Failures}
+use Rattle.office_books.specs.Entries.{entries_at, first_from}
+use Rattle.office_books.specs.Ledgers.{Ledger}
+use Rattle.office_core.specs.Asking.{OnlyAsks}
+use Rattle.office_core.specs.Failing.{IsOutside}
+use Rattle.office_core.specs.Parts.{IsListed, ListsAccepted, entries_within}
+use Rattle.office_core.specs.Standing.{After, is_stopped}
+use Rattle.office_core.specs.Taking.{failures_of}
+use Rattle.office_core.specs.declared.office.Office.{Office}
+use Rattle.run_http.specs.MeterReplies.{AsksRows}
+use Rattle.run_http.specs.Several.{Keeps}
+use Rattle.run_http.specs.Voids.{is_voided, voided_in, voids_of}
+use Rattle.run_http.proofs.ReplyLemmas.Asking.{answered_as, asked, asked_after, goes_on, kept_on, without_memory}
+use Rattle.run_http.proofs.ReplyLemmas.Places.{last_piece, one_piece_more, piece_at}
+
+-- ---- a piece
+
+-- one entry more of those that were looked at
+pub one_more : (piece : List MeterEntry) (i : ℕ) (any : MeterEntry) (before mid after : List MeterEntry) → i < length piece
+    → mid ≡ before ++ voided_in (take i piece) → after ≡ mid ++ voided_in (get_or piece i any ∷ []) → after ≡ before ++ voided_in (take (i + 1) piece)
+one_more piece i any before mid after lt kept more =
+    let entry = get_or piece i any in
+    let next : take (i + 1) piece ≡ take i piece ++ entry ∷ [] = take_more piece i any lt in
+    more ∙ ap (λ front. front ++ voided_in (entry ∷ [])) kept ∙ append_assoc before (voided_in (take i piece)) (voided_in (entry ∷ []))
+    ∙ ap (λ back. before ++ back) (sym (filter-append is_voided (take i piece) (entry ∷ [])) ∙ ap voided_in (sym next))
+
+-- ---- piece by piece
+
+some_same : {X : Type 0} (x y : X) → Some x ≡ Some y → x ≡ y
+some_same x y is = cc is
+
+-- what a list was made of
+mapped : {X Y : Type 0} (f : X → Y) (o : Option X) (y : Y) → option_map f o ≡ Some y → (x : X) × (o ≡ Some x) × (f x ≡ y)
+mapped f None y is = absurd (cc is)
+mapped f (Some x) y is = (x, refl, some_same (f x) y is)
+
+-- where one list of a meter is refused, so is another
+refused_as : {X T U : Type 0} (f : X → List T) (g : X → List U) (o : Option X) (before mid after : Failures) (why : Refusal) → mid ≡ before
+    → IsListed (option_map f o) mid after (Err why) → IsListed (option_map g o) before after (Err why)
+refused_as f g None before mid after why is listed = subst (λ was. ((why ≡ refusal.NotFound) × (after ≡ was)) ⊎ IsOutside ⊥ was after why) is listed
+refused_as f g (Some x) before mid after why is listed = subst (λ was. IsOutside ⊥ was after why) is listed
+
+module _ {B : Type 0} (ledger : B → Ledger) where
+  -- of the first entries of a meter all are kept that voids name
+  abbrev pub AreKept : (a b : Office B) → (meter : Option (List ℕ)) → (n : ℕ) → List MeterEntry → Type 0
+  AreKept a b meter n kept = After ledger a b (λ past. (opening : Opening)
+      → option_and_then (opening_of (facts_of past)) meter ≡ Some opening
+      → kept ≡ voided_in (take n (entries_at (facts_of past) (Some opening))))
+
+  abbrev from_place : List Fact → (n : ℕ) → Opening → List MeterEntry
+  from_place facts n opening = first_from (n + 1) 256 (entries_at facts (Some opening))
+
+  abbrev all_voided : List Fact → Opening → List MeterEntry
+  all_voided facts opening = voided_in (entries_at facts (Some opening))
+
+  -- those of two pieces
+  of_both : (es piece : List MeterEntry) (n : ℕ) (kept more : List MeterEntry) → more ≡ kept ++ voided_in piece → kept ≡ voided_in (take n es)
+      → more ≡ voided_in (take n es ++ piece)
+  of_both es piece n kept more took told =
+      took ∙ ap (λ front. front ++ voided_in piece) told ∙ sym (filter-append is_voided (take n es) piece)
+
+  pub more_kept : (a b d : Office B) (meter : Option (List ℕ)) (n : ℕ) (kept more : List MeterEntry) (v : Vec MeterEntry Global)
+      → Keeps ledger a b → AreKept a b meter n kept → OnlyAsks ledger b d (Ok v)
+      → ListsAccepted ledger b d (Ok v) (λ facts. entries_within facts meter (n + 1) 256)
+      → more ≡ kept ++ voided_in v.items → AreKept a d meter (n + 256) more
+  more_kept a b d meter n kept more v keeps told asks lists took = λ past stands clean opening is.
+      let facts = facts_of past in
+      let es = entries_at facts (Some opening) in
+      let known = subst (λ o. IsListed (option_map (from_place facts n) o) (failures_of ledger b) (failures_of ledger d) (Ok v)) is
+      (lists past (keeps.stands past stands) clean) in
+      let items : v.items ≡ take 256 (drop n es) = sym (some_same (from_place facts n opening) v.items known.0) ∙ piece_at facts opening n 256 in
+      of_both es v.items n kept more took (told past stands (asks.clean clean) opening is)
+      ∙ ap voided_in (ap (λ (piece : List MeterEntry). take n es ++ piece) items ∙ one_piece_more n 256 es)
+
+  pub all_kept : (a b d : Office B) (meter : Option (List ℕ)) (n : ℕ) (kept : List MeterEntry) (v w : Vec MeterEntry Global)
+      → Keeps ledger a b → AreKept a b meter n kept → OnlyAsks ledger b d (Ok v)
+      → ListsAccepted ledger b d (Ok v) (λ facts. entries_within facts meter (n + 1) 256)
+      → w.items ≡ kept ++ voided_in v.items → length v.items < 256 → ListsAccepted ledger a d (Ok w) (λ facts. voids_of facts meter)
+  all_kept a b d meter n kept v w keeps told asks lists took few = λ past stands clean.
+      let facts = facts_of past in
+      let known = lists past (keeps.stands past stands) clean in
+      let found = mapped (from_place facts n) (option_and_then (opening_of facts) meter) v.items known.0 in
+      let opening = found.0 in
+      let es = entries_at facts (Some opening) in
+      let items : v.items ≡ take 256 (drop n es) = sym found.2 ∙ piece_at facts opening n 256 in
+      let last : length (take 256 (drop n es)) < 256 = subst (λ (piece : List MeterEntry). length piece < 256) items few in
+      let all : w.items ≡ voided_in es =
+      of_both es v.items n kept w.items took (told past stands (asks.clean clean) opening found.1)
+      ∙ ap voided_in (ap (λ (piece : List MeterEntry). take n es ++ piece) items ∙ last_piece n 256 es last) in
+      (ap (option_map (all_voided facts)) found.1 ∙ ap Some (sym all), known.1 ∙ keeps.failures)
+
+  -- ---- the answer
+
+  pub told : {E : Type 0} (a b d : Office B) (meter : Option (List ℕ)) (n : ℕ) (kept : List MeterEntry) (v w : Vec MeterEntry Global)
+      → Keeps ledger a b → AreKept a b meter n kept → OnlyAsks ledger b d (Ok v)
+      → ListsAccepted ledger b d (Ok v) (λ facts. entries_within facts meter (n + 1) 256)
+      → w.items ≡ kept ++ voided_in v.items → length v.items < 256 → AsksRows ledger a d (λ facts. voids_of facts meter) {E = E} (Ok (Ok w))
+  told a b d meter n kept v w keeps are asks lists took few = record {
+    answer = Ok w;
+    asks = answered_as ledger a d w (λ stopped. goes_on ledger b d v asks (keeps.stays ∙ stopped)) (kept_on ledger a b d keeps (asked ledger b d v asks));
+    gives = refl;
+    lists = all_kept a b d meter n kept v w keeps are asks lists took few;
+  }
+
+  pub refused : {E : Type 0} (a b d : Office B) (meter : Option (List ℕ)) (n : ℕ) (why : Refusal) → Keeps ledger a b
+      → OnlyAsks {T = Vec MeterEntry Global} ledger b d (Err why)
+      → ListsAccepted {T = MeterEntry} ledger b d (Err why) (λ facts. entries_within facts meter (n + 1) 256)
+      → AsksRows ledger a d (λ facts. voids_of facts meter) {E = E} (Ok (Err why))
+  refused a b d meter n why keeps asks lists = record {
+    answer = Err why;
+    asks = asked_after ledger a b d (Err why) keeps asks;
+    gives = refl;
+    lists = λ past stands clean.
+        let facts = facts_of past in
+        refused_as (from_place facts n) (all_voided facts) (option_and_then (opening_of facts) meter) (failures_of ledger a) (failures_of ledger b)
+        (failures_of ledger d) why keeps.failures (lists past (keeps.stands past stands) clean);
+  }
+
+  -- there was no memory for them
+  pub no_room : {E : Type 0} (a b : Office B) (meter : Option (List ℕ)) (fault : E) → (is_stopped a ≡ true → ⊥) → Keeps ledger a b
+      → AsksRows ledger a b (λ facts. voids_of facts meter) (Err fault)
+  no_room a b meter fault goes keeps = record {
+    answer = Err refusal.Memory;
+    asks = without_memory ledger a b goes keeps;
+    gives = tt;
+    lists = tt;
+  }

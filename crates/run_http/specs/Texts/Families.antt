@@ -1,0 +1,14 @@
+-- What a metric is, in Prometheus's text format: the two lines before its values.
+use Rattle.std.specs.Prelude.{ℕ, List, ◌++◌, codes}
+use Rattle.run_http.specs.declared.texts.families.MetricKind.{MetricKind}
+use Rattle.run_http.specs.declared.texts.families.MetricKind.TheVariants.{Counter, Gauge}
+
+abbrev pub kind_word : MetricKind → List ℕ
+kind_word Counter = codes "counter"
+kind_word Gauge = codes "gauge"
+
+-- what it tells, and of which kind it is
+abbrev pub family_text : (name help : List ℕ) → MetricKind → List ℕ
+family_text name help kind =
+    codes "# HELP " ++ name ++ codes " " ++ help
+    ++ codes "\n# TYPE " ++ name ++ codes " " ++ kind_word kind

@@ -1,0 +1,23 @@
+-- The entries of a meter that voids name.
+use Rattle.std.specs.Prelude.{ℕ, Bool, false, not, List, filter, Option, Some}
+use Rattle.std.specs.Option.{option_map, option_and_then}
+use Rattle.office_events.specs.declared.facts.Fact.{Fact}
+use Rattle.office_rules.specs.Facts.{opening_of}
+use Rattle.office_books.specs.declared.entries.MeterEntry.{MeterEntry}
+use Rattle.office_books.specs.declared.entries.MeterEntry.TheVariants.{Opening, Later}
+use Rattle.office_books.specs.Entries.{entries_at}
+
+-- No void names an opening, and those that are named don't stand.
+abbrev pub is_voided : MeterEntry → Bool
+is_voided (Opening last) = false
+is_voided (Later row sf) = not row.stands
+
+-- of these entries, in their order
+abbrev pub voided_in : List MeterEntry → List MeterEntry
+voided_in entries = filter is_voided entries
+
+-- of all entries of a meter, where there is a meter of the name
+abbrev pub voids_of : List Fact → (meter : Option (List ℕ)) → Option (List MeterEntry)
+voids_of facts meter =
+    option_map (λ opening. voided_in (entries_at facts (Some opening)))
+    (option_and_then (opening_of facts) meter)

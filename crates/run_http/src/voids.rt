@@ -1,0 +1,108 @@
+//! What a peer is replied who asks which entries of a meter were voided.
+ghost use Rattle.std.specs.Prelude.{◌≡◌, ◌++◌, ◌∷◌, [], OnOk};
+ghost use Rattle.run_http.specs.MeterReplies.{AsksRows, RepliesRows, with_rows_reply};
+ghost use Rattle.run_http.specs.Texts.MeterLines.{voids_text};
+ghost use Rattle.run_http.specs.Voids as voids;
+ghost use Rattle.run_http.specs.Voids.{voids_of};
+
+use crate::route::put_reply;
+use crate::site::put_refusal;
+use crate::texts::put_voids;
+use http_request::Status;
+use office_books::{Books, MeterEntry};
+use office_core::Office;
+use office_events::{Name, Refusal};
+use std::alloc::{AllocError, Global};
+
+// How many entries are asked for at a time, and how often at most: places are numbers of 64 bits.
+const PIECE: u32 = 256;
+
+const MOST_PIECES: u64 = 72_057_594_037_927_935;
+
+// Whether a void names an entry.
+fn is_voided(entry: &MeterEntry) -> bool
+    ensures { result ≡ voids.is_voided entry.now }
+{
+    match entry {
+        MeterEntry::Opening(_) => false,
+        MeterEntry::Later { row, .. } => !row.stands,
+    }
+}
+
+// Keeps an entry behind those before it, if a void names it.
+fn keep_if_voided(kept: &mut Vec<MeterEntry>, entry: &MeterEntry) -> Result<(), AllocError>
+    ensures { OnOk result (kept.new.items
+        ≡ kept.old.items ++ voids.voided_in (entry.now ∷ [])) }
+{
+    if is_voided(entry) {
+        kept.push(*entry)?;
+    }
+    Ok(())
+}
+
+// Keeps those of a piece that voids name.
+fn keep_voided(kept: &mut Vec<MeterEntry>, piece: &[MeterEntry]) -> Result<(), AllocError>
+    ensures { OnOk result (kept.new.items ≡ kept.old.items ++ voids.voided_in piece.now) }
+{
+    for entry in piece {
+        keep_if_voided(kept, entry)?;
+    }
+    Ok(())
+}
+
+// Asks the office for all entries of a meter, piece by piece, and keeps those that voids name.
+fn ask_voids<B: Books>(
+    alloc: Global,
+    office: &mut Office<B>,
+    meter: &Option<Name>,
+) -> Result<Result<Vec<MeterEntry>, Refusal>, AllocError>
+    ensures { AsksRows B.ledger office.old office.new (λ facts. voids_of facts meter.now) result }
+{
+    let mut kept = Vec::new(alloc);
+    for turn in 0..MOST_PIECES {
+        match office.entries(meter, turn * 256 + 1, PIECE) {
+            Err(why) => return Ok(Err(why)),
+            Ok(piece) => {
+                keep_voided(&mut kept, &piece)?;
+                if piece.len() < 256 {
+                    return Ok(Ok(kept));
+                }
+            }
+        }
+    }
+    Err(AllocError)
+}
+
+// Puts the reply for entries that voids name.
+fn put_voids_told(
+    alloc: Global,
+    text: &mut Vec<u8>,
+    answer: &Result<Vec<MeterEntry>, Refusal>,
+) -> Result<(), AllocError>
+    ensures { OnOk result (text.new.items
+        ≡ with_rows_reply voids_text answer.now text.old.items) }
+{
+    match answer {
+        Ok(entries) => {
+            let mut body = Vec::new(alloc);
+            put_voids(&mut body, entries)?;
+            put_reply(text, Status::Fine, b"text/plain", &body)
+        }
+        Err(why) => put_refusal(text, *why),
+    }
+}
+
+/// Asks the office which entries of a meter voids name, and puts the reply at the end of a text. The entries are asked for 256 at
+/// a time. Want of memory leaves a part of the reply.
+pub fn reply_voids<B: Books>(
+    alloc: Global,
+    text: &mut Vec<u8>,
+    office: &mut Office<B>,
+    meter: &Option<Name>,
+) -> Result<(), AllocError>
+    ensures { RepliesRows B.ledger office.old office.new (λ facts. voids_of facts meter.now)
+        voids_text text.old.items text.new.items result }
+{
+    let answer = ask_voids(alloc, office, meter)?;
+    put_voids_told(alloc, text, &answer)
+}

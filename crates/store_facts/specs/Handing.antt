@@ -1,0 +1,114 @@
+-- Rows of a query, handed on to a sink in order, as they come.
+use Rattle.std.specs.Prelude.{◌≡◌, ◌≤◌, ◌⊎◌, ℕ, List, [], ◌∷◌, ◌++◌, length, Result, Ok, Err, OnOk, IfErr}
+use Rattle.std.specs.List.{AllByRecursion, AllZip}
+use Rattle.sqlite.specs.Given.{IsPlain}
+use Rattle.sqlite.specs.Listing.{understood}
+use Rattle.sqlite.specs.Order.{Row}
+use Rattle.sqlite.specs.Store.{Ghosts}
+use Rattle.sqlite.specs.Held.{Held, state}
+use Rattle.sqlite.specs.declared.error.Error.{Error}
+use Rattle.sqlite.specs.declared.error.Error.TheVariants.{InvalidQuery}
+use Rattle.sqlite.specs.State.{State, HasCleanDisk, IsUnchanged, Begins, Shown, FailsToQuery}
+use Rattle.office_books.specs.Rows.{TakesAll, TakesFirst}
+use Rattle.store_tables.specs.declared.faults.RowFault.{RowFault}
+use Rattle.store_tables.specs.declared.faults.RowFault.TheVariants.{Sql, Damaged}
+use Rattle.store_tables.specs.Content.{Content, AreTables}
+use Rattle.store_tables.specs.Failing.{IsFault, StateAfterCall}
+use Rattle.store_tables.specs.Asking.{Asks}
+
+-- The sink took such rows, and nothing else.
+abbrev pub TookSome : {K T : Type 0} → (IsRow : T → Type 0) → (takes : K → T → K → Type 0)
+    → (before after : K) → Type 0
+TookSome {K} {T} IsRow takes before after =
+    (rows : List T) × AllByRecursion IsRow rows × TakesAll takes before rows after
+
+-- more than any table has: so many are counted at most
+abbrev pub most_rows : ℕ
+most_rows = 18446744073709551615
+
+abbrev pub TookMost : {K T : Type 0} → (takes : K → T → K → Type 0) → (before after : K) → Type 0
+TookMost {K} {T} takes before after =
+    (rows : List T) × (length rows ≡ most_rows) × TakesAll takes before rows after
+
+-- Why not all rows are handed on: the store's own error, a row that is not sound, or the count's end.
+abbrev pub IsStreamFault : {K T : Type 0} → (old new : State) → (takes : K → T → K → Type 0)
+    → (before after : K) → (IsSound : Type 0) → RowFault → Type 0
+IsStreamFault old new takes before after IsSound e =
+    IsFault old new IsSound e ⊎ ((e ≡ Sql InvalidQuery) × TookMost takes before after)
+
+-- What the sink took begins what the rows of some tables are, in order, and at Ok is all of it. Whatever the tables hold, it
+-- took nothing but such rows. Damage is told only where some row of the tables is not sound, and any other fault is one of the
+-- store's own.
+pub record HandsOn {S K T Tables : Type 0} (g : Ghosts S) (old new : Held S)
+    (takes : K → T → K → Type 0) (before after : K)
+    (result : Result (Unit {0}) RowFault) (IsRow : T → Type 0) (Have : Tables → Content → Type 0)
+    (AreRowsOf : Tables → List T → Type 0)
+    (AreSound : Tables → Type 0) : Type 0 where
+  pub asks : Asks g old new
+  pub begun : HasCleanDisk (state g new) → (content : Content) → AreTables (state g old).now content
+      → (tables : Tables) → Have tables content
+      → (after ≡ before)
+      ⊎ ((all : List T) × AreRowsOf tables all × TakesFirst takes before all after)
+  pub whole : HasCleanDisk (state g new) → (content : Content) → AreTables (state g old).now content
+      → (tables : Tables) → Have tables content
+      → OnOk result ((all : List T) × AreRowsOf tables all × TakesAll takes before all after)
+  pub some : TookSome IsRow takes before after
+  pub fault : HasCleanDisk (state g new) → (content : Content) → AreTables (state g old).now content
+      → (tables : Tables) → Have tables content
+      → IfErr result
+      (IsStreamFault (state g old) (state g new) takes before after (AreSound tables))
+
+-- ---- the rows of a query, each read in one way
+
+-- what the rows are read as
+abbrev pub AreRead : {T : Type 0} → (reads : Row → Result T RowFault) → List Row → List T → Type 0
+AreRead reads = AllZip (λ row read. reads row ≡ Ok read)
+
+-- a query that changes nothing was asked, whose answer begins with these rows
+abbrev pub IsAsked : {S : Type 0} → Ghosts S → (sql : List ℕ) → (params : Row)
+    → (old asked : Held S) → (given : List Row) → Type 0
+IsAsked g sql params old asked given =
+    IsUnchanged (state g old) (state g asked) × Begins sql params (state g asked) given
+
+-- a call of the query failed, of a store that had gone on since
+pub record HasStopped {S : Type 0} (g : Ghosts S) (sql : List ℕ) (params : Row) (old new : Held S)
+    (e : Error) : Type 0 where
+  pub asked : Held S
+  pub same : (state g asked).now ≡ (state g old).now
+  pub goes : StateAfterCall (state g old) (state g asked)
+  pub counts : (state g asked).faults ≤ (state g new).faults
+  pub fails : FailsToQuery sql params (state g asked) (state g new) e
+
+-- Why rows are read no further: a call of the query failed, all that are counted were read, or the next row can't be read.
+abbrev pub IsReadFault : {S T : Type 0} → Ghosts S → (sql : List ℕ) → (params : Row)
+    → (reads : Row → Result T RowFault) → (old new : Held S) → (given : List Row) → (read : List T)
+    → RowFault → Type 0
+IsReadFault g sql params reads old new given read (Sql e) =
+    HasStopped g sql params old new e ⊎ ((e ≡ InvalidQuery) × (length read ≡ most_rows))
+IsReadFault {S} g sql params reads old new given read Damaged =
+    (asked : Held S) × (row : Row) × IsAsked g sql params old asked (given ++ row ∷ [])
+    × (reads row ≡ Err Damaged)
+
+-- The rows of a query were read from the first on and handed on, at Ok all of them.
+pub record HandsOnQuery {S K T : Type 0} (g : Ghosts S) (sql : List ℕ) (params : Row)
+    (reads : Row → Result T RowFault) (old new : Held S)
+    (takes : K → T → K → Type 0) (before after : K) (result : Result (Unit {0}) RowFault) : Type 0
+  where
+    pub given : List Row
+    pub rows : List T
+    pub begun : (given ≡ []) ⊎ ((asked : Held S) × IsAsked g sql params old asked given)
+    pub read : AreRead reads given rows
+    pub taken : TakesAll takes before rows after
+    pub whole : OnOk result
+        ((asked : Held S) × (end : Held S) × IsUnchanged (state g old) (state g asked)
+        × Shown sql params (state g asked) (state g end) given)
+    pub fault : IfErr result (IsReadFault g sql params reads old new given rows)
+
+-- the same where the store gave back what was written, of a query that asks the tables alone
+abbrev pub HandsOnPlain : {S K T : Type 0} → Ghosts S → (sql : List ℕ) → (params : Row)
+    → (reads : Row → Result T RowFault) → (old new : Held S)
+    → (takes : K → T → K → Type 0) → (before after : K)
+    → Result (Unit {0}) RowFault → Type 0
+HandsOnPlain g sql params reads old new takes before after result =
+    HasCleanDisk (state g new) → IsPlain (understood old.schema sql)
+    → HandsOnQuery g sql params reads old new takes before after result

@@ -1,0 +1,85 @@
+//! Rows as the queries show them.
+ghost use Rattle.std.specs.Prelude.{◌≡◌};
+ghost use Rattle.sqlite.specs.Order.{column};
+ghost use Rattle.store_tables.specs.Columns.{or_damaged};
+ghost use Rattle.store_facts.specs.Holds.{cause_of, sixteen_in, reading_in};
+
+use crate::streams::RowReader;
+use energy_core::Cause;
+use office_events::{HeldReading, Name};
+use sqlite::Row;
+use sqlite::types::ValueRef;
+use store_tables::{GREATEST_PLACE, LATEST_MOMENT, RowFault, whole};
+
+/// The cause of a number.
+fn cause(number: u64) -> Option<Cause>
+    ensures { result ≡ cause_of number }
+{
+    match number {
+        1 => Some(Cause::NotAccumulated),
+        2 => Some(Cause::ScaleChanged),
+        3 => Some(Cause::NotLater),
+        4 => Some(Cause::SpanTooLong),
+        5 => Some(Cause::GapTooLong),
+        6 => Some(Cause::TooFast),
+        7 => Some(Cause::TotalFull),
+        8 => Some(Cause::NotBelowRange),
+        _ => None,
+    }
+}
+
+/// A column that is a number of sixteen bits, one of them its sign: held readings can have any scale factor.
+fn sixteen(row: &Row, at: usize) -> Result<i16, RowFault>
+    ensures { result ≡ or_damaged (sixteen_in (column row.now at)) }
+{
+    match row.get_ref(at) {
+        Ok(ValueRef::Int(n)) => {
+            if -32_768 <= n && n <= 32_767 {
+                Ok(n as i16)
+            } else {
+                Err(RowFault::Damaged)
+            }
+        }
+        _ => Err(RowFault::Damaged),
+    }
+}
+
+/// The reading of a row of a meter that the queries show.
+fn read_reading(row: &Row, meter: &Name) -> Result<HeldReading, RowFault>
+    ensures { result ≡ reading_in meter.now row.now }
+{
+    let poll = whole(row, 0, 1, GREATEST_PLACE)?;
+    let at = whole(row, 1, 0, LATEST_MOMENT)?;
+    let raw = whole(row, 2, 0, 4_294_967_295)?;
+    let sf = sixteen(row, 3)?;
+    let number = whole(row, 4, 1, 8)?;
+    match cause(number) {
+        Some(cause) => Ok(HeldReading {
+            meter: *meter,
+            poll,
+            at,
+            raw: raw as u32,
+            sf,
+            cause,
+        }),
+        None => Err(RowFault::Damaged),
+    }
+}
+
+/// Reads the rows of the held readings of a meter.
+#[derive(Drop)]
+pub(crate) struct ReadingsOf {
+    pub(crate) meter: Name,
+}
+
+impl RowReader<HeldReading> for ReadingsOf {
+    ghost use Rattle.store_facts.specs.Holds.{reading_in, IsSoundReading};
+
+    ghost reads = { λ reader row. reading_in reader.meter row };
+
+    ghost is_row = { IsSoundReading };
+
+    fn read(&self, row: &Row) -> Result<HeldReading, RowFault> {
+        read_reading(row, &self.meter)
+    }
+}

@@ -1,0 +1,64 @@
+#!/usr/bin/env python3
+"""rooms.py: holds the map, the tables and the counts of docs/ARCHITECTURE.md to crates.txt. It prints what isn't so, and then the counts; the status is 1 where something isn't."""
+import os
+import re
+import sys
+
+TOP = os.path.dirname(os.path.dirname(os.path.realpath(__file__)))
+PROGRAMS = {"sunreg", "script_cases"}
+OF_TESTS = {"script_cases", "failing_books"}
+
+
+def lists():
+    """Which crates of ours each crate of crates.txt stands on."""
+    found = {}
+    with open(f"{TOP}/crates.txt", encoding="utf-8") as it:
+        for line in it:
+            name, colon, rest = line.partition(":")
+            if colon and not line.startswith("#"):
+                found[name.strip()] = rest.split()
+    return {name: [it for it in below if it in found] for name, below in found.items()}
+
+
+def chain_of(crates, name):
+    """The longest chain of crates that ends with one."""
+    return max((chain_of(crates, it) for it in crates[name]), key=len, default=[]) + [name]
+
+
+def below(crates, name):
+    """All that a crate stands on, by way of others too."""
+    return set(crates[name]).union(*(below(crates, it) for it in crates[name]))
+
+
+def arrows_of(crates, names):
+    """The pairs of a crate and one that stands on it with none between."""
+    return {(it, name) for name in names for it in crates[name] if not any(it in below(crates, other) for other in crates[name])}
+
+
+def drawn_in(text):
+    """The arrows of the map."""
+    lines = re.search(r"```mermaid\n(.*?)```", text, re.S).group(1).splitlines()
+    words = [[it.strip() for it in line.split("-->")] for line in lines]
+    return {pair for it in words for pair in zip(it, it[1:])}
+
+
+def main():
+    crates = lists()
+    tests = {it for it in crates if it.endswith("_tests")}
+    libraries = crates.keys() - tests - PROGRAMS
+    with open(f"{TOP}/docs/ARCHITECTURE.md", encoding="utf-8") as it:
+        text = it.read()
+    wanted, drawn = arrows_of(crates, crates.keys() - tests - OF_TESTS), drawn_in(text)
+    faults = [f"the map lacks {it} --> {name}" for it, name in sorted(wanted - drawn)]
+    faults += [f"the map has {it} --> {name}" for it, name in sorted(drawn - wanted)]
+    rows = re.findall(r"^\| \[?`(\w+)`", text, re.M)
+    faults += [f"{it} has {rows.count(it)} rows" for it in sorted(crates.keys() - {"script_cases"} | set(rows)) if rows.count(it) != 1 or it not in crates]
+    chain = max((chain_of(crates, it) for it in libraries), key=len)
+    for what, count in (("Libraries", len(libraries)), ("Crates of tests", len(tests)), ("The longest chain of libraries", len(chain))):
+        if not re.search(rf"^\| {what}\b[^|]*\| {count} \|$", text, re.M):
+            faults.append(f"the page doesn't say how many: {what}, {count}")
+    print("\n".join(faults + [f"{len(libraries)} libraries, {len(tests)} crates of tests; the longest chain has {len(chain)}: {' '.join(chain)}"]))
+    return 1 if faults else 0
+
+
+sys.exit(main())
