@@ -717,12 +717,10 @@ def see_program(sunreg, program):
     text = fetched(f"{origin}/site")[2].decode()
     site = json.loads(text)
     same("the site's form", text, json.dumps(site, separators=(",", ":")) + "\n")
-    told = [site, *site["registers"], *(it for row in site["registers"] for it in row["meters"])]
-    moments = [it.pop("at") for it in told if "at" in it]
-    holds("its moments", len(moments) == 3 and all(abs(time.time() - it) < 60 for it in moments), moments)
-    meter = {"meter": "m1", "last": 5007, "sf": 0, "total": "7000", "ended": False}
-    main = {"device": "inv", "register": "main", **meter, "meters": [meter]}
-    export = {"device": "inv", "register": "export", "meter": None, "meters": []}
+    moments = [it.pop("at") for it in [site, *site["registers"]] if "at" in it]
+    holds("its moments", len(moments) == 2 and all(abs(time.time() - it) < 60 for it in moments), moments)
+    main = {"device": "inv", "register": "main", "meter": "m1", "last": 5007, "sf": 0, "total": "7000", "ended": False}
+    export = {"device": "inv", "register": "export", "meter": None}
     same("its registers", sorted(site["registers"], key=str), sorted([main, export], key=str))
     held = browser.Browser(program, "UTC")
     ENDS.append(held.close)

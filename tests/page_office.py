@@ -140,18 +140,19 @@ class Office:
                 found[day] = (count + 1, sum_ + mwh)
         return {day: found[day] for day in sorted(found)}
 
-    def told(self, register, meter, is_latest):
-        """What `/site` tells of a meter at a register."""
-        sf, total = 2 if register == "old" else 0, meter.total
-        at, ended = (self.at[register], register == "old") if is_latest else (meter.rows[-1][0] + 900, True)
-        return {"meter": meter.name, "at": at, "last": (5000 + total // 1000) // 10**sf, "sf": sf, "total": str(total), "ended": ended}
-
     def site(self):
         rows = []
         for device, register in (("grid", "import"), ("grid", "old"), ("inv", "main"), ("inv", LONG), ("roof-2", "export")):
             meters = self.of_register(register)
-            told = [self.told(register, it, it is meters[-1]) for it in meters]
-            rows.append({"device": device, "register": register, **(told[-1] if told else {"meter": None}), "meters": told})
+            if meters:
+                total = meters[-1].total
+                rows.append({
+                    "device": device, "register": register, "meter": meters[-1].name, "at": self.at[register],
+                    "last": (5000 + total // 1000) // (100 if register == "old" else 1), "sf": 2 if register == "old" else 0,
+                    "total": str(total), "ended": register == "old",
+                })
+            else:
+                rows.append({"device": device, "register": register, "meter": None})
         rows[1] |= self.great
         if self.strange:
             rows.append(rows[-2] | {"device": self.strange, "register": self.strange, "meter": self.strange})

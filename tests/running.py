@@ -398,11 +398,9 @@ same(
     [metered[0], ("g0", "spare", None), *metered[1:]],
 )
 meters = {row["meter"]: row for row in site["registers"]}
-same("a register without one has no more", list(meters[None]), ["device", "register", "meter", "meters"])
+same("a register without one has no more", list(meters[None]), ["device", "register", "meter"])
 asked = json.loads(ask("/meters/mdead")[1])
-own = {name: asked[name] for name in ("meter", "at", "last", "sf", "total", "ended")}
-same("a meter is told as it is alone", meters["mdead"], {"device": "dead", "register": asked["register"], **own, "meters": [own]})
-same("all that were at a register", [[it["meter"] for it in row["meters"]] for row in site["registers"]], [["mg0"], [], *([it[2]] for it in metered[1:])])
+same("a meter is told as it is alone", meters["mdead"], {"device": "dead"} | {name: asked[name] for name in asked if name != "range"})
 same("what the servers of others show", [(meters[it]["last"], meters[it]["total"]) for it in ["mlib", "mpy"]], [(5007, "7000"), (6000, "1000000")])
 same("and by no other method", ask("/site", 902, "{}")[0], 405)
 

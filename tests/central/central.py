@@ -273,7 +273,7 @@ def copies_what_changed(shards):
     south.meters["roof-1"].read(NOVEMBER + 900 * 200, 0)
     same("and with the next reading", copy()[1], ["south 1 meters 3 rows 1 days", "3 sites 0 failed 1 meters 3 rows 1 days"])
     compare("a void between two readings, and a reading", shards, mocks.sites())
-    # an exchange: the meter before had rows until then
+    # an exchange: /site tells the latest meter, and the one before had rows until then
     south.meters["main-1"].read(NOVEMBER + 900 * 200, 40)
     south.meters["main-1"].ended = True
     south.add("main-2", "main", NOVEMBER + 900 * 201).read(NOVEMBER + 900 * 201, 50)
@@ -283,34 +283,18 @@ def copies_what_changed(shards):
     copy()
     same("a closed meter isn't asked again", south.asked, ["/site"])
     same("nothing differs", shards.lines("SELECT * FROM energy.differences"), [])
-    south.meters["main-1"].rows[NOVEMBER + 900 * 199] += 5
-    same("unless it has another total", copy()[1], ["south 1 meters 1 rows 1 days", "3 sites 0 failed 1 meters 1 rows 1 days"])
-    compare("another total of a closed meter", shards, mocks.sites())
-
-    # two exchanges between two copies: the meter between is told as all are
-    def exchange_twice(first):
-        for place in (first, first + 1):
-            south.meters[f"main-{place - 1}"].ended = True
-            south.add(f"main-{place}", "main", NOVEMBER + 900 * (199 + place)).read(NOVEMBER + 900 * (199 + place), 10 * place)
-
-    exchange_twice(3)
-    same("two exchanges", copy()[1], ["south 3 meters 2 rows 1 days", "3 sites 0 failed 3 meters 2 rows 1 days"])
-    compare("two exchanges, and nobody named a meter", shards, mocks.sites())
-    same("and nothing differs", shards.lines("SELECT * FROM energy.differences"), [])
-    # an older office, which tells the latest meter of a register alone
-    south.has_all = False
-    south.asked.clear()
-    same("an older office, and nothing is new", (copy()[1], south.asked), (["3 sites 0 failed 0 meters 0 rows 0 days"], ["/site"]))
-    exchange_twice(5)
-    same("its exchanges", copy()[1], ["south 2 meters 1 rows 1 days", "3 sites 0 failed 2 meters 1 rows 1 days"])
-    days, kept = (sum(sum(of.rows.values()) for of in south.of("main") if of.name != name) for name in ("", "main-5"))
+    # two exchanges between two copies: the meter between is in no /site
+    south.meters["main-2"].ended = True
+    south.add("main-3", "main", NOVEMBER + 900 * 202).read(NOVEMBER + 900 * 202, 60)
+    south.meters["main-3"].ended = True
+    south.add("main-4", "main", NOVEMBER + 900 * 203).read(NOVEMBER + 900 * 203, 70)
+    copy()
+    days, kept = (sum(sum(of.rows.values()) for of in south.of("main") if of.name != name) for name in ("", "main-3"))
     same("a meter that nobody named", shards.lines("SELECT * FROM energy.differences"), [f"south\tmain\t\tdays\t{days}\t{kept}"])
-    status, said, faults = shards.collect(write_list("named", {"south": (mocks.url("south"), ["main-5"])}))
+    status, said, faults = shards.collect(write_list("named", {"south": (mocks.url("south"), ["main-3"])}))
     same("is copied once it is named", (status, said, faults), (0, ["south 1 meters 1 rows 0 days", "1 sites 0 failed 1 meters 1 rows 0 days"], []))
-    same("and nothing differs then", shards.lines("SELECT * FROM energy.differences"), [])
+    same("and nothing differs", shards.lines("SELECT * FROM energy.differences"), [])
     compare("a meter that was named", shards, mocks.sites())
-    south.has_all = True
-    same("an office that tells all from now on", copy()[1], ["3 sites 0 failed 0 meters 0 rows 0 days"])
     # an office without /site, as `sunreg serve`
     north.has_site = False
     north.meters["roof-1"].read(NOVEMBER + 900 * 200, 8)
@@ -476,8 +460,6 @@ def tells_faults(shards, mocks):
     told("a name that is none", none, lambda text: text.replace('"roof-1"', '"x\' OR 1"'), "/site")
     told("a site of too many brackets", none, lambda text: "[" * 1_000_000, "/site")
     told("a total that is none", none, lambda text: re.sub('"total":"[0-9]+"', '"total":7', text), "/site")
-    told("meters that are none", none, lambda text: text.replace('"meters":[]', '"meters":["main-1"]'), "/site")
-    told("no meters", none, lambda text: text.replace('"meters":[]', '"meters":null'), "/site")
     north.reply = lambda asked: (503, '{"fault":503}')
     same("a refusal", shards.collect(sites)[2], ["collect: north: it answers 503 to GET /site"])
     north.reply = lambda asked: time.sleep(4) or (0, "")
@@ -816,7 +798,7 @@ class MockOffice:
                 meter.read(meter.at - meter.at % 900, 1)
 
 
-def survives_kills(shards, name, made, stop):
+def survives_kills(shards, name, made, known, stop):
     """Offices go on, by `made`; collect and the shards are killed at random; in the end all that the offices have is there, and nothing else."""
     dice, counts, going = random.Random(SEED + 1), {}, True
     offices = list(made.items())
@@ -828,7 +810,7 @@ def survives_kills(shards, name, made, stop):
             counts[did] = counts.get(did, 0) + 1
             time.sleep(0.02)
 
-    sites = write_list(name, {site: (office.url(), []) for site, office in offices})
+    sites = write_list(name, {site: (office.url(), known(office)) for site, office in offices})
     hand = threading.Thread(target=go_on)
     hand.start()
     killed = {"collect": 0, "server": 0, "whole": 0}
@@ -860,6 +842,7 @@ def survives_kills(shards, name, made, stop):
     stop()
     meters = {site: office_meters(office) for site, office in offices}
     truth = {site: (office.url(), meters[site], set(meters[site].values())) for site, office in offices}
+    sites = write_list(name, {site: (office.url(), list(meters[site])) for site, office in offices})
     unseen = {(site, it) for site, office in offices for it in office.unseen}
     for words in ([], ["--whole"]):
         status, said, faults = shards.collect(sites, *words)
@@ -886,20 +869,26 @@ def offices_of_mock(shards):
     mocks = Mocks(names)
     dice = random.Random(SEED)
     made = {name: MockOffice(mocks, name, dice) for name in names}
-    survives_kills(shards, "mock offices", made, lambda: None)
+    survives_kills(shards, "mock offices", made, lambda office: [], lambda: None)
 
 
 def offices_of_program(shards):
     dice, device = random.Random(SEED), Device()
     made = {f"p{place}": ProgramOffice(f"p{place}", device, dice) for place in range(1, 21)}
-    registers = json.loads(get(f"{next(iter(made.values())).url()}/site"))["registers"]
-    same("/site tells all meters", [(row["meter"], [it["meter"] for it in row["meters"]]) for row in registers], [("m1", ["m1"]), ("x2", ["x1", "x2"])])
+    first = next(iter(made.values()))
+    try:
+        told = {row["meter"] for row in json.loads(get(f"{first.url()}/site"))["registers"]}
+        same("/site tells the latest meters", told, {"m1", "x2"})
+        known = lambda office: ["x1"]
+    except urllib.error.HTTPError as fault:
+        print(f"central.py: the program has no route /site ({fault.code}): the list names each meter", flush=True)
+        known = lambda office: list(office.meters)
 
     def stop():
         device.stop()
         time.sleep(3)
 
-    survives_kills(shards, "offices of the program", made, stop)
+    survives_kills(shards, "offices of the program", made, known, stop)
     for office in made.values():
         office.child.kill()
 

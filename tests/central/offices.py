@@ -39,9 +39,9 @@ class Meter:
         self.rows[start] = mwh
 
     def told(self):
-        """What `/site` tells of it."""
         return {
-            "meter": self.name, "at": self.at, "last": self.last % (1 << 32), "sf": -3, "total": str(sum(self.rows.values())), "ended": self.ended,
+            "at": self.at, "ended": self.ended, "last": self.last % (1 << 32), "meter": self.name, "register": self.register, "sf": -3,
+            "total": str(sum(self.rows.values())),
         }
 
 
@@ -49,7 +49,7 @@ class Office:
     """An office whose meters are as they were made."""
 
     def __init__(self):
-        self.meters, self.has_site, self.has_all, self.has_parts, self.asked = {}, True, True, True, []
+        self.meters, self.has_site, self.has_parts, self.asked = {}, True, True, []
 
     def add(self, name, register, at):
         self.meters[name] = Meter(name, register, at)
@@ -58,22 +58,15 @@ class Office:
     def of(self, register):
         return [meter for meter in self.meters.values() if meter.register == register]
 
-    def row(self, register):
-        """What `/site` tells of a register: the latest meter that was installed there, and all of them unless it is an older office."""
-        meters = [meter.told() for meter in self.of(register)]
-        latest = meters[-1] if meters else {"meter": None}
-        return {"device": "inv", "register": register, **latest, **({"meters": meters} if self.has_all else {})}
-
     def reply(self, target):
         """The status and the text of a reply."""
         self.asked.append(target)
         if target == "/site" and self.has_site:
-            registers = dict.fromkeys([*(meter.register for meter in self.meters.values()), "spare"])
-            told = {"at": int(time.time()), "registers": [self.row(register) for register in registers]}
-            return 200, json.dumps(told, separators=(",", ":")) + "\n"
+            latest = {meter.register: {"device": "inv", **meter.told()} for meter in self.meters.values()}
+            spare = {"device": "inv", "register": "spare", "meter": None}
+            return 200, json.dumps({"at": int(time.time()), "registers": [*latest.values(), spare]}, separators=(",", ":")) + "\n"
         if (found := re.fullmatch("/meters/([^/]+)", target)) and found[1] in self.meters:
-            meter = self.meters[found[1]]
-            return 200, json.dumps({**meter.told(), "range": 1 << 32, "register": meter.register}, separators=(",", ":"), sort_keys=True)
+            return 200, json.dumps(self.meters[found[1]].told(), separators=(",", ":"))
         if (found := re.fullmatch("/meters/([^/]+)/intervals", target)) and found[1] in self.meters:
             return 200, intervals_text(self.meters[found[1]].rows)
         if (found := re.fullmatch("/meters/([^/]+)/intervals/([0-9]+)/([0-9]+)", target)) and found[1] in self.meters and self.has_parts:
@@ -92,13 +85,13 @@ class Alike:
     def kind(self, meter):
         return texts_of_kind((self.place * self.meters + meter) % 97, self.start, self.quarters)
 
-    def row(self, k):
-        meter = {"meter": f"m{k}", "at": self.start + 900 * self.quarters, "last": 7, "sf": 0, "total": self.kind(k)[2], "ended": False}
-        return {"device": "inv", "register": f"r{k}", **meter, "meters": [meter]}
-
     def reply(self, target):
         if target == "/site":
-            return 200, json.dumps({"at": int(time.time()), "registers": [self.row(k) for k in range(self.meters)]})
+            rows = [
+                {"device": "inv", "register": f"r{k}", "meter": f"m{k}", "at": self.start + 900 * self.quarters, "last": 7, "sf": 0, "total": self.kind(k)[2], "ended": False}
+                for k in range(self.meters)
+            ]
+            return 200, json.dumps({"at": int(time.time()), "registers": rows})
         if found := re.fullmatch("/meters/m([0-9]+)/intervals", target):
             return 200, self.kind(int(found[1]))[0]
         if found := re.fullmatch("/registers/r([0-9]+)/days", target):

@@ -4,7 +4,7 @@ use office_store::OpenFault;
 use std::alloc::Global;
 use std::process::Abort;
 use std::test::Fail;
-use stored_office::{CopyFault, Failure, FileFault};
+use stored_office::{AuditFault, CopyFault, Failure, FileFault};
 
 // What stands after the name of a file where its tables were not made, or where no office was opened in it.
 const UNMADE: [(OpenFault, &str); 4] = [
@@ -152,6 +152,24 @@ const SOCKETS: [(Failure<'static>, &str); 8] = [
     ),
 ];
 
+// What stands behind the name of a file that was not audited.
+const UNAUDITED: [(AuditFault, &str); 5] = [
+    (
+        AuditFault::NotOurs,
+        "it holds no office, or one of a later program: give the office's file, or its copy",
+    ),
+    (
+        AuditFault::Earlier,
+        "its tables are an earlier program's: let sunreg report open it once, or a copy that sunreg backup made",
+    ),
+    (
+        AuditFault::Store,
+        "the database in it failed: look at its rights and the disk's room",
+    ),
+    (AuditFault::Memory, "memory ran out"),
+    (AuditFault::Output, "standard output can't be written"),
+];
+
 // A failure says this text.
 fn tells(rt: &impl Abort, alloc: Global, failure: Failure<'_>, text: &str) -> Result<(), Fail> {
     assert_eq!(rt; format!(in alloc; "{failure}")?.as_str(), text);
@@ -213,6 +231,21 @@ fn offices_that_were_not_backed_up(rt: HostRuntime) -> Result<(), Fail> {
     }
     for (failure, text) in LOGS {
         tells(&rt, rt.alloc(), failure, text)?;
+    }
+    Ok(())
+}
+
+#[test]
+fn files_that_were_not_audited(rt: HostRuntime) -> Result<(), Fail> {
+    let path = "a.db";
+    for (fault, why) in UNAUDITED {
+        let text = format!(in rt.alloc(); "a.db: {why}")?;
+        tells(
+            &rt,
+            rt.alloc(),
+            Failure::Unaudited { path, fault },
+            text.as_str(),
+        )?;
     }
     Ok(())
 }

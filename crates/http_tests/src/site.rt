@@ -4,14 +4,13 @@ use crate::office::{opened, polled, unmetered};
 use energy_core::Last;
 use failing_books::FailingBooks;
 use office_core::{Office, SiteRow};
-use office_events::Installation;
-use run_http::{RegisterMeters, put_site, reply_site};
-use std::alloc::{AllocError, Global};
+use run_http::{put_site, reply_site};
+use std::alloc::Global;
 use std::process::Abort;
 use std::test::Fail;
 
 static POLLED: &str =
-    "{\"at\":2800,\"registers\":[{\"device\":\"inv\",\"register\":\"main\",\"meter\":\"m1\",\"at\":1900,\"last\":5200,\"sf\":0,\"total\":\"200000\",\"ended\":false,\"meters\":[{\"meter\":\"m1\",\"at\":1900,\"last\":5200,\"sf\":0,\"total\":\"200000\",\"ended\":false}]}]}\n";
+    "{\"at\":2800,\"registers\":[{\"device\":\"inv\",\"register\":\"main\",\"meter\":\"m1\",\"at\":1900,\"last\":5200,\"sf\":0,\"total\":\"200000\",\"ended\":false}]}\n";
 
 #[test]
 fn a_meter_is_told_as_it_stands(rt: HostRuntime) -> Result<(), Fail> {
@@ -24,7 +23,7 @@ fn a_meter_is_told_as_it_stands(rt: HostRuntime) -> Result<(), Fail> {
 }
 
 static UNMETERED: &str =
-    "{\"at\":1000,\"registers\":[{\"device\":\"inv\",\"register\":\"main\",\"meter\":null,\"meters\":[]}]}\n";
+    "{\"at\":1000,\"registers\":[{\"device\":\"inv\",\"register\":\"main\",\"meter\":null}]}\n";
 
 #[test]
 fn a_register_may_have_no_meter(rt: HostRuntime) -> Result<(), Fail> {
@@ -47,7 +46,7 @@ fn an_office_may_have_no_register(rt: HostRuntime) -> Result<(), Fail> {
 }
 
 static TWO: &str =
-    "{\"at\":7,\"registers\":[{\"device\":\"inv\",\"register\":\"main\",\"meter\":\"m1\",\"at\":1950,\"last\":4294967295,\"sf\":-3,\"total\":\"18446744073709551615\",\"ended\":true,\"meters\":[{\"meter\":\"m1\",\"at\":1900,\"last\":5200,\"sf\":0,\"total\":\"200000\",\"ended\":false},{\"meter\":\"m1\",\"at\":1950,\"last\":4294967295,\"sf\":-3,\"total\":\"18446744073709551615\",\"ended\":true}]},{\"device\":\"inv\",\"register\":\"main\",\"meter\":null,\"meters\":[]}]}\n";
+    "{\"at\":7,\"registers\":[{\"device\":\"inv\",\"register\":\"main\",\"meter\":\"m1\",\"at\":1950,\"last\":4294967295,\"sf\":-3,\"total\":\"18446744073709551615\",\"ended\":true},{\"device\":\"inv\",\"register\":\"main\",\"meter\":null}]}\n";
 
 // The row of the register of an office that was polled.
 fn polled_row(alloc: Global) -> Result<SiteRow, Fail> {
@@ -56,21 +55,6 @@ fn polled_row(alloc: Global) -> Result<SiteRow, Fail> {
         return Err(Fail::from("no rows"));
     };
     Ok(rows.first().copied().ok_or("no row")?)
-}
-
-// The register of a row, at which these meters were installed.
-fn with_meters(
-    alloc: Global,
-    row: SiteRow,
-    installed: &[Option<Installation>],
-) -> Result<RegisterMeters, AllocError> {
-    let mut meters = Vec::new(alloc);
-    for meter in installed {
-        if let Some(meter) = meter {
-            meters.push(*meter)?;
-        }
-    }
-    Ok(RegisterMeters { row, meters })
 }
 
 #[test]
@@ -88,12 +72,8 @@ fn a_scale_may_be_negative_and_a_meter_closed(rt: HostRuntime) -> Result<(), Fai
     }
     let mut bare = row;
     bare.meter = None;
-    let registers = [
-        with_meters(rt.alloc(), closed, &[row.meter, closed.meter])?,
-        with_meters(rt.alloc(), bare, &[])?,
-    ];
     let mut text = Vec::new(rt.alloc());
-    put_site(&mut text, 7, &registers)?;
+    put_site(&mut text, 7, &[closed, bare])?;
     assert!(rt; text.as_slice() == TWO.as_bytes());
     Ok(())
 }
@@ -130,7 +110,7 @@ fn books_that_fail_are_unavailable(rt: HostRuntime) -> Result<(), Fail> {
             refused = refused.saturating_add(u8::from(failed));
         }
     }
-    // The devices, the registers of one, and its meter; that register, and all meters there.
-    assert!(rt; refused == 5);
+    // The devices, the registers of one, and its meter.
+    assert!(rt; refused == 3);
     Ok(())
 }

@@ -46,7 +46,7 @@ use Rattle.http_request.specs.declared.head.head.HeadState.{HeadState}
 use Rattle.run_http.specs.RegisterReplies.{RepliesEnergy}
 use Rattle.run_http.specs.StatusRoute.{IsFor, IsRunRoute}
 use Rattle.run_http.specs.MeterReplies.{RepliesRows}
-use Rattle.run_http.specs.SiteReply.{RepliesMeters, RepliesSite}
+use Rattle.run_http.specs.SiteReply.{RepliesSite}
 use Rattle.office_running.specs.Runs.{AreAt, BooksRun, Goes, IsOfRound, RunsOn, Step, Fed, Asks, TakesTurn, TakesTurns, history_behind, latest_of, steps_of, with_step}
 
 -- ---- At one moment
@@ -238,14 +238,6 @@ pub goes_looked : {B E : Type 0} (names : List (List ℕ)) (ledger : B → Ledge
     (reply : Result (Vec SiteRow Global) Refusal → List ℕ → List ℕ) (from to : List ℕ) (result : Result (Unit {0}) E)
     → RepliesSite ledger old new reply from to result → Goes names at ledger old new
 goes_looked names ledger at old new reply from to result replies = record {
-  stands = λ past stands clean. record { steps = []; each = tt; stands = replies.asks.stands past stands };
-  clean = replies.asks.clean;
-  zone = replies.asks.zone;
-}
-
-pub goes_meters : {B E : Type 0} (names : List (List ℕ)) (ledger : B → Ledger) (at : ℕ) (old new : Office B) (from to : List ℕ) (result : Result (Unit {0}) E)
-    → RepliesMeters ledger old new at from to result → Goes names at ledger old new
-goes_meters names ledger at old new from to result replies = record {
   stands = λ past stands clean. record { steps = []; each = tt; stands = replies.asks.stands past stands };
   clean = replies.asks.clean;
   zone = replies.asks.zone;

@@ -240,7 +240,7 @@ impl Serving {
     }
 
     // The reply to the question which registers and meters there are.
-    #[tactic(auto, using(crate::proofs::Going::goes_meters))]
+    #[tactic(auto, using(crate::proofs::Going::goes_looked))]
     fn reply_site<B: Books>(&self, office: &mut Office<B>, moment: u64) -> PeerReply
         ensures { (names : List (List ℕ)) → Goes names moment B.ledger office.old office.new }
     {

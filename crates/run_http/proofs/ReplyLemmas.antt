@@ -3,6 +3,5 @@ pub mod Rows
 pub mod Asking
 pub mod Places
 pub mod Voids
-pub mod SiteMeters
 pub mod Spelled
 pub mod Energy

@@ -3,7 +3,6 @@ pub mod StatusRoute
 pub mod MeterTargets
 pub mod Answer
 pub mod Several
-pub mod SiteMeters
 pub mod SiteReply
 pub mod MetricsReply
 pub mod MeterReplies

@@ -1,4 +1,4 @@
--- The replies to questions for all registers and their meters, by what the office answers to them.
+-- The reply to the question which registers and meters there are, by what the office answers to it.
 use Rattle.std.specs.Prelude.{◌≡◌, ℕ, List, [], Result, Ok, Err, OnOk, codes}
 use Rattle.std.specs.declared.alloc.Global.{Global}
 use Rattle.std.specs.declared.vec.Vec.{Vec}
@@ -13,31 +13,19 @@ use Rattle.office_core.specs.Site.{TellsSite}
 use Rattle.office_core.specs.declared.office.Office.{Office}
 use Rattle.office_core.specs.declared.site.SiteRow.{SiteRow}
 use Rattle.run_http.specs.StatusRoute.{with_reply}
-use Rattle.run_http.specs.SiteMeters.{TellsSiteWithMeters}
 use Rattle.run_http.specs.Texts.SiteText.{with_site}
-use Rattle.run_http.specs.declared.site_meters.RegisterMeters.{RegisterMeters}
 
 -- a refusal is answered by the status and the number that any other question's has
 abbrev pub with_refusal : Refusal → List ℕ → List ℕ
 with_refusal why text =
     with_reply (status_of why) (codes "application/json") (refused_text (refusal_number why)) text
 
-abbrev pub with_site_reply : (at : ℕ) → Result (Vec RegisterMeters Global) Refusal → List ℕ
-    → List ℕ
+abbrev pub with_site_reply : (at : ℕ) → Result (Vec SiteRow Global) Refusal → List ℕ → List ℕ
 with_site_reply at (Ok rows) text =
     with_reply Fine (codes "application/json") (with_site [] at rows.items) text
 with_site_reply at (Err why) text = with_refusal why text
 
--- The office is asked which registers there are and which meters were installed at each, and what it answers is the reply, unless
--- there was no memory for that.
-pub record RepliesMeters {B : Type 0} (ledger : B → Ledger) (old new : Office B) (at : ℕ)
-    (from to : List ℕ) {E : Type 0} (result : Result (Unit {0}) E) : Type 0 where
-  pub answer : Result (Vec RegisterMeters Global) Refusal
-  pub tells : TellsSiteWithMeters ledger old new answer
-  pub asks : OnlyAsks ledger old new answer
-  pub puts : OnOk result (to ≡ with_site_reply at answer from)
-
--- Or it is asked, once, for the latest meters alone.
+-- The office is asked, once, and what it answers is the reply, unless there was no memory for that.
 pub record RepliesSite {B : Type 0} (ledger : B → Ledger) (old new : Office B)
     (reply : Result (Vec SiteRow Global) Refusal → List ℕ → List ℕ) (from to : List ℕ)
     {E : Type 0} (result : Result (Unit {0}) E) : Type 0 where

@@ -13,7 +13,6 @@ mod register_targets;
 mod reply_link;
 mod route;
 mod site;
-mod site_meters;
 mod texts;
 mod voids;
 
@@ -24,6 +23,5 @@ pub use metrics::reply_metrics;
 pub use register_replies::reply_energy;
 pub use route::{RunRoute, StatusRoute, reply_status, run_route};
 pub use site::reply_site;
-pub use site_meters::RegisterMeters;
 pub use texts::{put_entries, put_metrics, put_site};
 pub use voids::reply_voids;

@@ -1,14 +1,13 @@
 //! What a peer is replied who asks which registers and meters there are.
 ghost use Rattle.std.specs.Prelude.{◌≡◌, OnOk};
-ghost use Rattle.run_http.specs.SiteReply.{RepliesMeters, with_refusal, with_site_reply};
+ghost use Rattle.run_http.specs.SiteReply.{RepliesSite, with_refusal, with_site_reply};
 
 use crate::route::put_reply;
-use crate::site_meters::{RegisterMeters, ask_registers};
 use crate::texts::put_site;
 use http_answer::{refused_body, status_of};
 use http_request::Status;
 use office_books::Books;
-use office_core::Office;
+use office_core::{Office, SiteRow};
 use office_events::Refusal;
 use std::alloc::{AllocError, Global};
 
@@ -25,7 +24,7 @@ fn put_answer(
     alloc: Global,
     text: &mut Vec<u8>,
     moment: u64,
-    answer: &Result<Vec<RegisterMeters>, Refusal>,
+    answer: &Result<Vec<SiteRow>, Refusal>,
 ) -> Result<(), AllocError>
     ensures { OnOk result (text.new.items ≡ with_site_reply moment answer.now text.old.items) }
 {
@@ -39,7 +38,7 @@ fn put_answer(
     }
 }
 
-/// Asks the office which registers there are and which meters were installed at each, and puts the reply at the end of a text. Moments are seconds since
+/// Asks the office which registers and meters there are, and puts the reply at the end of a text. Moments are seconds since
 /// 1970-01-01 UTC. Want of memory leaves a part of it.
 pub fn reply_site<B: Books>(
     alloc: Global,
@@ -47,9 +46,9 @@ pub fn reply_site<B: Books>(
     office: &mut Office<B>,
     moment: u64,
 ) -> Result<(), AllocError>
-    ensures { RepliesMeters B.ledger office.old office.new moment text.old.items
+    ensures { RepliesSite B.ledger office.old office.new (with_site_reply moment) text.old.items
         text.new.items result }
 {
-    let answer = ask_registers(alloc, office);
+    let answer = office.site();
     put_answer(alloc, text, moment, &answer)
 }

@@ -15,9 +15,9 @@ use office_events::{Name, Refusal};
 use std::alloc::{AllocError, Global};
 
 // How many entries are asked for at a time, and how often at most: places are numbers of 64 bits.
-const PIECE: u32 = 256;
+const PIECE: u32 = 65536;
 
-const MOST_PIECES: u64 = 72_057_594_037_927_935;
+const MOST_PIECES: u64 = 281_474_976_710_655;
 
 // Whether a void names an entry.
 fn is_voided(entry: &MeterEntry) -> bool
@@ -60,11 +60,11 @@ fn ask_voids<B: Books>(
 {
     let mut kept = Vec::new(alloc);
     for turn in 0..MOST_PIECES {
-        match office.entries(meter, turn * 256 + 1, PIECE) {
+        match office.entries(meter, turn * 65536 + 1, PIECE) {
             Err(why) => return Ok(Err(why)),
             Ok(piece) => {
                 keep_voided(&mut kept, &piece)?;
-                if piece.len() < 256 {
+                if piece.len() < 65536 {
                     return Ok(Ok(kept));
                 }
             }
@@ -92,7 +92,7 @@ fn put_voids_told(
     }
 }
 
-/// Asks the office which entries of a meter voids name, and puts the reply at the end of a text. The entries are asked for 256 at
+/// Asks the office which entries of a meter voids name, and puts the reply at the end of a text. The entries are asked for 65,536 at
 /// a time. Want of memory leaves a part of the reply.
 pub fn reply_voids<B: Books>(
     alloc: Global,

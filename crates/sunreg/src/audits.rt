@@ -1,6 +1,6 @@
 //! The audit of an office's file.
 use crate::offices::{Files, open_in};
-use std::io::{self, Write};
+use std::io;
 use stored_office::{AuditFault, Databases, Ending, Failure, audit_stored, write_audit};
 
 // Audits the tables in the database at a path, and tells whether they are fine.

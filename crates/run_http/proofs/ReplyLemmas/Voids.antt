@@ -63,7 +63,7 @@ module _ {B : Type 0} (ledger : B → Ledger) where
       → kept ≡ voided_in (take n (entries_at (facts_of past) (Some opening))))
 
   abbrev from_place : List Fact → (n : ℕ) → Opening → List MeterEntry
-  from_place facts n opening = first_from (n + 1) 256 (entries_at facts (Some opening))
+  from_place facts n opening = first_from (n + 1) 65536 (entries_at facts (Some opening))
 
   abbrev all_voided : List Fact → Opening → List MeterEntry
   all_voided facts opening = voided_in (entries_at facts (Some opening))
@@ -76,40 +76,40 @@ module _ {B : Type 0} (ledger : B → Ledger) where
 
   pub more_kept : (a b d : Office B) (meter : Option (List ℕ)) (n : ℕ) (kept more : List MeterEntry) (v : Vec MeterEntry Global)
       → Keeps ledger a b → AreKept a b meter n kept → OnlyAsks ledger b d (Ok v)
-      → ListsAccepted ledger b d (Ok v) (λ facts. entries_within facts meter (n + 1) 256)
-      → more ≡ kept ++ voided_in v.items → AreKept a d meter (n + 256) more
+      → ListsAccepted ledger b d (Ok v) (λ facts. entries_within facts meter (n + 1) 65536)
+      → more ≡ kept ++ voided_in v.items → AreKept a d meter (n + 65536) more
   more_kept a b d meter n kept more v keeps told asks lists took = λ past stands clean opening is.
       let facts = facts_of past in
       let es = entries_at facts (Some opening) in
       let known = subst (λ o. IsListed (option_map (from_place facts n) o) (failures_of ledger b) (failures_of ledger d) (Ok v)) is
       (lists past (keeps.stands past stands) clean) in
-      let items : v.items ≡ take 256 (drop n es) = sym (some_same (from_place facts n opening) v.items known.0) ∙ piece_at facts opening n 256 in
+      let items : v.items ≡ take 65536 (drop n es) = sym (some_same (from_place facts n opening) v.items known.0) ∙ piece_at facts opening n 65536 in
       of_both es v.items n kept more took (told past stands (asks.clean clean) opening is)
-      ∙ ap voided_in (ap (λ (piece : List MeterEntry). take n es ++ piece) items ∙ one_piece_more n 256 es)
+      ∙ ap voided_in (ap (λ (piece : List MeterEntry). take n es ++ piece) items ∙ one_piece_more n 65536 es)
 
   pub all_kept : (a b d : Office B) (meter : Option (List ℕ)) (n : ℕ) (kept : List MeterEntry) (v w : Vec MeterEntry Global)
       → Keeps ledger a b → AreKept a b meter n kept → OnlyAsks ledger b d (Ok v)
-      → ListsAccepted ledger b d (Ok v) (λ facts. entries_within facts meter (n + 1) 256)
-      → w.items ≡ kept ++ voided_in v.items → length v.items < 256 → ListsAccepted ledger a d (Ok w) (λ facts. voids_of facts meter)
+      → ListsAccepted ledger b d (Ok v) (λ facts. entries_within facts meter (n + 1) 65536)
+      → w.items ≡ kept ++ voided_in v.items → length v.items < 65536 → ListsAccepted ledger a d (Ok w) (λ facts. voids_of facts meter)
   all_kept a b d meter n kept v w keeps told asks lists took few = λ past stands clean.
       let facts = facts_of past in
       let known = lists past (keeps.stands past stands) clean in
       let found = mapped (from_place facts n) (option_and_then (opening_of facts) meter) v.items known.0 in
       let opening = found.0 in
       let es = entries_at facts (Some opening) in
-      let items : v.items ≡ take 256 (drop n es) = sym found.2 ∙ piece_at facts opening n 256 in
-      let last : length (take 256 (drop n es)) < 256 = subst (λ (piece : List MeterEntry). length piece < 256) items few in
+      let items : v.items ≡ take 65536 (drop n es) = sym found.2 ∙ piece_at facts opening n 65536 in
+      let last : length (take 65536 (drop n es)) < 65536 = subst (λ (piece : List MeterEntry). length piece < 65536) items few in
       let all : w.items ≡ voided_in es =
       of_both es v.items n kept w.items took (told past stands (asks.clean clean) opening found.1)
-      ∙ ap voided_in (ap (λ (piece : List MeterEntry). take n es ++ piece) items ∙ last_piece n 256 es last) in
+      ∙ ap voided_in (ap (λ (piece : List MeterEntry). take n es ++ piece) items ∙ last_piece n 65536 es last) in
       (ap (option_map (all_voided facts)) found.1 ∙ ap Some (sym all), known.1 ∙ keeps.failures)
 
   -- ---- the answer
 
   pub told : {E : Type 0} (a b d : Office B) (meter : Option (List ℕ)) (n : ℕ) (kept : List MeterEntry) (v w : Vec MeterEntry Global)
       → Keeps ledger a b → AreKept a b meter n kept → OnlyAsks ledger b d (Ok v)
-      → ListsAccepted ledger b d (Ok v) (λ facts. entries_within facts meter (n + 1) 256)
-      → w.items ≡ kept ++ voided_in v.items → length v.items < 256 → AsksRows ledger a d (λ facts. voids_of facts meter) {E = E} (Ok (Ok w))
+      → ListsAccepted ledger b d (Ok v) (λ facts. entries_within facts meter (n + 1) 65536)
+      → w.items ≡ kept ++ voided_in v.items → length v.items < 65536 → AsksRows ledger a d (λ facts. voids_of facts meter) {E = E} (Ok (Ok w))
   told a b d meter n kept v w keeps are asks lists took few = record {
     answer = Ok w;
     asks = answered_as ledger a d w (λ stopped. goes_on ledger b d v asks (keeps.stays ∙ stopped)) (kept_on ledger a b d keeps (asked ledger b d v asks));
@@ -119,7 +119,7 @@ module _ {B : Type 0} (ledger : B → Ledger) where
 
   pub refused : {E : Type 0} (a b d : Office B) (meter : Option (List ℕ)) (n : ℕ) (why : Refusal) → Keeps ledger a b
       → OnlyAsks {T = Vec MeterEntry Global} ledger b d (Err why)
-      → ListsAccepted {T = MeterEntry} ledger b d (Err why) (λ facts. entries_within facts meter (n + 1) 256)
+      → ListsAccepted {T = MeterEntry} ledger b d (Err why) (λ facts. entries_within facts meter (n + 1) 65536)
       → AsksRows ledger a d (λ facts. voids_of facts meter) {E = E} (Ok (Err why))
   refused a b d meter n why keeps asks lists = record {
     answer = Err why;

@@ -1,9 +1,8 @@
-//! `/site`: the registers, each with its latest meter and all of them, as JSON.
+//! `/site`: the registers and their meters, as JSON.
 ghost use Rattle.std.specs.Prelude.{◌≡◌, ◌++◌, OnOk};
 ghost use Rattle.http_answer.specs.Rows.{bool_text};
 ghost use Rattle.run_http.specs.Texts.SiteText as json;
 
-use crate::site_meters::RegisterMeters;
 use office_core::SiteRow;
 use office_events::Installation;
 use run_status::{put, put_number, put_scale, put_word};
@@ -59,59 +58,17 @@ fn put_register(text: &mut Vec<u8>, before: &[u8], row: &SiteRow) -> Result<(), 
     put_word(text, b"\",\"register\":\"", row.register.name.as_bytes())
 }
 
-// Puts one of the meters that were installed at a register, after what stands before it.
-fn put_installed(text: &mut Vec<u8>, before: &[u8], row: &Installation) -> Result<(), AllocError>
-    ensures { OnOk result (text.new.items
-        ≡ json.with_installed before.now text.old.items row.now) }
+// Puts a register and its meter.
+fn put_row(text: &mut Vec<u8>, before: &[u8], row: &SiteRow) -> Result<(), AllocError>
+    ensures { OnOk result (text.new.items ≡ json.with_row before.now text.old.items row.now) }
 {
-    put_word(text, before, row.opening.meter.as_bytes())?;
-    put_last(text, row)?;
-    put_total(text, row)?;
+    put_register(text, before, row)?;
+    put_meter(text, &row.meter)?;
     put(text, b"}")
 }
 
-// Puts meters, each after a comma.
-fn put_more_installed(text: &mut Vec<u8>, rows: &[Installation]) -> Result<(), AllocError>
-    ensures { OnOk result (text.new.items ≡ json.with_more_installed text.old.items rows.now) }
-{
-    for row in rows {
-        put_installed(text, b",{\"meter\":\"", row)?;
-    }
-    Ok(())
-}
-
-fn put_all_installed(text: &mut Vec<u8>, rows: &[Installation]) -> Result<(), AllocError>
-    ensures { OnOk result (text.new.items ≡ json.with_all_installed text.old.items rows.now) }
-{
-    match rows {
-        [] => Ok(()),
-        [first, more @ ..] => {
-            put_installed(text, b"{\"meter\":\"", first)?;
-            put_more_installed(text, more)
-        }
-    }
-}
-
-// Puts all meters that were installed at a register.
-fn put_meters(text: &mut Vec<u8>, rows: &[Installation]) -> Result<(), AllocError>
-    ensures { OnOk result (text.new.items ≡ json.with_meters text.old.items rows.now) }
-{
-    put(text, b",\"meters\":[")?;
-    put_all_installed(text, rows)?;
-    put(text, b"]}")
-}
-
-// Puts a register and its meters.
-fn put_row(text: &mut Vec<u8>, before: &[u8], one: &RegisterMeters) -> Result<(), AllocError>
-    ensures { OnOk result (text.new.items ≡ json.with_row before.now text.old.items one.now) }
-{
-    put_register(text, before, &one.row)?;
-    put_meter(text, &one.row.meter)?;
-    put_meters(text, &one.meters)
-}
-
 // Puts rows, each after a comma.
-fn put_more_rows(text: &mut Vec<u8>, rows: &[RegisterMeters]) -> Result<(), AllocError>
+fn put_more_rows(text: &mut Vec<u8>, rows: &[SiteRow]) -> Result<(), AllocError>
     ensures { OnOk result (text.new.items ≡ json.with_more_rows text.old.items rows.now) }
 {
     for row in rows {
@@ -120,7 +77,7 @@ fn put_more_rows(text: &mut Vec<u8>, rows: &[RegisterMeters]) -> Result<(), Allo
     Ok(())
 }
 
-fn put_rows(text: &mut Vec<u8>, rows: &[RegisterMeters]) -> Result<(), AllocError>
+fn put_rows(text: &mut Vec<u8>, rows: &[SiteRow]) -> Result<(), AllocError>
     ensures { OnOk result (text.new.items ≡ json.with_rows text.old.items rows.now) }
 {
     match rows {
@@ -134,7 +91,7 @@ fn put_rows(text: &mut Vec<u8>, rows: &[RegisterMeters]) -> Result<(), AllocErro
 
 /// Puts the registers and their meters at the end of a text, as JSON: `moment` is that of the question, in seconds since
 /// 1970-01-01 UTC, totals are mWh. Want of memory leaves a part of it.
-pub fn put_site(text: &mut Vec<u8>, moment: u64, rows: &[RegisterMeters]) -> Result<(), AllocError>
+pub fn put_site(text: &mut Vec<u8>, moment: u64, rows: &[SiteRow]) -> Result<(), AllocError>
     ensures { OnOk result (text.new.items ≡ json.with_site text.old.items moment rows.now) }
 {
     put_number(text, b"{\"at\":", moment)?;

@@ -14,16 +14,16 @@ loop-turn-init g c = record {
 
 pub returns-in-Err : goal.returns-in-Err
 returns-in-Err g c =
-    refused g.B.Books.ledger c.args.office.now c.loop-turn.office c.entries.new.self c.args.meter.now (c.loop-turn.turn * 256) c.in-Err.why
+    refused g.B.Books.ledger c.args.office.now c.loop-turn.office c.entries.new.self c.args.meter.now (c.loop-turn.turn * 65536) c.in-Err.why
     c.loop-turn.invariant.keeps c.in-Err.ensures.asks c.in-Err.ensures.listed
 
-pub returns-then-len-lt256 : goal.returns-then-len-lt256
-returns-then-len-lt256 g c =
+pub returns-then-len-lt65536 : goal.returns-then-len-lt65536
+returns-then-len-lt65536 g c =
     let same : length c.deref.result.now ≡ length c.in-Ok.piece.items = ap length c.deref.ensures.value in
-    told g.B.Books.ledger c.args.office.now c.loop-turn.office c.entries.new.self c.args.meter.now (c.loop-turn.turn * 256) c.loop-turn.kept.items
+    told g.B.Books.ledger c.args.office.now c.loop-turn.office c.entries.new.self c.args.meter.now (c.loop-turn.turn * 65536) c.loop-turn.kept.items
     c.in-Ok.piece c.keep_voided.new.kept c.loop-turn.invariant.keeps c.loop-turn.invariant.are c.in-Ok.ensures.asks c.in-Ok.ensures.listed
     (c.in_ok-keep_voided-in-Ok.ensures ∙ ap (λ (piece : List MeterEntry). c.loop-turn.kept.items ++ voided_in piece) c.deref.ensures.value)
-    (omega (arith, same, c.len.ensures, c.deref.ensures.len, c.if-len-lt256.true))
+    (omega (arith, same, c.len.ensures, c.deref.ensures.len, c.if-len-lt65536.true))
 
 pub loop-turn-preserved : goal.loop-turn-preserved
 loop-turn-preserved g c =
@@ -35,10 +35,10 @@ loop-turn-preserved g c =
     let turn = c.loop-turn.turn in
     let keeps = c.loop-turn.invariant.keeps in
     let asks = c.in-Ok.ensures.asks in
-    let next : turn * 256 + 256 ≡ (turn + 1) * 256 = omega arith in
+    let next : turn * 65536 + 65536 ≡ (turn + 1) * 65536 = omega arith in
     record {
       are = subst (λ n. AreKept ledger a d meter n c.keep_voided.new.kept.items) next
-          (more_kept ledger a b d meter (turn * 256) c.loop-turn.kept.items c.keep_voided.new.kept.items c.in-Ok.piece keeps c.loop-turn.invariant.are asks
+          (more_kept ledger a b d meter (turn * 65536) c.loop-turn.kept.items c.keep_voided.new.kept.items c.in-Ok.piece keeps c.loop-turn.invariant.are asks
           c.in-Ok.ensures.listed
           (c.in_ok-keep_voided-in-Ok.ensures ∙ ap (λ (piece : List MeterEntry). c.loop-turn.kept.items ++ voided_in piece) c.deref.ensures.value));
       keeps = kept_on ledger a b d keeps (asked ledger b d c.in-Ok.piece asks);

@@ -6,7 +6,7 @@ use Rattle.run_http.proofs.voids.ask_voids.Given as goal
 
 abbrev pub invariant-loop-turn : goal.invariant-loop-turn
 invariant-loop-turn g l = record {
-  are : AreKept g.B.Books.ledger l.fn.office l.office l.meter (l.turn * 256) l.kept.items;
+  are : AreKept g.B.Books.ledger l.fn.office l.office l.meter (l.turn * 65536) l.kept.items;
   keeps : Keeps g.B.Books.ledger l.fn.office l.office;
   going : 0 < l.turn → is_stopped l.fn.office ≡ true → ⊥;
 }

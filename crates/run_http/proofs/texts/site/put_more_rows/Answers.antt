@@ -1,16 +1,16 @@
 use Rattle.std.proofs.Common.{refl, arith, List, ℕ}
 use Rattle.std.specs.Prelude.{codes}
-use Rattle.run_http.specs.declared.site_meters.RegisterMeters.{RegisterMeters}
+use Rattle.office_core.specs.declared.site.SiteRow.{SiteRow}
 use Rattle.run_http.specs.Texts.SiteText as text
 use Rattle.office_events.proofs.Loops.{all_on, one_on}
 use Rattle.run_http.proofs.texts.site.put_more_rows.Goals as goal
 
 pub loop-row-preserved : goal.loop-row-preserved
 loop-row-preserved c =
-    one_on (λ (rows : List RegisterMeters) (before : List ℕ). text.with_more_rows before rows) (λ row before. text.with_row (codes ",{\"device\":\"") before row) (λ x xs t. refl) c.args.rows.now
+    one_on (λ (rows : List SiteRow) (before : List ℕ). text.with_more_rows before rows) (λ row before. text.with_row (codes ",{\"device\":\"") before row) (λ x xs t. refl) c.args.rows.now
     c.loop-row.row-index c.row-item.result c.loop-row.text.items c.put_row.new.text.items _ c.loop-row-test.true c.row-item.is c.loop-row.invariant c.in_ok-put_row.ensures
 
 pub returns : goal.returns
 returns c =
-    all_on (λ (rows : List RegisterMeters) (before : List ℕ). text.with_more_rows before rows) (λ t. refl) c.args.rows.now c.loop-row.row-index
+    all_on (λ (rows : List SiteRow) (before : List ℕ). text.with_more_rows before rows) (λ t. refl) c.args.rows.now c.loop-row.row-index
     c.loop-row.text.items _ (omega arith) c.loop-row.invariant

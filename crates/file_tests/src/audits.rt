@@ -1,0 +1,82 @@
+//! Audits of offices in files.
+use crate::commands::fill;
+use crate::files::{Files, path, remove};
+use std::test::Fail;
+use stored_office::{AuditFault, Databases, audit_stored, write_audit};
+
+/// Whether all is fine, or why there is no audit; and what is printed.
+type Audited = (Result<bool, AuditFault>, Vec<u8>);
+
+fn audit<D: Databases>(rt: &HostRuntime, databases: &D, path: &str) -> Result<Audited, Fail> {
+    let mut connection = databases.open(path)?;
+    let mut printed = Vec::new(rt.alloc());
+    let end = match audit_stored(rt.alloc(), &mut connection) {
+        Ok(findings) => write_audit(rt.alloc(), &findings, &mut printed),
+        Err(fault) => Err(fault),
+    };
+    Ok((end, printed))
+}
+
+/// What another program does to the tables of the day, whether they are fine then, and what is printed.
+static CHANGED: [(&str, bool, &[u8]); 3] = [
+    (
+        "UPDATE meta SET zone = 'UTC1'",
+        true,
+        b"fine: 2 meters, 5 entries, 5 intervals\n",
+    ),
+    (
+        "UPDATE intervals SET mwh = 177778 WHERE meter = 'm1' AND start = 900",
+        false,
+        b"meter m1 interval 900 has 177778, entries give 177777\n1 differences\n",
+    ),
+    (
+        "UPDATE installations SET total = 44999 WHERE meter = 'm2'",
+        false,
+        b"meter m1 interval 900 has 177778, entries give 177777
+meter m2 total has 44999, entries give 45000
+2 differences
+",
+    ),
+];
+
+fn change<D: Databases>(databases: &D, path: &str, text: &str) -> Result<(), Fail> {
+    let mut connection = databases.open(path)?;
+    connection.execute_batch(text)?;
+    Ok(())
+}
+
+/// Whether each change is told so.
+fn are_told<D: Databases>(rt: &HostRuntime, databases: &D, path: &str) -> Result<bool, Fail> {
+    for (text, fine, told) in &CHANGED {
+        change(databases, path, text)?;
+        let (now, printed) = audit(rt, databases, path)?;
+        if now != Ok(*fine) || printed.as_slice() != *told {
+            return Ok(false);
+        }
+    }
+    Ok(true)
+}
+
+#[test]
+fn what_is_changed_is_told(rt: HostRuntime) -> Result<(), Fail> {
+    let path = path(&rt)?;
+    fill(&rt, &Files { rt: &rt }, &path)?;
+    assert!(rt; are_told(&rt, &Files { rt: &rt }, &path)?);
+    remove(&rt, &path)
+}
+
+// Makes a database that has tables of its own.
+fn make_foreign<D: Databases>(databases: &D, path: &str) -> Result<(), Fail> {
+    let mut connection = databases.make(path)?;
+    connection.execute_batch("CREATE TABLE notes (text TEXT) STRICT")?;
+    Ok(())
+}
+
+#[test]
+fn foreign_tables_are_not_audited(rt: HostRuntime) -> Result<(), Fail> {
+    let path = path(&rt)?;
+    make_foreign(&Files { rt: &rt }, &path)?;
+    let (end, printed) = audit(&rt, &Files { rt: &rt }, &path)?;
+    assert!(rt; end == Err(AuditFault::NotOurs) && printed.is_empty());
+    remove(&rt, &path)
+}
