@@ -90,14 +90,15 @@ class Meter:
         return None
 
     def take(self, place, kind, at, raw, rolls, after, sf, is_voided):
-        """Takes the next row, or tells why it can't come there."""
+        """Takes the next row, or tells why it can't come there; then all is as it was but for the place."""
         fault = self.shape(place, kind, rolls, after, sf, is_voided) or is_voided and self.voided(at, raw, rolls)
         if not fault and kind == READING and (not is_voided or self.stands):
             fault = self.read(at, raw, rolls)
         if not fault and not is_voided:
             fault = self.book(kind, at, raw, rolls, after, sf)
         if not fault:
-            self.place, self.stands = place, not is_voided
+            self.stands = not is_voided
+        self.place = place
         return fault
 
 
