@@ -2,7 +2,7 @@
 
 Files that are fine: one that the program wrote, and one whose quarter hours Python computes. Then what is printed of changes to the second,
 and files that are none. Then one change at a time, in a random row and column of a copy: each is told (status 1) or refused as the file is
-opened (status 3), but for those that docs/AUDIT.md lists.
+opened (status 3), but for those that docs/AUDIT.md lists. Each time audit_rows.py says which of these it is, and in which lines.
 """
 import collections
 import os
@@ -15,6 +15,8 @@ import subprocess
 import sys
 import tempfile
 import time
+
+import audit_rows
 
 HERE = pathlib.Path(__file__).resolve().parent
 BEGIN, DAY, DAYS = 1703808000, 86400, 6  # 2023-12-29 00:00 UTC
@@ -193,8 +195,8 @@ def other(value):
 
 
 def change(source):
-    """A copy of a file with one change in a random row and column: (table, what, whether the row is a voided entry's, text), or None where the table is
-    empty, or SQL itself refuses it."""
+    """A copy of a file with one change in a random row and column: (table, what, whether the row is a voided entry's, text, what the audit is to tell),
+    or None where the table is empty, or SQL itself refuses it."""
     books = copied(source)
     table = random.choice(TABLES)
     columns = [it[1] for it in books.execute(f"PRAGMA table_info({table})")]
@@ -223,11 +225,12 @@ def change(source):
             books.execute(f'UPDATE {table} SET "{what}" = ? WHERE rowid = ?', (now, row[0]))
             text = f"{table} {row[1:]}: {what} is {now}"
         books.commit()
+        wanted = audit_rows.audit_of(books)
     except (sqlite3.Error, OverflowError):
         return None
     finally:
         books.close()
-    return table, what, is_voided, text
+    return table, what, is_voided, text, wanted
 
 
 def changes(seed):
@@ -240,19 +243,16 @@ def changes(seed):
         if made is None:
             continue
         tried += 1
-        *of, is_voided, text = made
+        *of, is_voided, text, wanted = made
         may_stay = LISTED | (IN_ONE_QUARTER if source == "program.db" else set()) | (VOIDED if is_voided else set())
         status, lines, said = audit("changed.db")
-        if status == 1 and lines and lines[-1].endswith(" differences") and not said:
-            told += 1
-        elif status == 3 and not lines and said:
-            refused += 1
-        elif status == 0 and tuple(of) in may_stay:
+        what = f"seed {seed}, {source}: {text}"
+        same(what, (status, lines, bool(said)), (*wanted, status == 3))
+        if status == 0:
+            same(f"{what} is listed", tuple(of) in may_stay, True)
             listed[".".join(of)] += 1
-        else:
-            same(f"seed {seed}, {source}: {text}", (status, lines[-3:], said), "told")
-            continue
-        counts["passed"] += 1
+        told += status == 1
+        refused += status == 3
     kept = ", ".join(f"{name} {count}" for name, count in sorted(listed.items()))
     print(f"of {tried} changes {told} were told, {refused} refused as the file was opened, and {sum(listed.values())} are of those that the page lists: {kept or 'none'} (seed {seed})")
 

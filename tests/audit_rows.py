@@ -1,0 +1,160 @@
+"""What an audit of a file tells, by Python and sqlite3: tests/audit.py holds the program to it. It is written from docs/AUDIT.md, docs/SCHEMA.md and
+the definitions of energy_core and meter_audit, and stands on nothing of the program."""
+OPENING, READING, _MANUAL, CLOSING, RESET, RESCALE = range(1, 7)
+LATEST, GREATEST_PLACE, SHOWN, MOST_ENERGY = 4_102_444_800, 2**62, 2**32 - 1, 4 * 10**18
+LONGEST = 3000  # quarter hours that a step may touch
+
+
+def unit(sf):
+    """The mWh of a count."""
+    return 10 ** (sf + 3)
+
+
+def touched(since, till):
+    """How many quarter hours lie between two moments."""
+    return (till - 1) // 900 - since // 900 + 1
+
+
+def can_count(ceiling, sf, seconds, count):
+    """Whether so many counts come within some seconds at a load of the ceiling, the first one at once: 5 mWh are 18 Ws."""
+    return max(count - 1, 0) * unit(sf) * 18 <= ceiling * seconds * 5
+
+
+class Meter:
+    """A meter as its rows were so far."""
+
+    def __init__(self, range_, ceiling, at, raw, sf):
+        self.range, self.ceiling, self.at, self.raw, self.sf = range_, ceiling, at, raw, sf
+        self.place, self.total, self.is_ended, self.stands, self.rows = 1, 0, False, True, {}
+
+    def cause(self, at, raw):
+        """For what a reading would be held; 0 for nothing."""
+        seconds, far = at - self.at, (raw + self.range - self.raw) % self.range
+        if raw == 0:
+            return 1
+        if raw >= self.range:
+            return 8
+        if seconds <= 0:
+            return 3
+        if touched(self.at, at) > LONGEST:
+            return 4
+        if can_count(self.ceiling, self.sf, seconds, self.range):
+            return 5
+        if not can_count(self.ceiling, self.sf, seconds, far):
+            return 6
+        return 7 if self.total + far * unit(self.sf) > MOST_ENERGY else 0
+
+    def shape(self, place, kind, rolls, after, sf, is_voided):
+        """What is wrong with a row by its kind and columns alone."""
+        is_change = kind in (RESET, RESCALE)
+        if place != self.place + 1:
+            return f"the next place is {self.place + 1}"
+        if kind == OPENING:
+            return "the meter was opened before"
+        if self.is_ended:
+            return "the meter was closed before"
+        if is_voided and kind != READING:
+            return "a void names it, and it is no reading"
+        if (rolls if is_change else after) != 0:
+            return "a column that its kind has no use for is not 0"
+        return f"the scale factor there is {self.sf}" if kind != RESCALE and sf != self.sf else None
+
+    def voided(self, at, raw, rolls):
+        """What is wrong with a reading that was voided, as far as the counter can show it."""
+        for cause, is_so in ((1, raw == 0), (8, raw >= self.range), (3, at <= self.at)):
+            if is_so:
+                return f"it would be held, cause {cause}"
+        return "the rollovers there are 1" if rolls > 1 else None
+
+    def read(self, at, raw, rolls):
+        """What is wrong with a reading behind these rows."""
+        if cause := self.cause(at, raw):
+            return f"it would be held, cause {cause}"
+        return None if rolls == (raw < self.raw) else f"the rollovers there are {int(raw < self.raw)}"
+
+    def book(self, kind, at, raw, rolls, after, sf):
+        """Books an entry, or tells why it would be refused."""
+        is_change = kind in (RESET, RESCALE)
+        reached = raw if is_change else raw + rolls * self.range
+        mwh = (reached - self.raw) * unit(self.sf)
+        faults = (reached < self.raw, at <= self.at, touched(self.at, at) > LONGEST, self.total + mwh > MOST_ENERGY, is_change and not -3 <= sf <= 3,
+                  max(raw, after if is_change else 0) >= self.range)
+        if any(faults):
+            return f"it would be refused, fault {faults.index(True) + 1}"
+        for start in range(self.at // 900 * 900, at, 900):
+            first, last = max(self.at, start) - self.at, min(at, start + 900) - self.at
+            self.rows[start] = self.rows.get(start, 0) + mwh * last // (at - self.at) - mwh * first // (at - self.at)
+        self.at, self.raw, self.sf = at, after if is_change else raw, sf if is_change else self.sf
+        self.total += mwh
+        self.is_ended = kind == CLOSING
+        return None
+
+    def take(self, place, kind, at, raw, rolls, after, sf, is_voided):
+        """Takes the next row, or tells why it can't come there; then all is as it was but for the place."""
+        fault = self.shape(place, kind, rolls, after, sf, is_voided) or is_voided and self.voided(at, raw, rolls)
+        if not fault and kind == READING and (not is_voided or self.stands):
+            fault = self.read(at, raw, rolls)
+        if not fault and not is_voided:
+            fault = self.book(kind, at, raw, rolls, after, sf)
+        if not fault:
+            self.stands = not is_voided
+        self.place = place
+        return fault
+
+
+def within(rows, *limits):
+    """Whether each value of some rows is one that its column may have."""
+    return all(least <= value <= most for row in rows for value, (least, most) in zip(row, limits, strict=True))
+
+
+def differences_of(books, next_place, installation):
+    """What differs of a meter, in order."""
+    place, name, _, ceiling, ended, *last, total = installation
+    astray = "has a row in {} with a value that none may have"
+    if not within([(place, ceiling, ended, *last, total)], (1, GREATEST_PLACE), (1, 10**9), (0, 1), (0, LATEST), (0, SHOWN), (-3, 3), (0, MOST_ENERGY)):
+        return [astray.format("installations")]
+    ask = lambda what: books.execute(f"SELECT {what}", (name,)).fetchall()
+    told = [] if place == next_place else [f"place has {place}, the next is {next_place}"]
+    ranges, voids = ask('"range" FROM ranges WHERE meter = ?'), ask("place FROM voids WHERE meter = ? ORDER BY place")
+    entries = ask('place, kind, moment, raw, rolls, "after", sf FROM entries WHERE meter = ? ORDER BY place')
+    intervals = ask("start, mwh FROM intervals WHERE meter = ? ORDER BY start")
+    for table, are_fine in (
+        ("ranges", len(ranges) == 1 and within(ranges, (65536, 2**32))),
+        ("voids", within(voids, (1, GREATEST_PLACE))),
+        ("entries", within(entries, (1, GREATEST_PLACE), (1, 6), (0, LATEST), (0, SHOWN), (0, 255), (0, SHOWN), (-3, 3))),
+        ("intervals", within(intervals, (0, LATEST), (0, MOST_ENERGY))),
+    ):
+        if not are_fine:
+            return [*told, astray.format(table)]
+    named, ((range_,),) = {it for it, in voids}, ranges
+    first, *later = entries or [(0,) * 7]
+    if first[:2] != (1, OPENING) or first[4:6] != (0, 0) or 1 in named or first[3] >= range_:
+        return [*told, "is opened by no lawful entry"]
+    meter = Meter(range_, ceiling, first[2], first[3], first[6])
+    if cant := [f"entry {row[0]} can't come there: {fault}" for row in later if (fault := meter.take(*row, row[0] in named))]:
+        return told + cant
+    has, wanted = dict(intervals), meter.rows
+    for start in sorted({*has, *wanted}):
+        if has.get(start) != wanted.get(start):
+            tells = f"has {has[start]}" if start in has else "has no row"
+            told.append(f"interval {start} {tells}, entries give {wanted.get(start, 'none')}")
+    stands = [meter.at, meter.raw, meter.sf]
+    if last != stands:
+        told.append(f"last has {' '.join(map(str, last))}, entries give {' '.join(map(str, stands))}")
+    if total != meter.total:
+        told.append(f"total has {total}, entries give {meter.total}")
+    if ended != meter.is_ended:
+        told.append("is not ended, entries end it" if meter.is_ended else "is ended, entries don't end it")
+    return told
+
+
+def audit_of(books):
+    """The status of an audit, and its lines."""
+    if books.execute("PRAGMA foreign_key_check").fetchone():
+        return 3, []
+    rows = books.execute("SELECT * FROM installations ORDER BY place").fetchall()
+    told = [f"meter {row[1]} {it}" for place, row in enumerate(rows, 1) for it in differences_of(books, place, row)]
+    if told:
+        return 1, [*told[:100], *([f"and {len(told) - 100} more"] if len(told) > 100 else []), f"{len(told)} differences"]
+    entries, intervals = (sum(books.execute(f"SELECT count(*) FROM {table} WHERE meter = ?", (row[1],)).fetchone()[0] for row in rows) for table in ("entries", "intervals"))
+    return 0, [f"fine: {len(rows)} meters, {entries} entries, {intervals} intervals"]
