@@ -214,7 +214,7 @@ fi
 
 # metrics: the names that the program's metrics have, by its source
 metrics() {
-    sed -n 's/.*# TYPE \([a-z_]*\) .*/\1/p' "$here/../crates/run_http/src/texts/metrics.rt" "$here/../crates/run_http/src/texts/energy_lines.rt" | sort
+    sed -n 's/^ *b"\(sunreg_[a-z_]*\)",$/\1/p' "$here/../crates/run_http/src/texts/metrics.rt" "$here/../crates/run_http/src/texts/energy_lines.rt" | sort
 }
 
 # strange FILE: the names in a file that are none of these
