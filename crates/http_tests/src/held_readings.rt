@@ -4,12 +4,11 @@ use energy_report::{HeldCounts, HeldWithin, read_day};
 use interval_core::{DayRange, Zone};
 use office_books::RowSink;
 use office_events::{HeldReading, Name};
-use std::test::Fail;
 
 /// A reading of 1970 that was held, in seconds since 1970-01-01 UTC.
-fn held(at: u64, cause: Cause) -> Result<HeldReading, Fail> {
-    Ok(HeldReading {
-        meter: Name::new(b"m1").ok_or("no name")?,
+fn held(at: u64, cause: Cause) -> Option<HeldReading> {
+    Some(HeldReading {
+        meter: Name::new(b"m1")?,
         poll: 1,
         at,
         raw: 5,
@@ -32,38 +31,34 @@ static HELD: [(u64, Cause); 10] = [
     (172_800, Cause::TooFast),
 ];
 
-/// Nothing counted yet, by the clocks of UTC.
-fn counting(range: DayRange) -> Result<HeldWithin, Fail> {
-    let zone = Zone::read("UTC0").ok().ok_or("no zone")?;
-    Ok(HeldWithin::new(zone, range))
+/// What they come to in a range, by the clocks of UTC; where a cause is given, as if each was held for it.
+fn counted(range: DayRange, given: Option<Cause>) -> Option<HeldCounts> {
+    let zone = Zone::read("UTC0").ok()?;
+    let mut within = HeldWithin::new(zone, range);
+    for (at, cause) in &HELD {
+        within.put(held(*at, given.unwrap_or(*cause))?);
+    }
+    Some(within.counts())
 }
 
 #[test]
-fn readings_of_a_day_are_counted_by_cause(rt: HostRuntime) -> Result<(), Fail> {
+fn readings_of_a_day_are_counted_by_cause(rt: HostRuntime) {
     let day = DayRange {
         from: read_day("1970-01-02"),
         till: read_day("1970-01-03"),
     };
-    let mut counted = counting(day)?;
-    for (at, cause) in &HELD {
-        counted.put(held(*at, *cause)?);
-    }
-    for one in &counted.counts().by_cause() {
+    let counts = counted(day, None).expect(&rt, "counts");
+    for one in &counts.by_cause() {
         assert!(rt; one.count == 1, "{one:?}");
     }
-    Ok(())
 }
 
 #[test]
-fn a_cause_is_counted_again(rt: HostRuntime) -> Result<(), Fail> {
-    let mut counted = counting(DayRange::all())?;
-    for (at, _) in &HELD {
-        counted.put(held(*at, Cause::GapTooLong)?);
-    }
+fn a_cause_is_counted_again(rt: HostRuntime) {
+    let counts = counted(DayRange::all(), Some(Cause::GapTooLong)).expect(&rt, "counts");
     let wanted = HeldCounts {
         gap_too_long: 10,
         ..HeldCounts::none()
     };
-    assert!(rt; counted.counts() == wanted);
-    Ok(())
+    assert!(rt; counts == wanted);
 }
