@@ -7,8 +7,8 @@ use Rattle.command_io.specs.declared.status.ExitStatus.TheVariants.{Fine, Refuse
 use Rattle.sun_points.specs.Writing.{GotPart}
 
 -- Where it didn't fail, what was written is what is printed with its status.
-abbrev pub PrintsAs : (Prints : List ℕ → ExitStatus → Type 0) → ExitStatus → (old new : Option (List ℕ))
-    → Type 0
+abbrev pub PrintsAs : (Prints : List ℕ → ExitStatus → Type 0) → ExitStatus
+    → (old new : Option (List ℕ)) → Type 0
 PrintsAs Prints status old new =
     status ≢ Failed → (printed : List ℕ) × Appends old new printed × Prints printed status
 
@@ -37,12 +37,14 @@ EndsAs p text Failed Failed old new = new ≡ old
 -- prints, since its printing failed.
 abbrev pub PrintsOn : {P : Type 0} → printers.Ghosts P → (Prints : List ℕ → ExitStatus → Type 0)
     → ExitStatus → (old new : P) → Type 0
-PrintsOn p Prints Fine old new = (printed : List ℕ) × Printed p printed old new × Prints printed Fine
+PrintsOn p Prints Fine old new =
+    (printed : List ℕ) × Printed p printed old new × Prints printed Fine
 PrintsOn p Prints Refused old new =
     (printed : List ℕ) × Printed p printed old new × Prints printed Refused
 PrintsOn p Prints Failed old new =
     Printed p [] old new
-    ⊎ ((printed : List ℕ) × (meant : ExitStatus) × BrokeOff p printed old new × Prints printed meant)
+    ⊎ ((printed : List ℕ) × (meant : ExitStatus) × BrokeOff p printed old new
+    × Prints printed meant)
 
 -- the same where what is printed depends on the input
 abbrev pub PrintsFor : {P : Type 0} → printers.Ghosts P

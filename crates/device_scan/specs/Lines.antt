@@ -45,9 +45,8 @@ TurnTells ask frames More = settled ask frames ≡ None
 TurnTells ask frames (Settled answer) = settled ask frames ≡ Some (words_seen answer)
 
 -- a turn took bytes, and tells what their frames settle
-pub record HearsTurn (ask : Ask) (old_bytes new_bytes : Option (List ℕ)) (old_open new_open : List ℕ)
-    (turn : Turn)
-    : Type 0 where
+pub record HearsTurn (ask : Ask) (old_bytes new_bytes : Option (List ℕ))
+    (old_open new_open : List ℕ) (turn : Turn) : Type 0 where
   pub came : List ℕ
   pub hears : Hears old_bytes new_bytes old_open new_open came
   pub tells : TurnTells ask (frames (old_open ++ came)) turn
@@ -76,7 +75,8 @@ ask unit line span = record { id = line.next; unit = unit; span = span }
 -- one try: the request is given, and what comes then answers it
 pub record Tries (unit : ℕ) (old new : Line) (span : Span) (words : Option (List ℕ)) : Type 0 where
   pub asked : Appends old.given new.given (request_frame (ask unit old span))
-  pub heard : HearsAnswer (ask unit old span) old.bytes new.bytes old.open_bytes new.open_bytes words
+  pub heard : HearsAnswer (ask unit old span) old.bytes new.bytes old.open_bytes new.open_bytes
+      words
   pub next : new.next ≡ next_id old.next
 
 -- a read that brought no words is tried once more

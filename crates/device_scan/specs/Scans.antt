@@ -58,8 +58,8 @@ abbrev pub fresh : (bytes given : Option (List ℕ)) → Line
 fresh bytes given = record { bytes = bytes; given = given; open_bytes = []; next = 1 }
 
 -- a scan of a unit over a link that was just made: its exchanges, and the words that they give
-pub record Scans (unit : ℕ) (old_bytes old_given new_bytes new_given : Option (List ℕ)) (word : Words)
-    : Type 0 where
+pub record Scans (unit : ℕ) (old_bytes old_given new_bytes new_given : Option (List ℕ))
+    (word : Words) : Type 0 where
   pub exchanges : List Exchange
   pub few : length exchanges ≤ MOST_READS
   pub asked : AsksInTurn nothing begun exchanges

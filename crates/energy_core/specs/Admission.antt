@@ -63,9 +63,11 @@ abbrev pub ContinuesAccount : (range : ℕ) → Last → List Entry → (total :
 ContinuesAccount range opening es total r = IsAccount range opening es r.0 (total + r.1.mwh)
 
 -- Every account that stands so goes on by the entry, where it is booked.
-abbrev pub AccountsGoOnBy : (range total : ℕ) → Last → Entry → Result (Last × Step) TermFault → Type 0
+abbrev pub AccountsGoOnBy : (range total : ℕ) → Last → Entry → Result (Last × Step) TermFault
+    → Type 0
 AccountsGoOnBy range total last e answer = (opening : Last) (es : List Entry)
-    → IsAccount range opening es last total → IfOk answer (ContinuesAccount range opening (e ∷ es) total)
+    → IsAccount range opening es last total
+    → IfOk answer (ContinuesAccount range opening (e ∷ es) total)
 
 -- An entry that may follow was booked: the counter stands then where the entry says, the step goes up to it, and the
 -- whole energy is within its limit.

@@ -63,7 +63,8 @@ PairIs tens ones None = (n : ℕ) → n < 100 → ¬ (pad2 n ≡ tens ∷ ones �
 -- the parts of a day, in two digits each
 abbrev pub parts_text : Parts → List ℕ
 parts_text parts =
-    pad2 parts.century ++ pad2 parts.year ++ codes "-" ++ pad2 parts.month ++ codes "-" ++ pad2 parts.day
+    pad2 parts.century ++ pad2 parts.year ++ codes "-" ++ pad2 parts.month ++ codes "-"
+    ++ pad2 parts.day
 
 pub record AreFew (parts : Parts) : Type 0 where
   pub century : parts.century < 100

@@ -51,7 +51,8 @@ begun_text form (row ∷ rows) =
 -- All rows but the last were written, which waits, since the next day may be of its period.
 abbrev pub AreWritten : (rows done : List Row) → (pending : Option Row) → Type 0
 AreWritten rows done None = (rows ≡ []) × (done ≡ [])
-AreWritten rows done (Some pending) = (last : Row) × (rows ≡ done ++ last ∷ []) × (pending ≡ shown last)
+AreWritten rows done (Some pending) =
+    (last : Row) × (rows ≡ done ++ last ∷ []) × (pending ≡ shown last)
 
 -- So it is with the rows of the days, and they were counted.
 pub record IsWritten {W : Type 0} (contents : W → Option (List ℕ)) (days : List DayTotal)

@@ -13,7 +13,8 @@ pub record IsUnderway (s : Inside) : Type 0 where
   pub end_is : s.end ≡ (s.spread.step.till - 1) / INTERVAL_SECONDS + 1
   pub within : s.interval ≤ s.end
   pub reached_is : s.interval < s.end
-      → s.reached ≡ running_energy s.spread.step (max (s.interval * INTERVAL_SECONDS) s.spread.step.from)
+      → s.reached
+      ≡ running_energy s.spread.step (max (s.interval * INTERVAL_SECONDS) s.spread.step.from)
 
 -- the shares that are left
 abbrev pub left : Inside → List Share

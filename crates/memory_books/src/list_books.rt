@@ -100,7 +100,8 @@ fn told<T>(
     done: Result<T, AllocError>,
 ) -> Result<T, BooksFault>
     ensures answer { result ≡ told done }
-    ensures noted { failures_in last_failure.new ≡ faults_after result (failures_in last_failure.old) }
+    ensures noted { failures_in last_failure.new
+        ≡ faults_after result (failures_in last_failure.old) }
 {
     match done {
         Ok(answer) => Ok(answer),

@@ -103,7 +103,8 @@ pub record HasPassed (meter : Installed) (told : List TableRow) (check : Check) 
   pub told_is : told ≡ later_rows meter rows
 
 -- Of rows of the table in their order, a check passed those before an index, and refused that one.
-pub record IsFirstRefused (meter : Installed) (told : List TableRow) (at : RefusedRow) : Type 0 where
+pub record IsFirstRefused (meter : Installed) (told : List TableRow) (at : RefusedRow) :
+    Type 0 where
   pub check : Check
   pub before : HasPassed meter (reverse (take at.index told)) check
   pub row : TableRow

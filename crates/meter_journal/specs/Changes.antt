@@ -44,7 +44,8 @@ step_on meter lines e = step_to meter.range (last_in meter lines) e
 -- One more entry is booked where the counter stands. The counter then stands where the entry says, the energy grows by
 -- that of the step, and the interval rows by its shares: these are joined to the last row, or added each to the row of its
 -- interval.
-pub record ContinuesJournal (meter : Installed) (lines : Journal) (k : EntryKind) (e : Entry) : Type 0 where
+pub record ContinuesJournal (meter : Installed) (lines : Journal) (k : EntryKind) (e : Entry) :
+    Type 0 where
   pub may : MayGoOn meter (last_in meter lines) (total_in meter lines) e
   pub booked : entered meter.range (total_in meter lines) (last_in meter lines) e
       ≡ Ok (last_in meter (Entered k e ∷ lines), step_on meter lines e)

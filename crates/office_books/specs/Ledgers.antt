@@ -19,13 +19,15 @@ pub record Ledger : Type 1 where
   pub zone : Zone
 
 -- A call on books: a wrong answer that was taken as true stays one, a failure is noted, and the zone stays.
-pub record LedgerAfterCall {T : Type 0} (old new : Ledger) (result : Result T BooksFault) : Type 0 where
+pub record LedgerAfterCall {T : Type 0} (old new : Ledger) (result : Result T BooksFault) :
+    Type 0 where
   pub clean : new.is_clean → old.is_clean
   pub faults : new.failures ≡ faults_after result old.failures
   pub zone : new.zone ≡ old.zone
 
 -- The same of several calls, and what is done between them: they failed as is answered, or memory ran out elsewhere.
-pub record LedgerAfterCalls {T : Type 0} (old new : Ledger) (result : Result T BooksFault) : Type 0 where
+pub record LedgerAfterCalls {T : Type 0} (old new : Ledger) (result : Result T BooksFault) :
+    Type 0 where
   pub clean : new.is_clean → old.is_clean
   pub faults : FailuresAfterCalls result old.failures new.failures
   pub zone : new.zone ≡ old.zone

@@ -1,4 +1,4 @@
--- What a witness is shown.
+-- What an observer is shown.
 use Rattle.std.specs.Prelude.{ℕ, List, Option, Result}
 use Rattle.office_events.specs.declared.answers.Answer.{Answer}
 use Rattle.office_events.specs.declared.answers.Note.{Note}

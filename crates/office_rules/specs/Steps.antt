@@ -68,8 +68,8 @@ step_from row e = step_to row.opening.range row.last e
 -- added each to the row of its interval.
 pub record MovesOn (booked : BookedEntry) (facts : List Fact) (opening : Opening) : Type 0 where
   pub unended : (installation_of facts opening).ended ≡ false
-  pub goes_on : journals.ContinuesJournal (installed opening) (journal_of facts opening.meter) booked.kind
-      booked.entry
+  pub goes_on : journals.ContinuesJournal (installed opening) (journal_of facts opening.meter)
+      booked.kind booked.entry
   pub installation : installation_of (fact.Entry booked ∷ facts) opening
       ≡ moved_by booked.kind booked.entry (installation_of facts opening)
   pub rows : let before = rows_of facts opening in

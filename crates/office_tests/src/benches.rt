@@ -1,4 +1,4 @@
-//! Devices that are polled at once, and a witness that is shown what is fed.
+//! Devices that are polled at once, and an observer that is shown what is fed.
 use crate::links::{SECOND_REPLY, first_reply};
 use crate::offices::{Tried, list, office_with};
 use office_events::{Name, Observer, Piece};

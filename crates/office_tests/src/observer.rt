@@ -1,4 +1,4 @@
-//! A witness that writes down what it is shown.
+//! An observer that writes down what it is shown.
 use office_events::{Answer, Command, Event, Note, Observer, Refusal};
 use poll_core::{Closing, Outcome};
 use std::alloc::Global;

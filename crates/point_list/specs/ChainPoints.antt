@@ -66,4 +66,5 @@ points_of_chain chain = points_from (words_of chain) 1 (models_of chain)
 -- points that are too many are told as the row after the most
 abbrev pub chain_faults : List ListedPoint → List FaultyRow
 chain_faults points =
-    if nat_le (length points) POINT_LIMIT then [] else record { row = ROW_LIMIT; fault = TooMany } ∷ []
+    if nat_le (length points) POINT_LIMIT then []
+    else record { row = ROW_LIMIT; fault = TooMany } ∷ []

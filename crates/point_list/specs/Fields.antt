@@ -32,7 +32,8 @@ function_of field = option_and_then function_coded (number_of field)
 abbrev pub text_type_of : List ℕ → Option PointType
 text_type_of field =
     if starts_with (λ a b. a == b) field (codes "string")
-    then option_and_then (λ n. Some (kind.Text n)) (number_within 1 MAX_READ_REGISTERS (drop 6 field)) else None
+    then option_and_then (λ n. Some (kind.Text n))
+    (number_within 1 MAX_READ_REGISTERS (drop 6 field)) else None
 
 abbrev pub type_of : List ℕ → Option PointType
 type_of field =

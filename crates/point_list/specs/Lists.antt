@@ -77,7 +77,8 @@ row_faults rows (suc n) = row_faults rows n ++ (row_fault rows n ∷ [])
 abbrev pub is_one_group : ListedPoint → ListedPoint → Bool
 is_one_group point scale =
     (code_of point.function == code_of scale.function) && (point.area == scale.area)
-    && nat_le (max (end_of point) (end_of scale)) (min point.address scale.address + MAX_READ_REGISTERS)
+    && nat_le (max (end_of point) (end_of scale))
+    (min point.address scale.address + MAX_READ_REGISTERS)
 
 abbrev pub group_fault : ListedPoint → Option ListedPoint → Option RowFault
 group_fault point None = Some NoSuchScale

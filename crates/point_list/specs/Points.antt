@@ -38,7 +38,8 @@ scale_point points name = find (λ point. is_sunssf point.kind && bytes_eq point
 pub record IsGroup (point scale : ListedPoint) : Type 0 where
   pub function : point.function ≡ scale.function
   pub area : point.area ≡ scale.area
-  pub narrow : max (end_of point) (end_of scale) ≤ min point.address scale.address + MAX_READ_REGISTERS
+  pub narrow : max (end_of point) (end_of scale)
+      ≤ min point.address scale.address + MAX_READ_REGISTERS
 
 -- a scale is for a type that takes one; a named one is that of a sunssf point of the list, in one group with the point
 abbrev pub HasLawfulScale : List ListedPoint → ListedPoint → PointScale → Type 0
@@ -54,6 +55,7 @@ pub record IsPointList (points : List ListedPoint) : Type 0 where
   pub few : length points ≤ POINT_LIMIT
   pub named : All (λ point. IsTrue (is_name point.name)) points
   pub distinct : AllPairs (λ a b. a.name ≢ b.name) points
-  pub sized : All (λ point. (1 ≤ registers_of point.kind) × (registers_of point.kind ≤ MAX_READ_REGISTERS)) points
+  pub sized : All (λ point. (1 ≤ registers_of point.kind)
+      × (registers_of point.kind ≤ MAX_READ_REGISTERS)) points
   pub inside : All (λ point. end_of point ≤ ADDRESSES) points
   pub scaled : All (λ point. HasLawfulScale points point point.scale) points

@@ -71,8 +71,8 @@ told_list None frame = []
 told_list (Some poll) frame = (poll.number, outcome_by poll by.Frame frame) ∷ []
 
 -- The bytes ended frames of which at most the last has the id of a poll: that one is taken out, and the reader holds its frame.
-pub record Finds (old piece : List ℕ) (polls : List Poll) (found : Option Poll) (buffered : Buffered)
-    (others : List Poll) : Type 0 where
+pub record Finds (old piece : List ℕ) (polls : List Poll) (found : Option Poll)
+    (buffered : Buffered) (others : List Poll) : Type 0 where
   pub ended : List (List ℕ)
   pub feeds : FeedsOn old piece ended buffered.rest
   pub told : by_frame ended polls ≡ told_list found buffered.frame

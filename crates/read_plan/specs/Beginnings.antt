@@ -27,7 +27,8 @@ ends_by run limit =
 pub record IsGreatestEnd (items : List Run) (begin : Run) (end : ℕ) : Type 0 where
   pub at_item : Any
       (λ item. SameArea begin item × (item.end ≤ begin.first + READ_LIMIT) × (item.end ≡ end)) items
-  pub last : All (λ item. SameArea begin item → item.end ≤ begin.first + READ_LIMIT → item.end ≤ end) items
+  pub last : All
+      (λ item. SameArea begin item → item.end ≤ begin.first + READ_LIMIT → item.end ≤ end) items
 
 -- a read from a beginning to the greatest end within reach
 pub record ReadsFrom (items : List Run) (begin read : Run) : Type 0 where

@@ -110,7 +110,8 @@ fn put_number_of(
     before: &[u8],
     number: u32,
 ) -> Result<(), AllocError>
-    ensures { OnOk result (MayMean subject.now kind before.now number text.old.items text.new.items) }
+    ensures { OnOk result (MayMean subject.now kind before.now number
+        text.old.items text.new.items) }
 {
     match meaning_of(kind, number) {
         Some(meaning) => {

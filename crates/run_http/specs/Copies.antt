@@ -55,8 +55,8 @@ VoidsFrom meter place _ = Unit {0}
 -- next entry. Then its entries before the place stay as they were, and so does the moment from which on quarter hours can have
 -- changed. Those before it, or before any earlier moment, stay, so that a copy of them and what the office tells from there on
 -- are together all there is.
-pub record StaysBefore (further facts : List Fact) (meter : List ℕ) (opening : Opening) (place : ℕ) :
-    Type 0 where
+pub record StaysBefore (further facts : List Fact) (meter : List ℕ) (opening : Opening)
+    (place : ℕ) : Type 0 where
   pub entries : entries_before place (rows_of (further ++ facts) opening)
       ≡ entries_before place (rows_of facts opening)
   pub moment : changes_from (further ++ facts) meter place ≡ changes_from facts meter place

@@ -29,8 +29,8 @@ pub record ReadsMeta (version : ℕ) (m : Meta) (result : Result Zone OpenFault)
 -- A file that tells another version is not opened, nor one whose zone is none, and the fault tells which, unless the store
 -- itself failed. A file of this version is ours, and its zone is answered; where it is version 3 and has one, unless the store
 -- itself failed.
-pub record TellsOpening (version : ℕ) (m : Meta) (old new : State) (result : Result Zone OpenFault) :
-    Type 0 where
+pub record TellsOpening (version : ℕ) (m : Meta) (old new : State)
+    (result : Result Zone OpenFault) : Type 0 where
   pub other : m.version ≢ version
       → OnOk result ⊥ × IfErr result (λ e. (e ≡ NotOurs) ⊎ IsOwnFault old new e)
   pub ours : m.version ≡ version → IfErr result (λ e. e ≢ NotOurs)

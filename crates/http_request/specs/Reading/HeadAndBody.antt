@@ -16,8 +16,8 @@ EndsAt Short after = IsAtEnd after
 EndsAt TurnsUsed after = Unit {0}
 
 -- A head or a bad one was read; or taking failed, and what was read until then goes on.
-abbrev pub ReadsHead : Result HeadState TakeFault → List ℕ → List ℕ → Option (List ℕ) → Option (List ℕ)
-    → Type 0
+abbrev pub ReadsHead : Result HeadState TakeFault → List ℕ → List ℕ → Option (List ℕ)
+    → Option (List ℕ) → Type 0
 ReadsHead (Ok head_state) old new before after =
     Came old new before after × Looks new head_state × (is_open head_state ≡ false)
 ReadsHead (Err fault) old new before after =

@@ -60,7 +60,8 @@ IsReadWhole table bytes = (head_state : HeadState) × Holds table bytes head_sta
 -- A whole request or a bad head was read; or taking failed, and neither was.
 abbrev pub ReadsRequest : Table → Result HeadState TakeFault → List ℕ → List ℕ → Option (List ℕ)
     → Option (List ℕ) → Type 0
-ReadsRequest table (Ok head_state) old new before after = Came old new before after × Holds table new head_state
+ReadsRequest table (Ok head_state) old new before after =
+    Came old new before after × Holds table new head_state
 ReadsRequest table (Err fault) old new before after =
     Came old new before after × IsUnfinished table new × EndsAt fault after
 

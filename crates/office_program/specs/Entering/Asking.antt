@@ -46,8 +46,8 @@ TellsFault _ number _ old new = ⊥
 
 -- An event was asked at a moment, and its reply was printed, or a part of that where the writing failed.
 pub record IsAsked {B : Type 0} (ledger : B → Ledger) (past : History) (at : ℕ) (e : Event)
-    (progress : Progress) (before after : Failures) (had holds : Option (List ℕ)) (office : Office B)
-    (result : Result Progress Error) : Type 0 where
+    (progress : Progress) (before after : Failures) (had holds : Option (List ℕ))
+    (office : Office B) (result : Result Progress Error) : Type 0 where
   pub one : Answered
   pub at_is : one.at ≡ at
   pub event_is : one.event ≡ e

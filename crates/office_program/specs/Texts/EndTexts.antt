@@ -6,13 +6,14 @@ use Rattle.command_io.specs.declared.status.ExitStatus.TheVariants.{Failed}
 use Rattle.sun_points.specs.Writing.{GotPart}
 
 -- The text was printed, and the command ends as it means; or a part of it was, since a write failed.
-abbrev pub IsTold : (text : List ℕ) → (meant status : ExitStatus) → (old new : Option (List ℕ)) → Type 0
+abbrev pub IsTold : (text : List ℕ) → (meant status : ExitStatus)
+    → (old new : Option (List ℕ)) → Type 0
 IsTold text meant status old new =
     ((status ≡ meant) × Appends old new text) ⊎ ((status ≡ Failed) × GotPart text old new)
 
 -- So it is with one of these texts, each of which means an end.
-pub record TellsEnd (Prints : List ℕ → ExitStatus → Type 0) (status : ExitStatus) (old new : Option (List ℕ)) :
-    Type 0 where
+pub record TellsEnd (Prints : List ℕ → ExitStatus → Type 0) (status : ExitStatus)
+    (old new : Option (List ℕ)) : Type 0 where
   pub text : List ℕ
   pub meant : ExitStatus
   pub prints : Prints text meant

@@ -38,8 +38,9 @@ IsRangedReport zone past register form (Err why) text = text ≡ refused_line wh
 -- What is printed with which end. It is refused where there is no register of the name, and else only where the books or
 -- memory failed or the office had stopped, over how the books failed before and after. Only days of a register take memory of
 -- the office's own.
-pub record RangePrints (zone : Zone) (past : History) (register : Option (List ℕ)) (form : ReportForm)
-    (before after : Failures) (text : List ℕ) (meant : ExitStatus) : Type 0 where
+pub record RangePrints (zone : Zone) (past : History) (register : Option (List ℕ))
+    (form : ReportForm) (before after : Failures) (text : List ℕ) (meant : ExitStatus) :
+    Type 0 where
   pub reply : Result (Unit {0}) Refusal
   pub answer : let there = is_there (option_and_then (register_of (facts_of past)) register) in
       IsFound (there ≡ Some tt) there before after reply
@@ -48,8 +49,8 @@ pub record RangePrints (zone : Zone) (past : History) (register : Option (List �
 
 -- It is printed so by an office over what it had accepted, or a part of it, since a write failed.
 abbrev pub ReportsRange : {B W : Type 0} → stores.Ghosts B → writers.Ghosts W
-    → (register : Option (List ℕ)) → ReportForm → (old new : Office B) → (had holds : W) → ExitStatus
-    → Type 0
+    → (register : Option (List ℕ)) → ReportForm → (old new : Office B) → (had holds : W)
+    → ExitStatus → Type 0
 ReportsRange b w register form old new had holds status = After b.ledger old new
     (λ past. TellsEnd (RangePrints (b.ledger (books_in old)).zone past register form
     (failures_of b.ledger old) (failures_of b.ledger new))
@@ -67,7 +68,7 @@ pub record PrintsLast {W : Type 0} (contents : W → Option (List ℕ)) (status 
   pub finishes : Finishes contents old new
   pub means : status ≡ (if new.failed then Failed else Fine)
 
-abbrev pub PrintsRest : {W : Type 0} → (W → Option (List ℕ)) → Result (Unit {0}) Refusal → ExitStatus
-    → (old new : ReportRows W) → Type 0
+abbrev pub PrintsRest : {W : Type 0} → (W → Option (List ℕ)) → Result (Unit {0}) Refusal
+    → ExitStatus → (old new : ReportRows W) → Type 0
 PrintsRest contents (Ok done) status old new = PrintsLast contents status old new
 PrintsRest contents (Err why) status old new = PrintsRefusal contents why status old new

@@ -33,8 +33,8 @@ IsRefusalTold (Err TurnsUsed) result old new = (result ≡ Err TurnsUsed) × (ne
 -- the passage of the round itself, which had printed so much
 abbrev pub without_cause : Passage → (printed : Option (List ℕ)) → Passage
 without_cause through printed =
-    passage through.begun (round_state printed through.ended.moments through.ended.failures) through.from
-    through.to
+    passage through.begun
+    (round_state printed through.ended.moments through.ended.failures) through.from through.to
 
 -- A round, and after what it printed the refusal that broke it off.
 pub record PollsRound {B : Type 0} (ledger : B → Ledger) (device : Option (List ℕ)) (past : History)

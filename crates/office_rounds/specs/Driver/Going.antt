@@ -12,7 +12,7 @@ use Rattle.office_rounds.specs.declared.device_rounds.round.Round.{Round}
 use Rattle.office_events.specs.Showing.{Shown}
 use Rattle.office_rounds.specs.Driver.Turns.{AreNext, AreShown, Table, Wished, first_wish, next_by, table, table_behind}
 
--- the office, how its books failed so far, the rounds, and the witness
+-- the office, how its books failed so far, the rounds, and the observer
 pub record Scene (B V : Type 0) : Type 0 where
   pub office : Office B
   pub failures : Failures
@@ -23,7 +23,7 @@ abbrev pub scene : {B V : Type 0} → Office B → Failures → List Round → V
 scene office failures rounds observer =
     record { office = office; failures = failures; rounds = rounds; observer = observer }
 
--- where a turn began: how the books had failed, what was to be fed, and the witness
+-- where a turn began: how the books had failed, what was to be fed, and the observer
 pub record Start (V : Type 0) : Type 0 where
   pub failures : Failures
   pub table : Table
@@ -91,7 +91,7 @@ pub record TakesTurn {B V : Type 0} (ledger : B → Ledger) (sees : V → Shown 
   pub going : Going ledger sees past begun at fed None now
   pub settled : IsSettled now.rounds [] fed
 
--- So it does over an office, from what was to be fed as it began; the rounds and the witness come to be these.
+-- So it does over an office, from what was to be fed as it began; the rounds and the observer come to be these.
 abbrev pub Turns : {B V : Type 0} → (B → Ledger) → (V → Shown → V → Type 0) → (at : ℕ)
     → (begun : Table) → (old new : Office B) → (rounds : List Round) → (from to : V) → Type 0
 Turns ledger sees at begun old new rounds from to =

@@ -6,7 +6,8 @@ use Rattle.run_schedule.specs.declared.timing.steady_clock.SteadyClock.{SteadyCl
 -- How far the clock stands before the latest moment, the first time that it does.
 abbrev pub set_back_by : SteadyClock → ℕ → Option ℕ
 set_back_by steady_clock now =
-    if nat_lt now steady_clock.latest && not steady_clock.is_back then Some (steady_clock.latest - now) else None
+    if nat_lt now steady_clock.latest && not steady_clock.is_back
+    then Some (steady_clock.latest - now) else None
 
 -- From where the moment went ahead by more than a minute.
 abbrev pub ahead_by : (latest now : ℕ) → Option ℕ
@@ -21,4 +22,5 @@ read_by steady_clock now = record {
 }
 
 abbrev pub clock_after : SteadyClock → ℕ → SteadyClock
-clock_after steady_clock now = record { latest = max steady_clock.latest now; is_back = nat_lt now steady_clock.latest }
+clock_after steady_clock now =
+    record { latest = max steady_clock.latest now; is_back = nat_lt now steady_clock.latest }

@@ -50,8 +50,8 @@ SetUpBegins now (first ∷ lines) part =
     × SetUpBegins (after_line now said) lines rest))
 
 -- an input sets up what its lines do, where it isn't too long
-pub record InputSetsUp (now : Setting) (input printed : List ℕ) (ended : Result Setting ExitStatus) :
-    Type 0 where
+pub record InputSetsUp (now : Setting) (input printed : List ℕ)
+    (ended : Result Setting ExitStatus) : Type 0 where
   pub long : most_bytes < length input → (printed ≡ too_long) × (ended ≡ Err Refused)
   pub lines : length input ≤ most_bytes → SetsUp now (speaking_lines input) printed ended
 

@@ -24,7 +24,8 @@ pub record LoopState : Type 0 where
   pub connected : Bool
   pub output : Option (List ℕ)
 
-abbrev pub loop_state : Office ListBooks → Maps → (connected : Bool) → (output : Option (List ℕ)) → LoopState
+abbrev pub loop_state : Office ListBooks → Maps → (connected : Bool)
+    → (output : Option (List ℕ)) → LoopState
 loop_state office maps connected output =
     record { office = office; maps = maps; connected = connected; output = output }
 

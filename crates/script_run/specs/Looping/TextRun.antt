@@ -46,14 +46,15 @@ TellsText text Refused output output' = Appends output output' text
 TellsText text Failed output output' = GotPart text output output'
 
 -- lines that were run from a desk
-abbrev pub LinesRun : ExitStatus → (text : List ℕ) → (from : LoopState) → (output' : Option (List ℕ))
-    → Type 0
+abbrev pub LinesRun : ExitStatus → (text : List ℕ) → (from : LoopState)
+    → (output' : Option (List ℕ)) → Type 0
 LinesRun status text from output' =
     (past : History) → Stands ledger_of past from.office
     → Writes (LoopPrints (stage_on past from) (speaking_lines text))
     (LoopBegins (stage_on past from) (speaking_lines text)) status from.output output'
 
-abbrev pub TextRuns : Zone → (text : List ℕ) → ExitStatus → (output output' : Option (List ℕ)) → Type 0
+abbrev pub TextRuns : Zone → (text : List ℕ) → ExitStatus
+    → (output output' : Option (List ℕ)) → Type 0
 TextRuns zone text status output output' =
     Writes (TextPrints zone text) (TextBegins zone text) status output output'
 

@@ -69,8 +69,8 @@ LineRuns past line office office' (Err Failed) output output' =
     (part : List ℕ) × Appends output output' part × LineBegins (stage_of past office) line part
 
 -- What was written is all that is printed, or a beginning of it where the run failed.
-abbrev pub Writes : (Prints : List ℕ → ExitStatus → Type 0) → (Begins : List ℕ → Type 0) → ExitStatus
-    → (output output' : Option (List ℕ)) → Type 0
+abbrev pub Writes : (Prints : List ℕ → ExitStatus → Type 0) → (Begins : List ℕ → Type 0)
+    → ExitStatus → (output output' : Option (List ℕ)) → Type 0
 Writes Prints Begins Fine output output' =
     (printed : List ℕ) × Appends output output' printed × Prints printed Fine
 Writes Prints Begins Refused output output' =
@@ -78,7 +78,8 @@ Writes Prints Begins Refused output output' =
 Writes Prints Begins Failed output output' =
     (part : List ℕ) × Appends output output' part × Begins part
 
-abbrev pub TextRuns : Zone → (text : List ℕ) → ExitStatus → (output output' : Option (List ℕ)) → Type 0
+abbrev pub TextRuns : Zone → (text : List ℕ) → ExitStatus
+    → (output output' : Option (List ℕ)) → Type 0
 TextRuns zone text status output output' =
     Writes (TextPrints zone text) (TextBegins zone text) status output output'
 
@@ -94,7 +95,8 @@ HoldsPart (Some buffered) None text = ⊥
 HoldsPart (Some buffered) (Some holds) text = (rest : List ℕ) × (buffered ++ text ≡ holds ++ rest)
 
 -- What a run leaves with the writer that it was given.
-abbrev pub Replays : Zone → (input : List ℕ) → ExitStatus → (output output' : Option (List ℕ)) → Type 0
+abbrev pub Replays : Zone → (input : List ℕ) → ExitStatus
+    → (output output' : Option (List ℕ)) → Type 0
 Replays zone input Failed output output' =
     (part : List ℕ) × HoldsPart output output' part × ReplayBegins zone input part
 Replays zone input status output output' =

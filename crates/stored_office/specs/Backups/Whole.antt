@@ -27,7 +27,8 @@ pub record HasPastIn (image : Image) (past : History) : Type 0 where
   pub has : TreesHavePast trees past
 
 -- The database file holds them alone, and also with its log, as both read now and after a crash.
-pub record HasPastAlone {D : Type 0} (g : Ghosts D) (files : Files D) (past : History) : Type 0 where
+pub record HasPastAlone {D : Type 0} (g : Ghosts D) (files : Files D) (past : History) :
+    Type 0 where
   pub trees : Trees
   pub seen : HoldsAlone (image_of g files) trees
   pub left : (image : Image) → outcomes g files.log files.db image → HoldsAlone image trees

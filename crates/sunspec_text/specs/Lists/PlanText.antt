@@ -83,6 +83,7 @@ pub record PlanPrints (list : List ListedPoint) (printed : List ℕ) : Type 0 wh
   pub lines : LinesPrint list reads printed
 
 -- nothing is refused where a list is there
-pub record PrintsPlan (list : List ListedPoint) (printed : List ℕ) (status : ExitStatus) : Type 0 where
+pub record PrintsPlan (list : List ListedPoint) (printed : List ℕ) (status : ExitStatus) :
+    Type 0 where
   pub fine : status ≡ Fine
   pub plan : PlanPrints list printed
