@@ -1,5 +1,5 @@
 -- How many readings of a meter in a range were held, by the cause of it.
-use Rattle.std.specs.Prelude.{ℕ, ◌+◌, Bool, ◌&&◌, ◌==◌, List, [], ◌∷◌, if◌then◌else◌}
+use Rattle.std.specs.Prelude.{ℕ, Bool, ◌&&◌, ◌==◌, List, [], ◌∷◌}
 use Rattle.std.specs.List.{count_by}
 use Rattle.energy_core.specs.declared.verdicts.Cause.{Cause}
 use Rattle.energy_core.specs.declared.verdicts.Cause.TheVariants as cause
@@ -10,7 +10,7 @@ use Rattle.interval_core.specs.Ranges.{has_moment}
 use Rattle.office_events.specs.declared.facts.HeldReading.{HeldReading}
 use Rattle.energy_report.specs.declared.held_counts.HeldCount.{HeldCount}
 use Rattle.energy_report.specs.declared.held_counts.HeldCounts.{HeldCounts}
-use Rattle.energy_report.specs.RowLines.{counted}
+use Rattle.energy_report.specs.RowLines.{counted, one_more_if}
 
 -- the two are one cause
 abbrev pub is_one : (one other : Cause) → Bool
@@ -64,18 +64,15 @@ none_held = record {
   not_below_range = 0;
 }
 
-abbrev pub one_more : (count : ℕ) → (counts : Bool) → ℕ
-one_more count counts = counted (count + (if counts then 1 else 0))
-
 -- One reading more, where it counts: it is one of its cause, and of no other.
 abbrev pub with_one : HeldCounts → (counts : Bool) → (why : Cause) → HeldCounts
 with_one old counts why = record {
-  not_accumulated = one_more old.not_accumulated (counts && is_one why cause.NotAccumulated);
-  scale_changed = one_more old.scale_changed (counts && is_one why cause.ScaleChanged);
-  not_later = one_more old.not_later (counts && is_one why cause.NotLater);
-  span_too_long = one_more old.span_too_long (counts && is_one why cause.SpanTooLong);
-  gap_too_long = one_more old.gap_too_long (counts && is_one why cause.GapTooLong);
-  too_fast = one_more old.too_fast (counts && is_one why cause.TooFast);
-  total_full = one_more old.total_full (counts && is_one why cause.TotalFull);
-  not_below_range = one_more old.not_below_range (counts && is_one why cause.NotBelowRange);
+  not_accumulated = one_more_if (counts && is_one why cause.NotAccumulated) old.not_accumulated;
+  scale_changed = one_more_if (counts && is_one why cause.ScaleChanged) old.scale_changed;
+  not_later = one_more_if (counts && is_one why cause.NotLater) old.not_later;
+  span_too_long = one_more_if (counts && is_one why cause.SpanTooLong) old.span_too_long;
+  gap_too_long = one_more_if (counts && is_one why cause.GapTooLong) old.gap_too_long;
+  too_fast = one_more_if (counts && is_one why cause.TooFast) old.too_fast;
+  total_full = one_more_if (counts && is_one why cause.TotalFull) old.total_full;
+  not_below_range = one_more_if (counts && is_one why cause.NotBelowRange) old.not_below_range;
 }

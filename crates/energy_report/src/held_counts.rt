@@ -1,8 +1,8 @@
 //! How many readings of a meter were held, by the cause of it.
-ghost use Rattle.std.specs.Prelude.{◌≡◌, ◌+◌, ◌&&◌, ◌==◌, if◌then◌else◌};
+ghost use Rattle.std.specs.Prelude.{◌≡◌, ◌&&◌, ◌==◌};
 ghost use Rattle.energy_core.specs.Verdict.{cause_number};
 ghost use Rattle.energy_report.specs.Held as held;
-ghost use Rattle.energy_report.specs.RowLines.{counted};
+ghost use Rattle.energy_report.specs.RowLines.{one_more_if};
 
 use crate::tallies::{both, tallied};
 use energy_core::Cause;
@@ -97,21 +97,31 @@ impl HeldCounts {
         ensures { result ≡ held.with_one self.now counts cause }
     {
         HeldCounts {
-            not_accumulated: one_more(self.not_accumulated, counts, cause, Cause::NotAccumulated),
-            scale_changed: one_more(self.scale_changed, counts, cause, Cause::ScaleChanged),
-            not_later: one_more(self.not_later, counts, cause, Cause::NotLater),
-            span_too_long: one_more(self.span_too_long, counts, cause, Cause::SpanTooLong),
-            gap_too_long: one_more(self.gap_too_long, counts, cause, Cause::GapTooLong),
-            too_fast: one_more(self.too_fast, counts, cause, Cause::TooFast),
-            total_full: one_more(self.total_full, counts, cause, Cause::TotalFull),
-            not_below_range: one_more(self.not_below_range, counts, cause, Cause::NotBelowRange),
+            not_accumulated: one_more_for(
+                self.not_accumulated,
+                counts,
+                cause,
+                Cause::NotAccumulated,
+            ),
+            scale_changed: one_more_for(self.scale_changed, counts, cause, Cause::ScaleChanged),
+            not_later: one_more_for(self.not_later, counts, cause, Cause::NotLater),
+            span_too_long: one_more_for(self.span_too_long, counts, cause, Cause::SpanTooLong),
+            gap_too_long: one_more_for(self.gap_too_long, counts, cause, Cause::GapTooLong),
+            too_fast: one_more_for(self.too_fast, counts, cause, Cause::TooFast),
+            total_full: one_more_for(self.total_full, counts, cause, Cause::TotalFull),
+            not_below_range: one_more_for(
+                self.not_below_range,
+                counts,
+                cause,
+                Cause::NotBelowRange,
+            ),
         }
     }
 }
 
 // One more, where the reading counts and its cause is that of the count.
-fn one_more(count: u64, counts: bool, cause: Cause, counted_cause: Cause) -> u64
-    ensures { result ≡ held.one_more count (counts && held.is_one cause counted_cause) }
+fn one_more_for(count: u64, counts: bool, cause: Cause, counted_cause: Cause) -> u64
+    ensures { result ≡ one_more_if (counts && held.is_one cause counted_cause) count }
 {
     tallied(
         count,

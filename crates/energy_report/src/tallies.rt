@@ -1,8 +1,8 @@
 //! What the entries of a meter in a range come to.
-ghost use Rattle.std.specs.Prelude.{◌≡◌, ◌+◌, ◌&&◌, ◌++◌, ◌∷◌, [], List, Some, None, if◌then◌else◌};
+ghost use Rattle.std.specs.Prelude.{◌≡◌, ◌&&◌, ◌++◌, ◌∷◌, [], List, Some, None, if◌then◌else◌};
 ghost use Rattle.std.specs.Option.{option_or};
 ghost use Rattle.office_books.specs.declared.entries.MeterEntry.{MeterEntry as Listed};
-ghost use Rattle.energy_report.specs.RowLines.{counted};
+ghost use Rattle.energy_report.specs.RowLines.{one_more_if};
 ghost use Rattle.energy_report.specs.Statements as statements;
 ghost use Rattle.energy_report.specs.Statements.{tally_of};
 
@@ -163,7 +163,7 @@ fn later(last: Option<Last>, counts: bool, stand: Last) -> Option<Last>
 }
 
 pub(crate) fn tallied(count: u64, counts: bool) -> u64
-    ensures { result ≡ counted (count + (if counts then 1 else 0)) }
+    ensures { result ≡ one_more_if counts count }
 {
     count.saturating_add(u64::from(counts))
 }

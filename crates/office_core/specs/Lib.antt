@@ -6,6 +6,7 @@ pub mod Standing
 pub mod Taking
 pub mod Reopening
 pub mod Asking
+pub mod Several
 pub mod Site
 pub mod DaySums
 pub mod Headline

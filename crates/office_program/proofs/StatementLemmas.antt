@@ -56,9 +56,11 @@ use Rattle.energy_report.specs.Statements.{energy_within, tally_of, was_there}
 use Rattle.energy_report.proofs.EnergyLemmas.{added_up}
 use Rattle.energy_report.proofs.HeldLemmas.{counted_all}
 use Rattle.office_program.specs.Texts.EndTexts.{IsTold}
-use Rattle.office_program.specs.Texts.Statements.{AnswersOf, AreRecorded, Keeps, States, energy_in, held_in, statement_in, statement_of, statements_in, statements_of, tally_in, told_of}
-use Rattle.office_program.proofs.AskingLemmas.{found_ok, found_so, refused_on}
-use Rattle.office_program.proofs.PlacesLemmas.{last_piece, one_piece_more, piece_at}
+use Rattle.office_program.specs.Texts.Reports.{Asks}
+use Rattle.office_program.specs.Texts.Statements.{AnswersOf, AreRecorded, States, energy_in, held_in, statement_in, statement_of, statements_in, statements_of, tally_in, told_of}
+use Rattle.office_books.proofs.Pieces.{last_piece, one_piece_more, piece_at}
+use Rattle.office_core.specs.Several.{Keeps}
+use Rattle.office_core.proofs.Asked.{found_ok, found_so, now_as, refused_as, refused_on}
 
 some_same : {X : Type 0} (x y : X) → Some x ≡ Some y → x ≡ y
 some_same x y is = cc is
@@ -118,41 +120,41 @@ module _ {B : Type 0} (ledger : B → Ledger) (zone : Zone) (range : DayRange) w
   Takes tally more piece = (before : List MeterEntry) → tally ≡ tally_of zone range before → more ≡ tally_of zone range (before ++ piece)
 
   abbrev from_place : List Fact → (n : ℕ) → Opening → List MeterEntry
-  from_place facts n opening = first_from (n + 1) 256 (entries_at facts (Some opening))
+  from_place facts n opening = first_from (n + 1) 65536 (entries_at facts (Some opening))
 
   pub tally_more : (a b d : Office B) (meter : Option (List ℕ)) (n : ℕ) (tally more : EntryTally) (v : Vec MeterEntry Global)
       → Keeps ledger a b → IsTallied a b meter n tally → OnlyAsks ledger b d (Ok v)
-      → ListsAccepted ledger b d (Ok v) (λ facts. entries_within facts meter (n + 1) 256)
-      → Takes tally more v.items → IsTallied a d meter (n + 256) more
+      → ListsAccepted ledger b d (Ok v) (λ facts. entries_within facts meter (n + 1) 65536)
+      → Takes tally more v.items → IsTallied a d meter (n + 65536) more
   tally_more a b d meter n tally more v kept told asks lists took = λ past stands clean opening is.
       let facts = facts_of past in
       let es = entries_at facts (Some opening) in
       let known = subst (λ o. IsListed (option_map (from_place facts n) o) (failures_of ledger b) (failures_of ledger d) (Ok v)) is
       (lists past (kept.stands past stands) clean) in
-      let items : v.items ≡ take 256 (drop n es) = sym (some_same (from_place facts n opening) v.items known.0) ∙ piece_at facts opening n 256 in
+      let items : v.items ≡ take 65536 (drop n es) = sym (some_same (from_place facts n opening) v.items known.0) ∙ piece_at facts opening n 65536 in
       took (take n es) (told past stands (asks.clean clean) opening is)
-      ∙ ap (tally_of zone range) (ap (λ (piece : List MeterEntry). take n es ++ piece) items ∙ one_piece_more n 256 es)
+      ∙ ap (tally_of zone range) (ap (λ (piece : List MeterEntry). take n es ++ piece) items ∙ one_piece_more n 65536 es)
 
   pub tally_told : (a b d : Office B) (meter : Option (List ℕ)) (n : ℕ) (tally more : EntryTally) (v : Vec MeterEntry Global)
       → Keeps ledger a b → IsTallied a b meter n tally → OnlyAsks ledger b d (Ok v)
-      → ListsAccepted ledger b d (Ok v) (λ facts. entries_within facts meter (n + 1) 256)
-      → Takes tally more v.items → length v.items < 256 → AnswersOf ledger a d (Ok more) (λ facts. tally_in zone range facts meter)
+      → ListsAccepted ledger b d (Ok v) (λ facts. entries_within facts meter (n + 1) 65536)
+      → Takes tally more v.items → length v.items < 65536 → AnswersOf ledger a d (Ok more) (λ facts. tally_in zone range facts meter)
   tally_told a b d meter n tally more v kept told asks lists took few = λ past stands clean.
       let facts = facts_of past in
       let known = lists past (kept.stands past stands) clean in
       let found = mapped (from_place facts n) (option_and_then (opening_of facts) meter) v.items known.0 in
       let opening = found.0 in
       let es = entries_at facts (Some opening) in
-      let items : v.items ≡ take 256 (drop n es) = sym found.2 ∙ piece_at facts opening n 256 in
-      let last : length (take 256 (drop n es)) < 256 = subst (λ (piece : List MeterEntry). length piece < 256) items few in
+      let items : v.items ≡ take 65536 (drop n es) = sym found.2 ∙ piece_at facts opening n 65536 in
+      let last : length (take 65536 (drop n es)) < 65536 = subst (λ (piece : List MeterEntry). length piece < 65536) items few in
       let all : more ≡ tally_of zone range es =
       took (take n es) (told past stands (asks.clean clean) opening found.1)
-      ∙ ap (tally_of zone range) (ap (λ (piece : List MeterEntry). take n es ++ piece) items ∙ last_piece n 256 es last) in
+      ∙ ap (tally_of zone range) (ap (λ (piece : List MeterEntry). take n es ++ piece) items ∙ last_piece n 65536 es last) in
       found_so (Unit {0}) (tally_in zone range facts meter) (failures_of ledger a) (failures_of ledger d) more
       (ap (option_map (λ (o : Opening). tally_of zone range (entries_at facts (Some o)))) found.1 ∙ ap Some (sym all)) (known.1 ∙ kept.failures)
 
   pub tally_refused : (a b d : Office B) (meter : Option (List ℕ)) (n : ℕ) (why : Refusal) → Keeps ledger a b
-      → ListsAccepted {T = MeterEntry} ledger b d (Err why) (λ facts. entries_within facts meter (n + 1) 256)
+      → ListsAccepted {T = MeterEntry} ledger b d (Err why) (λ facts. entries_within facts meter (n + 1) 65536)
       → AnswersOf {T = EntryTally} ledger a d (Err why) (λ facts. tally_in zone range facts meter)
   tally_refused a b d meter n why kept lists = λ past stands clean.
       let facts = facts_of past in
@@ -499,3 +501,8 @@ pub written_so : {E : Type 0} (written : Result (Unit {0}) E) (text : List ℕ) 
     → status ≡ cond (is_ok written) meant Failed → GotText written text old new → IsTold text meant status old new
 written_so (Ok done) text meant status old new ends got = inl (ends, got)
 written_so (Err error) text meant status old new ends got = inr (ends, got)
+
+-- what a report's question is
+pub only_asked : {B T : Type 0} (ledger : B → Ledger) (a b : Office B) (result : Result T Refusal) → OnlyAsks ledger a b result → Asks ledger a b
+only_asked ledger a b (Ok x) asks = record { reply = Ok tt; only = now_as ledger a b x tt asks }
+only_asked ledger a b (Err why) asks = record { reply = Err why; only = refused_as ledger a b why asks }

@@ -2,7 +2,6 @@ pub mod Copies
 pub mod StatusRoute
 pub mod MeterTargets
 pub mod Answer
-pub mod Several
 pub mod SiteReply
 pub mod MetricsReply
 pub mod MeterReplies

@@ -25,12 +25,12 @@ use Rattle.office_rules.specs.Intervals.{rows_of_installed}
 use Rattle.office_books.specs.declared.failures.Failures.{Failures}
 use Rattle.office_books.specs.Entries.{entries_at}
 use Rattle.office_books.specs.Holds.{holds_of}
-use Rattle.office_books.specs.Ledgers.{KeepsFacts, Ledger}
+use Rattle.office_books.specs.Ledgers.{Ledger}
 use Rattle.office_books.specs.declared.books.Books as stores
-use Rattle.office_core.specs.Asking.{IsFound, OnlyAsks, intervals_of}
+use Rattle.office_core.specs.Asking.{IsFound, intervals_of}
 use Rattle.office_core.specs.Failing.{IsOutside}
 use Rattle.office_core.specs.Parts.{meters_named}
-use Rattle.office_core.specs.Standing.{After, Stands, books_in, is_stopped, notes_in, outgoing_in}
+use Rattle.office_core.specs.Standing.{After}
 use Rattle.office_core.specs.Taking.{failures_of}
 use Rattle.office_core.specs.declared.office.Office.{Office}
 use Rattle.script_text.specs.AnswerText.{refused_line}
@@ -83,24 +83,6 @@ abbrev pub AnswersOf : {B T : Type 0} → (B → Ledger) → (old new : Office B
 AnswersOf ledger old new result found = After ledger old new (λ past.
     IsFound (Unit {0}) (found (facts_of past)) (failures_of ledger old) (failures_of ledger new)
     result)
-
--- Several questions, or none, leave an office as it was: it stands where it stood, the books did not fail, and it has not stopped
--- nor started again.
-pub record Keeps {B : Type 0} (ledger : B → Ledger) (old new : Office B) : Type 0 where
-  pub stands : (past : History) → Stands ledger past old → Stands ledger past new
-  pub keeps : KeepsFacts (ledger (books_in old)) (ledger (books_in new))
-  pub notes : notes_in new ≡ notes_in old
-  pub outgoing : outgoing_in new ≡ outgoing_in old
-  pub stays : is_stopped new ≡ is_stopped old
-  pub failures : failures_of ledger new ≡ failures_of ledger old
-  pub clean : (ledger (books_in new)).is_clean → (ledger (books_in old)).is_clean
-  pub zone : (ledger (books_in new)).zone ≡ (ledger (books_in old)).zone
-
--- So they do where none was refused; and where one was, the office was only asked.
-abbrev pub KeepsUnlessRefused : {B : Type 0} → (B → Ledger) → (old new : Office B)
-    → Result (Unit {0}) Refusal → Type 0
-KeepsUnlessRefused ledger old new (Ok done) = Keeps ledger old new
-KeepsUnlessRefused ledger old new (Err why) = OnlyAsks {T = Unit {0}} ledger old new (Err why)
 
 -- ---- the meters at a register
 

@@ -3,7 +3,8 @@ ghost use Rattle.std.specs.Prelude.{◌∷◌, []};
 ghost use Rattle.office_core.specs.Asking.{OnlyAsks};
 ghost use Rattle.office_program.specs.Texts.Reports.{Asks};
 ghost use Rattle.office_program.specs.Texts.Statements as statements;
-ghost use Rattle.office_program.specs.Texts.Statements.{AnswersOf, KeepsUnlessRefused, PrintsStatement, States};
+ghost use Rattle.office_core.specs.Several.{KeepsUnlessRefused};
+ghost use Rattle.office_program.specs.Texts.Statements.{AnswersOf, PrintsStatement, States};
 
 use crate::texts::end_texts::{ended, print_refusal};
 use command_io::ExitStatus;
@@ -19,9 +20,9 @@ use std::alloc::Global;
 use std::io::Write;
 
 // How many entries are asked for at a time, and how often at most: places are numbers of 64 bits.
-const PIECE: u32 = 256;
+const PIECE: u32 = 65536;
 
-const MOST_PIECES: u64 = 72_057_594_037_927_935;
+const MOST_PIECES: u64 = 281_474_976_710_655;
 
 // What all entries of a meter come to in a range. They are asked for piece by piece.
 fn tally<B: Books>(
@@ -36,11 +37,11 @@ fn tally<B: Books>(
 {
     let mut tally = EntryTally::new();
     for turn in 0..MOST_PIECES {
-        match office.entries(meter, turn * 256 + 1, PIECE) {
+        match office.entries(meter, turn * 65536 + 1, PIECE) {
             Err(why) => return Err(why),
             Ok(piece) => {
                 tally.take_all(zone, range, &piece);
-                if piece.len() < 256 {
+                if piece.len() < 65536 {
                     return Ok(tally);
                 }
             }

@@ -23,10 +23,10 @@ use Rattle.office_core.specs.Standing.{After, is_stopped}
 use Rattle.office_core.specs.Taking.{failures_of}
 use Rattle.office_core.specs.declared.office.Office.{Office}
 use Rattle.run_http.specs.MeterReplies.{AsksRows}
-use Rattle.run_http.specs.Several.{Keeps}
+use Rattle.office_core.specs.Several.{Keeps}
 use Rattle.run_http.specs.Voids.{is_voided, voided_in, voids_of}
-use Rattle.run_http.proofs.ReplyLemmas.Asking.{answered_as, asked, asked_after, goes_on, kept_on, without_memory}
-use Rattle.run_http.proofs.ReplyLemmas.Places.{last_piece, one_piece_more, piece_at}
+use Rattle.office_core.proofs.Asked.{answered_as, asked, asked_after, goes_on, kept_on, without_memory}
+use Rattle.office_books.proofs.Pieces.{last_piece, one_piece_more, piece_at}
 
 -- ---- a piece
 

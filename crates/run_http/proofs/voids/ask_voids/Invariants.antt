@@ -1,6 +1,6 @@
 use Rattle.std.proofs.Common.{◌≡◌, ◌<◌, ◌*◌, true}
 use Rattle.office_core.specs.Standing.{is_stopped}
-use Rattle.run_http.specs.Several.{Keeps}
+use Rattle.office_core.specs.Several.{Keeps}
 use Rattle.run_http.proofs.ReplyLemmas.Voids.{AreKept}
 use Rattle.run_http.proofs.voids.ask_voids.Given as goal
 

@@ -1,4 +1,4 @@
-use Rattle.office_program.specs.Texts.Statements.{Keeps}
+use Rattle.office_core.specs.Several.{Keeps}
 use Rattle.office_program.proofs.StatementLemmas.{AreStated}
 use Rattle.office_program.proofs.texts.statement.add_statements.Given as goal
 

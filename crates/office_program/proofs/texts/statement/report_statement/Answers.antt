@@ -1,8 +1,7 @@
 use Rattle.std.proofs.Common.{Ok, Err, refl}
 use Rattle.command_io.specs.declared.status.ExitStatus.TheVariants.{Fine}
 use Rattle.energy_report.specs.StatementTexts.{statement_text}
-use Rattle.office_program.proofs.AskingLemmas.{only_asked}
-use Rattle.office_program.proofs.StatementLemmas.{written_so}
+use Rattle.office_program.proofs.StatementLemmas.{only_asked, written_so}
 use Rattle.office_program.proofs.texts.statement.report_statement.Goals as goal
 
 pub returns-in-Ok-clause-prints : goal.returns-in-Ok-clause-prints

@@ -1,7 +1,7 @@
 use Rattle.std.proofs.Common.{◌≡◌, ◌+◌, ◌*◌, ◌++◌, List, length, subst, ap, ◌∙◌, arith}
 use Rattle.energy_report.specs.Statements.{tally_of}
 use Rattle.office_books.specs.declared.entries.MeterEntry.{MeterEntry}
-use Rattle.office_program.proofs.AskingLemmas.{asked, goes_on, kept_on, unasked}
+use Rattle.office_core.proofs.Asked.{asked, goes_on, kept_on, unasked}
 use Rattle.office_program.proofs.StatementLemmas.{IsTallied, tally_more, tally_told}
 use Rattle.office_program.proofs.texts.statement.tally.Goals as goal
 
@@ -12,17 +12,17 @@ loop-turn-init g c = record {
   going = λ lt. absurd (omega (arith, lt));
 }
 
-pub returns-then-len-lt256-clause-tells : goal.returns-then-len-lt256-clause-tells
-returns-then-len-lt256-clause-tells g c =
+pub returns-then-len-lt65536-clause-tells : goal.returns-then-len-lt65536-clause-tells
+returns-then-len-lt65536-clause-tells g c =
     let ledger = g.B.Books.ledger in
     let zone = c.args.zone.now in
     let range = c.args.range.now in
     let same : length c.deref.result.now ≡ length c.in-Ok.piece.items = ap length c.deref.ensures.value in
-    tally_told ledger zone range c.args.office.now c.loop-turn.office c.entries.new.self c.args.meter.now (c.loop-turn.turn * 256) c.loop-turn.tally
+    tally_told ledger zone range c.args.office.now c.loop-turn.office c.entries.new.self c.args.meter.now (c.loop-turn.turn * 65536) c.loop-turn.tally
     c.take_all.new.self c.in-Ok.piece c.loop-turn.invariant.kept c.loop-turn.invariant.tallied c.in-Ok.ensures.asks c.in-Ok.ensures.listed
     (λ before is.
     subst (λ (es : List MeterEntry). c.take_all.new.self ≡ tally_of zone range (before ++ es)) c.deref.ensures.value (c.take_all.ensures before is))
-    (omega (arith, same, c.len.ensures, c.deref.ensures.len, c.if-len-lt256.true))
+    (omega (arith, same, c.len.ensures, c.deref.ensures.len, c.if-len-lt65536.true))
 
 pub loop-turn-preserved : goal.loop-turn-preserved
 loop-turn-preserved g c =
@@ -36,10 +36,10 @@ loop-turn-preserved g c =
     let turn = c.loop-turn.turn in
     let kept = c.loop-turn.invariant.kept in
     let asks = c.in-Ok.ensures.asks in
-    let next : turn * 256 + 256 ≡ (turn + 1) * 256 = omega arith in
+    let next : turn * 65536 + 65536 ≡ (turn + 1) * 65536 = omega arith in
     record {
       tallied = subst (λ n. IsTallied ledger zone range a d meter n c.take_all.new.self) next
-          (tally_more ledger zone range a b d meter (turn * 256) c.loop-turn.tally c.take_all.new.self c.in-Ok.piece kept c.loop-turn.invariant.tallied
+          (tally_more ledger zone range a b d meter (turn * 65536) c.loop-turn.tally c.take_all.new.self c.in-Ok.piece kept c.loop-turn.invariant.tallied
           asks c.in-Ok.ensures.listed
           (λ before is.
           subst (λ (es : List MeterEntry). c.take_all.new.self ≡ tally_of zone range (before ++ es)) c.deref.ensures.value (c.take_all.ensures before is)));

@@ -1,14 +1,23 @@
 -- Questions that are asked one after the other.
-use Rattle.std.proofs.Common.{◌≡◌, inr, true, refl, sym, ap, subst, ◌∙◌}
+use Rattle.std.proofs.Common.{◌≡◌, inl, inr, true, Option, Some, None, refl, sym, ap, subst, ◌∙◌}
 use Rattle.std.specs.Prelude.{Result, Ok, Err}
 use Rattle.office_events.specs.declared.refusals.Refusal.{Refusal}
 use Rattle.office_events.specs.declared.refusals.Refusal.TheVariants as refusal
 use Rattle.office_books.specs.Ledgers.{Ledger}
-use Rattle.office_core.specs.Asking.{CountsAsked, OnlyAsks}
+use Rattle.office_books.specs.declared.failures.Failures.{Failures}
+use Rattle.office_core.specs.Asking.{CountsAsked, IsFound, OnlyAsks, or_not_found}
+use Rattle.office_core.specs.Failing.{IsOutside}
+use Rattle.office_core.specs.Several.{Keeps}
 use Rattle.office_core.specs.Standing.{is_stopped}
 use Rattle.office_core.specs.Taking.{failures_of}
 use Rattle.office_core.specs.declared.office.Office.{Office}
-use Rattle.run_http.specs.Several.{Keeps}
+use Rattle.office_core.proofs.Taken.{outside_more}
+
+-- ---- what was found
+
+abbrev value_of : {T : Type 0} → Result T Refusal → Option T
+value_of (Ok x) = Some x
+value_of (Err why) = None
 
 abbrev reason_of : {T : Type 0} → Result T Refusal → Refusal
 reason_of (Ok x) = refusal.NotFound
@@ -16,6 +25,36 @@ reason_of (Err why) = why
 
 abbrev refusal_as : {T : Type 0} → Refusal → Result T Refusal
 refusal_as why = Err why
+
+value_or : {T : Type 0} (found : Option T) → value_of (or_not_found found) ≡ found
+value_or None = refl
+value_or (Some x) = refl
+
+reason_or : {T : Type 0} (found : Option T) → reason_of (or_not_found found) ≡ refusal.NotFound
+reason_or None = refl
+reason_or (Some x) = refl
+
+pub found_ok : {T : Type 0} (m : Type 0) (found : Option T) (before after : Failures) (x : T) → IsFound m found before after (Ok x)
+    → (found ≡ Some x) × (after ≡ before)
+found_ok m found before after x (inl is) = (sym (value_or found) ∙ ap value_of (sym is.0), is.1)
+found_ok m found before after x (inr fails) = absurd fails
+
+pub found_so : {T : Type 0} (m : Type 0) (found : Option T) (before after : Failures) (x : T) → found ≡ Some x → after ≡ before
+    → IsFound m found before after (Ok x)
+found_so m found before after x is same = inl (ap or_not_found (sym is), same)
+
+-- what is refused is refused after what was found before it
+pub refused_on : {T U : Type 0} (few many : Type 0) (f : Option T) (g : Option U) (before mid after : Failures) (why : Refusal) → (few → many)
+    → (f ≡ None → g ≡ None) → mid ≡ before → IsFound few f mid after (Err why) → IsFound many g before after (Err why)
+refused_on {T} {U} few many f g before mid after why more nothing same (inl is) =
+    let none : f ≡ None = sym (value_or f) ∙ ap value_of (sym is.0) in
+    let not_found : why ≡ refusal.NotFound = ap reason_of is.0 ∙ reason_or f in
+    let e : refusal_as {T = U} why ≡ or_not_found g = ap (refusal_as {T = U}) not_found ∙ ap or_not_found (sym (nothing none)) in
+    inl (e, is.1 ∙ same)
+refused_on few many f g before mid after why more nothing same (inr fails) =
+    inr (subst (λ was. IsOutside many was after why) same (outside_more few many mid after why more fails))
+
+-- ---- what questions leave
 
 module _ {B : Type 0} (ledger : B → Ledger) where
   pub unasked : (a : Office B) → Keeps ledger a a
@@ -123,3 +162,7 @@ module _ {B : Type 0} (ledger : B → Ledger) where
     clean = asks.clean;
     zone = asks.zone;
   }
+
+  -- the same answer of a question, as another
+  pub now_as : {T U : Type 0} (a b : Office B) (x : T) (y : U) → OnlyAsks ledger a b (Ok x) → OnlyAsks ledger a b (Ok y)
+  now_as a b x y asks = answered_as a b y (goes_on a b x asks) (asked a b x asks)
