@@ -202,7 +202,7 @@ pub(crate) fn open_in<'a, D: Databases>(
 }
 
 /// Carries a task out over the office in the database at a path, and gives out all that it printed. What the refusals and held readings
-/// of a round mean is said behind it.
+/// of a round mean is said after it.
 pub(crate) fn over_office<'a, D: Databases + NamedFiles>(
     rt: &HostRuntime,
     surroundings: &D,
