@@ -1,5 +1,5 @@
 //! The audit of an office's file.
-use crate::offices::{Files, open_in};
+use crate::offices::{Files, Opening, open_in};
 use std::io;
 use stored_office::{AuditFault, Databases, Ending, Failure, audit_stored, write_audit};
 
@@ -24,7 +24,7 @@ fn audit_in<'a, D: Databases>(
 
 /// Tells whether the rows of an office's meters are those of lawful journals. Nothing is written to its file.
 pub(crate) fn audit<'a>(rt: &HostRuntime, path: &'a str) -> Ending<'a> {
-    match audit_in(rt, &Files::of(rt), path) {
+    match audit_in(rt, &Files::opened(rt, Opening::Copied), path) {
         Ok(true) => Ending::Fine,
         Ok(false) => Ending::Refused,
         Err(failure) => Ending::Failed(failure),
