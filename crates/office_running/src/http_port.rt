@@ -19,7 +19,7 @@ use office_core::Office;
 use office_events::Name;
 use run_http::{
     PeerReply, RunRoute, StatusRoute, ask, reply_energy, reply_entries, reply_intervals,
-    reply_metrics, reply_site, reply_status, reply_voids, run_route,
+    reply_meters, reply_metrics, reply_site, reply_status, reply_voids, run_route,
 };
 use run_schedule::{MOST_PEERS, PEER_SECONDS, Peers, place_for};
 use std::alloc::{AllocError, Global};
@@ -314,6 +314,18 @@ impl Serving {
         }
     }
 
+    // The reply to the question which meters are at a register.
+    #[tactic(auto, using(crate::proofs::Going::goes_rows))]
+    fn reply_meters<B: Books>(&self, office: &mut Office<B>, register: &Option<Name>) -> PeerReply
+        ensures { (names : List (List ℕ)) (at : ℕ) → Goes names at B.ledger office.old office.new }
+    {
+        let mut text = Vec::new(self.alloc);
+        match reply_meters(self.alloc, &mut text, office, register) {
+            Ok(()) => PeerReply::Replied(text),
+            Err(_) => PeerReply::Failed,
+        }
+    }
+
     // What comes of what a peer has asked. Who asks is tested before all else, and then whether what is kept has room.
     #[tactic(auto, using(crate::proofs::Going::goes_none, crate::proofs::Going::goes_both))]
     fn reply<B: Books>(
@@ -336,6 +348,7 @@ impl Serving {
             Some(RunRoute::Energy { register, form }) => {
                 self.reply_energy(office, &register, &form)
             }
+            Some(RunRoute::Meters { register }) => self.reply_meters(office, &register),
             None => {
                 if self.room.lacks(request) {
                     return self.reply_status(StatusRoute::Rejected(Status::Unavailable), voice);

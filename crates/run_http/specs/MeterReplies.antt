@@ -1,4 +1,4 @@
--- The replies to questions for rows of a meter, by what the office answers to them.
+-- The replies to questions for rows of a meter, or of the meters at a register, by what the office answers to them.
 use Rattle.std.specs.Prelude.{◌≡◌, ℕ, true, List, [], ◌∷◌, ◌++◌, Option, Result, Ok, Err, IfOk, OnOk, codes}
 use Rattle.std.specs.declared.alloc.Global.{Global}
 use Rattle.std.specs.declared.vec.Vec.{Vec}
