@@ -129,7 +129,7 @@ all_held = record {
   not_below_range = 8;
 }
 
-each_cause : held_text Text all_held ≡ codes "1:18446744073709551615,2:2,3:3,4:4,5:5,6:6,7:7,8:8"
+each_cause : held_text Text all_held ≡ codes "1=18446744073709551615,2=2,3=3,4=4,5=5,6=6,7=7,8=8"
 unfolding digits held_some
 each_cause = refl
 
