@@ -82,12 +82,6 @@ pub record ReadsClock (before latest : ℕ) (begun now : Option (List ℕ)) : Ty
   pub tells : TellsMoment begun now told
   pub is_latest : latest ≡ max before told
 
--- The loop reads the clock, and what comes then comes at the latest moment that it has told.
-pub record TakesTurn {B : Type 0} (names : List (List ℕ)) (ledger : B → Ledger)
-    (before latest : ℕ) (begun now : Option (List ℕ)) (old new : Office B) : Type 0 where
-  pub reads : ReadsClock before latest begun now
-  pub goes : Goes names latest ledger old new
-
 -- a turn of the loop: what the clock told, and what came to the office then, the latest first
 pub record Turn (names : List (List ℕ)) : Type 0 where
   pub told : ℕ

@@ -16,8 +16,8 @@ pub(crate) struct Now {
     pub(crate) moment: u64,
 }
 
-// What the clock tells that nobody sets, in milliseconds. Where it can't be read no time passes.
-fn even_milliseconds<R: std::rt::Clock>(rt: &R) -> u64 {
+/// What the clock tells that nobody sets, in milliseconds. Where it can't be read no time passes.
+pub(crate) fn even_milliseconds<R: std::rt::Clock>(rt: &R) -> u64 {
     match rt.monotonic() {
         Ok(since) => since
             .as_secs()
