@@ -797,9 +797,45 @@ def see_program(sunreg, program):
     holds("its day", tab.wait("document.getElementById('sum')"), text_of(tab, "#detail"))
     same("adds up", text_of(tab, "#sum"), "Together 0.007 kWh, which is the office's figure of this day.")
     holds_quiet("the program", tab, origin)
+    exchanged(tab, origin)
     run.kill()
     run.wait()
     holds("it says that none answers", tab.wait(f"!{TROUBLE}.hidden"), text_of(tab, "body"))
+    words = ["report", "--db", "office.db", "--register", "main", "--unit", "kwh"]
+    told = subprocess.run([sunreg, *words], cwd=ROOM, capture_output=True, text=True).stdout.split()
+    same("the report has the same", told[2:], ["0.014000", "end", "1"])
+
+
+def posted(origin, target, number, body):
+    """The status of a command."""
+    headers = {"Office-Caller": "page", "Office-Request": str(number)}
+    request = urllib.request.Request(origin + target, data=json.dumps(body).encode(), headers=headers)
+    try:
+        with urllib.request.urlopen(request, timeout=30) as reply:
+            return reply.status
+    except urllib.error.HTTPError as error:
+        return error.code
+
+
+def exchanged(tab, origin):
+    """The register's meter is exchanged for another, which goes on by 7 Wh too: the day has both, and together they are the office's figure."""
+    body = {"last": 5007, "rolls": 0, "meter": "m2", "raw": 5000, "sf": 0, "ceiling": 1_000_000_000}
+    # (a second that had a reading has no exchange any more)
+    done = any(posted(origin, "/registers/main/exchange", number, body) < 300 or time.sleep(0.3) for number in range(1, 30))
+    same("an exchange", done, True)
+    until = time.time() + 30
+    while time.time() < until and not re.search(rb'"meter":"m2",[^{}]*"total":"7000"', fetched(f"{origin}/site")[2]):
+        time.sleep(0.2)
+    lines = [line.split() for line in fetched(f"{origin}/registers/main/meters")[2].decode().splitlines()]
+    same("the meters of the register", [[it[0], *it[3:]] for it in lines], [["m1", "5007", "0", "7000", "ended"], ["m2", "5007", "0", "7000", "open"], ["end"]])
+    both = "document.getElementById('sum') && document.getElementById('sum').innerText.startsWith('Together 0.014 kWh, which is the office')"
+    holds("its day has both meters", tab.wait(both), text_of(tab, "#detail"))
+    holds("which its heading names", text_of(tab, "#heading").endswith("main, meter m1, meter m2"), text_of(tab, "#heading"))
+    same("and the list", [it.split(" from ")[0] for it in meters_of(tab)], ["m1", "m2"])
+    # (within one quarter hour, or two where one ended just now)
+    names = {name for it in table_of(tab) for name in it[2].split(", ")}
+    same("and the table", names, {"m1", "m2"})
+    holds_quiet("an exchange", tab, origin)
 
 
 see_words()

@@ -62,7 +62,8 @@ class Meter:
 
     def __init__(self, name, register, begun, ended, energy):
         self.name, self.register, self.begun, self.ended = name, register, begun, ended
-        self.rows = [(start, energy(start)) for start in range(begun // 900 * 900, ended, 900)]
+        part = lambda start: min(start + 900, ended) - max(start, begun)
+        self.rows = [(start, energy(start) * part(start) // 900) for start in range(begun // 900 * 900, ended, 900)]
 
     @property
     def total(self):
