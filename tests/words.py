@@ -124,7 +124,7 @@ def check_completions(program, room):
         holds(f"options of {name}", [it for it in completed(script, name, "-") if it != "-h"], sorted(it for it in words if it != "-h"))
         for option, about in text["options"]:
             if found := re.search(r"(--[a-z-]+) <([A-Z]+)>", option):
-                wanted = ["-o", "compopt", "default"] if found[2] in ("FILE", "COPY") else []
+                wanted = ["-o", "compopt", "default"] if found[2] in ("FILE", "COPY", "SEAL") else []
                 if found[2] in ("PERIOD", "UNIT", "FORMAT"):
                     wanted = sorted(set(re.findall("[a-z]+", about.split(": ")[1].split(";")[0])) - {"or"})
                 holds(f"the value of {name} {found[1]}", completed(script, name, found[1], ""), wanted)

@@ -13,6 +13,8 @@ use Rattle.command_words.specs.Options.{if_some, is_set, number_at, number_if, n
 use Rattle.command_words.specs.declared.line.CommandLine.{CommandLine}
 use Rattle.command_words.specs.declared.line.CommandLine.TheVariants as line
 use Rattle.command_words.specs.declared.line.FormWords.{FormWords}
+use Rattle.command_words.specs.declared.line.Sealing.{Sealing}
+use Rattle.command_words.specs.declared.line.Sealing.TheVariants as sealing
 
 -- in which form a report is asked for, as far as it is
 pub record Form : Type 0 where
@@ -22,6 +24,12 @@ pub record Form : Type 0 where
   pub unit : Option EnergyUnit
   pub format : Option Format
   pub statement : Bool
+
+-- what an audit has to do with a seal: nothing, to print one, or to hold what is recorded to that in a file
+pub data Seal : Type 0 where
+  Nothing : Seal
+  Print : Seal
+  Against : (file : Text) → Seal
 
 -- a command with the values of its options
 pub data Line : Type 0 where
@@ -34,7 +42,7 @@ pub data Line : Type 0 where
   Round : (db device host : Text) (port : ℕ) → Line
   Report : (db register : Text) (form : Form) → Line
   Backup : (db to : Text) → Line
-  Audit : (db : Text) → Line
+  Audit : (db : Text) (seal : Seal) → Line
   Scan : (host : Text) (port unit timeout : ℕ) (list : Bool) (setup : Option Text) → Line
   StandIn : (host : Text) (port connections : ℕ) → Line
   Loop : (zone : Text) → Line
@@ -53,6 +61,11 @@ seen_form form = record {
   statement = form.statement;
 }
 
+abbrev pub seen_sealing : Sealing → Seal
+seen_sealing sealing.Nothing = Nothing
+seen_sealing sealing.Print = Print
+seen_sealing (sealing.Against file) = Against file.now
+
 abbrev pub seen : CommandLine → Line
 seen (line.Replay zone) = Replay zone.now
 seen line.Plan = Plan
@@ -65,7 +78,7 @@ seen (line.Serve db port connections hosts) =
 seen (line.Round db device host port) = Round db.now device.now host.now port
 seen (line.Report db register form) = Report db.now register.now (seen_form form)
 seen (line.Backup db to) = Backup db.now to.now
-seen (line.Audit db) = Audit db.now
+seen (line.Audit db seal) = Audit db.now (seen_sealing seal)
 seen (line.Scan host port unit timeout list setup) =
     Scan host.now port unit timeout list (option_map (λ text. text.now) setup)
 seen (line.StandIn host port connections) = StandIn host.now port connections
@@ -149,8 +162,18 @@ backup_in rows =
     given (db_in rows) (λ db.
     given (text_at (codes "to") rows) (λ to. Some (Backup db to)))
 
+-- who has a seal printed names no file of one
+abbrev pub sealing_of : (prints : Bool) → (against : Option Text) → Option Seal
+sealing_of prints None = Some (if prints then Print else Nothing)
+sealing_of prints (Some file) = if prints then None else Some (Against file)
+
+abbrev pub sealing_in : List Row → Option Seal
+sealing_in rows = sealing_of (is_set (codes "seal") rows) (text_at (codes "against") rows)
+
 abbrev pub audit_in : List Row → Option Line
-audit_in rows = given (db_in rows) (λ db. Some (Audit db))
+audit_in rows =
+    given (db_in rows) (λ db.
+    given (sealing_in rows) (λ seal. Some (Audit db seal)))
 
 -- of a list and lines to set a device up only one is printed
 abbrev pub one_of : (list : Bool) (setup : Option Text) → Line → Option Line

@@ -14,7 +14,7 @@ mod words;
 pub use crate::values::Device;
 pub use clap_table::{CommandText, OptionText, ProgramText, Value};
 pub use faults::WordsFault;
-pub use line::{CommandLine, FormWords};
+pub use line::{CommandLine, FormWords, Sealing};
 pub use table::program;
 pub use values::{DeviceFault, ListFault};
 pub use words::command_of;

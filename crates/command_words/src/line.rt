@@ -15,6 +15,17 @@ pub struct FormWords<'a> {
     pub statement: bool,
 }
 
+/// What an audit has to do with a seal.
+#[derive(Clone, Copy, Debug, PartialEq, Eq)]
+pub enum Sealing<'a> {
+    /// No seal is asked for.
+    Nothing,
+    /// A seal of what is recorded is printed.
+    Print,
+    /// What is recorded is held to the seal in a file.
+    Against(&'a str),
+}
+
 /// A command with the values of its options, which are texts as they stand in the words, numbers in their ranges, and
 /// seconds.
 #[derive(Debug, PartialEq, Eq, Drop)]
@@ -65,9 +76,10 @@ pub enum CommandLine<'a> {
         db: &'a str,
         to: &'a str,
     },
-    /// Whether the rows of a file's meters are those of lawful journals.
+    /// Whether the rows of a file are those of lawful journals and polls, and whether it still has what a seal pins.
     Audit {
         db: &'a str,
+        seal: Sealing<'a>,
     },
     /// The SunSpec models of a live device: listed, as a point list, or as the lines that set the device up under a name.
     Scan {

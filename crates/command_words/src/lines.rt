@@ -4,12 +4,12 @@ ghost use Rattle.command_words.specs.Values.Devices.{devices_in, places_of};
 ghost use Rattle.command_words.specs.Lines.{audit_in, backup_in, command_in, completions_in, create_in, devices_at};
 ghost use Rattle.command_words.specs.Lines.{devices_if};
 ghost use Rattle.command_words.specs.Lines.{enter_in, explain_in, form_in, line_in, report_in, round_in, run_in, scan_in, seen};
-ghost use Rattle.command_words.specs.Lines.{seen_form, serve_in, stand_in_in};
+ghost use Rattle.command_words.specs.Lines.{sealing_in, seen_form, seen_sealing, serve_in, stand_in_in};
 ghost use Rattle.command_words.specs.Options.{Reads, rows_in};
 
 use crate::choices::{format_if, period_if, unit_if};
 use crate::faults::ValueFault;
-use crate::line::{CommandLine, FormWords};
+use crate::line::{CommandLine, FormWords, Sealing};
 use crate::options::{is_set, number, number_if, number_or, text, text_if, text_or, texts};
 use crate::table::{
     CONNECTIONS, EVERY, FIRST_UNIT, HOST, HOST_NAME, LASTS, LISTEN, MOST_KEPT, PATIENCE, PORT,
@@ -96,11 +96,33 @@ fn backup_line<'a>(found: &ArgMatches<'a>) -> Result<CommandLine<'a>, ValueFault
     Ok(CommandLine::Backup { db, to })
 }
 
+// The seal that is printed, or held to, if any.
+fn sealing<'a>(found: &ArgMatches<'a>) -> Result<Sealing<'a>, ValueFault<'a>>
+    ensures { Reads seen_sealing (sealing_in (rows_in found.now)) result }
+{
+    let prints = is_set(found, "seal");
+    let Some(seal) = text_if(found, "against") else {
+        return Ok(if prints {
+            Sealing::Print
+        } else {
+            Sealing::Nothing
+        });
+    };
+    if prints {
+        return Err(ValueFault::Both {
+            one: "seal",
+            other: "against",
+        });
+    }
+    Ok(Sealing::Against(seal))
+}
+
 fn audit_line<'a>(found: &ArgMatches<'a>) -> Result<CommandLine<'a>, ValueFault<'a>>
     ensures { Reads seen (audit_in (rows_in found.now)) result }
 {
     let db = text(found, "db")?;
-    Ok(CommandLine::Audit { db })
+    let seal = sealing(found)?;
+    Ok(CommandLine::Audit { db, seal })
 }
 
 fn scan_line<'a>(found: &ArgMatches<'a>) -> Result<CommandLine<'a>, ValueFault<'a>>

@@ -293,9 +293,21 @@ const BACKUP: CommandText<'static> = CommandText {
 
 const AUDIT: CommandText<'static> = CommandText {
     name: "audit",
-    about: "Checks each meter's rows against its entries; it only reads",
-    after: "Example: sunreg audit --db office.db",
-    options: &[DB],
+    about: "Checks an office's rows against one another; it only reads",
+    after: "Example: sunreg audit --db office.db --seal > seal.txt",
+    options: &[
+        DB,
+        OptionText {
+            name: "seal",
+            value: Value::Absent,
+            help: "Prints a seal of what is recorded instead, where all is fine",
+        },
+        OptionText {
+            name: "against",
+            value: Value::Optional("SEAL"),
+            help: "Checks too that all is still there of which this file is the seal",
+        },
+    ],
 };
 
 const SCAN: CommandText<'static> = CommandText {

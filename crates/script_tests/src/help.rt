@@ -50,7 +50,7 @@ Commands:
   round        Polls the whole plan of one device once
   report       Prints a register's energy by days, months or years
   backup       Makes one whole file of an office
-  audit        Checks each meter's rows against its entries; it only reads
+  audit        Checks an office's rows against one another; it only reads
   stand-in     Plays a Modbus device, with a bank from standard input
   loop         Runs a script whose devices are a stand-in in this process
   run          Polls devices on a schedule and answers HTTP, until it is ended

@@ -1,8 +1,8 @@
 //! Words that spell a command.
-use command_words::{CommandLine, Device, FormWords, command_of};
+use command_words::{CommandLine, Device, FormWords, Sealing, command_of};
 use energy_report::{EnergyUnit, Format, Period};
 
-const RIGHT: [(&[&str], CommandLine<'static>); 23] = [
+const RIGHT: [(&[&str], CommandLine<'static>); 25] = [
     // no word is replay
     (&[], CommandLine::Replay { zone: "UTC0" }),
     (&["replay"], CommandLine::Replay { zone: "UTC0" }),
@@ -213,7 +213,24 @@ const RIGHT: [(&[&str], CommandLine<'static>); 23] = [
     ),
     (
         &["audit", "--db", "o.db"],
-        CommandLine::Audit { db: "o.db" },
+        CommandLine::Audit {
+            db: "o.db",
+            seal: Sealing::Nothing,
+        },
+    ),
+    (
+        &["audit", "--db", "o.db", "--seal"],
+        CommandLine::Audit {
+            db: "o.db",
+            seal: Sealing::Print,
+        },
+    ),
+    (
+        &["audit", "--against", "seal.txt", "--db", "o.db"],
+        CommandLine::Audit {
+            db: "o.db",
+            seal: Sealing::Against("seal.txt"),
+        },
     ),
     // what is no number is told by the table of meanings, and not here
     (

@@ -61,6 +61,8 @@ static WRONG: [&[&str]; 45] = [
     &["enter", "--db", "x", "--caller", "c", "-m"],
     &["backup", "--db", "x"],
     &["audit"],
+    &["audit", "--db", "x", "--against"],
+    &["audit", "--db", "x", "--seal", "--against", "s"],
     &["explain", "refused"],
     &["explain", "refused", "1", "2"],
     &["completions"],

@@ -28,7 +28,7 @@ fn value_of<'a>(value: Value<'a>) -> Option<&'a str> {
 }
 
 fn is_file(shown: &str) -> bool {
-    shown == "FILE" || shown == "COPY"
+    shown == "FILE" || shown == "COPY" || shown == "SEAL"
 }
 
 fn write_names<W: Write>(commands: &[CommandText<'_>], output: &mut W) -> io::Result<()> {
