@@ -16,5 +16,7 @@ pub use audit::{audit_meter, audit_rows};
 pub use differences::{Difference, Differences, MOST, Table};
 pub use findings::{Counts, Finding, Findings};
 pub use meters::audit_meters;
+pub use queries::{installations, meter_rows};
+pub use reading::{entries, places, range};
 pub use rows::MeterRows;
 pub use texts::put_findings;
