@@ -29,6 +29,8 @@ pub enum AuditFault {
     Unsealable,
     /// A text is that of no seal.
     NoSeal,
+    /// The file of a seal can't be read.
+    Unread,
     /// The database failed.
     Store,
     Memory,

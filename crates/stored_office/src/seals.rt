@@ -107,7 +107,7 @@ pub fn check_stored_seal<S: Alter>(
     ensures tells { HasCleanDisk (state S.Store connection.new) → (content : Content)
         → HoldsTables S.Store connection.old content
         → IfOk result (λ checked. (seals : List Sealed) × (text.now ≡ seal_text seals)
-            × TellsTables seals content checked) }
+        × TellsTables seals content checked) }
     ensures no_seal { (seals : List Sealed) → AreSealable seals → text.now ≡ seal_text seals
         → result ≢ Err AuditFault.NoSeal }
 {

@@ -1,32 +1,120 @@
-//! The audit of an office's file.
+//! The audit of an office's file, and seals of what is recorded in it.
 use crate::offices::{Files, Opening, open_in};
-use std::io;
-use stored_office::{AuditFault, Databases, Ending, Failure, audit_stored, write_audit};
+use command_words::Sealing;
+use sqlite::{Alter, Connection};
+use std::fs::File;
+use std::io::{self, Read};
+use std::str::from_utf8;
+use stored_office::{
+    AuditFault, Databases, Ending, Failure, audit_stored, check_stored_seal, seal_stored,
+    write_audit, write_checked, write_seal,
+};
 
-// Audits the tables in the database at a path, and tells whether they are fine.
+/// The most bytes that are read of a seal. One of 4,096 meters, each with a thousand voids, has fewer.
+const MOST_SEAL: u64 = 300_000_000;
+
+// Prints the seal of the tables.
+fn print_seal<S: Alter>(
+    rt: &HostRuntime,
+    connection: &mut Connection<S>,
+) -> Result<bool, AuditFault> {
+    let seals = seal_stored(rt.alloc(), connection)?;
+    let mut output = io::writer(rt);
+    write_seal(rt.alloc(), seals.as_slice(), &mut output)?;
+    Ok(true)
+}
+
+// Tells whether the tables still have what the seal of a text pins.
+fn hold_to<S: Alter>(
+    rt: &HostRuntime,
+    connection: &mut Connection<S>,
+    text: &str,
+) -> Result<bool, AuditFault> {
+    let checked = check_stored_seal(rt.alloc(), connection, text)?;
+    let mut output = io::writer(rt);
+    write_checked(rt.alloc(), &checked, &mut output)
+}
+
+// Audits the tables, and tells whether they are fine. Only where they are, a seal is printed, or held to: that of this text.
+fn audit_over<S: Alter>(
+    rt: &HostRuntime,
+    connection: &mut Connection<S>,
+    seal: Sealing<'_>,
+) -> Result<bool, AuditFault> {
+    let findings = audit_stored(rt.alloc(), connection)?;
+    if findings.is_fine() {
+        match seal {
+            Sealing::Nothing => {}
+            Sealing::Print => return print_seal(rt, connection),
+            Sealing::Against(text) => return hold_to(rt, connection, text),
+        }
+    }
+    let mut output = io::writer(rt);
+    write_audit(rt.alloc(), &findings, &mut output)
+}
+
+// Does so with the database at a path.
 fn audit_in<'a, D: Databases>(
     rt: &HostRuntime,
     databases: &D,
     path: &'a str,
+    seal: Sealing<'_>,
 ) -> Result<bool, Failure<'a>> {
     let mut connection = open_in(rt, databases, path)?;
-    let findings = match audit_stored(rt.alloc(), &mut connection) {
-        Ok(findings) => findings,
-        Err(fault) => return Err(Failure::Unaudited { path, fault }),
-    };
-    let mut output = io::writer(rt);
-    match write_audit(rt.alloc(), &findings, &mut output) {
+    match audit_over(rt, &mut connection, seal) {
         Ok(fine) => Ok(fine),
         Err(AuditFault::Output) => Err(Failure::Streams),
         Err(fault) => Err(Failure::Unaudited { path, fault }),
     }
 }
 
-/// Tells whether the rows of an office's meters are those of lawful journals. Nothing is written to its file.
-pub(crate) fn audit<'a>(rt: &HostRuntime, path: &'a str) -> Ending<'a> {
-    match audit_in(rt, &Files::opened(rt, Opening::Copied), path) {
+// What a seal's file has.
+fn seal_in(rt: &HostRuntime, file: &str) -> io::Result<Vec<u8>> {
+    let mut bytes = Vec::new(rt.alloc());
+    File::open(rt, file)?
+        .take(MOST_SEAL)
+        .read_to_end(&mut bytes)?;
+    Ok(bytes)
+}
+
+fn ended(told: Result<bool, Failure<'_>>) -> Ending<'_> {
+    match told {
         Ok(true) => Ending::Fine,
         Ok(false) => Ending::Refused,
         Err(failure) => Ending::Failed(failure),
+    }
+}
+
+// Audits the tables, and holds them to the seal in a file.
+fn audit_against<'a>(rt: &HostRuntime, path: &'a str, file: &'a str) -> Ending<'a> {
+    let Ok(bytes) = seal_in(rt, file) else {
+        return Ending::Failed(Failure::Unaudited {
+            path: file,
+            fault: AuditFault::Unread,
+        });
+    };
+    let Ok(text) = from_utf8(bytes.as_slice()) else {
+        return Ending::NoSeal(file);
+    };
+    let files = Files::opened(rt, Opening::Copied);
+    match audit_in(rt, &files, path, Sealing::Against(text)) {
+        Err(
+            Failure::Unaudited {
+                fault: AuditFault::NoSeal,
+                ..
+            },
+        ) => Ending::NoSeal(file),
+        told => ended(told),
+    }
+}
+
+/// Tells whether the rows of an office's file are those of lawful journals and polls, and prints a seal of them, or holds them to one.
+/// Nothing is written to the file.
+pub(crate) fn audit<'a>(rt: &HostRuntime, path: &'a str, seal: Sealing<'a>) -> Ending<'a> {
+    match seal {
+        Sealing::Against(file) => audit_against(rt, path, file),
+        Sealing::Nothing | Sealing::Print => {
+            ended(audit_in(rt, &Files::opened(rt, Opening::Copied), path, seal))
+        }
     }
 }
