@@ -20,9 +20,10 @@ import audit_rows
 
 HERE = pathlib.Path(__file__).resolve().parent
 BEGIN, DAY, DAYS = 1703808000, 86400, 6  # 2023-12-29 00:00 UTC
-TABLES = ("entries", "intervals", "installations", "ranges", "voids")
+TABLES = ("entries", "intervals", "installations", "ranges", "voids", "polls", "outcomes")
 # what a change may leave fine, as docs/AUDIT.md lists it: of any file, and where a meter's entries lie in one quarter hour
 LISTED = {("installations", "ceiling"), ("installations", "register"), ("ranges", "range"), ("voids", "moment"), ("entries", "kind"), ("entries", "moment")}
+LISTED |= {("polls", it) for it in ("unit", "started", "tid", "function", "address", "count", "added")} | {("outcomes", it) for it in ("moment", "outcome", "code", "gone")}
 IN_ONE_QUARTER = {("entries", "raw"), ("voids", "place"), ("voids", "gone"), ("voids", "added")}
 VOIDED = {("entries", "raw"), ("entries", "rolls")}
 LIST = "name,function,area,address,type,scale\nwh,3,0,40094,acc32,\n"
@@ -106,6 +107,9 @@ def by_python(db):
         books.executemany("INSERT INTO entries VALUES (?, ?, ?, ?, ?, ?, ?, ?)", entries)
         books.executemany("INSERT INTO intervals VALUES (?, ?, ?)", intervals)
         books.execute("INSERT INTO voids VALUES ('m1', 5, ?)", (BEGIN + DAY * 4,))
+        # (a poll for each reading, and one more, which isn't answered yet)
+        books.executemany("INSERT INTO polls VALUES (?, 'inv', 1, ?, ?, 3, 40094, 2)", [(at, entry[3] - 1, at) for at, entry in enumerate(entries, 1)])
+        books.executemany("INSERT INTO outcomes VALUES (?, ?, 1, 0)", [(at, entry[3]) for at, entry in enumerate(entries[:-1], 1)])
     books.close()
     return entries, intervals
 
@@ -113,7 +117,7 @@ def by_python(db):
 def whole(db):
     """Brings what stands in a file's log into the file, and tells how many entries and intervals it has."""
     books = sqlite3.connect(db)
-    found = [books.execute(f"SELECT count(*) FROM {table}").fetchone()[0] for table in ("installations", "entries", "intervals")]
+    found = [books.execute(f"SELECT count(*) FROM {table}").fetchone()[0] for table in ("installations", "entries", "intervals", "polls")]
     books.execute("PRAGMA journal_mode = DELETE")
     books.close()
     same(f"{db} is one file", [pathlib.Path(db + end).exists() for end in ("-wal", "-shm", "-journal")], [False] * 3)
@@ -169,6 +173,20 @@ def printed(entries, intervals):
     ):
         wanted = [*(f"meter m1 {it}" for it in lines), f"{len(lines)} differences"]
         same(what, changed(*command.split("; ")), (1, wanted, []))
+    more = ("WITH RECURSIVE more (it) AS (SELECT 9 UNION ALL SELECT it + 1 FROM more WHERE it < 5000) INSERT INTO polls SELECT it, 'inv', 1, {0}, 7, 4, 0, 125 FROM more; "
+            "INSERT INTO outcomes SELECT poll, {0}, 3, 0 FROM polls WHERE poll > 8").format(end)
+    for what, command, line in (
+        ("a poll is gone", "DELETE FROM outcomes WHERE poll = 3; DELETE FROM polls WHERE poll = 3", "poll 3 is missing"),
+        ("a number below 1", "UPDATE polls SET poll = -5 WHERE poll = 8", f"poll 0 {astray}".replace("with", "has")),
+        ("a value of a poll", "UPDATE polls SET address = 65535 WHERE poll = 2", f"poll 2 {astray}".replace("with", "has")),
+        ("a kind of outcome", "UPDATE outcomes SET outcome = 6 WHERE poll = 2", f"poll 2 outcome {astray}".replace("with", "has")),
+        ("a code of an outcome", "UPDATE outcomes SET outcome = 5, code = 5 WHERE poll = 2", f"poll 2 outcome {astray}".replace("with", "has")),
+        ("an outcome too early", f"UPDATE outcomes SET moment = {BEGIN - 2} WHERE poll = 1", "poll 1 outcome comes before the poll"),
+        ("one of the second run", f"{more}; DELETE FROM outcomes WHERE poll = 4500; DELETE FROM polls WHERE poll = 4500", "poll 4500 is missing"),
+        ("an outcome of the second run", f"{more}; UPDATE outcomes SET moment = 0 WHERE poll = 4097", "poll 4097 outcome comes before the poll"),
+    ):
+        same(what, changed(*command.split("; ")), (1, [line, "1 differences"], []))
+    same("polls of two runs", changed(*more.split("; ")), (0, [f"fine: 1 meters, {last} entries, {len(intervals)} intervals, 5000 polls"], []))
     wanted = [f"meter m1 interval {start} has {mwh + 1}, entries give {mwh}" for _, start, mwh in intervals[:100]]
     wanted += [f"and {len(intervals) - 100} more", f"{len(intervals)} differences"]
     same("more than are told", changed("UPDATE intervals SET mwh = mwh + 1"), (1, wanted, []))
@@ -267,13 +285,13 @@ def main():
         subprocess.run([PROGRAM, "backup", "--db", "program.db", "--to", "copy.db"], check=True)
         same("a copy that backup made", audit("copy.db"), found)
         # (its moments are the clock's, so each meter has a quarter hour or two)
-        meters, entries, intervals = whole("program.db")
-        same("what the program wrote", (meters, entries, 2 <= intervals <= 4), (2, 11, True))
-        same("a file of the program", found, (0, [f"fine: 2 meters, 11 entries, {intervals} intervals"], []))
+        meters, entries, intervals, polls = whole("program.db")
+        same("what the program wrote", (meters, entries, 2 <= intervals <= 4, polls >= 3), (2, 11, True, True))
+        same("a file of the program", found, (0, [f"fine: 2 meters, 11 entries, {intervals} intervals, {polls} polls"], []))
         same("as one file", audit("program.db"), found)
         entries, intervals = by_python("python.db")
         before = pathlib.Path("python.db").read_bytes()
-        same("a file of Python", audit("python.db"), (0, [f"fine: 1 meters, {len(entries)} entries, {len(intervals)} intervals"], []))
+        same("a file of Python", audit("python.db"), (0, [f"fine: 1 meters, {len(entries)} entries, {len(intervals)} intervals, {len(entries)} polls"], []))
         same("its bytes stay", (audit("python.db")[0], pathlib.Path("python.db").read_bytes() == before), (0, True))
         whole("python.db")
         printed(entries, intervals)

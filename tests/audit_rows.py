@@ -3,6 +3,8 @@ the definitions of energy_core and meter_audit, and stands on nothing of the pro
 OPENING, READING, _MANUAL, CLOSING, RESET, RESCALE = range(1, 7)
 LATEST, GREATEST_PLACE, SHOWN, MOST_ENERGY = 4_102_444_800, 2**62, 2**32 - 1, 4 * 10**18
 LONGEST = 3000  # quarter hours that a step may touch
+RUN = 4096  # polls are looked at by so many numbers at a time
+CODES = {1: (0, 0), 2: (0, 255), 3: (0, 0), 4: (1, 5), 5: (1, 4)}  # by the kind of an outcome
 
 
 def unit(sf):
@@ -148,13 +150,46 @@ def differences_of(books, next_place, installation):
     return told
 
 
+def is_poll(poll, unit, started, tid, function, address, count):
+    """Whether a row of polls has values that it may have."""
+    return within([(poll, unit, started, tid, function, address, count)], (1, GREATEST_PLACE), (0, 255), (0, LATEST), (0, 65535), (3, 4), (0, 65535), (1, min(125, 65536 - address)))
+
+
+def is_outcome(poll, moment, kind, code):
+    """Whether a row of outcomes has values that it may have."""
+    return kind in CODES and within([(poll, moment, code)], (1, GREATEST_PLACE), (0, LATEST), CODES[kind])
+
+
+def poll_difference(books):
+    """What differs first of polls, in a list; an empty one where nothing does."""
+    astray, number = "has a value that none may have", lambda row: row[0] if 1 <= row[0] <= GREATEST_PLACE else 0
+    last = books.execute("SELECT max(poll) FROM polls").fetchone()[0] or 0
+    if last > GREATEST_PLACE or last < 1 and books.execute("SELECT count(*) FROM polls").fetchone()[0]:
+        return [f"poll 0 {astray}"]
+    for first in range(1, last + 1, RUN):
+        inside = (first if first > 1 else -(2**63), first + RUN - 1)
+        polls = books.execute("SELECT poll, unit, started, tid, function, address, count FROM polls WHERE poll BETWEEN ? AND ? ORDER BY poll", inside).fetchall()
+        outcomes = books.execute("SELECT poll, moment, outcome, code FROM outcomes WHERE poll BETWEEN ? AND ? ORDER BY poll", inside).fetchall()
+        if bad := [number(it) for it in polls if not is_poll(*it)]:
+            return [f"poll {bad[0]} {astray}"]
+        if bad := [number(it) for it in outcomes if not is_outcome(*it)]:
+            return [f"poll {bad[0]} outcome {astray}"]
+        started = {row[0]: row[2] for row in polls}
+        if missing := next((it for it in range(first, min(last, inside[1]) + 1) if it not in started), 0):
+            return [f"poll {missing} is missing"]
+        if early := [poll for poll, moment, *_ in outcomes if moment < started[poll]]:
+            return [f"poll {early[0]} outcome comes before the poll"]
+    return []
+
+
 def audit_of(books):
     """The status of an audit, and its lines."""
     if books.execute("PRAGMA foreign_key_check").fetchone():
         return 3, []
     rows = books.execute("SELECT * FROM installations ORDER BY place").fetchall()
-    told = [f"meter {row[1]} {it}" for place, row in enumerate(rows, 1) for it in differences_of(books, place, row)]
+    told = [f"meter {row[1]} {it}" for place, row in enumerate(rows, 1) for it in differences_of(books, place, row)] + poll_difference(books)
     if told:
         return 1, [*told[:100], *([f"and {len(told) - 100} more"] if len(told) > 100 else []), f"{len(told)} differences"]
     entries, intervals = (sum(books.execute(f"SELECT count(*) FROM {table} WHERE meter = ?", (row[1],)).fetchone()[0] for row in rows) for table in ("entries", "intervals"))
-    return 0, [f"fine: {len(rows)} meters, {entries} entries, {intervals} intervals"]
+    polls = books.execute("SELECT count(*) FROM polls").fetchone()[0]
+    return 0, [f"fine: {len(rows)} meters, {entries} entries, {intervals} intervals, {polls} polls"]

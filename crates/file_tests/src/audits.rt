@@ -22,7 +22,7 @@ static CHANGED: [(&str, bool, &[u8]); 3] = [
     (
         "UPDATE meta SET zone = 'UTC1'",
         true,
-        b"fine: 2 meters, 5 entries, 5 intervals\n",
+        b"fine: 2 meters, 5 entries, 5 intervals, 1 polls\n",
     ),
     (
         "UPDATE intervals SET mwh = 177778 WHERE meter = 'm1' AND start = 900",

@@ -7,7 +7,7 @@ ghost use Rattle.store_tables.specs.Content.{Content};
 ghost use Rattle.store_files.specs.declared.layouts.Layout.{Layout as TheLayout};
 ghost use Rattle.store_files.specs.Layouts.{IsNamedAs};
 ghost use Rattle.table_audit.specs.Looking.{HoldsTables, OnlyLooks};
-ghost use Rattle.table_audit.specs.Meters.{TellsMeters};
+ghost use Rattle.table_audit.specs.Polls.{TellsTables};
 ghost use Rattle.table_audit.specs.Texts.{with_findings};
 
 use sqlite::{Alter, Connection, Error, ErrorCode};
@@ -16,7 +16,7 @@ use std::io::Write;
 use store_files::{Layout, layout_of};
 use store_tables::RowFault;
 use sun_points::Sink;
-use table_audit::{Findings, audit_meters, put_findings};
+use table_audit::{Findings, audit_tables, put_findings};
 
 /// Why there is no audit.
 #[derive(Clone, Copy, Debug, PartialEq, Eq)]
@@ -38,7 +38,8 @@ pub enum AuditFault {
     Output,
 }
 
-/// Whether the tables of an office in a database have for each meter the rows of a lawful journal. Nothing is written to it.
+/// Whether the tables of an office in a database have for each meter the rows of a lawful journal, and its polls one after the
+/// other. Nothing is written to it.
 pub fn audit_stored<S: Alter>(
     alloc: Global,
     connection: &mut Connection<S>,
@@ -48,7 +49,7 @@ pub fn audit_stored<S: Alter>(
     ensures looks { connection.old.in_transaction ≡ false
         → OnlyLooks S.Store connection.old connection.new }
     ensures tells { HasCleanDisk (state S.Store connection.new) → (content : Content)
-        → HoldsTables S.Store connection.old content → IfOk result (TellsMeters content) }
+        → HoldsTables S.Store connection.old content → IfOk result (TellsTables content) }
 {
     if !connection.is_autocommit() {
         return Err(AuditFault::NotOurs);
@@ -58,7 +59,7 @@ pub fn audit_stored<S: Alter>(
         Some(Layout::First | Layout::Second) => return Err(AuditFault::Earlier),
         Some(Layout::Third) => {}
     }
-    match audit_meters(alloc, connection) {
+    match audit_tables(alloc, connection) {
         Ok(findings) => Ok(findings),
         Err(RowFault::Sql(Error::SqliteFailure(ErrorCode::OutOfMemory))) => {
             Err(AuditFault::Memory)

@@ -3,6 +3,9 @@ pub mod Agreeing
 pub mod Looking
 pub mod SqlTexts
 pub mod Asks
+mod PollAsks
+pub mod PollFound
+pub mod PollRuns
 pub mod Rising
 pub mod Found
 pub mod LookedAt

@@ -1,6 +1,10 @@
 -- What the texts mean that are asked here alone.
-use Rattle.std.proofs.Common.{◌≡◌, List, [], ◌∷◌, codes, ℕ, false, refl}
-use Rattle.sqlite.specs.declared.types.Value.TheVariants.{Text}
+use Rattle.std.proofs.Common.{◌≡◌, List, [], ◌∷◌, codes, ℕ, ℤ, false, refl}
+use Rattle.sqlite.specs.declared.types.Value.TheVariants.{Int, Text}
+use Rattle.sqlite.specs.Collation.TheVariants.{Binary}
+use Rattle.sqlite_sql.specs.Term.{op2}
+use Rattle.sqlite_sql.specs.declared.ops.BinaryOp.TheVariants.{Compare}
+use Rattle.sqlite_sql.specs.declared.ops.CompareOp.TheVariants.{Ge, Le}
 use Rattle.sqlite.specs.Term.{Term, col}
 use Rattle.sqlite.specs.Command.TheVariants.{Select}
 use Rattle.sqlite_tied.specs.Compute.{everything}
@@ -8,7 +12,7 @@ use Rattle.sqlite.specs.Listing.{understood, reads_listing}
 use Rattle.sqlite.proofs.Callers.{IsPlain, command_of}
 use Rattle.store_tables.specs.Schema.{books_schema}
 use Rattle.store_tables.proofs.Failures.{Suits, suits_scan}
-use Rattle.store_tables.proofs.Scans.{scan, no_limit, is_param, rising}
+use Rattle.store_tables.proofs.Scans.{scan, no_limit, one, is_param, rising, falling}
 
 -- rows of a meter
 abbrev pub of_meter : List Term
@@ -96,3 +100,89 @@ installation_rows_plain = (refl, refl)
 pub installation_rows_suits : Suits books_schema installation_rows []
 unfolding understood everything
 installation_rows_suits = suits_scan 7 [] installation_project ((col 1 0, rising) ∷ []) no_limit installation_rows installation_names [] (refl, refl, refl) installation_rows_plain installation_rows_unlisted installation_rows_is refl
+
+-- ---- last_poll
+
+abbrev pub last_poll : List ℕ
+last_poll = codes "SELECT poll FROM polls ORDER BY poll DESC LIMIT 1"
+
+abbrev pub last_project : List Term
+last_project = col 1 0 ∷ []
+
+abbrev pub last_names : List (List ℕ)
+last_names = codes "poll" ∷ []
+
+pub last_poll_is : command_of (understood books_schema last_poll) ≡ Select (record { lets = []; body = scan 11 [] last_project ((col 1 0, falling) ∷ []) one }) last_names
+unfolding understood everything
+last_poll_is = refl
+
+pub last_poll_unlisted : reads_listing books_schema last_poll ≡ false
+unfolding understood everything
+last_poll_unlisted = refl
+
+pub last_poll_plain : IsPlain (understood books_schema last_poll)
+unfolding understood everything
+last_poll_plain = (refl, refl)
+
+pub last_poll_suits : Suits books_schema last_poll []
+unfolding understood everything
+last_poll_suits = suits_scan 11 [] last_project ((col 1 0, falling) ∷ []) one last_poll last_names [] (refl, refl, refl) last_poll_plain last_poll_unlisted last_poll_is refl
+
+-- ---- rows with numbers from one up to another
+
+abbrev pub in_run : List Term
+in_run = op2 (Compare Ge Binary) (col 1 0) (col 0 0) ∷ op2 (Compare Le Binary) (col 1 0) (col 0 1) ∷ []
+
+-- ---- poll_rows
+
+abbrev pub poll_rows : List ℕ
+poll_rows = codes "SELECT poll, unit, started, tid, function, address, count FROM polls WHERE poll >= ?1 AND poll <= ?2 ORDER BY poll"
+
+abbrev pub poll_project : List Term
+poll_project = col 1 0 ∷ col 1 3 ∷ col 1 4 ∷ col 1 5 ∷ col 1 6 ∷ col 1 7 ∷ col 1 8 ∷ []
+
+abbrev pub poll_names : List (List ℕ)
+poll_names = codes "poll" ∷ codes "unit" ∷ codes "started" ∷ codes "tid" ∷ codes "function" ∷ codes "address" ∷ codes "count" ∷ []
+
+pub poll_rows_is : command_of (understood books_schema poll_rows) ≡ Select (record { lets = []; body = scan 11 in_run poll_project ((col 1 0, rising) ∷ []) no_limit }) poll_names
+unfolding understood everything
+poll_rows_is = refl
+
+pub poll_rows_unlisted : reads_listing books_schema poll_rows ≡ false
+unfolding understood everything
+poll_rows_unlisted = refl
+
+pub poll_rows_plain : IsPlain (understood books_schema poll_rows)
+unfolding understood everything
+poll_rows_plain = (refl, refl)
+
+pub poll_rows_suits : (low high : ℤ) → Suits books_schema poll_rows (Int low ∷ Int high ∷ [])
+unfolding understood everything
+poll_rows_suits low high = suits_scan 11 in_run poll_project ((col 1 0, rising) ∷ []) no_limit poll_rows poll_names (Int low ∷ Int high ∷ []) (refl, refl, refl) poll_rows_plain poll_rows_unlisted poll_rows_is refl
+
+-- ---- outcome_rows
+
+abbrev pub outcome_rows : List ℕ
+outcome_rows = codes "SELECT poll, moment, outcome, code FROM outcomes WHERE poll >= ?1 AND poll <= ?2 ORDER BY poll"
+
+abbrev pub outcome_project : List Term
+outcome_project = col 1 0 ∷ col 1 2 ∷ col 1 3 ∷ col 1 4 ∷ []
+
+abbrev pub outcome_names : List (List ℕ)
+outcome_names = codes "poll" ∷ codes "moment" ∷ codes "outcome" ∷ codes "code" ∷ []
+
+pub outcome_rows_is : command_of (understood books_schema outcome_rows) ≡ Select (record { lets = []; body = scan 13 in_run outcome_project ((col 1 0, rising) ∷ []) no_limit }) outcome_names
+unfolding understood everything
+outcome_rows_is = refl
+
+pub outcome_rows_unlisted : reads_listing books_schema outcome_rows ≡ false
+unfolding understood everything
+outcome_rows_unlisted = refl
+
+pub outcome_rows_plain : IsPlain (understood books_schema outcome_rows)
+unfolding understood everything
+outcome_rows_plain = (refl, refl)
+
+pub outcome_rows_suits : (low high : ℤ) → Suits books_schema outcome_rows (Int low ∷ Int high ∷ [])
+unfolding understood everything
+outcome_rows_suits low high = suits_scan 13 in_run outcome_project ((col 1 0, rising) ∷ []) no_limit outcome_rows outcome_names (Int low ∷ Int high ∷ []) (refl, refl, refl) outcome_rows_plain outcome_rows_unlisted outcome_rows_is refl

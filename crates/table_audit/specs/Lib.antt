@@ -5,5 +5,8 @@ pub mod Fine
 pub mod Looking
 pub mod Telling
 pub mod Meters
+pub mod PollReading
+pub mod PollShowing
+pub mod Polls
 pub mod Named
 pub mod Texts

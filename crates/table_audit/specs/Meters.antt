@@ -53,7 +53,7 @@ abbrev pub up_to_most : ℕ → ℕ
 up_to_most n = min n (2 ^ 64 - 1)
 
 abbrev pub none_counted : Counts
-none_counted = record { meters = 0; entries = 0; intervals = 0 }
+none_counted = record { meters = 0; entries = 0; intervals = 0; polls = 0 }
 
 abbrev pub and_entries : Option MeterRows → ℕ → ℕ
 and_entries None n = n
@@ -68,6 +68,7 @@ counted rows counts = record {
   meters = up_to_most (counts.meters + 1);
   entries = and_entries rows counts.entries;
   intervals = and_intervals rows counts.intervals;
+  polls = counts.polls;
 }
 
 abbrev pub counted_from : Counts → List LookedAt → Counts

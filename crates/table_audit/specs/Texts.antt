@@ -11,6 +11,8 @@ use Rattle.meter_audit.specs.declared.intervals.IntervalFault.{IntervalFault}
 use Rattle.meter_audit.specs.declared.intervals.IntervalFault.TheVariants as fault
 use Rattle.table_audit.specs.declared.differences.Difference.{Difference}
 use Rattle.table_audit.specs.declared.differences.Difference.TheVariants as difference
+use Rattle.table_audit.specs.declared.differences.PollFault.{PollFault}
+use Rattle.table_audit.specs.declared.differences.PollFault.TheVariants as of_poll
 use Rattle.table_audit.specs.declared.differences.Table.{Table}
 use Rattle.table_audit.specs.declared.differences.Table.TheVariants as table
 use Rattle.table_audit.specs.declared.findings.Counts.{Counts}
@@ -64,6 +66,16 @@ abbrev pub with_ended : List ℕ → Bool → List ℕ
 with_ended text true = text ++ codes "is not ended, entries end it"
 with_ended text false = text ++ codes "is ended, entries don't end it"
 
+-- a poll by its number
+abbrev pub with_poll : List ℕ → (poll : ℕ) → PollFault → List ℕ
+with_poll text poll of_poll.Missing = text ++ codes "poll " ++ decimal poll ++ codes " is missing"
+with_poll text poll of_poll.OutOfRange =
+    text ++ codes "poll " ++ decimal poll ++ codes " has a value that none may have"
+with_poll text poll of_poll.EndOutOfRange =
+    text ++ codes "poll " ++ decimal poll ++ codes " outcome has a value that none may have"
+with_poll text poll of_poll.EndedBefore =
+    text ++ codes "poll " ++ decimal poll ++ codes " outcome comes before the poll"
+
 abbrev pub with_difference : List ℕ → Difference → List ℕ
 with_difference text (difference.OutOfRange name) =
     text ++ codes "has a row in " ++ table_name name ++ codes " with a value that none may have"
@@ -83,6 +95,7 @@ with_difference text (difference.Last has wanted) =
 with_difference text (difference.Total has wanted) =
     text ++ codes "total has " ++ decimal has ++ codes ", entries give " ++ decimal wanted
 with_difference text (difference.Ended wanted) = with_ended text wanted
+with_difference text (difference.Poll poll of_it) = with_poll text poll of_it
 
 -- ---- lines
 
@@ -107,7 +120,7 @@ abbrev pub with_counts : List ℕ → Counts → List ℕ
 with_counts text counts =
     text ++ codes "fine: " ++ decimal counts.meters ++ codes " meters, "
     ++ decimal counts.entries ++ codes " entries, " ++ decimal counts.intervals
-    ++ codes " intervals\n"
+    ++ codes " intervals, " ++ decimal counts.polls ++ codes " polls\n"
 
 abbrev pub with_total : List ℕ → ℕ → List ℕ
 with_total text all = text ++ decimal all ++ codes " differences\n"

@@ -15,7 +15,20 @@ pub enum Table {
     Intervals,
 }
 
-/// How the rows of a meter differ from those of a lawful journal.
+/// How a poll differs from those of an office.
+#[derive(Clone, Copy, Debug, PartialEq, Eq)]
+pub enum PollFault {
+    /// There is none of the number.
+    Missing,
+    /// It has a value that none may have.
+    OutOfRange,
+    /// Its outcome has one.
+    EndOutOfRange,
+    /// Its outcome comes before it was started.
+    EndedBefore,
+}
+
+/// How the rows of a meter differ from those of a lawful journal, or those of a poll from an office's.
 #[derive(Clone, Copy, Debug, PartialEq, Eq)]
 pub enum Difference {
     /// A row of the table has a value that none may have.
@@ -38,6 +51,8 @@ pub enum Difference {
     Total { has: u64, wanted: u64 },
     /// Whether the installation says that the meter was closed.
     Ended { wanted: bool },
+    /// The poll of a number; a number below 1 is told as 0.
+    Poll { poll: u64, fault: PollFault },
 }
 
 /// The most differences that are kept.

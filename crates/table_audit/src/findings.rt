@@ -10,7 +10,7 @@ use std::alloc::{AllocError, Global};
 /// A difference, and the meter of which it is.
 #[derive(Debug, Drop)]
 pub struct Finding {
-    /// The meter's name, unless a row of installations names none.
+    /// The meter's name, unless a row of installations names none, or it is a poll that differs.
     pub meter: Option<String>,
     pub difference: Difference,
 }
@@ -21,6 +21,7 @@ pub struct Counts {
     pub meters: u64,
     pub entries: u64,
     pub intervals: u64,
+    pub polls: u64,
 }
 
 /// The first differences of all meters, how many came after these, and how many rows were looked at.
@@ -34,6 +35,7 @@ pub struct Findings {
 impl Findings {
     ghost use Rattle.table_audit.specs.Meters.{none_counted, counted, up_to_most};
     ghost use Rattle.table_audit.specs.Named.{KeepsFirst};
+    ghost use Rattle.table_audit.specs.Polls.{counting_polls};
 
     /// None yet.
     pub(crate) fn new(alloc: Global) -> Findings
@@ -48,6 +50,7 @@ impl Findings {
                 meters: 0,
                 entries: 0,
                 intervals: 0,
+                polls: 0,
             },
         }
     }
@@ -114,6 +117,7 @@ impl Findings {
             meters: self.counts.meters.saturating_add(1),
             entries: self.counts.entries.saturating_add(entries),
             intervals: self.counts.intervals.saturating_add(intervals),
+            polls: self.counts.polls,
         };
     }
 
@@ -123,6 +127,13 @@ impl Findings {
         ensures first { self.new.first ≡ self.old.first }
     {
         self.counts.meters = self.counts.meters.saturating_add(1);
+    }
+
+    /// So many polls were looked at.
+    pub(crate) fn count_polls(&mut self, polls: u64)
+        ensures { self.new ≡ counting_polls polls self.old }
+    {
+        self.counts.polls = polls;
     }
 }
 

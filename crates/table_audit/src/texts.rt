@@ -3,7 +3,7 @@ ghost use Rattle.std.specs.Prelude.{◌≡◌, ◌++◌, OnOk, codes, decimal};
 ghost use Rattle.std.specs.Fmt.{signed_decimal};
 ghost use Rattle.table_audit.specs.Texts as say;
 
-use crate::differences::{Difference, Table};
+use crate::differences::{Difference, PollFault, Table};
 use crate::findings::{Counts, Finding, Findings};
 use energy_core::Last;
 use itoa::Buffer;
@@ -127,6 +127,18 @@ fn put_ended(text: &mut Vec<u8>, wanted: bool) -> Result<(), AllocError>
     }
 }
 
+fn put_poll(text: &mut Vec<u8>, poll: u64, fault: PollFault) -> Result<(), AllocError>
+    ensures { OnOk result (text.new.items ≡ say.with_poll text.old.items poll fault) }
+{
+    put_number(text, b"poll ", poll)?;
+    match fault {
+        PollFault::Missing => put(text, b" is missing"),
+        PollFault::OutOfRange => put(text, b" has a value that none may have"),
+        PollFault::EndOutOfRange => put(text, b" outcome has a value that none may have"),
+        PollFault::EndedBefore => put(text, b" outcome comes before the poll"),
+    }
+}
+
 fn put_difference(text: &mut Vec<u8>, difference: Difference) -> Result<(), AllocError>
     ensures { OnOk result (text.new.items ≡ say.with_difference text.old.items difference) }
 {
@@ -160,6 +172,7 @@ fn put_difference(text: &mut Vec<u8>, difference: Difference) -> Result<(), Allo
             put_number(text, b", entries give ", wanted)
         }
         Difference::Ended { wanted } => put_ended(text, wanted),
+        Difference::Poll { poll, fault } => put_poll(text, poll, fault),
     }
 }
 
@@ -210,7 +223,8 @@ fn put_counts(text: &mut Vec<u8>, counts: &Counts) -> Result<(), AllocError>
     put_number(text, b"fine: ", counts.meters)?;
     put_number(text, b" meters, ", counts.entries)?;
     put_number(text, b" entries, ", counts.intervals)?;
-    put(text, b" intervals\n")
+    put_number(text, b" intervals, ", counts.polls)?;
+    put(text, b" polls\n")
 }
 
 fn put_end(text: &mut Vec<u8>, found: &Findings) -> Result<(), AllocError>

@@ -1,0 +1,10 @@
+use Rattle.std.proofs.Common.{◌≡◌, Ok}
+use Rattle.table_audit.specs.Looking.{Finds}
+use Rattle.table_audit.proofs.PollRuns.{IsSoFar}
+use Rattle.table_audit.proofs.polls.audit_runs.Given as goal
+
+abbrev pub invariant-loop-run : goal.invariant-loop-run
+invariant-loop-run g l = record {
+  finds : Finds g.S.Store l.fn.conn l.conn (Ok l.last) (λ content _. IsSoFar l.last l.run content);
+  same : l.findings ≡ l.fn.findings;
+}

@@ -1,0 +1,41 @@
+-- Polls and outcomes as the queries show them.
+use Rattle.std.specs.Prelude.{ℕ, ◌==◌, ◌-◌, min, Result, Ok, if◌then◌else◌}
+use Rattle.sqlite.specs.Order.{Row, column}
+use Rattle.store_tables.specs.declared.faults.RowFault.{RowFault}
+use Rattle.store_tables.specs.Columns.{whole_in, or_damaged, and_then}
+use Rattle.store_tables.specs.Limits.{greatest_place, latest_moment}
+use Rattle.table_audit.specs.declared.poll_rows.OutcomeRow.{OutcomeRow}
+use Rattle.table_audit.specs.declared.poll_rows.PollRow.{PollRow}
+
+-- so many registers at most from an address on
+abbrev pub greatest_count : (address : ℕ) → ℕ
+greatest_count address = min 125 (65536 - address)
+
+-- what is read of a poll whose unit, transaction identifier, function, address and count are in range
+abbrev pub poll_in : Row → Result PollRow RowFault
+poll_in row =
+    and_then (or_damaged (whole_in 1 greatest_place (column row 0))) (λ number.
+    and_then (or_damaged (whole_in 0 255 (column row 1))) (λ unit.
+    and_then (or_damaged (whole_in 0 latest_moment (column row 2))) (λ started.
+    and_then (or_damaged (whole_in 0 65535 (column row 3))) (λ tid.
+    and_then (or_damaged (whole_in 3 4 (column row 4))) (λ function.
+    and_then (or_damaged (whole_in 0 65535 (column row 5))) (λ address.
+    and_then (or_damaged (whole_in 1 (greatest_count address) (column row 6))) (λ count.
+    Ok (record { number = number; started = started }))))))))
+
+-- Of an exception the code is the device's, of a malformed reply 1 to 5, of a lost poll 1 to 4. Others have none.
+abbrev pub least_code : (kind : ℕ) → ℕ
+least_code kind = if kind == 4 then 1 else if kind == 5 then 1 else 0
+
+abbrev pub greatest_code : (kind : ℕ) → ℕ
+greatest_code kind =
+    if kind == 2 then 255 else if kind == 4 then 5 else if kind == 5 then 4 else 0
+
+-- what is read of an outcome whose kind and code are those of one
+abbrev pub outcome_in : Row → Result OutcomeRow RowFault
+outcome_in row =
+    and_then (or_damaged (whole_in 1 greatest_place (column row 0))) (λ poll.
+    and_then (or_damaged (whole_in 0 latest_moment (column row 1))) (λ moment.
+    and_then (or_damaged (whole_in 1 5 (column row 2))) (λ kind.
+    and_then (or_damaged (whole_in (least_code kind) (greatest_code kind) (column row 3))) (λ code.
+    Ok (record { poll = poll; moment = moment })))))

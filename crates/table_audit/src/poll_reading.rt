@@ -1,0 +1,121 @@
+//! Polls and outcomes as the queries show them.
+ghost use Rattle.std.specs.Prelude.{◌≡◌, ◌≤◌, IfOk};
+ghost use Rattle.table_audit.specs.Reading.{AreRead};
+ghost use Rattle.table_audit.specs.PollReading as values;
+
+use crate::poll_rows::{OutcomeRow, PollRow};
+use sqlite::Row;
+use std::alloc::{AllocError, Global};
+use store_tables::{GREATEST_PLACE, LATEST_MOMENT, RowFault, whole};
+
+/// How many registers there may be from an address on.
+fn room(address: u64) -> u64
+    requires { address ≤ 65535 }
+    ensures { result ≡ values.greatest_count address }
+{
+    let left = 65_536 - address;
+    if left < 125 { left } else { 125 }
+}
+
+/// The least code of a kind of outcome.
+fn least_code(kind: u64) -> u64
+    ensures { result ≡ values.least_code kind }
+{
+    match kind {
+        4 | 5 => 1,
+        _ => 0,
+    }
+}
+
+/// The greatest code of a kind of outcome.
+fn greatest_code(kind: u64) -> u64
+    ensures { result ≡ values.greatest_code kind }
+{
+    match kind {
+        2 => 255,
+        4 => 5,
+        5 => 4,
+        _ => 0,
+    }
+}
+
+/// A poll.
+pub(crate) fn poll(row: &Row) -> Result<PollRow, RowFault>
+    ensures { result ≡ values.poll_in row.now }
+{
+    let number = whole(row, 0, 1, GREATEST_PLACE)?;
+    let _unit = whole(row, 1, 0, 255)?;
+    let started = whole(row, 2, 0, LATEST_MOMENT)?;
+    let _tid = whole(row, 3, 0, 65_535)?;
+    let _function = whole(row, 4, 3, 4)?;
+    let address = whole(row, 5, 0, 65_535)?;
+    let _count = whole(row, 6, 1, room(address))?;
+    Ok(PollRow { number, started })
+}
+
+/// An outcome.
+pub(crate) fn outcome(row: &Row) -> Result<OutcomeRow, RowFault>
+    ensures { result ≡ values.outcome_in row.now }
+{
+    let poll = whole(row, 0, 1, GREATEST_PLACE)?;
+    let moment = whole(row, 1, 0, LATEST_MOMENT)?;
+    let kind = whole(row, 2, 1, 5)?;
+    let _code = whole(row, 3, least_code(kind), greatest_code(kind))?;
+    Ok(OutcomeRow { poll, moment })
+}
+
+/// Polls in their order, unless one can't be read.
+pub(crate) fn polls(alloc: Global, rows: &[Row]) -> Result<Option<Vec<PollRow>>, AllocError>
+    ensures { IfOk result (AreRead values.poll_in rows.now) }
+{
+    let mut found = Vec::new(alloc);
+    for row in rows {
+        match poll(row) {
+            Ok(poll) => found.push(poll)?,
+            Err(_) => return Ok(None),
+        }
+    }
+    Ok(Some(found))
+}
+
+/// Outcomes in their order, unless one can't be read.
+pub(crate) fn outcomes(alloc: Global, rows: &[Row]) -> Result<Option<Vec<OutcomeRow>>, AllocError>
+    ensures { IfOk result (AreRead values.outcome_in rows.now) }
+{
+    let mut found = Vec::new(alloc);
+    for row in rows {
+        match outcome(row) {
+            Ok(outcome) => found.push(outcome)?,
+            Err(_) => return Ok(None),
+        }
+    }
+    Ok(Some(found))
+}
+
+/// The number that a row begins with, if it is one from 1 on; else 0.
+fn number(row: &Row) -> u64 {
+    match whole(row, 0, 1, GREATEST_PLACE) {
+        Ok(number) => number,
+        Err(_) => 0,
+    }
+}
+
+/// The number of the first poll that can't be read.
+pub(crate) fn unread_poll(rows: &[Row]) -> u64 {
+    for row in rows {
+        if poll(row).is_err() {
+            return number(row);
+        }
+    }
+    0
+}
+
+/// The number of the first poll whose outcome can't be read.
+pub(crate) fn unread_outcome(rows: &[Row]) -> u64 {
+    for row in rows {
+        if outcome(row).is_err() {
+            return number(row);
+        }
+    }
+    0
+}
