@@ -127,10 +127,7 @@ fn intervals<S: Alter>(conn: &mut Connection<S>, meter: &str) -> Result<Vec<Row>
 }
 
 /// The rows that the tables have for a meter.
-pub fn meter_rows<S: Alter>(
-    conn: &mut Connection<S>,
-    meter: &str,
-) -> Result<MeterRows, RowFault>
+pub fn meter_rows<S: Alter>(conn: &mut Connection<S>, meter: &str) -> Result<MeterRows, RowFault>
     requires { conn.old.in_transaction ≡ false }
     ensures { Finds S.Store conn.old conn.new result (showing.AreRowsOf meter.now) }
 {

@@ -127,7 +127,7 @@ fn check_told<S: Alter>(
     requires { conn.old.in_transaction ≡ false }
     ensures { Finds S.Store conn.old conn.new result (λ content _.
         TellsMeter installed.now (sealed_of seal.now) content
-            (map string_bytes differing.old.items) (map string_bytes differing.new.items)) }
+        (map string_bytes differing.old.items) (map string_bytes differing.new.items)) }
 {
     let kept = check_meter(alloc, conn, installed, seal)?;
     match tell(alloc, kept, &seal.meter, differing) {

@@ -98,7 +98,9 @@ pub(crate) fn has_terms(
     let Some(terms) = terms(row)? else {
         return Ok(false);
     };
-    Ok(terms.meter.as_str() == meter
-        && terms.register.as_str() == register
-        && terms.ceiling == ceiling)
+    Ok(
+        terms.meter.as_str() == meter
+            && terms.register.as_str() == register
+            && terms.ceiling == ceiling,
+    )
 }
