@@ -44,8 +44,8 @@ struct Running {
     sayings: Outlet,
     /// The time of this turn.
     time: u64,
-    /// The time of the latest tick.
-    ticked: u64,
+    /// Whether it has a tick: a second has passed since the turn before, or the clock tells a later moment.
+    ticks: bool,
 }
 
 // The voice of some devices.
@@ -97,7 +97,7 @@ impl Running {
             lines: Outlet::open(rt, alloc, output),
             sayings: Outlet::open(rt, alloc, errors),
             time,
-            ticked: time,
+            ticks: false,
         })
     }
 
@@ -122,7 +122,6 @@ impl Running {
 
     // What is to be done once a second, but for the office.
     fn begin_second<R: Net>(&mut self, rt: &R, now: Now) {
-        self.ticked = now.time;
         self.serving.sweep(now.time);
         self.polling.begin_all(rt, self.poll.registry(), FIRST_DEVICE, &mut self.voice, now);
     }
@@ -133,7 +132,7 @@ impl Running {
         ensures { (names : List (List ℕ))
             → Goes names now.moment B.ledger office.old office.new }
     {
-        if self.ticked < now.time {
+        if self.ticks {
             self.polling
                 .feed(DeviceEvent::Tick, office, &mut self.voice, now);
             self.begin_second(rt, now);
@@ -246,12 +245,15 @@ impl Running {
         true
     }
 
-    // How many milliseconds to wait for the sockets.
+    // How many milliseconds to wait for the sockets: none where a second has passed in this turn.
     fn patience<R: std::rt::Clock>(&self, rt: &R, time: &mut RunTime) -> u64 {
         if self.polling.is_ready() || self.serving.is_ready() {
             return 0;
         }
         let second = to_next_second(rt, time);
+        if self.time < time.seconds() {
+            return 0;
+        }
         if self.serving.is_waiting() {
             second.min(RETRY)
         } else {
@@ -344,9 +346,8 @@ impl Running {
         Ok(is_over)
     }
 
-    // The moment of the next turn. Where that is a later one, or a second has passed, what has come of devices is fed before, at
-    // the moment of the turn that ends. The clocks are read first: so what had come before a deadline is no silence, wherever
-    // the process was held up.
+    // The moment of the next turn. Where that has a tick, what has come of devices is fed before, at the moment of the turn that
+    // ends. The clocks are read first: so what had come before a deadline is no silence, wherever the process was held up.
     #[tactic(auto, using(crate::proofs::Going::goes_none))]
     fn end_turn<R: std::rt::Clock, B: Books, C: Clock>(
         &mut self,
@@ -365,7 +366,8 @@ impl Running {
     {
         self.time = read_time(rt, time);
         let moment = read_clock(steady, clock, &mut self.voice);
-        if now.moment < moment || self.ticked < self.time {
+        self.ticks = now.moment < moment || now.time < self.time;
+        if self.ticks {
             self.hear_devices(office, now);
         }
         moment
