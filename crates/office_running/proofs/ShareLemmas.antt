@@ -29,11 +29,11 @@ some_of (suc n) is = omega arith
 pub are_few : (replies : List (ℕ × ℕ)) → MayReply replies → AreFew replies
 are_few [] may = tt
 are_few (one ∷ earlier) may =
-    let left = left_after earlier in
-    let none = none_of (left.requests == 0) (left.bytes == 0) (left.milliseconds == 0) may.0 in
-    let requests : 0 < left.requests = some_of left.requests none.0 in
-    let bytes : 0 < left.bytes = some_of left.bytes none.1.0 in
-    let milliseconds : 0 < left.milliseconds = some_of left.milliseconds none.1.1 in (
+    let none = none_of ((left_after earlier).requests == 0) ((left_after earlier).bytes == 0) ((left_after earlier).milliseconds == 0) may.0 in
+    let requests : 0 < (left_after earlier).requests = some_of (left_after earlier).requests none.0 in
+    let bytes : 0 < (left_after earlier).bytes = some_of (left_after earlier).bytes none.1.0 in
+    let milliseconds : 0 < (left_after earlier).milliseconds = some_of (left_after earlier).milliseconds none.1.1 in
+    (
       omega (arith, requests, left_requests earlier),
       omega (arith, bytes, left_bytes earlier),
       omega (arith, milliseconds, left_milliseconds earlier),
