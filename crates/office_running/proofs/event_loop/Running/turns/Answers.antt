@@ -10,20 +10,20 @@ loop-turn-init g c = record {
 
 pub returns-in_err-is_over : goal.returns-in_err-is_over
 returns-in_err-is_over g c =
-    turn_ends (texts c.args.names.now) g.B.Books.ledger _ _ _ _ _ c.args.office.now c.loop-turn.office c.turn-is_over.new.office c.loop-turn.invariant.is_latest
-    c.loop-turn.invariant.begins c.turn-is_over.ensures
+    turn_ends (texts c.args.names.now) g.B.Books.ledger _ _ _ _ _ c.args.office.now c.loop-turn.office c.turn.new.office c.loop-turn.invariant.is_latest
+    c.loop-turn.invariant.begins c.turn.ensures
 
 pub returns-then-is_over : goal.returns-then-is_over
 returns-then-is_over g c =
-    turn_ends (texts c.args.names.now) g.B.Books.ledger _ _ _ _ _ c.args.office.now c.loop-turn.office c.turn-is_over.new.office c.loop-turn.invariant.is_latest
-    c.loop-turn.invariant.begins c.turn-is_over.ensures
+    turn_ends (texts c.args.names.now) g.B.Books.ledger _ _ _ _ _ c.args.office.now c.loop-turn.office c.turn.new.office c.loop-turn.invariant.is_latest
+    c.loop-turn.invariant.begins c.turn.ensures
 
 pub loop-turn-preserved : goal.loop-turn-preserved
 loop-turn-preserved g c =
     let names = texts c.args.names.now in
     record {
-      begins = next_begins names g.B.Books.ledger _ _ _ _ _ _ _ c.args.office.now c.loop-turn.office c.turn-is_over.new.office c.end_turn-moment.new.office
-          c.loop-turn.invariant.is_latest c.loop-turn.invariant.begins c.turn-is_over.ensures (c.end_turn-moment.ensures.goes names) c.end_turn-moment.ensures.reads;
+      begins = next_begins names g.B.Books.ledger _ _ _ _ _ _ _ c.args.office.now c.loop-turn.office c.turn.new.office c.end_turn-moment.new.office
+          c.loop-turn.invariant.is_latest c.loop-turn.invariant.begins c.turn.ensures (c.end_turn-moment.ensures.goes names) c.end_turn-moment.ensures.reads;
       is_latest = c.end_turn-moment.ensures.moment;
     }
 
