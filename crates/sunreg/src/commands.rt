@@ -103,7 +103,7 @@ pub(crate) fn carry_out<'a>(rt: &HostRuntime, line: &CommandLine<'a>) -> Ending<
             only_read,
         } => enter(rt, *db, *caller, devices, *only_read),
         CommandLine::Backup { db, to } => backup(rt, *db, *to),
-        CommandLine::Audit { db } => audit(rt, *db),
+        CommandLine::Audit { db, seal } => audit(rt, *db, *seal),
         CommandLine::Explain { what, number } => explain(rt, *what, *number),
         CommandLine::Completions => completions(rt),
     }
