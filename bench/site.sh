@@ -1,6 +1,7 @@
 #!/bin/sh
-# Measures what `GET /site` of a running office costs over 2,048 meters at 64 devices, which `run` polls all, or one of: `bench/site.sh [PROGRAM]`, out/sunreg by
-# default, which `./sunreg-build` makes. It needs python3 and sqlite3. The file stands in /dev/shm.
+# Measures what `GET /site` of a running office costs over 2,048 meters at 64 devices, which `run` polls all, or one of, and then what `GET /registers/NAME/meters` of
+# each of these registers does: `bench/site.sh [PROGRAM]`, out/sunreg by default, which `./sunreg-build` makes. It needs python3 and sqlite3. The file stands in
+# /dev/shm.
 set -eu
 here=$(dirname "$(readlink -f "$0")")
 program=${1:-$here/../out/sunreg}

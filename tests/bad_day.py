@@ -4,10 +4,15 @@ import fcntl
 import glob
 import json
 import os
+import random
+import shutil
 import signal
 import socket
+import sqlite3
+import struct
 import subprocess
 import sys
+import termios
 import threading
 import time
 
@@ -125,14 +130,14 @@ def stand_in(raw, host="127.0.0.1", family=socket.AF_INET):
     return port
 
 
-def office(name, **surroundings):
-    """Makes an office with the device inv and its meter; its file."""
+def office(name, timeout=1, **surroundings):
+    """Makes an office with the device inv, whose polls are silent after so many seconds, and its meter; its file."""
     db = f"{ROOM}/{name}.db"
     same(f"{name}: create", subprocess.run([PROGRAM, "create", "--db", db, "--zone", "UTC0"]).returncode, 0)
     port = free_port()
     serve = Process("serve", "--db", db, "--port", str(port), "--connections", "5", **surroundings)
     waits(port)
-    same(f"{name}: a device", post(port, 1, "/devices", {"name": "inv", "unit": 1, "timeout": 1, "window": 1}), "200")
+    same(f"{name}: a device", post(port, 1, "/devices", {"name": "inv", "unit": 1, "timeout": timeout, "window": 1}), "200")
     rows = "name,function,area,address,type,scale\nwh,3,0,40094,acc32,\n"
     same(f"{name}: its list", post(port, 4, "/devices/inv/list", rows), "200")
     register = {"name": "main", "device": "inv", "function": 3, "address": 40094, "fixed": 0}
@@ -311,11 +316,30 @@ def clock_set_back(db):
     serve.end()
 
 
+def taken(stream, seconds=5):
+    """When all that was sent was there: the system at the other end has acknowledged it, so that it waits for its program, whatever that does. None where it
+    isn't acknowledged."""
+    until = time.monotonic() + seconds
+    while time.monotonic() < until:
+        if struct.unpack("i", fcntl.ioctl(stream, termios.TIOCOUTQ, bytes(4))) == (0,):
+            return time.time()
+        time.sleep(0.001)
+    return None
+
+
+class Asked:
+    """A request that a device got: on which of its connections, by which transaction, and when its answer was there."""
+
+    def __init__(self, link, frame):
+        self.link, self.tid, self.there = link, int.from_bytes(frame[:2], "big"), None
+
+
 class Meter:
-    """A device in a thread of this process, which answers after a while; how many times it has."""
+    """A device in a thread of this process, which answers after a while; how many times it has, when its connections came, and what it was asked."""
 
     def __init__(self, after=0.0):
         self.after, self.answered, self.raw = after, 0, 5000
+        self.joined, self.asked = [], []
         self.listener = socket.create_server(("127.0.0.1", 0))
         self.port = self.listener.getsockname()[1]
         threading.Thread(target=self.serve, daemon=True).start()
@@ -323,9 +347,10 @@ class Meter:
     def serve(self):
         while True:
             stream, _ = self.listener.accept()
-            threading.Thread(target=self.talk, args=(stream,), daemon=True).start()
+            self.joined.append(time.time())
+            threading.Thread(target=self.talk, args=(stream, len(self.joined)), daemon=True).start()
 
-    def talk(self, stream):
+    def talk(self, stream, link):
         # (a round may end the connection before it has all)
         with stream, contextlib.suppress(ConnectionError):
             while True:
@@ -335,35 +360,75 @@ class Meter:
                     if not more:
                         return
                     frame += more
+                asked = Asked(link, frame)
+                self.asked.append(asked)
                 time.sleep(self.after)
                 self.raw += 1
                 data = self.raw.to_bytes(4, "big")[: 2 * frame[11]]
                 self.answered += 1
                 stream.sendall(frame[:4] + bytes([0, 3 + len(data)]) + frame[6:8] + bytes([len(data)]) + data)
+                asked.there = taken(stream)
 
 
-def slowed(child, seconds, stop=1.2, go=0.15):
-    """Stops a process for most of each second: its turns then take as long as those of a machine that is at its limit."""
+ANSWERED, LOST = 1, 5  # numbers of docs/SCHEMA.md
+
+
+def polls_of(db):
+    """The polls of inv, in their order: at which moment of the office's clock each was started, by which transaction, and how it ended."""
+    copy = f"{ROOM}/copy"
+    shutil.rmtree(copy, ignore_errors=True)
+    os.mkdir(copy)
+    for name in glob.glob(db + "*"):
+        shutil.copy(name, copy)
+    books = sqlite3.connect(f"{copy}/{os.path.basename(db)}")
+    question = "SELECT started, tid, outcome FROM polls LEFT JOIN outcomes USING (poll) WHERE device = 'inv' ORDER BY poll"
+    rows = books.execute(question).fetchall()
+    books.close()
+    return rows
+
+
+def hold_deadlines(what, device, polls, timeout):
+    """Each poll whose answer was there before its deadline was answered. That is told by the office's books, what the device noted, and the clock of both: so
+    it holds on any machine, however long the process, or this one, was held up, and wherever. It answers how many polls were not answered, all of which were
+    late by that."""
+    until = time.monotonic() + 10
+    while time.monotonic() < until and len(device.asked) < len(polls):
+        time.sleep(0.05)
+    asked = sorted(device.asked, key=lambda one: one.link)
+    same(f"{what}: each request came", [one.tid for one in asked], [tid for _, tid, _ in polls])
+    if polls and polls[-1][2] == LOST:
+        # (the time of the run was up while it waited)
+        polls = polls[:-1]
+    unanswered = [(started, outcome, one.there) for (started, _, outcome), one in zip(polls, asked) if outcome != ANSWERED]
+    in_time = [poll for poll in unanswered if poll[2] is not None and poll[2] < poll[0] + timeout]
+    same(f"{what}: no answer that was there in time was taken for silence", in_time, [])
+    return len(unanswered)
+
+
+def slowed(child, seconds):
+    """Stops a process for most of each second, wherever it is: its turns then take as long as those of a machine that is at its limit."""
+    chance = random.Random(1)
     until = time.monotonic() + seconds
     while time.monotonic() < until and child.poll() is None:
         os.kill(child.pid, signal.SIGSTOP)
-        time.sleep(stop)
+        time.sleep(1.2)
         os.kill(child.pid, signal.SIGCONT)
-        time.sleep(go)
+        time.sleep(chance.uniform(0.001, 0.3))
 
 
 def bytes_before_a_deadline(db):
-    """A device answers in 0.4 s at a timeout of 1 s, while the process is held up for longer than that: no poll is silent, but where it was held up just
-    between its look at the sockets and at the clock."""
+    """A device answers in 0.4 s at a timeout of 1 s, while the process is held up for longer than that. It may be held up between a poll's moment and its
+    request too: the answer is then late. But where it is there before the deadline the poll is answered."""
+    before = len(polls_of(db))
     device, port = Meter(after=0.4), free_port()
     run = Process("run", "--db", db, "--listen", str(port), "--every", "2", "--devices", f"inv=127.0.0.1:{device.port}", "--for", "30")
     holds("run listens", run.wait_for(f"listening {port}"), run.said)
     slowed(run.child, 25)
-    run.child.wait(30)
-    rounds = [line for line in run.lines if "round answered" in line]
-    holds("rounds go on while it is held up", len(rounds) >= 4, run.lines)
-    others = [line for line in rounds if "answered 1 silent 0 failed 0" not in line]
-    holds("at most one poll of it was silent", len(others) <= 1, others)
+    run.child.wait(60)
+    polls = polls_of(db)[before:]
+    holds("rounds go on while it is held up", len(polls) >= 4, run.lines)
+    late = hold_deadlines("held up", device, polls, 1)
+    print(f"bad_day: of {len(polls)} polls of a process that was held up, {late} had a late answer", flush=True)
     run.end()
 
 
@@ -375,7 +440,7 @@ def large_meter():
         return None
     clock = clock_of(library)
     set_clock("-63072000")
-    db = office("large", **clock)
+    db = office("large", timeout=2, **clock)
     set_clock("+0")
     port, now = free_port(), int(time.time())
     serve = Process("serve", "--db", db, "--port", str(port), "--connections", "40")
@@ -387,33 +452,76 @@ def large_meter():
     return db
 
 
+ALL_ROWS = head("GET", "/meters/m1/intervals", [])
+
+
 def asks_on(port, until, sizes):
-    """Asks for all rows again and again, and reads them."""
+    """Asks for all rows again and again, and reads them; how many bytes each reply had."""
+    room = bytearray(65536)
     while time.monotonic() < until:
+        size = 0
         try:
-            sizes.append(len(exchange(port, head("GET", "/meters/m1/intervals", []), seconds=60)))
+            with socket.create_connection(("127.0.0.1", port), timeout=60) as stream:
+                stream.sendall(ALL_ROWS)
+                while count := stream.recv_into(room):
+                    size += count
+            sizes.append(size)
         except OSError:
             time.sleep(0.1)
 
 
+def asks_and_reads_nothing(port):
+    stream = socket.create_connection(("127.0.0.1", port), timeout=60)
+    stream.sendall(ALL_ROWS)
+    return stream
+
+
+def latest_round(joined, every, until):
+    """How many seconds late the latest of a device's rounds began, of those that were due till then: one at each multiple of so many seconds."""
+    if not joined:
+        return float("inf")
+    # (the run's seconds may begin a little before the clock's, since both are told in milliseconds)
+    first = int(joined[0] + 0.05) // every * every
+    return max(min((at - due for at in joined if at > due - 0.05), default=until - due) for due in range(first, int(until), every))
+
+
+def most_memory(child):
+    """The most memory that a process has had, in MB."""
+    with open(f"/proc/{child.pid}/status") as file:
+        return next(int(line.split()[1]) for line in file if line.startswith("VmHWM:")) / 1024
+
+
 def large_questions():
-    """A device answers in 0.4 s at a timeout of 1 s, while eight peers read all rows of a large meter again and again."""
+    """A device answers in 0.4 s at a timeout of 2 s, so within a second at least, while 64 peers read all rows of a meter of two years again and again, and 80
+    ask for them and read nothing. A turn replies to one such question: it takes 0.1 s or so, and two turns pass till a device that is due is asked. So a round
+    that begins a second late is far too late, and so is one that isn't begun. Each reply is held until its peer has it: 64 of 1.8 MB, each in a piece of
+    memory of 2 MB, or 3 while it grows."""
     db = large_meter()
     if db is None:
         return
     device, port = Meter(after=0.4), free_port()
     device.raw = 5000 + 1000000 * 24
-    run = Process("run", "--db", db, "--listen", str(port), "--every", "2", "--devices", f"inv=127.0.0.1:{device.port}", "--for", "40")
+    run = Process("run", "--db", db, "--listen", str(port), "--every", "2", "--devices", f"inv=127.0.0.1:{device.port}", "--for", "45")
     holds("run listens", run.wait_for(f"listening {port}"), run.said)
     sizes, until = [], time.monotonic() + 30
-    readers = [threading.Thread(target=asks_on, args=(port, until, sizes), daemon=True) for _ in range(8)]
-    for reader in readers:
-        reader.start()
+    for _ in range(64):
+        threading.Thread(target=asks_on, args=(port, until, sizes), daemon=True).start()
+    silent = [asks_and_reads_nothing(port) for _ in range(80)]
+    time.sleep(max(0, until - time.monotonic()))
+    late, memory = latest_round(device.joined, 2, time.time() - 2), most_memory(run.child)
     run.child.wait(90)
-    rounds = [line for line in run.lines if "round answered" in line]
+    for stream in silent:
+        stream.close()
+    print(
+        f"bad_day: {len(sizes)} replies of up to {max(sizes, default=0)} bytes were read; the latest round began {late:.3f} s late, and the process had "
+        f"{memory:.0f} MB at most", flush=True,
+    )
+    polls = polls_of(db)
     holds("many rows were read", sizes and max(sizes) > 1000000, sizes[:5])
-    holds("rounds go on meanwhile", len(rounds) >= 4, run.lines)
-    same("no poll was silent", [line for line in rounds if "answered 1 silent 0 failed 0" not in line], [])
+    holds("rounds begin in time", late < 1, late)
+    hold_deadlines("large questions", device, polls, 2)
+    same("no poll was silent", [poll for poll in polls[:-1] if poll[2] != ANSWERED], [])
+    holds("no more is kept than the replies", memory < 64 * 3 + 100, memory)
     run.end()
 
 

@@ -174,5 +174,41 @@ if [ -w /dev/full ]; then
     same 'a write that fails' "$? $(head -n 1 err)" '3 failed'
 fi
 
+# A file and a folder in which nobody may write. Root may, so it is asked as nobody then, by a program where nobody may reach it.
+run report --db office.db --register main
+cp out wanted
+mkdir closed passing
+cp office.db* closed
+cp "$program" sunreg
+chmod 0444 closed/*
+chmod 0555 closed
+chmod 1777 passing
+chmod 0755 "$room" sunreg
+seen() { ls -ln closed && md5sum closed/*; }
+before=$(seen)
+unprivileged=''
+[ "$(id -u)" != 0 ] || unprivileged='setpriv --reuid=65534 --regid=65534 --clear-groups'
+TMPDIR=$room/passing $unprivileged ./sunreg report --db closed/office.db --register main > out 2> err < /dev/null
+same 'a report where nobody may write' "$? $(cat out err)" "0 $(cat wanted)"
+TMPDIR=$room/passing $unprivileged ./sunreg audit --db closed/office.db > out 2> err < /dev/null
+same 'an audit where nobody may write' "$? $(cut -d ' ' -f 1-3 out) $(cat err)" '0 fine: 1 meters, '
+TMPDIR=$room/passing $unprivileged ./sunreg enter --db closed/office.db --caller desk > out 2> err < /dev/null
+same 'what writes is refused there' "$? $(cat out; head -n 1 err)" '3 failed'
+same 'file and folder are as they were' "$(seen)" "$before"
+same 'no copy is left' "$(ls passing)" ''
+
+# An audit leaves alone who has the file open.
+"$program" serve --db office.db --port "$port" --connections 1 > served 2>&1 < /dev/null &
+child=$!
+children="$children $child"
+for turn in $(seq 60); do
+    "$program" report --db office.db --register main > out 2> err < /dev/null || break
+    sleep 0.5
+done
+run audit --db office.db
+same 'an audit beside one that serves' "$status $(cut -d ' ' -f 1-3 out)" '0 fine: 1 meters,'
+same 'it serves on' "$(ask /meters/none)" '404 {"refused":1}'
+wait "$child"
+
 echo "$passed passed, $failed failed"
 [ "$failed" = 0 ]

@@ -102,9 +102,15 @@ def holds_quiet(what, tab, origin):
     tab.forget()
 
 
-def rows_of(meter, day, zone):
-    """The rows of a meter on a day of a zone."""
-    return [(start, mwh) for start, mwh in meter.rows if datetime.datetime.fromtimestamp(start, zone).date().isoformat() == day]
+def rows_of(meters, day, zone):
+    """The quarter hours of a day of a zone: the energy of each by all meters, and the meters that have a part of it."""
+    found = {}
+    for meter in meters:
+        for start, mwh in meter.rows:
+            if datetime.datetime.fromtimestamp(start, zone).date().isoformat() == day:
+                sum_, names = found.get(start, (0, []))
+                found[start] = (sum_ + mwh, [*names, meter.name])
+    return sorted(found.items())
 
 
 def clock(start, zone):
@@ -151,7 +157,7 @@ def see_words():
     embed = subprocess.run([f"{HERE}/../web/embed", "--check"], capture_output=True, text=True)
     same("the files are those in the program", (embed.returncode, embed.stdout), (0, ""))
     names = ["page.html", "page.css", "page.js", "icon.svg"]
-    holds("all is below 40 KB", sum(os.path.getsize(f"{HERE}/../web/{it}") for it in names) < 40_000)
+    holds("all is below 41 KB", sum(os.path.getsize(f"{HERE}/../web/{it}") for it in names) < 41_000)
     for rule in ("innerHTML", "outerHTML", "insertAdjacent", "document.write", "eval(", "new Function", "style="):
         same(f"no {rule}", rule in script, False)
 
@@ -242,15 +248,36 @@ def see_notes(tab):
 
 # ---- one register
 
-def holds_day(tab, office, meter, day, zone=ZONE):
-    """A day's quarter hours: the table, the bars, and the file."""
-    rows = rows_of(meter, day, zone)
-    table = table_of(tab)
+def holds_day(tab, meters, day, zone=ZONE):
+    """A day's quarter hours: the heading, the table, and the bars."""
+    found, table = rows_of(meters, day, zone), table_of(tab)
+    rows = [(start, mwh) for start, (mwh, _) in found]
+    same(f"{day}: its meters", text_of(tab, "#heading small").split(", ")[1:], [f"meter {it.name}" for it in meters])
+    named = [[", ".join(names)] for _, (_, names) in found] if len(meters) > 1 else [[]] * len(rows)
+    same(f"{day}: the meters of each", [it[2:] for it in table], named)
     spans = [f"{clock(start, zone)} to {clock(start + 900, zone)}" for start, _ in rows]
     same(f"{day}: the quarter hours", [it[0][:14] for it in table], spans)
     same(f"{day}: their energy", [it[1] for it in table], [kwh(mwh) for _, mwh in rows])
     holds_curve(day, tab, [mwh for _, mwh in rows])
     return rows
+
+
+def meters_of(tab):
+    """What stands about each meter of a register."""
+    return tab.run("[...document.querySelectorAll('#detail li')].map(it => it.innerText)")
+
+
+def meters_told(office, register):
+    """What must stand there: from when till when, what it showed last, and its energy."""
+    told = []
+    for line in office.meter_lines(register):
+        name, opened, at, raw, scale, total, state = line.split()
+        begun, last = (datetime.datetime.fromtimestamp(int(it), ZONE) for it in (opened, at))
+        begun, last = (f"{it:%H:%M} on {title(it.date().isoformat())}" for it in (begun, last))
+        until = f"till {last}" if state == "ended" else f"on, last read at {last}"
+        shows = f"showed {kwh(int(raw) * 1000 * 10 ** int(scale), 3)} kWh; {kwh(int(total), 3)} kWh in all."
+        told.append(f"{name} from {begun} {until}: {shows}")
+    return told
 
 
 def see_day(tab, office, origin):
@@ -260,16 +287,18 @@ def see_day(tab, office, origin):
     tab.run("document.getElementById('open-main').click()")
     holds("a click shows the day", tab.wait("document.getElementById('sum')"), text_of(tab, "#detail"))
     holds("which is today", text_of(tab, "#heading").startswith("Thu 26 Nov 2026 main, meter m2"), text_of(tab, "#heading"))
-    rows = holds_day(tab, office, second, "2026-11-26")
+    rows = holds_day(tab, [second], "2026-11-26")
     whole = f"Together {kwh(sum(mwh for _, mwh in rows), 3)} kWh, which is the office's figure of this day."
     same("its sum", text_of(tab, "#sum"), whole)
     holds("the zone is said", "by this browser's clock and zone, Europe/Berlin: 57 of 96 have a row." in text_of(tab, "#detail"), text_of(tab, "#detail"))
     same("there is no day after", tab.run("document.getElementById('after')"), None)
     tab.run("document.getElementById('before').click()")
     holds("the day before", tab.wait("heading.innerText.startsWith('Wed 25 Nov 2026') && document.getElementById('sum')"), text_of(tab, "#heading"))
-    rows = holds_day(tab, office, second, "2026-11-25")
+    rows = holds_day(tab, [second], "2026-11-25")
     same("it is whole", len(rows), 96)
-    same("what days ask", rows_asked(office), [quarters("m2", "2026-11-25"), quarters("m2", "2026-11-26"), "/registers/main/months"])
+    asked = [*(quarters("m2", it) for it in ("2026-11-25", "2026-11-26")), "/registers/main/meters", "/registers/main/months"]
+    same("what days ask", rows_asked(office), asked)
+    same("its meters", meters_of(tab), meters_told(office, "main"))
     tab.run("document.getElementById('file').click()")
     lines = [f"{datetime.datetime.fromtimestamp(start, ZONE).isoformat()},{kwh(mwh)}\r\n" for start, mwh in rows]
     same("its file", downloaded("main-2026-11-25.csv"), ("start,energy_kwh\r\n" + "".join(lines)).encode())
@@ -285,26 +314,53 @@ def see_changes(tab, office, origin):
     main, second = office.of_register("main")
     rows_asked(office)
     show(tab, "#main/2026-10-25", "Sun 25 Oct 2026")
-    rows = holds_day(tab, office, second, "2026-10-25")
+    rows = holds_day(tab, [second], "2026-10-25")
     same("a day of 25 hours", len(rows), 100)
     same("its hour that comes twice", [it[0] for it in table_of(tab)][8:13:4], ["02:00 to 02:15 (from +02:00)", "02:00 to 02:15 (from +01:00)"])
     holds("is the office's day", "which is the office's figure" in text_of(tab, "#sum"), text_of(tab, "#sum"))
     long = office.of_register(LONG)[0]
     show(tab, f"#{LONG}/2026-03-29", "Sun 29 Mar 2026")
-    same("a day of 23 hours", len(holds_day(tab, office, long, "2026-03-29")), 92)
+    same("a day of 23 hours", len(holds_day(tab, [long], "2026-03-29")), 92)
     holds("is the office's day", "which is the office's figure" in text_of(tab, "#sum"), text_of(tab, "#sum"))
-    show(tab, "#main/2026-06-10", "Wed 10 Jun 2026")
-    rows = holds_day(tab, office, second, "2026-06-10")
-    said = text_of(tab, "#sum")
-    office_kwh, bars_kwh = kwh(office.days("main")["2026-06-10"][1], 3), kwh(sum(mwh for _, mwh in rows), 3)
-    holds("a day with an exchange", f"add up to {bars_kwh} kWh, but the office's figure of this day is {office_kwh} kWh" in said, said)
-    show(tab, "#main/2026-06-09", "Tue 9 Jun 2026")
-    said = text_of(tab, "#detail")
-    office_kwh = kwh(office.days("main")["2026-06-09"][1], 3)
-    holds("a day of the meter before", "Nothing is booked here." in said and f"figure of this day is {office_kwh} kWh" in said, said)
-    asked = [quarters(long.name, "2026-03-29"), *(quarters("m2", it) for it in ("2026-06-09", "2026-06-10", "2026-10-25"))]
-    same("what such days ask", rows_asked(office), [*asked, f"/registers/{LONG}/months"])
+    see_exchange(tab, office)
+    asked = [quarters("m-old", "2026-02-03"), *(quarters("m1", it) for it in ("2026-06-09", "2026-06-10"))]
+    asked += [quarters("m2", it) for it in ("2026-06-10", "2026-06-11", "2026-10-25")] + [quarters(long.name, "2026-03-29")]
+    asked += [f"/registers/{register}/{it}" for register in (LONG, "old") for it in ("meters", "months")]
+    same("what such days ask", rows_asked(office), sorted(asked))
     holds_quiet("changes", tab, origin)
+
+
+def see_exchange(tab, office):
+    """The day of an exchange, those around it, and those of a register whose meter was closed: each has the office's figure."""
+    main, second = office.of_register("main")
+    for day, meters in (("2026-06-10", [main, second]), ("2026-06-09", [main]), ("2026-06-11", [second])):
+        show(tab, f"#main/{day}", title(day))
+        rows = holds_day(tab, meters, day)
+        same(f"{day} is whole", len(rows), 96)
+        office_mwh = office.days("main")[day][1]
+        same(f"{day}: the office's figure", sum(mwh for _, mwh in rows), office_mwh)
+        same(f"{day}: its sum", text_of(tab, "#sum"), f"Together {kwh(office_mwh, 3)} kWh, which is the office's figure of this day.")
+        same(f"{day}: all meters", meters_of(tab), meters_told(office, "main"))
+        tab.run("document.getElementById('file').click()")
+        lines = [f"{datetime.datetime.fromtimestamp(start, ZONE).isoformat()},{kwh(mwh)}\r\n" for start, mwh in rows]
+        same(f"{day}: its file", downloaded(f"main-{day}.csv"), ("start,energy_kwh\r\n" + "".join(lines)).encode())
+    both = {it[0]: it[2] for it in rows_shown(tab, "#main/2026-06-10", "Wed 10 Jun 2026")}
+    named = [both[it] for it in ("11:15 to 11:30", "11:30 to 11:45", "11:45 to 12:00")]
+    same("a quarter hour of both meters", named, ["m1", "m1, m2", "m2"])
+    show(tab, "#old/2026-02-03", "Tue 3 Feb 2026")
+    same("the last day of a register", len(holds_day(tab, office.of_register("old"), "2026-02-03")), 42)
+    holds("is the office's day", "which is the office's figure" in text_of(tab, "#sum"), text_of(tab, "#sum"))
+    show(tab, "#old/2026-02-04", "Wed 4 Feb 2026")
+    same("the day after it", text_of(tab, "#heading"), "Wed 4 Feb 2026 old")
+    holds("has nothing", "Nothing is booked here." in text_of(tab, "#detail"), text_of(tab, "#detail"))
+    same("by the office too", text_of(tab, "#sum"), "Together 0.000 kWh, which is the office's figure of this day.")
+    same("its meter was closed", meters_of(tab), meters_told(office, "old"))
+
+
+def rows_shown(tab, place, heading):
+    """The rows of a place."""
+    show(tab, place, heading)
+    return table_of(tab)
 
 
 def see_sums(tab, office, origin):
@@ -350,7 +406,7 @@ def see_sums(tab, office, origin):
     tab.run("document.getElementById('before').click()")
     holds("its first day", tab.wait("heading.innerText.startsWith('Thu 20 Nov 2025') && document.getElementById('sum')"), text_of(tab, "#heading"))
     same("before which there is none too", tab.run("document.getElementById('before')"), None)
-    asked = [quarters("m2", "2025-11-20"), quarters("m2", "2025-11-21"), "/registers/main/days/2025-11-01/2025-12-01"]
+    asked = [quarters("m1", "2025-11-20"), quarters("m1", "2025-11-21"), "/registers/main/days/2025-11-01/2025-12-01"]
     same("what they ask", rows_asked(office), asked)
     holds_quiet("sums", tab, origin)
 
@@ -362,7 +418,7 @@ def see_zone(tab, office, origin):
     tab.ask("Page.navigate", url=f"{origin}/#import/2026-11-24")
     holds("a place that is opened by its link", tab.wait("document.getElementById('sum')"), text_of(tab, "body"))
     zone = zoneinfo.ZoneInfo("America/New_York")
-    rows = holds_day(tab, office, office.of_register("import")[0], "2026-11-24", zone)
+    rows = holds_day(tab, office.of_register("import"), "2026-11-24", zone)
     said = text_of(tab, "#sum")
     office_kwh, bars_kwh = kwh(office.days("import")["2026-11-24"][1], 3), kwh(sum(mwh for _, mwh in rows), 3)
     holds("a day of another zone", office_kwh != bars_kwh and f"add up to {bars_kwh} kWh, but the office's figure of this day is {office_kwh} kWh" in said, said)
@@ -420,6 +476,11 @@ def see_cut(tab, office, origin):
     told = f"The office can't tell /registers/old/months: refused 13: {means}. What to do: {remedy}."
     holds("months that were refused", tab.wait(f"detail.innerText.includes({json.dumps(told)})"), text_of(tab, "#detail"))
     del office.failing["/registers/old/months"]
+    meters = f"/registers/{LONG}/meters"
+    office.cut.add(meters)
+    tab.run(f"location.hash = '#{LONG}/2026-10'")
+    cut = f"The reply to {meters} was cut off, so that nothing of it is shown."
+    holds("meters that were cut", tab.wait(f"detail.innerText.includes({json.dumps(cut)})"), text_of(tab, "#detail"))
     december = "/registers/main/days/2025-12-01/2026-01-01"
     office.cut.discard(this_year("main"))
     office.cut.add(december)
@@ -551,7 +612,7 @@ def see_keys(tab, origin):
 def see_narrow(tab, origin):
     """Nothing is wider than a telephone, and what is tapped is large enough."""
     tab.size(360, 740, 2, True)
-    for place in ("", "#main/2026-11-25", "#main/2026-10", f"#{LONG}/2026"):
+    for place in ("", "#main/2026-11-25", "#main/2026-06-10", "#main/2026-10", f"#{LONG}/2026"):
         tab.run(f"location.hash = {json.dumps(place)}")
         tab.wait("document.getElementById('sum')" if place else "detail.hidden")
         time.sleep(0.2)
@@ -736,9 +797,45 @@ def see_program(sunreg, program):
     holds("its day", tab.wait("document.getElementById('sum')"), text_of(tab, "#detail"))
     same("adds up", text_of(tab, "#sum"), "Together 0.007 kWh, which is the office's figure of this day.")
     holds_quiet("the program", tab, origin)
+    exchanged(tab, origin)
     run.kill()
     run.wait()
     holds("it says that none answers", tab.wait(f"!{TROUBLE}.hidden"), text_of(tab, "body"))
+    words = ["report", "--db", "office.db", "--register", "main", "--unit", "kwh"]
+    told = subprocess.run([sunreg, *words], cwd=ROOM, capture_output=True, text=True).stdout.split()
+    same("the report has the same", told[2:], ["0.014000", "end", "1"])
+
+
+def posted(origin, target, number, body):
+    """The status of a command."""
+    headers = {"Office-Caller": "page", "Office-Request": str(number)}
+    request = urllib.request.Request(origin + target, data=json.dumps(body).encode(), headers=headers)
+    try:
+        with urllib.request.urlopen(request, timeout=30) as reply:
+            return reply.status
+    except urllib.error.HTTPError as error:
+        return error.code
+
+
+def exchanged(tab, origin):
+    """The register's meter is exchanged for another, which goes on by 7 Wh too: the day has both, and together they are the office's figure."""
+    body = {"last": 5007, "rolls": 0, "meter": "m2", "raw": 5000, "sf": 0, "ceiling": 1_000_000_000}
+    # (a second that had a reading has no exchange any more)
+    done = any(posted(origin, "/registers/main/exchange", number, body) < 300 or time.sleep(0.3) for number in range(1, 30))
+    same("an exchange", done, True)
+    until = time.time() + 30
+    while time.time() < until and not re.search(rb'"meter":"m2",[^{}]*"total":"7000"', fetched(f"{origin}/site")[2]):
+        time.sleep(0.2)
+    lines = [line.split() for line in fetched(f"{origin}/registers/main/meters")[2].decode().splitlines()]
+    same("the meters of the register", [[it[0], *it[3:]] for it in lines], [["m1", "5007", "0", "7000", "ended"], ["m2", "5007", "0", "7000", "open"], ["end"]])
+    both = "document.getElementById('sum') && document.getElementById('sum').innerText.startsWith('Together 0.014 kWh, which is the office')"
+    holds("its day has both meters", tab.wait(both), text_of(tab, "#detail"))
+    holds("which its heading names", text_of(tab, "#heading").endswith("main, meter m1, meter m2"), text_of(tab, "#heading"))
+    same("and the list", [it.split(" from ")[0] for it in meters_of(tab)], ["m1", "m2"])
+    # (within one quarter hour, or two where one ended just now)
+    names = {name for it in table_of(tab) for name in it[2].split(", ")}
+    same("and the table", names, {"m1", "m2"})
+    holds_quiet("an exchange", tab, origin)
 
 
 see_words()

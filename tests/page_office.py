@@ -18,7 +18,7 @@ PARTS = {
 }
 ZONE = zoneinfo.ZoneInfo("Europe/Berlin")
 # The paths of rows.
-TARGET = re.compile(r"/(meters|registers)/([A-Za-z][A-Za-z0-9_-]{0,15})/(intervals|days|months)(?:/([^/]+)/([^/]+))?")
+TARGET = re.compile(r"/(meters|registers)/([A-Za-z][A-Za-z0-9_-]{0,15})/(intervals|days|months|meters)(?:/([^/]+)/([^/]+))?")
 # The longest name, with digits and dashes.
 LONG = "a-0_1-2_3-4_5-67"
 
@@ -30,7 +30,8 @@ def moment(*civil):
 
 NOW = moment(2026, 11, 26, 14, 5, 10)
 BEGUN = moment(2025, 11, 20, 9, 0)
-EXCHANGED = moment(2026, 6, 10, 11, 30)
+# (within a quarter hour, so that both meters have a part of it)
+EXCHANGED = moment(2026, 6, 10, 11, 37)
 
 
 @functools.cache
@@ -60,8 +61,9 @@ class Meter:
     """A meter at a register, with its rows by quarter hour."""
 
     def __init__(self, name, register, begun, ended, energy):
-        self.name, self.register = name, register
-        self.rows = [(start, energy(start)) for start in range(begun, ended, 900)]
+        self.name, self.register, self.begun, self.ended = name, register, begun, ended
+        part = lambda start: min(start + 900, ended) - max(start, begun)
+        self.rows = [(start, energy(start) * part(start) // 900) for start in range(begun // 900 * 900, ended, 900)]
 
     @property
     def total(self):
@@ -132,24 +134,39 @@ class Office:
 
     def days(self, register):
         """The rows of a register by civil days of the office: day, how many quarter hours, mWh."""
-        found = {}
+        found, seen = {}, set()
         for meter in self.of_register(register):
             for start, mwh in meter.rows:
                 day = civil_day(start)
                 count, sum_ = found.get(day, (0, 0))
-                found[day] = (count + 1, sum_ + mwh)
+                found[day] = (count + (start not in seen), sum_ + mwh)
+                seen.add(start)
         return {day: found[day] for day in sorted(found)}
+
+    def last_of(self, meter):
+        """The moment, the counter and the scale of a meter's last entry, and whether it was closed by it."""
+        register, scale = meter.register, 2 if meter.register == "old" else 0
+        is_latest = meter is self.of_register(register)[-1]
+        at = self.at[register] if is_latest else meter.ended
+        return at, (5000 + meter.total // 1000) // 10**scale, scale, register == "old" or not is_latest
+
+    def meter_lines(self, register):
+        """The meters of a register, as lines."""
+        lines = []
+        for it in self.of_register(register):
+            at, raw, scale, ended = self.last_of(it)
+            lines.append(f"{it.name} {it.begun} {at} {raw} {scale} {it.total} {'ended' if ended else 'open'}")
+        return lines
 
     def site(self):
         rows = []
         for device, register in (("grid", "import"), ("grid", "old"), ("inv", "main"), ("inv", LONG), ("roof-2", "export")):
             meters = self.of_register(register)
             if meters:
-                total = meters[-1].total
+                at, last, scale, ended = self.last_of(meters[-1])
                 rows.append({
-                    "device": device, "register": register, "meter": meters[-1].name, "at": self.at[register],
-                    "last": (5000 + total // 1000) // (100 if register == "old" else 1), "sf": 2 if register == "old" else 0,
-                    "total": str(total), "ended": register == "old",
+                    "device": device, "register": register, "meter": meters[-1].name, "at": at,
+                    "last": last, "sf": scale, "total": str(meters[-1].total), "ended": ended,
                 })
             else:
                 rows.append({"device": device, "register": register, "meter": None})
@@ -191,6 +208,8 @@ class Office:
                 of, rows = self.of_register(name), lambda: lines_of(self.days(name), 3, day(first), day(end))
             case ["registers", name, "months", None, None]:
                 of, rows = self.of_register(name), lambda: lines_of(months_of(self.days(name)), 4)
+            case ["registers", name, "meters", None, None]:
+                of, rows = self.of_register(name), lambda: self.meter_lines(name)
             case _:
                 return 404, "application/json", '{"fault":404}'
         try:

@@ -20,7 +20,7 @@ block() {
 
 # what does not hang on when it is run: a day is DAY, a moment is AT, counts of quarter hours are N, and rounds alike are one
 settled() {
-  sed -E 's/[0-9]{4}-[0-9]{2}-[0-9]{2} +[0-9]+/DAY N/; s/^[0-9]{10} /AT /; s/ to [0-9]{10} / to AT /' | uniq
+  sed -E 's/[0-9]{4}-[0-9]{2}-[0-9]{2} +[0-9]+/DAY N/; s/(^| )[0-9]{10} /\1AT /g; /^fine: /s/[0-9]+ (entr|interval|poll)/N \1/g' | uniq
 }
 
 passed=0
@@ -42,6 +42,11 @@ ln -s "$program" "$room/sunreg"
 # (the stand-in in the background is ended with the shell that began it)
 (cd "$room" && { cat commands; echo 'kill $!'; } | sh > out 2> err) || same 'status' "$?" 0
 same 'what is printed' "$(settled < "$room/out")" "$(block text | settled)"
+# (three of these lines stand at the head of the page)
+awk '/^## /{ exit } $0 == "```text" { inside = 1; next } inside && /^```$/ { exit } inside' "$top/README.md" | settled > "$room/head"
+same 'lines at the head' "$(grep -c . "$room/head")" 3
+settled < "$room/out" > "$room/settled"
+same 'lines at the head that are not printed' "$(grep -vxFf "$room/settled" "$room/head" || :)" ''
 same 'what is said' "$(grep -v '^sunreg: ' "$room/err" || :)" ''
 # each script of the page's table prints what stands beside it
 sed -n 's/^| .* | `\.\/sunreg \(.*< crates.*\.script\)` |$/\1/p' "$top/README.md" > "$room/scripts"

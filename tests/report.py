@@ -140,7 +140,7 @@ def statement(unit, form, first, till):
     held = {str(cause): causes.count(cause) for cause in sorted(set(causes))}
     names = ["meter", "first", f"first_{unit}", "last", f"last_{unit}", f"energy_{unit}", "by_hand", "resets", "rescales", "voids", "held"]
     def joined(mark):
-        return mark.join(f"{cause}:{count}" for cause, count in held.items()) or "0"
+        return mark.join(f"{cause}={count}" for cause, count in held.items()) or "0"
     def row(nothing, number, counts):
         pairs = [value for it in stands for value in ((number(it[0]), energy(unit, it[1])) if it else (nothing, nothing))]
         return ["m1", *pairs, energy(unit, total), *[number(0)] * 4, counts]

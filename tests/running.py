@@ -452,6 +452,15 @@ same("what is no day", ask("/registers/rlib/days/2026-02-29/2026-03-01"), (400, 
 same("months of what is no register", ask("/registers/none/months"), (404, '{"refused":1}'))
 same("months by another method", ask("/registers/rlib/months", 906, "{}")[0], 405)
 
+# The meters at a register. A reading may come between two requests.
+status, text = ask("/registers/rlib/meters")
+line = re.fullmatch(r"mlib (\d+) (\d+) 5007 0 7000 open\nend 1\n", text)
+holds("the meter at a register", status == 200 and line and int(line[2]) >= meters["mlib"]["at"], text)
+same("it was opened by its first entry", line and line[1], ask("/meters/mlib/entries/1")[1].split()[2])
+same("a register at which none was installed", ask("/registers/spare/meters"), (200, "end 0\n"))
+same("the meters at what is no register", ask("/registers/none/meters"), (404, '{"refused":1}'))
+same("meters by another method", ask("/registers/rlib/meters", 907, "{}")[0], 405)
+
 # The page is its files, of which a browser is told what they are.
 for path, kind, name in [
     ("/", "text/html; charset=utf-8", "page.html"),

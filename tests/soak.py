@@ -249,6 +249,8 @@ class Soak:
         """Opens the office again, and holds the books to what the stand-ins gave."""
         asked = self.chance.randrange(METERS)
         days = self.office.run("report", "--register", f"r{asked}")
+        audit = self.office.run("audit")
+        holds("an audit finds the file fine", (audit.status, audit.printed[:5]) == (0, "fine:"), f"{audit.status} {audit.printed[:200]} {audit.said[:200]}")
         books = self.office.books()
         same = books.execute("PRAGMA integrity_check").fetchall() == [("ok",)]
         holds("the file is whole", same and not books.execute("PRAGMA foreign_key_check").fetchall())

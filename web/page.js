@@ -138,6 +138,14 @@ async function askQuarters(path) {
   return rows.map((row) => ({ start: Number(row[1]), mwh: BigInt(row[2]) }));
 }
 
+// The meters of a register, in the order in which they were installed.
+async function askMeters(path) {
+  const rows = await askRows(path, /^([\w-]+) (\d+) (\d+) (\d+) (-?\d+) (\d+) (open|ended)$/);
+  return rows.map(([, name, opened, at, last, sf, total, state]) => ({
+    name, opened: Number(opened), at: Number(at), last, sf, total, ended: state === "ended",
+  }));
+}
+
 const pathOf = (...words) => words.map((word) => `/${encodeURIComponent(word)}`).join("");
 const daysPath = (name, first, end) => pathOf("registers", name, "days", first, end);
 
@@ -154,6 +162,9 @@ const yearPath = (name) => daysPath(name, ...boundsOfNow());
 // where its months, which tell how far back it goes,
 const monthsPath = (name) => pathOf("registers", name, "months");
 
+// where its meters,
+const metersPath = (name) => pathOf("registers", name, "meters");
+
 // where the days of the year that is looked at, or of the month,
 function spanPath({ register, period }) {
   const span = period.slice(0, period.length === YEAR ? YEAR : MONTH);
@@ -162,10 +173,14 @@ function spanPath({ register, period }) {
   return daysPath(register, first, firstOf(later(span, 1)));
 }
 
-// and where the quarter hours of a day, which is one of the browser's zone.
-function quartersPath(meter, day) {
-  const [from, till] = [0, 1].map((count) => Math.max(0, startOf(day, count)));
-  return pathOf("meters", meter, "intervals", from, till);
+// and where the quarter hours that a meter has of a day, which is one of the browser's zone.
+const boundsOf = (day) => [0, 1].map((count) => Math.max(0, startOf(day, count)));
+const quartersPath = (meter, day) => pathOf("meters", meter, "intervals", ...boundsOf(day));
+
+// The meters that were read on a day, or before it and after it too.
+function metersOf({ register, period }) {
+  const [from, till] = boundsOf(period);
+  return rowsOf(metersPath(register)).filter((it) => it.opened < till && it.at > from);
 }
 
 // Asks for a text unless what is kept was asked while the register stood as it does now, or may
@@ -212,12 +227,15 @@ async function askAll() {
 // day that was over at the last look.
 async function askOpen(open, register) {
   await keep(monthsPath(open.register), register, askSums, true);
+  await keep(metersPath(open.register), register, askMeters);
   await keep(spanPath(open), register, askSums);
   if (open.period.length !== DAY) return;
-  const path = quartersPath(register.meter, open.period);
-  const known = answers.get(path);
-  const isOver = known && open.period < dayAt(dateOf(known.register.at));
-  await keep(path, register, askQuarters, isOver);
+  for (const meter of metersOf(open)) {
+    const path = quartersPath(meter.name, open.period);
+    const known = answers.get(path);
+    const isOver = known && open.period < dayAt(dateOf(known.register.at));
+    await keep(path, register, askQuarters, isOver);
+  }
 }
 
 let timer = 0;
@@ -256,6 +274,7 @@ function kwh(mwh, least = 6) {
 }
 
 const shortKwh = (mwh) => `${kwh(mwh, 3)} kWh`;
+const counterOf = ({ last, sf }) => BigInt(last) * 10n ** BigInt(Number(sf) + 3);
 const sumOf = (rows) => rows.reduce((sum, row) => sum + row.mwh, 0n);
 const two = (number) => String(number).padStart(2, "0");
 const clockOf = (date) => `${two(date.getHours())}:${two(date.getMinutes())}`;
@@ -403,11 +422,10 @@ function card(register) {
       make("p", {}, "No meter was installed at it, so nothing of it is booked."));
   }
   const href = linkTo(name, today(register));
-  const counter = BigInt(register.last) * 10n ** BigInt(register.sf + 3);
   return make("article", { class: "card" },
     make("h3", {}, make("a", { href, id: `open-${name}` }, name)),
     make("p", {}, `Meter ${register.meter}${register.ended ? ", closed" : ""}: ` +
-      `showed ${shortKwh(counter)} at ${momentText(register.at)}; ` +
+      `showed ${shortKwh(counterOf(register))} at ${momentText(register.at)}; ` +
       `${shortKwh(BigInt(register.total))} since it was installed.`),
     ...figures(register));
 }
@@ -467,20 +485,29 @@ function monthsOrDays(register, days) {
   return { room, bars };
 }
 
-function quarters(rows) {
+// The quarter hours of a day: one in which a meter followed another has what both counted.
+function quarters(meters) {
   const [start, end] = [startOf(place.period, 0), startOf(place.period, 1)];
   const room = Math.round((end - start) / QUARTER);
-  const found = new Map(rows.map((row) => [row.start, row.mwh]));
+  const found = new Map();
+  for (const { name } of meters) {
+    for (const row of rowsOf(quartersPath(name, place.period))) {
+      const sum = found.get(row.start) || { mwh: 0n, names: [] };
+      found.set(row.start, { mwh: sum.mwh + row.mwh, names: [...sum.names, name] });
+    }
+  }
   const isEven = offsetOf(dateOf(start)) === offsetOf(dateOf(end));
   const bars = [...Array(room).keys()].map((index) => {
     const at = start + index * QUARTER;
     const [from, to] = [dateOf(at), dateOf(at + QUARTER)];
     const clock = `${clockOf(from)} to ${clockOf(to)}`;
+    const sum = found.get(at);
     return {
       index,
       name: `${dayAt(from)}T${clockOf(from)}:00${offsetOf(from)}`,
       title: isEven ? clock : `${clock} (from ${offsetOf(from)})`,
-      mwh: found.has(at) ? found.get(at) : null,
+      mwh: sum ? sum.mwh : null,
+      meters: sum && meters.length > 1 ? sum.names.join(", ") : "",
       label: from.getMinutes() === 0 && from.getHours() % 3 === 0 ? clockOf(from) : "",
       href: "",
       isAhead: at > site.at,
@@ -555,11 +582,13 @@ function table(bars) {
       ? make("a", { href: bar.href, id: `row-${bar.name}` }, bar.title)
       : bar.title),
     make("td", number, kwh(bar.mwh)),
-    ...(isDay ? [] : [make("td", number, `${bar.count}`)]));
+    ...(isDay ? [] : [make("td", number, `${bar.count}`)]),
+    ...(bar.meters ? [make("td", { class: "wide" }, bar.meters)] : []));
   const head = make("tr", {},
     make("th", { scope: "col" }, first),
     make("th", { scope: "col", ...number }, "kWh"),
-    ...(isDay ? [] : [make("th", { scope: "col", ...number }, "Quarter hours")]));
+    ...(isDay ? [] : [make("th", { scope: "col", ...number }, "Quarter hours")]),
+    ...(bars.some((bar) => bar.meters) ? [make("th", { scope: "col" }, "Meter")] : []));
   const rows = bars.filter((bar) => bar.mwh !== null).map(row);
   const named = { role: "region", "aria-label": "The numbers" };
   return make("div", { class: "rows", id: "rows", tabindex: 0, ...named },
@@ -592,8 +621,7 @@ function comparison(sum, days, register) {
   return make("p", { id: "sum", class: "warn" },
     `These quarter hours add up to ${shortKwh(sum)}, but the office's figure of this day is ` +
     `${shortKwh(office)}. The office's days go by its own zone, and the quarter hours here by ` +
-    `that of this browser; these are of meter ${register.meter} alone, and another one may have ` +
-    `counted at this register before it${isNow ? "; or a reading came just now" : ""}.`);
+    `that of this browser${isNow ? "; or a reading came just now" : ""}.`);
 }
 
 function around(register, days) {
@@ -629,30 +657,41 @@ function around(register, days) {
 }
 
 // Where all is asked that the place shows.
-function pathsOf(register) {
-  const paths = [yearPath(place.register), monthsPath(place.register), spanPath(place)];
-  if (place.period.length === DAY) paths.push(quartersPath(register.meter, place.period));
-  return paths;
+function pathsOf() {
+  const name = place.register;
+  const paths = [yearPath(name), monthsPath(name), metersPath(name), spanPath(place)];
+  if (place.period.length !== DAY) return paths;
+  return [...paths, ...metersOf(place).map((it) => quartersPath(it.name, place.period))];
 }
 
-function detailParts(register) {
+function meterItem(it) {
+  const last = `${it.ended ? "till" : "on, last read at"} ${momentText(it.at)}`;
+  return [make("b", {}, it.name), ` from ${momentText(it.opened)} ${last}: ` +
+    `showed ${shortKwh(counterOf(it))}; ${shortKwh(BigInt(it.total))} in all.`];
+}
+
+function periodParts(register) {
   const isDay = place.period.length === DAY;
-  const whose = isDay ? `meter ${register.meter}` : "all of its meters";
+  const there = isDay ? metersOf(place) : [];
+  const names = there.map((it) => `, meter ${it.name}`);
+  const whose = isDay ? names.join("") : ", all of its meters";
   const heading = make("h2", { id: "heading", tabindex: -1 },
-    `${titleOf(place.period)} `, make("small", {}, `${place.register}, ${whose}`));
-  const [year, months, days, kept] = pathsOf(register).map((path) => answers.get(path));
+    `${titleOf(place.period)} `, make("small", {}, place.register, whose));
+  const [year, months, meters, days, ...rows] = pathsOf().map((path) => answers.get(path));
   const asked = [make("p", {}, "Its days are being asked.")];
   const failed = (it) => [make("p", { class: "warn" }, it.fault)];
-  for (const it of [year, months]) {
+  for (const it of [year, months, meters]) {
     if (!it) return [heading, ...asked];
     if (it.fault) return [heading, ...failed(it)];
   }
   const parts = [heading, ...around(register, (days && days.rows) || [])];
   if (!days) return [...parts, ...asked];
   if (days.fault) return [...parts, ...failed(days)];
-  if (isDay && !kept) return [...parts, make("p", {}, "Its quarter hours are being asked.")];
-  if (isDay && kept.fault) return [...parts, ...failed(kept)];
-  const drawn = isDay ? quarters(kept.rows) : monthsOrDays(register, days.rows);
+  for (const it of rows) {
+    if (!it) return [...parts, make("p", {}, "Its quarter hours are being asked.")];
+    if (it.fault) return [...parts, ...failed(it)];
+  }
+  const drawn = isDay ? quarters(there) : monthsOrDays(register, days.rows);
   const some = drawn.bars.filter((bar) => bar.mwh !== null);
   const sum = sumOf(some);
   if (isDay) {
@@ -667,6 +706,13 @@ function detailParts(register) {
   return [...parts, curve(drawn), told, table(drawn.bars), fileLink(drawn.bars)];
 }
 
+function detailParts(register) {
+  const meters = answers.get(metersPath(place.register));
+  if (!meters || meters.fault) return periodParts(register);
+  const items = list(meters.rows.map(meterItem));
+  return [...periodParts(register), make("h3", {}, "Its meters"), items];
+}
+
 function drawDetail() {
   const register = place && registerOf(place.register);
   document.getElementById("detail").hidden = !place;
@@ -679,7 +725,7 @@ function drawDetail() {
       make("p", {}, make("a", { class: "button", id: "close", href: "#" }, "Close")),
     ]);
   } else {
-    const kept = pathsOf(register).map((path) => [path, answers.get(path)]);
+    const kept = pathsOf().map((path) => [path, answers.get(path)]);
     const told = kept.map(([path, it]) => it && [path, it.at, it.fault]);
     const state = [place, register, told, Math.floor(site.at / QUARTER)];
     fill("detail", state, () => detailParts(register));
@@ -776,7 +822,7 @@ function go() {
   if (opener) opener.focus();
   const register = place && registerOf(place.register);
   const isHere = register && place.period.length !== DAY &&
-    pathsOf(register).every((path) => answers.has(path));
+    pathsOf().every((path) => answers.has(path));
   if (place && !isHere) refresh();
 }
 

@@ -1,4 +1,4 @@
-"""What a running office takes to tell its registers and meters: site_replies.py PROGRAM
+"""What a running office takes to tell its registers and meters, and the meters of each register: site_replies.py PROGRAM
 
 bench/site.sh calls it. The devices are not there, so that nothing else is done meanwhile; the processor time is that of the process.
 """
@@ -30,6 +30,25 @@ def replies(program, db, devices):
     return told, len(text)
 
 
+def lists(program, db):
+    """The milliseconds of the processor of the replies that tell each register's meters, as one who copies all of them asks: all together, and
+    that in which most was taken; and the seconds by the clock."""
+    port = free_port()
+    words = [program, "run", "--db", db, "--listen", str(port), "--every", "3600", "--devices", "d0=127.0.0.1:9"]
+    child = start(words, port, stdout=subprocess.DEVNULL, stderr=subprocess.DEVNULL)
+    time.sleep(1)
+    # (so that each meter was looked up once)
+    urllib.request.urlopen(f"http://127.0.0.1:{port}/site").read()
+    ran, told, began = pathlib.Path(f"/proc/{child.pid}/schedstat"), [], time.monotonic()
+    for place in range(1, DEVICES * METERS + 1):
+        before = int(ran.read_text().split()[0])
+        text = urllib.request.urlopen(f"http://127.0.0.1:{port}/registers/r{place}/meters").read()
+        told.append((int(ran.read_text().split()[0]) - before) / 1e6)
+        if not text.endswith(b"end 1\n"):
+            sys.exit("site_replies.py: a register lacks its meter")
+    return sum(told), max(told), time.monotonic() - began
+
+
 def main():
     program = os.path.abspath(sys.argv[1])
     machine(program)
@@ -41,6 +60,11 @@ def main():
         (first, *later), size = replies(program, db, names[:polled])
         print(f"| {DEVICES * METERS:,} | {polled} | {size:,} | {first:.1f} ms | {min(later):.1f} to {max(later):.1f} ms |", flush=True)
         clear(room)
+    db = str(room / "office.db")
+    site(db, DEVICES, METERS, METERS, 1)
+    whole, most, seconds = lists(program, db)
+    print(f"\nThe meters of each of {DEVICES * METERS:,} registers, asked one after another: {whole:.0f} ms, {most:.1f} ms at most for one; {seconds:.1f} s by the clock.")
+    clear(room)
 
 
 if __name__ == "__main__":

@@ -273,28 +273,23 @@ def copies_what_changed(shards):
     south.meters["roof-1"].read(NOVEMBER + 900 * 200, 0)
     same("and with the next reading", copy()[1], ["south 1 meters 3 rows 1 days", "3 sites 0 failed 1 meters 3 rows 1 days"])
     compare("a void between two readings, and a reading", shards, mocks.sites())
-    # an exchange: /site tells the latest meter, and the one before had rows until then
+    # an exchange: /site tells the latest meter, which is new here, so the office is asked for all of that register
     south.meters["main-1"].read(NOVEMBER + 900 * 200, 40)
     south.meters["main-1"].ended = True
     south.add("main-2", "main", NOVEMBER + 900 * 201).read(NOVEMBER + 900 * 201, 50)
+    south.asked.clear()
     same("an exchange", copy()[1], ["south 2 meters 2 rows 1 days", "3 sites 0 failed 2 meters 2 rows 1 days"])
     compare("an exchange", shards, mocks.sites())
+    same("only that register's meters are asked for", lists_of(south), ["/registers/main/meters"])
     south.asked.clear()
     copy()
     same("a closed meter isn't asked again", south.asked, ["/site"])
+    south.meters["main-2"].read(NOVEMBER + 900 * 202, 1)
+    south.asked.clear()
+    same("a reading of the latest", copy()[1], ["south 1 meters 1 rows 1 days", "3 sites 0 failed 1 meters 1 rows 1 days"])
+    same("and nobody asks for the others", lists_of(south), [])
     same("nothing differs", shards.lines("SELECT * FROM energy.differences"), [])
-    # two exchanges between two copies: the meter between is in no /site
-    south.meters["main-2"].ended = True
-    south.add("main-3", "main", NOVEMBER + 900 * 202).read(NOVEMBER + 900 * 202, 60)
-    south.meters["main-3"].ended = True
-    south.add("main-4", "main", NOVEMBER + 900 * 203).read(NOVEMBER + 900 * 203, 70)
-    copy()
-    days, kept = (sum(sum(of.rows.values()) for of in south.of("main") if of.name != name) for name in ("", "main-3"))
-    same("a meter that nobody named", shards.lines("SELECT * FROM energy.differences"), [f"south\tmain\t\tdays\t{days}\t{kept}"])
-    status, said, faults = shards.collect(write_list("named", {"south": (mocks.url("south"), ["main-3"])}))
-    same("is copied once it is named", (status, said, faults), (0, ["south 1 meters 1 rows 0 days", "1 sites 0 failed 1 meters 1 rows 0 days"], []))
-    same("and nothing differs", shards.lines("SELECT * FROM energy.differences"), [])
-    compare("a meter that was named", shards, mocks.sites())
+    takes_all_meters(shards, mocks, copy)
     # an office without /site, as `sunreg serve`
     north.has_site = False
     north.meters["roof-1"].read(NOVEMBER + 900 * 200, 8)
@@ -328,6 +323,71 @@ def copies_what_changed(shards):
     same("nothing differs, merged", shards.lines("SELECT * FROM energy.differences"), [])
     sums(shards, mocks)
     return mocks
+
+
+def lists_of(office):
+    """The registers whose meters an office was asked for, as often as that was."""
+    return [it for it in office.asked if it.endswith("/meters")]
+
+
+def exchanged(office, names, start):
+    """A register's meters are exchanged one after another, each with a reading of the quarter hour from a moment on."""
+    for place, name in enumerate(names):
+        office.of("main")[-1].ended = True
+        office.add(name, "main", start + 900 * place).read(start + 900 * place, 60 + place)
+
+
+def takes_all_meters(shards, mocks, copy):
+    """Exchanged meters that /site never told are copied, and nobody has to name them."""
+    south, nothing = mocks.offices["south"], ["3 sites 0 failed 0 meters 0 rows 0 days"]
+    exchanged(south, ["main-3", "main-4"], NOVEMBER + 900 * 203)
+    south.asked.clear()
+    same("two exchanges between two copies", copy()[1], ["south 3 meters 2 rows 1 days", "3 sites 0 failed 3 meters 2 rows 1 days"])
+    compare("two exchanges between two copies", shards, mocks.sites())
+    same("the meters are asked for once", lists_of(south), ["/registers/main/meters"])
+    same("and nothing differs", shards.lines("SELECT * FROM energy.differences"), [])
+    # a meter and its register both end before anybody copies them
+    south.add("late-1", "late", NOVEMBER).read(NOVEMBER, 5)
+    south.meters["late-1"].ended = True
+    south.add("late-2", "late", NOVEMBER + 900).read(NOVEMBER + 900, 6)
+    south.meters["late-2"].ended = True
+    same("a register of closed meters", copy()[1], ["south 2 meters 2 rows 1 days", "3 sites 0 failed 2 meters 2 rows 1 days"])
+    compare("a register of closed meters", shards, mocks.sites())
+    same("is as it was", copy()[1], nothing)
+    # a void of a closed meter takes energy away: its register's next reading shows it
+    row = south.meters["main-3"].rows
+    row[NOVEMBER + 900 * 203] -= 9
+    same("a void of a closed meter isn't told", copy()[1], nothing)
+    south.meters["main-4"].read(NOVEMBER + 900 * 205, 2)
+    south.asked.clear()
+    same("but with its register's next reading", copy()[1], ["south 2 meters 2 rows 1 days", "3 sites 0 failed 2 meters 2 rows 1 days"])
+    compare("a void of a closed meter", shards, mocks.sites())
+    same("which asks for its meters once", lists_of(south), ["/registers/main/meters"])
+    row[NOVEMBER + 900 * 203] -= 1
+    same("or where all is read", copy("--whole", "south")[1][0], "south 7 meters 1 rows 1 days")
+    compare("a void of a closed meter, and all is read", shards, mocks.sites())
+    south.asked.clear()
+    copy("--whole", "south")
+    same("then each register's meters are asked for once", lists_of(south), [f"/registers/{it}/meters" for it in ("main", "roof", "late")])
+    # an office that tells the latest meters alone, and then, by a later program, all of them
+    south.has_lists = False
+    exchanged(south, ["main-5", "main-6"], NOVEMBER + 900 * 206)
+    copy()
+    days, kept = (sum(sum(of.rows.values()) for of in south.of("main") if of.name != name) for name in ("", "main-5"))
+    differs = [f"south\tmain\t\tdays\t{days}\t{kept}"]
+    same("a meter that nobody named", shards.lines("SELECT * FROM energy.differences"), differs)
+    status, said, faults = shards.collect(write_list("named", {"south": (mocks.url("south"), ["main-5"])}))
+    same("is copied once it is named", (status, said, faults), (0, ["south 1 meters 1 rows 0 days", "1 sites 0 failed 1 meters 1 rows 0 days"], []))
+    same("and nothing differs then", shards.lines("SELECT * FROM energy.differences"), [])
+    compare("a meter that was named", shards, mocks.sites())
+    exchanged(south, ["main-7", "main-8"], NOVEMBER + 900 * 208)
+    copy()
+    south.has_lists = True
+    same("nothing new shows it", copy()[1], nothing)
+    south.meters["main-8"].read(NOVEMBER + 900 * 210, 3)
+    same("the register's next reading does", copy()[1], ["south 2 meters 2 rows 1 days", "3 sites 0 failed 2 meters 2 rows 1 days"])
+    compare("an office that tells all meters since", shards, mocks.sites())
+    same("and nothing differs behind that", shards.lines("SELECT * FROM energy.differences"), [])
 
 
 def sums(shards, mocks):
@@ -454,6 +514,12 @@ def tells_faults(shards, mocks):
     told("days that were cut", f"{days} was cut, or is no text of an office", lambda text: text[:-4], days)
     told("no days", f"{days} has a line that is no day", lambda text: "2026-11-01 1\nend 1\n", days)
     told("days before ClickHouse's", f"{days} has a day or a number past its column", lambda text: "1969-12-31   1   5\nend 1\n", days)
+    meters = "/registers/main/meters"
+    told("meters that were cut", f"{meters} was cut, or is no text of an office", lambda text: text[:-4], meters)
+    told("a meter without its state", f"{meters} has a line that is no meter, or one twice", lambda text: text.replace(" open", ""), meters)
+    told("a meter twice", f"{meters} has a line that is no meter, or one twice", lambda text: 2 * text.split("end")[0] + "end 2\n", meters)
+    told("a meter's name that is none", f"{meters} has a line that is no meter", lambda text: text.replace("main-1", "x'OR'1"), meters)
+    told("a meter's moment past its column", f"{meters} has a line that is no meter", lambda text: f"m 1 {1 << 32} 1 0 1 open\nend 1\n", meters)
     none = "its reply to GET /site is none of an office"
     told("a site that is no JSON", none, lambda text: text[:-5], "/site")
     told("a site without registers", none, lambda text: "[]", "/site")
@@ -798,7 +864,7 @@ class MockOffice:
                 meter.read(meter.at - meter.at % 900, 1)
 
 
-def survives_kills(shards, name, made, known, stop):
+def survives_kills(shards, name, made, stop):
     """Offices go on, by `made`; collect and the shards are killed at random; in the end all that the offices have is there, and nothing else."""
     dice, counts, going = random.Random(SEED + 1), {}, True
     offices = list(made.items())
@@ -810,7 +876,7 @@ def survives_kills(shards, name, made, known, stop):
             counts[did] = counts.get(did, 0) + 1
             time.sleep(0.02)
 
-    sites = write_list(name, {site: (office.url(), known(office)) for site, office in offices})
+    sites = write_list(name, {site: (office.url(), []) for site, office in offices})
     hand = threading.Thread(target=go_on)
     hand.start()
     killed = {"collect": 0, "server": 0, "whole": 0}
@@ -842,7 +908,6 @@ def survives_kills(shards, name, made, known, stop):
     stop()
     meters = {site: office_meters(office) for site, office in offices}
     truth = {site: (office.url(), meters[site], set(meters[site].values())) for site, office in offices}
-    sites = write_list(name, {site: (office.url(), list(meters[site])) for site, office in offices})
     unseen = {(site, it) for site, office in offices for it in office.unseen}
     for words in ([], ["--whole"]):
         status, said, faults = shards.collect(sites, *words)
@@ -869,26 +934,23 @@ def offices_of_mock(shards):
     mocks = Mocks(names)
     dice = random.Random(SEED)
     made = {name: MockOffice(mocks, name, dice) for name in names}
-    survives_kills(shards, "mock offices", made, lambda office: [], lambda: None)
+    survives_kills(shards, "mock offices", made, lambda: None)
 
 
 def offices_of_program(shards):
     dice, device = random.Random(SEED), Device()
     made = {f"p{place}": ProgramOffice(f"p{place}", device, dice) for place in range(1, 21)}
     first = next(iter(made.values()))
-    try:
-        told = {row["meter"] for row in json.loads(get(f"{first.url()}/site"))["registers"]}
-        same("/site tells the latest meters", told, {"m1", "x2"})
-        known = lambda office: ["x1"]
-    except urllib.error.HTTPError as fault:
-        print(f"central.py: the program has no route /site ({fault.code}): the list names each meter", flush=True)
-        known = lambda office: list(office.meters)
+    told = {row["meter"] for row in json.loads(get(f"{first.url()}/site"))["registers"]}
+    same("/site tells the latest meters", told, {"m1", "x2"})
+    lines = [line.split() for line in get(f"{first.url()}/registers/aux/meters").splitlines()]
+    same("and a register all of them", [(it[0], it[-1]) for it in lines], [("x1", "ended"), ("x2", "open"), ("end", "2")])
 
     def stop():
         device.stop()
         time.sleep(3)
 
-    survives_kills(shards, "offices of the program", made, known, stop)
+    survives_kills(shards, "offices of the program", made, stop)
     for office in made.values():
         office.child.kill()
 

@@ -31,7 +31,7 @@ def days_text(meters):
 
 class Meter:
     def __init__(self, name, register, at):
-        self.name, self.register, self.at, self.last, self.ended, self.rows = name, register, at, 0, False, {}
+        self.name, self.register, self.opened, self.at, self.last, self.ended, self.rows = name, register, at, at, 0, False, {}
 
     def read(self, start, mwh):
         """A reading at the end of a quarter hour."""
@@ -44,12 +44,17 @@ class Meter:
             "total": str(sum(self.rows.values())),
         }
 
+    def line(self):
+        """Its line among those of its register."""
+        total = sum(self.rows.values())
+        return f"{self.name} {self.opened} {self.at} {self.last % (1 << 32)} -3 {total} {'ended' if self.ended else 'open'}\n"
+
 
 class Office:
     """An office whose meters are as they were made."""
 
     def __init__(self):
-        self.meters, self.has_site, self.has_parts, self.asked = {}, True, True, []
+        self.meters, self.has_site, self.has_lists, self.has_parts, self.asked = {}, True, True, True, []
 
     def add(self, name, register, at):
         self.meters[name] = Meter(name, register, at)
@@ -71,6 +76,9 @@ class Office:
             return 200, intervals_text(self.meters[found[1]].rows)
         if (found := re.fullmatch("/meters/([^/]+)/intervals/([0-9]+)/([0-9]+)", target)) and found[1] in self.meters and self.has_parts:
             return 200, intervals_text({start: mwh for start, mwh in self.meters[found[1]].rows.items() if int(found[2]) <= start < int(found[3])})
+        if (found := re.fullmatch("/registers/([^/]+)/meters", target)) and self.of(found[1]) and self.has_lists:
+            meters = self.of(found[1])
+            return 200, "".join(meter.line() for meter in meters) + f"end {len(meters)}\n"
         if (found := re.fullmatch("/registers/([^/]+)/days", target)) and self.of(found[1]):
             return 200, days_text([meter.rows for meter in self.of(found[1])])
         return 404, '{"refused":1}'
@@ -86,14 +94,17 @@ class Alike:
         return texts_of_kind((self.place * self.meters + meter) % 97, self.start, self.quarters)
 
     def reply(self, target):
+        until = self.start + 900 * self.quarters
         if target == "/site":
             rows = [
-                {"device": "inv", "register": f"r{k}", "meter": f"m{k}", "at": self.start + 900 * self.quarters, "last": 7, "sf": 0, "total": self.kind(k)[2], "ended": False}
+                {"device": "inv", "register": f"r{k}", "meter": f"m{k}", "at": until, "last": 7, "sf": 0, "total": self.kind(k)[2], "ended": False}
                 for k in range(self.meters)
             ]
             return 200, json.dumps({"at": int(time.time()), "registers": rows})
         if found := re.fullmatch("/meters/m([0-9]+)/intervals", target):
             return 200, self.kind(int(found[1]))[0]
+        if found := re.fullmatch("/registers/r([0-9]+)/meters", target):
+            return 200, f"m{found[1]} {self.start} {until} 7 0 {self.kind(int(found[1]))[2]} open\nend 1\n"
         if found := re.fullmatch("/registers/r([0-9]+)/days", target):
             return 200, self.kind(int(found[1]))[1]
         return 404, '{"fault":404}'

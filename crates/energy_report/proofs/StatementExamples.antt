@@ -129,7 +129,7 @@ all_held = record {
   not_below_range = 8;
 }
 
-each_cause : held_text Text all_held ≡ codes "1:18446744073709551615,2:2,3:3,4:4,5:5,6:6,7:7,8:8"
+each_cause : held_text Text all_held ≡ codes "1=18446744073709551615,2=2,3=3,4=4,5=5,6=6,7=7,8=8"
 unfolding digits held_some
 each_cause = refl
 
@@ -150,12 +150,12 @@ abbrev form : EnergyUnit → Format → StatementForm
 form unit format = record { range = all_days; unit = unit; format = format }
 
 as_text : statement_text (form MilliwattHours Text) (m1 ∷ m2 ∷ [])
-    ≡ codes "m1 1000 0 5000 2000 9000 1 1 0 1 2:3,5:1\nm2 - - - - 0 0 0 0 0 0\nend 2\n"
+    ≡ codes "m1 1000 0 5000 2000 9000 1 1 0 1 2=3,5=1\nm2 - - - - 0 0 0 0 0 0\nend 2\n"
 unfolding digits held_some unit_of
 as_text = refl
 
 as_table : statement_text (form KilowattHours Csv) (m1 ∷ m2 ∷ [])
-    ≡ codes "meter,first,first_kwh,last,last_kwh,energy_kwh,by_hand,resets,rescales,voids,held\r\nm1,1000,0.000000,5000,0.002000,0.009000,1,1,0,1,2:3;5:1\r\nm2,,,,,0.000000,0,0,0,0,0\r\n"
+    ≡ codes "meter,first,first_kwh,last,last_kwh,energy_kwh,by_hand,resets,rescales,voids,held\r\nm1,1000,0.000000,5000,0.002000,0.009000,1,1,0,1,2=3;5=1\r\nm2,,,,,0.000000,0,0,0,0,0\r\n"
 unfolding digits held_some unit_of
 as_table = refl
 

@@ -39,7 +39,7 @@ worth_text format unit None = nothing format
 worth_text format unit (Some stand) =
     quote format ++ energy_text unit (worth_of stand) ++ quote format
 
--- ---- readings that were held: `2:3,5:1` in a text are three for cause 2 and one for cause 5
+-- ---- readings that were held: `2=3,5=1` in a text are three for cause 2 and one for cause 5
 
 -- what stands between two counts; a table has commas between its fields
 abbrev pub held_mark : Format → List ℕ
@@ -47,10 +47,16 @@ held_mark Text = codes ","
 held_mark Csv = codes ";"
 held_mark Json = codes ","
 
+-- what stands before a count; a spreadsheet reads `2:3` as a time
+abbrev pub count_mark : Format → List ℕ
+count_mark Text = codes "="
+count_mark Csv = codes "="
+count_mark Json = codes ":"
+
 -- the number of a cause, and how many were held for it
 abbrev pub count_text : Format → HeldCount → List ℕ
 count_text format one =
-    quote format ++ decimal (cause_number one.cause) ++ quote format ++ codes ":"
+    quote format ++ decimal (cause_number one.cause) ++ quote format ++ count_mark format
     ++ decimal one.count
 
 abbrev pub counts_text : Format → List HeldCount → List ℕ
@@ -70,7 +76,7 @@ held_text Text held = counts_or_zero Text (held_some held)
 held_text Csv held = counts_or_zero Csv (held_some held)
 held_text Json held = codes "{" ++ counts_text Json (held_some held) ++ codes "}"
 
--- what one count more puts behind those before it
+-- what one count more puts after those before it
 abbrev pub are_none : List HeldCount → Bool
 are_none [] = true
 are_none (first ∷ counts) = false

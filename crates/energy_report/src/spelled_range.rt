@@ -10,7 +10,7 @@ use interval_core::{Day, DayRange};
 pub enum RangeFault {
     /// The word for the first day is no day.
     From,
-    /// The word for the day behind the last is no day.
+    /// The word for the day after the last is no day.
     Till,
     /// The range ends before it begins.
     Backward,

@@ -194,6 +194,16 @@ fn held_mark(format: Format) -> &'static [u8]
     }
 }
 
+fn count_mark(format: Format) -> &'static [u8]
+    ensures word { result.now ≡ text.count_mark format }
+    ensures size { length result.now ≤ 1 }
+{
+    match format {
+        Format::Text | Format::Csv => b"=",
+        Format::Json => b":",
+    }
+}
+
 fn push_held(page: &mut Page, format: Format, held: &HeldCounts)
     requires { length page.old ≤ 700 }
     ensures bytes { page.new ≡ page.old ++ text.held_text format held.now }
@@ -259,7 +269,7 @@ fn push_one(page: &mut Page, format: Format, one: &HeldCount)
     page.push(quote(format));
     page.push_number(b"", one.cause.number());
     page.push(quote(format));
-    page.push_number(b":", one.count);
+    page.push_number(count_mark(format), one.count);
 }
 
 // ---- fields

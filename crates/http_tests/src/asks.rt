@@ -65,11 +65,12 @@ fn a_run_rejects_by_itself(rt: HostRuntime) {
     }
 }
 
-static WRONG_METHODS: [&[u8]; 4] = [
+static WRONG_METHODS: [&[u8]; 5] = [
     b"POST / HTTP/1.1\r\n\r\n",
     b"HEAD /status HTTP/1.1\r\n\r\n",
     b"POST /metrics HTTP/1.1\r\n\r\n",
     b"POST /site HTTP/1.1\r\n\r\n",
+    b"POST /registers/main/meters HTTP/1.1\r\n\r\n",
 ];
 
 static MISDIRECTED: [&[u8]; 4] = [

@@ -52,6 +52,8 @@ mod program_commands;
 #[cfg(test)]
 mod register_energy;
 #[cfg(test)]
+mod register_meters;
+#[cfg(test)]
 mod replies;
 #[cfg(test)]
 mod report_forms;

@@ -68,9 +68,15 @@ fn no_energy_is_told_of_a_register_that_is_none(rt: HostRuntime) -> Result<(), F
         let text = energy(rt.alloc(), &mut office, target)?;
         assert!(rt; text.as_slice() == expected.as_bytes());
     }
-    let none = text_reply(rt.alloc(), "end 0\n")?;
+    Ok(())
+}
+
+#[test]
+fn a_register_without_meters_has_no_months(rt: HostRuntime) -> Result<(), Fail> {
+    let mut office = unmetered(rt.alloc())?;
+    let expected = text_reply(rt.alloc(), "end 0\n")?;
     let text = energy(rt.alloc(), &mut office, "/registers/main/months")?;
-    assert!(rt; text.as_slice() == none.as_bytes());
+    assert!(rt; text.as_slice() == expected.as_bytes());
     Ok(())
 }
 

@@ -122,12 +122,20 @@ const LOST: [(LostCause, &str); 4] = [
 ];
 
 #[test]
-fn wire(rt: HostRuntime) -> Result<(), Fail> {
+fn frames(rt: HostRuntime) -> Result<(), Fail> {
     tells(&rt, rt.alloc(), &REQUESTS)?;
     tells(&rt, rt.alloc(), &REPLIES)?;
+    tells(&rt, rt.alloc(), &MALFORMED)
+}
+
+#[test]
+fn servers(rt: HostRuntime) -> Result<(), Fail> {
     tells(&rt, rt.alloc(), &BANKS)?;
-    tells(&rt, rt.alloc(), &SERVERS)?;
+    tells(&rt, rt.alloc(), &SERVERS)
+}
+
+#[test]
+fn sessions(rt: HostRuntime) -> Result<(), Fail> {
     tells(&rt, rt.alloc(), &STARTS)?;
-    tells(&rt, rt.alloc(), &MALFORMED)?;
     tells(&rt, rt.alloc(), &LOST)
 }

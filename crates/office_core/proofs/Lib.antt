@@ -1,6 +1,6 @@
 pub mod Left
 pub mod Taken
-pub mod Asked
+pub mod SeveralAsked
 pub mod Reopened
 pub mod Summing
 pub mod Parts

@@ -60,7 +60,7 @@ use Rattle.office_program.specs.Texts.Reports.{Asks}
 use Rattle.office_program.specs.Texts.Statements.{AnswersOf, AreRecorded, States, energy_in, held_in, statement_in, statement_of, statements_in, statements_of, tally_in, told_of}
 use Rattle.office_books.proofs.Pieces.{last_piece, one_piece_more, piece_at}
 use Rattle.office_core.specs.Several.{Keeps}
-use Rattle.office_core.proofs.Asked.{found_ok, found_so, now_as, refused_as, refused_on}
+use Rattle.office_core.proofs.SeveralAsked.{found_ok, found_so, now_as, refused_as, refused_on}
 
 some_same : {X : Type 0} (x y : X) → Some x ≡ Some y → x ≡ y
 some_same x y is = cc is

@@ -24,7 +24,7 @@ use Rattle.office_core.specs.declared.office.Office.{Office}
 use Rattle.office_rounds.specs.Faults.{IsPrinted}
 use Rattle.office_rounds.specs.Rounds.{RoundState, IsSettled, IsToldOf, NoneWaits, gone_at}
 use Rattle.office_rounds.specs.Stepping.{Broken, Closes, EndsPrinted, EndsUnprinted, Feeds, FeedStops, IsTaken, RefusedStops, Stops, fault_after, is_output}
-use Rattle.office_rounds.specs.FedEvents.{history_behind, text_after, told_text}
+use Rattle.office_rounds.specs.FedEvents.{history_with, text_after, told_text}
 use Rattle.office_rounds.specs.declared.fault.RoundFault.{RoundFault}
 use Rattle.office_rounds.specs.declared.fault.RoundFault.TheVariants.{Refused, Link, Output, TurnsUsed}
 use Rattle.office_rounds.specs.declared.progress.Progress.{Progress}
@@ -78,12 +78,12 @@ pub closes : {B : Type 0} (ledger : B → Ledger) (device : Option (List ℕ)) (
     (earlier : List Answered) (round : Progress) (cause fault : RoundFault) (moment at : ℕ) (reply : Result Answer Refusal)
     → Broken ledger device past begun was before earlier round cause → TellsMoment was.moments now.moments moment
     → at ≡ gone_at round.latest moment
-    → IsTaken ledger (history_behind past earlier) at (event.Gone device closing.Failed) reply was now office
+    → IsTaken ledger (history_with past earlier) at (event.Gone device closing.Failed) reply was now office
     → RefusedStops (is_stopped before) (event.Gone device closing.Failed) reply (is_stopped office) → IsToldOf cause fault
     → IsPrinted {X = Unit {0}} (Err fault) (text_after past (gone_one device at reply ∷ earlier)) begun.printed now.printed
     → Closes ledger device past begun now office earlier cause fault
 closes ledger device past begun was now before office earlier round cause fault moment at reply broken tells is taken stops told printed =
-    let history = history_behind past earlier in
+    let history = history_with past earlier in
     let when : at ≡ gone_at (latest_of history) moment = is ∙ ap (λ n. gone_at n moment) broken.latest in
     let times = gone_in_time (latest_of history) moment (latest_within history broken.leaves.stands.books.is_past.accepted) in
     record {
@@ -121,10 +121,10 @@ told_after : {B : Type 0} (ledger : B → Ledger) (device : Option (List ℕ)) (
     (earlier : List Answered) (round : Progress) (cause fault : RoundFault) (moment at : ℕ) (reply : Result Answer Refusal)
     → Broken ledger device past begun was before earlier round cause → (cause ≡ Output → ⊥) → TellsMoment was.moments now.moments moment
     → at ≡ gone_at round.latest moment
-    → IsTaken ledger (history_behind past earlier) at (event.Gone device closing.Failed) reply was now office
+    → IsTaken ledger (history_with past earlier) at (event.Gone device closing.Failed) reply was now office
     → RefusedStops (is_stopped before) (event.Gone device closing.Failed) reply (is_stopped office)
-    → ((fault ≡ cause) × Appends was.printed now.printed (told_text (history_behind past earlier) at (event.Gone device closing.Failed) reply))
-    ⊎ ((fault ≡ Output) × GotPart (told_text (history_behind past earlier) at (event.Gone device closing.Failed) reply) was.printed now.printed)
+    → ((fault ≡ cause) × Appends was.printed now.printed (told_text (history_with past earlier) at (event.Gone device closing.Failed) reply))
+    ⊎ ((fault ≡ Output) × GotPart (told_text (history_with past earlier) at (event.Gone device closing.Failed) reply) was.printed now.printed)
     → Closes ledger device past begun now office earlier cause fault
 told_after ledger device past begun was now before office earlier round cause fault moment at reply broken other tells is taken stops (inl told) =
     let P : RoundFault → Type 0 = λ f. Closes ledger device past begun now office earlier cause f in
@@ -142,11 +142,11 @@ pub closes_printed : {B : Type 0} (ledger : B → Ledger) (device same : Option 
     (before office : Office B) (earlier : List Answered) (round : Progress) (cause fault : RoundFault) (moment at : ℕ) → same ≡ device
     → Broken ledger device past begun was before earlier round cause → (cause ≡ Output → ⊥) → TellsMoment was.moments now.moments moment
     → at ≡ gone_at round.latest moment
-    → EndsPrinted ledger (history_behind past earlier) at (event.Gone same closing.Failed) cause was now before office fault
+    → EndsPrinted ledger (history_with past earlier) at (event.Gone same closing.Failed) cause was now before office fault
     → Closes ledger device past begun now office earlier cause fault
 closes_printed ledger device same past begun was now before office earlier round cause fault moment at equal broken other tells is ends =
     let P : Option (List ℕ) → Type 0 = λ d.
-    EndsPrinted ledger (history_behind past earlier) at (event.Gone d closing.Failed) cause was now before office fault in
+    EndsPrinted ledger (history_with past earlier) at (event.Gone d closing.Failed) cause was now before office fault in
     let mine = subst P equal ends in
     told_after ledger device past begun was now before office earlier round cause fault moment at mine.reply broken other tells is mine.taken mine.stops mine.printed
 
@@ -155,11 +155,11 @@ pub closes_unprinted : {B : Type 0} (ledger : B → Ledger) (device same : Optio
     (before office : Office B) (earlier : List Answered) (round : Progress) (moment at : ℕ) → same ≡ device
     → Broken ledger device past begun was before earlier round Output → TellsMoment was.moments now.moments moment
     → at ≡ gone_at round.latest moment → now.printed ≡ was.printed
-    → EndsUnprinted ledger (history_behind past earlier) at (event.Gone same closing.Failed) was now before office
+    → EndsUnprinted ledger (history_with past earlier) at (event.Gone same closing.Failed) was now before office
     → Closes ledger device past begun now office earlier Output Output
 closes_unprinted ledger device same past begun was now before office earlier round moment at equal broken tells is unprinted ends =
     let P : Option (List ℕ) → Type 0 = λ d.
-    EndsUnprinted ledger (history_behind past earlier) at (event.Gone d closing.Failed) was now before office in
+    EndsUnprinted ledger (history_with past earlier) at (event.Gone d closing.Failed) was now before office in
     let mine = subst P equal ends in
     let Q : Option (List ℕ) → Type 0 = λ o. GotPart (text_after past earlier) begun.printed o in
     closes ledger device past begun was now before office earlier round Output Output moment at mine.reply broken tells is mine.taken mine.stops (inl refl)
@@ -191,7 +191,7 @@ pub closes_as : {B : Type 0} (ledger : B → Ledger) (device same : Option (List
     (before office : Office B) (earlier : List Answered) (round : Progress) (cause : RoundFault) (moment at : ℕ) → is_output cause ≡ true
     → same ≡ device → Broken ledger device past begun was before earlier round cause → TellsMoment was.moments now.moments moment
     → at ≡ gone_at round.latest moment → now.printed ≡ was.printed
-    → EndsUnprinted ledger (history_behind past earlier) at (event.Gone same closing.Failed) was now before office
+    → EndsUnprinted ledger (history_with past earlier) at (event.Gone same closing.Failed) was now before office
     → Closes ledger device past begun now office earlier cause Output
 closes_as ledger device same past begun was now before office earlier round cause moment at output equal broken tells is unprinted ends =
     let P : RoundFault → Type 0 = λ f.

@@ -14,7 +14,7 @@ use Rattle.office_core.specs.declared.office.Office.{Office}
 use Rattle.office_rounds.specs.Rounds.{RoundState, IsFed}
 use Rattle.office_rounds.specs.Stepping.{Connects, Feeds, IsNew, IsTaken, IsUnprinted, connection, latest_after}
 use Rattle.office_rounds.specs.Polling.{Holds, RoundsHold, round_after}
-use Rattle.office_rounds.specs.FedEvents.{history_behind, told_text}
+use Rattle.office_rounds.specs.FedEvents.{history_with, told_text}
 use Rattle.office_rounds.specs.declared.fault.RoundFault.{RoundFault}
 use Rattle.office_rounds.specs.declared.fault.RoundFault.TheVariants.{Refused, Link, Output, TurnsUsed}
 use Rattle.office_rounds.specs.declared.device_rounds.round.Round.{Round}
@@ -24,7 +24,7 @@ use Rattle.office_rounds.proofs.Timely.{one_accepted}
 -- The round after its connection.
 pub record Connected (device : Option (List ℕ)) (past : History) (at : ℕ) (given : Answer) (new : Progress) : Type 0 where
   pub holds : Holds device past (connection device at (Ok given) ∷ []) new.round
-  pub latest : new.latest ≡ latest_of (history_behind past (connection device at (Ok given) ∷ []))
+  pub latest : new.latest ≡ latest_of (history_with past (connection device at (Ok given) ∷ []))
 
 connected : {B : Type 0} (rounds : RoundsHold) (ledger : B → Ledger) (past : History) (begun now : RoundState) (office : Office B) (at : ℕ) (given : Answer)
     (old new : Progress) → IsNew old → IsTaken ledger past at (event.Connected old.round.device) (Ok given) begun now office

@@ -18,7 +18,7 @@ use Rattle.office_rounds.specs.Course.{Does, next_in}
 use Rattle.office_rounds.specs.Polling.{Holds, RoundsHold, round_after}
 use Rattle.office_rounds.specs.Rounds.{RoundState}
 use Rattle.office_rounds.specs.Stepping.{Broken, FeedStops, Feeds, RoundGoesOn, Going, IsTaken, IsUnprinted, Prints, Told, latest_after}
-use Rattle.office_rounds.specs.FedEvents.{history_behind, text_after, told_text}
+use Rattle.office_rounds.specs.FedEvents.{history_with, text_after, told_text}
 use Rattle.office_rounds.specs.declared.fault.RoundFault.{RoundFault}
 use Rattle.office_rounds.specs.declared.fault.RoundFault.TheVariants.{Refused, Link, Output, TurnsUsed}
 use Rattle.office_rounds.specs.declared.device_rounds.round.Round.{Round}
@@ -32,12 +32,12 @@ fed_one at e result = record { at = at; event = e; result = result }
 pub goes_on : {B : Type 0} (rounds : RoundsHold) (ledger : B → Ledger) (device : Option (List ℕ)) (past : History) (begun was now : RoundState)
     (before office : Office B) (fed : List Answered) (old new : Progress) (at : ℕ) (e : Event) (given : Answer)
     → Going ledger device past begun was before fed old → Does device (next_in past fed) e → TellsMoment was.moments now.moments at
-    → IsTaken ledger (history_behind past fed) at e (Ok given) was now office
-    → Appends was.printed now.printed (told_text (history_behind past fed) at e (Ok given))
+    → IsTaken ledger (history_with past fed) at e (Ok given) was now office
+    → Appends was.printed now.printed (told_text (history_with past fed) at e (Ok given))
     → new.round ≡ round_after e given (notes_in office) old.round → new.latest ≡ at
     → RoundGoesOn ledger device past begun now office fed (fed_one at e (Ok given)) new
 goes_on rounds ledger device past begun was now before office fed old new at e given going does tells taken printed round latest =
-    let history = history_behind past fed in
+    let history = history_with past fed in
     let accepted = one_accepted history at e was.failures now.failures given (of_round device (next_in past fed) e does) taken.answer in
     let holds = rounds device past fed old.round at e was.failures now.failures given going.holds does taken.answer (subst IsPast accepted taken.stands.books.is_past) in
     record {
@@ -57,7 +57,7 @@ goes_on rounds ledger device past begun was now before office fed old new at e g
 pub breaks_off : {B : Type 0} (ledger : B → Ledger) (device : Option (List ℕ)) (past : History) (begun was now : RoundState) (before office : Office B)
     (fed : List Answered) (old new : Progress) (at : ℕ) (e : Event) (why : Refusal)
     → Going ledger device past begun was before fed old → Does device (next_in past fed) e → TellsMoment was.moments now.moments at
-    → IsTaken ledger (history_behind past fed) at e (Err why) was now office → Appends was.printed now.printed []
+    → IsTaken ledger (history_with past fed) at e (Err why) was now office → Appends was.printed now.printed []
     → new.round ≡ old.round → new.latest ≡ old.latest
     → Broken ledger device past begun now office (fed_one at e (Err why) ∷ fed) new (Refused why)
 breaks_off ledger device past begun was now before office fed old new at e why going does tells taken printed same latest = record {
@@ -77,10 +77,10 @@ part_more a b c x y first second =
 pub unprinted : {B : Type 0} (ledger : B → Ledger) (device : Option (List ℕ)) (past : History) (begun was now : RoundState) (before office : Office B)
     (fed : List Answered) (old new : Progress) (at : ℕ) (e : Event)
     → Going ledger device past begun was before fed old → Does device (next_in past fed) e → TellsMoment was.moments now.moments at
-    → (taken : IsUnprinted ledger (history_behind past fed) at e was now office) → new.round ≡ old.round → new.latest ≡ at
+    → (taken : IsUnprinted ledger (history_with past fed) at e was now office) → new.round ≡ old.round → new.latest ≡ at
     → Broken ledger device past begun now office (fed_one at e (Ok taken.given) ∷ fed) new Output
 unprinted ledger device past begun was now before office fed old new at e going does tells taken same latest =
-    let accepted = one_accepted (history_behind past fed) at e was.failures now.failures taken.given (of_round device (next_in past fed) e does) taken.taken.answer in
+    let accepted = one_accepted (history_with past fed) at e was.failures now.failures taken.given (of_round device (next_in past fed) e does) taken.taken.answer in
     record {
       leaves = record { stands = taken.taken.stands; answered = (was.failures, going.leaves.answered, taken.taken.answer) };
       course = (going.next, does, refl);
@@ -109,7 +109,7 @@ fed_printed ledger past at e given was now office text (Err TurnsUsed) taken h i
 pub told_broken : {B : Type 0} (ledger : B → Ledger) (device : Option (List ℕ)) (past : History) (begun was now : RoundState) (before office : Office B)
     (fed : List Answered) (old new : Progress) (at : ℕ) (e : Event) (cause : RoundFault)
     → Going ledger device past begun was before fed old → Does device (next_in past fed) e → TellsMoment was.moments now.moments at
-    → Feeds ledger (history_behind past fed) at e was now office (Err cause) → new.round ≡ old.round
+    → Feeds ledger (history_with past fed) at e was now office (Err cause) → new.round ≡ old.round
     → new.latest ≡ latest_after cause at old.latest
     → (one : Answered) × (one.event ≡ e) × Told ledger device past begun now office fed one new (Err cause)
 told_broken ledger device past begun was now before office fed old new at e (Refused why) going does tells feeds same latest = (

@@ -37,8 +37,8 @@ use Rattle.office_rules.proofs.SessionLaws.{SessionLaws}
 use Rattle.office_books.specs.declared.failures.Failures.{Failures}
 use Rattle.office_core.specs.EventRun.{Answered}
 use Rattle.office_core.specs.Taking.{IsAnswer}
-use Rattle.office_rounds.specs.Course.{Does, IsTaken, Leave, Next, StartFrom, Take, endings_of, first_by, first_poll, is_ending, next_after, next_behind, next_in, polls_ended, reads_planned, reads_started, start_from}
-use Rattle.office_rounds.specs.FedEvents.{history_behind}
+use Rattle.office_rounds.specs.Course.{Does, IsTaken, Leave, Next, StartFrom, Take, endings_of, first_by, first_poll, is_ending, next_after, next_by, next_in, polls_ended, reads_planned, reads_started, start_from}
+use Rattle.office_rounds.specs.FedEvents.{history_with}
 use Rattle.office_rounds.specs.DeviceRounds.Polls.{ends, numbers, waits}
 use Rattle.office_rounds.specs.DeviceRounds.Rounds.{answered, begun, going_on, heard, stage_after}
 use Rattle.office_rounds.specs.Polling.{Holds, IsFirst, IsOnSession, IsUnderWay, StandsAt, from_on, is_open, next_at, next_of, round_after}
@@ -166,7 +166,7 @@ pub record Settles (history : History) (at : ℕ) (e : Event) : Type 0 where
       ≡ with_settled (next_poll (facts_of history)) at e (slots_of history) (facts_of history)
   pub notes : notes_after history at e (Ok answer.Noted)
       ≡ settled_notes (next_poll (facts_of history)) at e (slots_of history) (facts_of history)
-  pub behind : (next : Next) → next_behind e next ≡ next
+  pub behind : (next : Next) → next_by e next ≡ next
 
 record IsSettledBy (number started before : ℕ) (history : History) (at : ℕ) (e : Event) : Type 0 where
   beyond : (n : ℕ) → number + started ≤ n → told n (notes_after history at e (Ok answer.Noted)) ≡ 0
@@ -207,13 +207,13 @@ is_settled_by laws number started history at e accepted settles last =
 
 settled_round : (laws : Laws) (device : Option (List ℕ)) (past : History) (fed : List Answered) (at : ℕ) (e : Event) (polls : List ℕ)
     (started planned : ℕ) (sum : Sum) → (way : IsUnderWay device past fed (round_at device Waiting polls started planned sum))
-    → AreAccepted (Fed at e ∷ history_behind past fed) → Settles (history_behind past fed) at e
-    → IsOnSession (slots_of (Fed at e ∷ history_behind past fed)) device (from_on way.number (reads_started fed)) → (new : Sum)
-    → let notes = notes_after (history_behind past fed) at e (Ok answer.Noted) in let left = filter (waits notes) polls in
+    → AreAccepted (Fed at e ∷ history_with past fed) → Settles (history_with past fed) at e
+    → IsOnSession (slots_of (Fed at e ∷ history_with past fed)) device (from_on way.number (reads_started fed)) → (new : Sum)
+    → let notes = notes_after (history_with past fed) at e (Ok answer.Noted) in let left = filter (waits notes) polls in
     Holds device past (fed_one at e (Ok answer.Noted) ∷ fed)
     (going_on Waiting (nat_lt (length left) (length polls)) (round_at device Waiting left started planned new))
 settled_round laws device past fed at e polls started planned sum way accepted settles on new =
-    let history = history_behind past fed in
+    let history = history_with past fed in
     let notes = notes_after history at e (Ok answer.Noted) in
     let one = fed_one at e (Ok answer.Noted) in
     let s = reads_started fed in
@@ -323,13 +323,13 @@ within_plan spans from of s count (inr none) same some most = absurd (omega arit
 
 started_as : (laws : Laws) (device : Option (List ℕ)) (past : History) (fed : List Answered) (at : ℕ) (polls : List ℕ) (started planned : ℕ) (sum : Sum)
     → IsUnderWay device past fed (round_at device Starting polls started planned sum)
-    → AreAccepted (Fed at (start_from device started) ∷ history_behind past fed) → IsPast (history_behind past fed)
-    → let history = history_behind past fed in let c = command.StartRound (record { device = device; from = started }) in
+    → AreAccepted (Fed at (start_from device started) ∷ history_with past fed) → IsPast (history_with past fed)
+    → let history = history_with past fed in let c = command.StartRound (record { device = device; from = started }) in
     let given = answer.Started (next_poll (facts_of history)) (sent_count (slots_of history) (facts_of history) at c) (reads_in_all (facts_of history) c) in
     Holds device past (fed_one at (start_from device started) (Ok given) ∷ fed)
     (heard [] (answered (Ok given) (round_at device Starting polls started planned sum)))
 started_as laws device past fed at polls started planned sum way accepted is_past =
-    let history = history_behind past fed in
+    let history = history_with past fed in
     let c : StartRound = record { device = device; from = started } in
     let e : Event = start_from device started in
     let facts = facts_of history in
@@ -435,13 +435,13 @@ start_given history at device from before after given (inr fails) = absurd fails
 
 started_round : (laws : Laws) (device : Option (List ℕ)) (past : History) (fed : List Answered) (at : ℕ) (before after : Failures) (given : Answer) (polls : List ℕ)
     (started planned : ℕ) (sum : Sum) → IsUnderWay device past fed (round_at device Starting polls started planned sum)
-    → IsAnswer (history_behind past fed) at (start_from device started) before after (Ok given)
-    → IsPast (Fed at (start_from device started) ∷ history_behind past fed)
+    → IsAnswer (history_with past fed) at (start_from device started) before after (Ok given)
+    → IsPast (Fed at (start_from device started) ∷ history_with past fed)
     → Holds device past (fed_one at (start_from device started) (Ok given) ∷ fed)
-    (round_after (start_from device started) given (notes_after (history_behind past fed) at (start_from device started) (Ok given))
+    (round_after (start_from device started) given (notes_after (history_with past fed) at (start_from device started) (Ok given))
     (round_at device Starting polls started planned sum))
 started_round laws device past fed at before after given polls started planned sum way told is_past =
-    let history = history_behind past fed in
+    let history = history_with past fed in
     let P : Answer → Type 0 = λ a.
     Holds device past (fed_one at (start_from device started) (Ok a) ∷ fed)
     (round_after (start_from device started) a (notes_after history at (start_from device started) (Ok a)) (round_at device Starting polls started planned sum)) in
@@ -465,19 +465,19 @@ noted_by history at device (event.Asked asked) before after given taken told = a
 -- the round after an event, where it was noted
 abbrev HoldsAfter : (device : Option (List ℕ)) → History → List Answered → (at : ℕ) → Event → Round → Answer → Type 0
 HoldsAfter device past fed at e round given =
-    Holds device past (fed_one at e (Ok given) ∷ fed) (round_after e given (notes_after (history_behind past fed) at e (Ok given)) round)
+    Holds device past (fed_one at e (Ok given) ∷ fed) (round_after e given (notes_after (history_with past fed) at e (Ok given)) round)
 
 taken_round : (laws : Laws) (device : Option (List ℕ)) (past : History) (fed : List Answered) (at : ℕ) (e : Event) (polls : List ℕ)
     (started planned : ℕ) (sum : Sum) → IsUnderWay device past fed (round_at device Waiting polls started planned sum) → IsTaken device e
-    → AreAccepted (Fed at e ∷ history_behind past fed) → HoldsAfter device past fed at e (round_at device Waiting polls started planned sum) answer.Noted
+    → AreAccepted (Fed at e ∷ history_with past fed) → HoldsAfter device past fed at e (round_at device Waiting polls started planned sum) answer.Noted
 taken_round laws device past fed at (event.Connected d) polls started planned sum way taken accepted = absurd taken
 taken_round laws device past fed at (event.Bytes d piece) polls started planned sum way taken accepted =
-    let history = history_behind past fed in
+    let history = history_with past fed in
     settled_round laws device past fed at (event.Bytes d piece) polls started planned sum way accepted
     (record { facts = refl; notes = refl; behind = λ next. refl })
     (on_piece laws.session (next_poll (facts_of history)) at d piece (slots_of history) device (from_on way.number (reads_started fed)) way.session) _
 taken_round laws device past fed at event.Tick polls started planned sum way taken accepted =
-    let history = history_behind past fed in
+    let history = history_with past fed in
     settled_round laws device past fed at event.Tick polls started planned sum way accepted
     (record { facts = refl; notes = refl; behind = λ next. refl })
     (on_tick laws.session (next_poll (facts_of history)) at (slots_of history) device (from_on way.number (reads_started fed)) way.session) _
@@ -493,26 +493,26 @@ connected_given history at device e before after given is told =
 
 by_stage : (laws : Laws) (device : Option (List ℕ)) (past : History) (fed : List Answered) (at : ℕ) (e : Event) (before after : Failures) (given : Answer)
     (stage : Stage) (polls : List ℕ) (started planned : ℕ) (sum : Sum) → StandsAt stage device past fed (round_at device stage polls started planned sum)
-    → Does device (next_at stage started) e → IsAnswer (history_behind past fed) at e before after (Ok given)
-    → IsPast (Fed at e ∷ history_behind past fed) → HoldsAfter device past fed at e (round_at device stage polls started planned sum) given
+    → Does device (next_at stage started) e → IsAnswer (history_with past fed) at e before after (Ok given)
+    → IsPast (Fed at e ∷ history_with past fed) → HoldsAfter device past fed at e (round_at device stage polls started planned sum) given
 by_stage laws device past fed at e before after given Off polls started planned sum stands does told is_past = absurd does
 by_stage laws device past fed at e before after given Joining polls started planned sum stands does told is_past =
     let P : Event → List Answered → Answer → Type 0 = λ x xs a. HoldsAfter device past xs at x (round_at device Joining polls started planned sum) a in
-    let noted : given ≡ answer.Noted = connected_given (history_behind past fed) at device e before after given does told in
+    let noted : given ≡ answer.Noted = connected_given (history_with past fed) at device e before after given does told in
     let accepted : AreAccepted (Fed at (event.Connected device) ∷ past) =
-    subst (λ x. AreAccepted (Fed at x ∷ past)) does (subst (λ xs. AreAccepted (Fed at e ∷ history_behind past xs)) stands.none is_past.accepted) in
+    subst (λ x. AreAccepted (Fed at x ∷ past)) does (subst (λ xs. AreAccepted (Fed at e ∷ history_with past xs)) stands.none is_past.accepted) in
     subst (λ x. P x fed given) (sym does)
     (subst (λ xs. P (event.Connected device) xs given) (sym stands.none)
     (subst (λ a. P (event.Connected device) [] a) (sym noted)
     (connected_round device past at polls started planned sum stands.polls stands.started stands.planned accepted)))
 by_stage laws device past fed at e before after given Starting polls started planned sum stands does told is_past =
-    let history = history_behind past fed in
+    let history = history_with past fed in
     subst (λ x. HoldsAfter device past fed at x (round_at device Starting polls started planned sum) given) (sym does)
     (started_round laws device past fed at before after given polls started planned sum stands
     (subst (λ x. IsAnswer history at x before after (Ok given)) does told) (subst (λ x. IsPast (Fed at x ∷ history)) does is_past))
 by_stage laws device past fed at e before after given Waiting polls started planned sum stands does told is_past =
     subst (HoldsAfter device past fed at e (round_at device Waiting polls started planned sum))
-    (sym (noted_by (history_behind past fed) at device e before after given does told))
+    (sym (noted_by (history_with past fed) at device e before after given does told))
     (taken_round laws device past fed at e polls started planned sum stands does is_past.accepted)
 by_stage laws device past fed at e before after given (Leaving cause) polls started planned sum stands does told is_past =
     subst (λ x. HoldsAfter device past fed at x (round_at device (Leaving cause) polls started planned sum) given) (sym does)
@@ -521,7 +521,7 @@ by_stage laws device past fed at e before after given (Leaving cause) polls star
 -- One event more: the round that stood still stands.
 pub holds_on : (laws : Laws) (device : Option (List ℕ)) (past : History) (fed : List Answered) (round : Round) (at : ℕ) (e : Event) (before after : Failures)
     (given : Answer) → Holds device past fed round → Does device (next_in past fed) e
-    → IsAnswer (history_behind past fed) at e before after (Ok given) → IsPast (Fed at e ∷ history_behind past fed)
+    → IsAnswer (history_with past fed) at e before after (Ok given) → IsPast (Fed at e ∷ history_with past fed)
     → HoldsAfter device past fed at e round given
 holds_on laws device past fed round at e before after given holds does told is_past =
     let P : Option (List ℕ) → Type 0 = λ d.

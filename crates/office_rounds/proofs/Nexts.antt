@@ -10,8 +10,8 @@ use Rattle.office_events.specs.declared.refusals.Refusal.{Refusal}
 use Rattle.office_rules.specs.History.{History}
 use Rattle.office_rules.specs.Notes.{notes_after}
 use Rattle.office_core.specs.EventRun.{Answered}
-use Rattle.office_rounds.specs.Course.{Connect, IsTaken, Leave, Over, StartFrom, Take, endings_of, first_poll, is_ending, next_after, next_behind, next_in, next_left, polls_ended, reads_planned, reads_started, start_from}
-use Rattle.office_rounds.specs.FedEvents.{history_behind}
+use Rattle.office_rounds.specs.Course.{Connect, IsTaken, Leave, Over, StartFrom, Take, endings_of, first_poll, is_ending, next_after, next_by, next_in, next_left, polls_ended, reads_planned, reads_started, start_from}
+use Rattle.office_rounds.specs.FedEvents.{history_with}
 
 no_notes : (h : History) (at : ℕ) (device : Option (List ℕ)) (read : ℕ) (result : Result Answer Refusal)
     → notes_after h at (start_from device read) result ≡ []
@@ -23,7 +23,7 @@ no_notes h at device read (Err why) = refl
 
 takes_on : (first : Option ℕ) (h : History) (at : ℕ) (device : Option (List ℕ)) (read : ℕ) (result : Result Answer Refusal)
     (started ended planned : ℕ)
-    → next_behind (start_from device read) (next_after (count_by (is_ending first) (notes_after h at (start_from device read) result)) started ended planned)
+    → next_by (start_from device read) (next_after (count_by (is_ending first) (notes_after h at (start_from device read) result)) started ended planned)
     ≡ Take
 takes_on first h at device read result started ended planned = rw (no_notes h at device read result) refl
 
@@ -33,22 +33,22 @@ pub start_next : (past : History) (fed : List Answered) (one : Answered) (device
 start_next past fed one device read is =
     let ended = polls_ended past (one ∷ fed) in
     let P : Event → Type 0 = λ e.
-    next_behind e (next_after (count_by (is_ending (first_poll fed)) (notes_after (history_behind past fed) one.at e one.result))
+    next_by e (next_after (count_by (is_ending (first_poll fed)) (notes_after (history_with past fed) one.at e one.result))
     (reads_started (one ∷ fed)) ended (reads_planned (one ∷ fed))) ≡ Take in
     subst P (sym is)
-    (takes_on (first_poll fed) (history_behind past fed) one.at device read one.result (reads_started (one ∷ fed)) ended (reads_planned (one ∷ fed)))
+    (takes_on (first_poll fed) (history_with past fed) one.at device read one.result (reads_started (one ∷ fed)) ended (reads_planned (one ∷ fed)))
 
 -- after the end the round is over
 pub end_next : (past : History) (fed : List Answered) (one : Answered) (given : Option (List ℕ)) (c : Closing) → one.event ≡ event.Gone given c
     → next_in past (one ∷ fed) ≡ Over
 end_next past fed one given c is =
-    ap (λ e. next_behind e (next_after (endings_of past fed one) (reads_started (one ∷ fed)) (polls_ended past (one ∷ fed)) (reads_planned (one ∷ fed)))) is
+    ap (λ e. next_by e (next_after (endings_of past fed one) (reads_started (one ∷ fed)) (polls_ended past (one ∷ fed)) (reads_planned (one ∷ fed)))) is
 
 -- after the connection the reads are started from the first on
 pub connection_next : (past : History) (fed : List Answered) (one : Answered) (given : Option (List ℕ)) → one.event ≡ event.Connected given
     → next_in past (one ∷ fed) ≡ StartFrom 0
 connection_next past fed one given is =
-    ap (λ e. next_behind e (next_after (endings_of past fed one) (reads_started (one ∷ fed)) (polls_ended past (one ∷ fed)) (reads_planned (one ∷ fed)))) is
+    ap (λ e. next_by e (next_after (endings_of past fed one) (reads_started (one ∷ fed)) (polls_ended past (one ∷ fed)) (reads_planned (one ∷ fed)))) is
 
 -- After what was taken the round doesn't begin anew.
 left_not : (start leave : Bool) (n : ℕ) → cond start (StartFrom n) (cond leave Leave Take) ≡ Connect → ⊥
@@ -61,7 +61,7 @@ after_not true started ended planned h = absurd (cc)
 after_not false started ended planned h = left_not (nat_lt started planned) (nat_le planned ended) started h
 
 behind_not : (device : Option (List ℕ)) (e : Event) (endings started ended planned : ℕ) → IsTaken device e
-    → next_behind e (next_after endings started ended planned) ≡ Connect → ⊥
+    → next_by e (next_after endings started ended planned) ≡ Connect → ⊥
 behind_not device (event.Connected given) endings started ended planned taken h = absurd taken
 behind_not device (event.Bytes given piece) endings started ended planned taken h = after_not (endings == 0) started ended planned h
 behind_not device event.Tick endings started ended planned taken h = after_not (endings == 0) started ended planned h

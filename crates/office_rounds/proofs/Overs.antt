@@ -12,10 +12,10 @@ use Rattle.office_books.specs.Ledgers.{Ledger}
 use Rattle.office_core.specs.EventRun.{Answered}
 use Rattle.office_core.specs.Taking.{IsAnswer}
 use Rattle.office_core.specs.declared.office.Office.{Office}
-use Rattle.office_rounds.specs.Course.{AreNext, Connect, Does, Leave, Next, Over, StartFrom, Take, endings_of, next_after, next_behind, next_in, next_left, polls_ended, reads_planned, reads_started}
+use Rattle.office_rounds.specs.Course.{AreNext, Connect, Does, Leave, Next, Over, StartFrom, Take, endings_of, next_after, next_by, next_in, next_left, polls_ended, reads_planned, reads_started}
 use Rattle.office_rounds.specs.Rounds.{RoundState, IsBrokenOff, IsRound, NoneWaits, Wire, passage}
 use Rattle.office_rounds.specs.Stepping.{Broken, Closes, Going, IsWired}
-use Rattle.office_rounds.specs.FedEvents.{AreAnswered, history_behind}
+use Rattle.office_rounds.specs.FedEvents.{AreAnswered, history_with}
 use Rattle.office_rounds.specs.declared.fault.RoundFault.{RoundFault}
 use Rattle.office_rounds.specs.declared.progress.Progress.{Progress}
 use Rattle.office_rounds.proofs.Absent.{gone_accepted}
@@ -36,7 +36,7 @@ pub record IsGone (e : Event) : Type 0 where
   pub cause : Closing
   pub is : e ≡ event.Gone given cause
 
-over_by : (e : Event) (endings started ended planned : ℕ) → next_behind e (next_after endings started ended planned) ≡ Over → IsGone e
+over_by : (e : Event) (endings started ended planned : ℕ) → next_by e (next_after endings started ended planned) ≡ Over → IsGone e
 over_by (event.Connected given) endings started ended planned h = absurd (cc)
 over_by (event.Bytes given piece) endings started ended planned h = absurd (goes_after (endings == 0) started ended planned h)
 over_by event.Tick endings started ended planned h = absurd (goes_after (endings == 0) started ended planned h)
@@ -64,12 +64,12 @@ gone_so device given c past at e (Ok answer) before after is same ok told =
 
 -- none of the device's polls waits then
 pub over_settled : (device : Option (List ℕ)) (past : History) (fed : List Answered) (before after : Failures) → next_in past fed ≡ Over
-    → AreNext device past fed → AreAnswered past before after fed → NoneWaits device (history_behind past fed)
+    → AreNext device past fed → AreAnswered past before after fed → NoneWaits device (history_with past fed)
 over_settled device past [] before after over next told = absurd (cc)
 over_settled device past (one ∷ earlier) before after over next told =
     let gone = over_by one.event (endings_of past earlier one) (reads_started (one ∷ earlier)) (polls_ended past (one ∷ earlier)) (reads_planned (one ∷ earlier)) over in
     let P : Event → Type 0 = λ e. Does device (next_in past earlier) e in
-    gone_so device gone.given gone.cause (history_behind past earlier) one.at one.event one.result told.0 after gone.is
+    gone_so device gone.given gone.cause (history_with past earlier) one.at one.event one.result told.0 after gone.is
     (of_this device gone.given gone.cause (next_in past earlier) (subst P gone.is next.1)) next.2 told.2
 
 pub is_round : {B : Type 0} (ledger : B → Ledger) (device : Option (List ℕ)) (past : History) (begun now : RoundState) (from to : Wire) (office : Office B)

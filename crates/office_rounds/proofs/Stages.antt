@@ -22,7 +22,7 @@ use Rattle.office_rounds.specs.Stepping.{Broken, Going, IsUnsent, IsWired, Scene
 use Rattle.mb_wire.specs.declared.link.LastTake.{LastTake}
 use Rattle.office_rounds.specs.Passing.{AreAtMost, AreTakes}
 use Rattle.office_rounds.specs.Taking.{Brings, TurnTakes, over_or_take}
-use Rattle.office_rounds.specs.FedEvents.{frames_after, history_behind, piece_in, pieces_after, text_after}
+use Rattle.office_rounds.specs.FedEvents.{frames_after, history_with, piece_in, pieces_after, text_after}
 use Rattle.office_rounds.specs.declared.device_rounds.round.Round.{Round}
 use Rattle.office_rounds.specs.declared.device_rounds.stage.Stage.{Stage}
 use Rattle.office_rounds.specs.declared.device_rounds.stage.Stage.TheVariants.{Off, Joining, Starting, Waiting, Leaving}
@@ -63,13 +63,13 @@ wired_broken past from to fed one e cause taken given is unsent = record {
   taken =
       let P : Event → Type 0 = λ x. Consumes from.remaining to.remaining (pieces_after fed ++ piece_in x) in
       subst P (sym is) taken;
-  given = given_broken cause (history_behind past fed) one.at one.event one.result from.given to.given (frames_after past fed) unsent given;
+  given = given_broken cause (history_with past fed) one.at one.event one.result from.given to.given (frames_after past fed) unsent given;
 }
 
 -- The link of a round that has given the frames of an event, or not all of them.
 pub wired_sent : (past : History) (from mid to : Wire) (fed : List Answered) (one : Answered) (e : Event) (frames : List ℕ)
     → Consumes from.remaining mid.remaining (pieces_after fed ++ piece_in e) → Appends from.given mid.given (frames_after past fed) → one.event ≡ e
-    → frames ≡ outgoing_after (history_behind past fed) one.at one.event one.result → Keeps mid.remaining to.remaining
+    → frames ≡ outgoing_after (history_with past fed) one.at one.event one.result → Keeps mid.remaining to.remaining
     → Appends mid.given to.given frames → IsWired {X = Unit {0}} past from to (one ∷ fed) (Ok tt)
 wired_sent past from mid to fed one e frames taken had is told kept given = record {
   taken =
@@ -80,7 +80,7 @@ wired_sent past from mid to fed one e frames taken had is told kept given = reco
 
 pub wired_unsent : (past : History) (from mid to : Wire) (fed : List Answered) (one : Answered) (e : Event) (frames : List ℕ)
     → Consumes from.remaining mid.remaining (pieces_after fed ++ piece_in e) → Appends from.given mid.given (frames_after past fed) → one.event ≡ e
-    → frames ≡ outgoing_after (history_behind past fed) one.at one.event one.result → Keeps mid.remaining to.remaining
+    → frames ≡ outgoing_after (history_with past fed) one.at one.event one.result → Keeps mid.remaining to.remaining
     → GotPart frames mid.given to.given → IsWired {X = Unit {0}} past from to (one ∷ fed) (Err Link)
 wired_unsent past from mid to fed one e frames taken had is told kept given = record {
   taken =
@@ -223,7 +223,7 @@ pub sent : {B : Type 0} (ledger : B → Ledger) (device : Option (List ℕ)) (pa
     (office : Office B) (fed : List Answered) (one : Answered) (progress : Progress) (e : Event)
     (result : Result (Unit {0}) RoundFault) (frames : List ℕ) → Consumes from.remaining mid.remaining (pieces_after fed ++ piece_in e)
     → Appends from.given mid.given (frames_after past fed) → one.event ≡ e → Going ledger device past begun now office (one ∷ fed) progress
-    → outgoing_in office ≡ outgoing_after (history_behind past fed) one.at one.event one.result → frames ≡ outgoing_in office
+    → outgoing_in office ≡ outgoing_after (history_with past fed) one.at one.event one.result → frames ≡ outgoing_in office
     → Keeps mid.remaining to.remaining → AreGiven result frames mid.given to.given → OnlyLink result
     → Steps ledger device past begun now from to office (one ∷ fed) progress result (λ done. next_in past (one ∷ fed))
 sent ledger device past begun from mid to now office fed one progress e (Ok x) frames taken had is going told are kept given only =

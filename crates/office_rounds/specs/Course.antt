@@ -13,7 +13,7 @@ use Rattle.office_events.specs.declared.refusals.Refusal.{Refusal}
 use Rattle.office_rules.specs.History.{History}
 use Rattle.office_rules.specs.Notes.{notes_after}
 use Rattle.office_core.specs.EventRun.{Answered}
-use Rattle.office_rounds.specs.FedEvents.{history_behind}
+use Rattle.office_rounds.specs.FedEvents.{history_with}
 
 -- What a start tells: the number of its first poll, how many reads it started, and how many the plan has.
 abbrev pub first_by : Option ℕ → Answer → Option ℕ
@@ -77,7 +77,7 @@ is_ending first (note.Held meter raw cause) = false
 abbrev pub endings_of : (past : History) → (earlier : List Answered) → Answered → ℕ
 endings_of past earlier one =
     count_by (is_ending (first_poll earlier))
-    (notes_after (history_behind past earlier) one.at one.event one.result)
+    (notes_after (history_with past earlier) one.at one.event one.result)
 
 -- how many of its polls have ended
 abbrev pub polls_ended : (past : History) → List Answered → ℕ
@@ -105,18 +105,18 @@ abbrev pub next_after : (endings started ended planned : ℕ) → Next
 next_after endings started ended planned =
     if endings == 0 then Take else next_left started ended planned
 
--- Behind the connection the reads are started from the first on.
-abbrev pub next_behind : Event → Next → Next
-next_behind (event.Connected given) next = StartFrom 0
-next_behind (event.Bytes given piece) next = next
-next_behind event.Tick next = next
-next_behind (event.Gone given closing) next = Over
-next_behind (event.Command c) next = next
-next_behind (event.Asked asked) next = next
+-- After the connection the reads are started from the first on.
+abbrev pub next_by : Event → Next → Next
+next_by (event.Connected given) next = StartFrom 0
+next_by (event.Bytes given piece) next = next
+next_by event.Tick next = next
+next_by (event.Gone given closing) next = Over
+next_by (event.Command c) next = next
+next_by (event.Asked asked) next = next
 
 abbrev pub next_in : (past : History) → List Answered → Next
 next_in past [] = Connect
-next_in past (one ∷ earlier) = next_behind one.event (next_after (endings_of past earlier one)
+next_in past (one ∷ earlier) = next_by one.event (next_after (endings_of past earlier one)
     (reads_started (one ∷ earlier)) (polls_ended past (one ∷ earlier))
     (reads_planned (one ∷ earlier)))
 

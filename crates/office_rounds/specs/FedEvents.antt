@@ -15,17 +15,17 @@ use Rattle.office_core.specs.EventRun.{Answered}
 use Rattle.office_core.specs.Taking.{IsAnswer}
 
 -- what the office has accepted after these events, where it had accepted `past` before them
-abbrev pub history_behind : (past : History) → List Answered → History
-history_behind past [] = past
-history_behind past (one ∷ earlier) =
-    with_answer (history_behind past earlier) one.at one.event one.result
+abbrev pub history_with : (past : History) → List Answered → History
+history_with past [] = past
+history_with past (one ∷ earlier) =
+    with_answer (history_with past earlier) one.at one.event one.result
 
 -- Each event is answered as its definition says after those before it, or it failed outside, which is counted.
 abbrev pub AreAnswered : (past : History) → (before after : Failures) → List Answered → Type 0
 AreAnswered past before after [] = after ≡ before
 AreAnswered past before after (one ∷ earlier) =
     (between : Failures) × AreAnswered past before between earlier
-    × IsAnswer (history_behind past earlier) one.at one.event between after one.result
+    × IsAnswer (history_with past earlier) one.at one.event between after one.result
 
 -- What is printed of an answer: of an accepted event what a script prints, of a refused one nothing.
 abbrev pub told_text : History → (at : ℕ) → Event → Result Answer Refusal → List ℕ
@@ -36,14 +36,14 @@ told_text past at e (Err why) = []
 abbrev pub text_after : (past : History) → List Answered → List ℕ
 text_after past [] = []
 text_after past (one ∷ earlier) =
-    text_after past earlier ++ told_text (history_behind past earlier) one.at one.event one.result
+    text_after past earlier ++ told_text (history_with past earlier) one.at one.event one.result
 
 -- the frames that the office wants sent
 abbrev pub frames_after : (past : History) → List Answered → List ℕ
 frames_after past [] = []
 frames_after past (one ∷ earlier) =
     frames_after past earlier
-    ++ outgoing_after (history_behind past earlier) one.at one.event one.result
+    ++ outgoing_after (history_with past earlier) one.at one.event one.result
 
 -- the bytes of the device that they bring
 abbrev pub piece_in : Event → List ℕ

@@ -17,7 +17,7 @@ use Rattle.office_books.specs.declared.failures.Failures.{Failures}
 use Rattle.office_core.specs.EventRun.{Answered}
 use Rattle.office_core.specs.Taking.{IsAnswer}
 use Rattle.office_rounds.specs.Course.{Connect, Does, Leave, Next, Over, StartFrom, Take, first_poll, next_in, polls_ended, reads_planned, reads_started}
-use Rattle.office_rounds.specs.FedEvents.{history_behind}
+use Rattle.office_rounds.specs.FedEvents.{history_with}
 use Rattle.office_rounds.specs.DeviceRounds.Rounds.{answered, heard, leaving}
 use Rattle.office_rounds.specs.declared.device_rounds.round.Round.{Round}
 use Rattle.office_rounds.specs.declared.device_rounds.stage.Stage.{Stage}
@@ -61,15 +61,15 @@ pub record IsUnderWay (device : Option (List ℕ)) (past : History) (fed : List 
     (round : Round) : Type 0 where
   pub number : ℕ
   pub first : IsFirst (first_poll fed) number (reads_started fed)
-  pub last : number + reads_started fed ≡ next_poll (facts_of (history_behind past fed))
+  pub last : number + reads_started fed ≡ next_poll (facts_of (history_with past fed))
   pub started : round.started ≡ reads_started fed
   pub planned : round.planned ≡ reads_planned fed
   pub within : reads_started fed ≤ reads_planned fed
   pub polls : round.polls.items
-      ≡ filter (is_open (facts_of (history_behind past fed)))
+      ≡ filter (is_open (facts_of (history_with past fed)))
       (from_on number (reads_started fed))
   pub ended : polls_ended past fed + length round.polls.items ≡ reads_started fed
-  pub session : IsOnSession (slots_of (history_behind past fed)) device
+  pub session : IsOnSession (slots_of (history_with past fed)) device
       (from_on number (reads_started fed))
 
 -- nothing was fed, and nothing waits
@@ -127,7 +127,7 @@ abbrev pub RoundsHold : Type 0
 RoundsHold = (device : Option (List ℕ)) (past : History) (fed : List Answered) (round : Round)
     (at : ℕ) (e : Event) (before after : Failures) (given : Answer)
     → Holds device past fed round → Does device (next_in past fed) e
-    → IsAnswer (history_behind past fed) at e before after (Ok given)
-    → IsPast (Fed at e ∷ history_behind past fed)
+    → IsAnswer (history_with past fed) at e before after (Ok given)
+    → IsPast (Fed at e ∷ history_with past fed)
     → Holds device past (record { at = at; event = e; result = Ok given } ∷ fed)
-    (round_after e given (notes_after (history_behind past fed) at e (Ok given)) round)
+    (round_after e given (notes_after (history_with past fed) at e (Ok given)) round)

@@ -17,7 +17,7 @@ use Rattle.office_core.specs.Standing.{Stands, is_stopped}
 use Rattle.office_core.specs.declared.office.Office.{Office}
 use Rattle.office_rounds.specs.Course.{AreNext, Does, Over, next_in}
 use Rattle.office_rounds.specs.Faults.{AreGiven, IsPrinted}
-use Rattle.office_rounds.specs.FedEvents.{AreAnswered, AreTimed, frames_after, history_behind, pieces_after, text_after}
+use Rattle.office_rounds.specs.FedEvents.{AreAnswered, AreTimed, frames_after, history_with, pieces_after, text_after}
 use Rattle.office_rounds.specs.declared.fault.RoundFault.{RoundFault}
 use Rattle.office_rounds.specs.declared.fault.RoundFault.TheVariants.{Refused, Link, Output, TurnsUsed}
 
@@ -53,7 +53,7 @@ passage begun ended from to = record { begun = begun; ended = ended; from = from
 pub record IsFed {B : Type 0} (ledger : B → Ledger) (past : History) (begun now : RoundState)
     (office : Office B)
     (fed : List Answered) : Type 0 where
-  pub stands : Stands ledger (history_behind past fed) office
+  pub stands : Stands ledger (history_with past fed) office
   pub answered : AreAnswered past begun.failures now.failures fed
 
 -- none of the device's polls waits
@@ -78,7 +78,7 @@ pub record IsRound {B : Type 0} (ledger : B → Ledger) (device : Option (List �
   pub taken : Consumes through.from.remaining through.to.remaining (pieces_after fed)
   pub given : Appends through.from.given through.to.given (frames_after past fed)
   pub printed : Appends through.begun.printed through.ended.printed (text_after past fed)
-  pub settled : IsSettled device (history_behind past fed) office
+  pub settled : IsSettled device (history_with past fed) office
 
 -- The connection was refused: nothing else was fed, taken, given or printed.
 pub record IsNotConnected {B : Type 0} (ledger : B → Ledger) (device : Option (List ℕ))
@@ -121,7 +121,7 @@ pub record IsGoneAt (past : History) (begun now : Option (List ℕ)) (earlier : 
   pub timed : AreTimed begun between earlier
   pub moment : ℕ
   pub told : TellsMoment between now moment
-  pub is : at ≡ gone_at (latest_of (history_behind past earlier)) moment
+  pub is : at ≡ gone_at (latest_of (history_with past earlier)) moment
 
 -- the fault that broke the round off is told, or that a writing failed thereafter
 abbrev pub IsToldOf : (cause fault : RoundFault) → Type 0
@@ -145,7 +145,7 @@ pub record IsBrokenOff {B : Type 0} (ledger : B → Ledger) (device : Option (Li
       through.to.given
   pub printed : IsPrinted {X = Unit {0}} (Err fault) (text_after past (gone ∷ earlier))
       through.begun.printed through.ended.printed
-  pub settled : IsSettled device (history_behind past (gone ∷ earlier)) office
+  pub settled : IsSettled device (history_with past (gone ∷ earlier)) office
 
 abbrev pub IsNotConnectedBy : {B : Type 0} → (B → Ledger) → (device : Option (List ℕ)) → History
     → Passage → Office B

@@ -22,7 +22,7 @@ use Rattle.office_rounds.specs.Course.{AreNext, Next, next_in}
 use Rattle.office_rounds.specs.DeviceRounds.Rounds.{joined, unconnected}
 use Rattle.office_rounds.specs.Faults.{AreGiven, IsPrinted}
 use Rattle.office_rounds.specs.Rounds.{BreaksOff, RoundState, IsFed, IsGoneAt, IsSettled, IsToldOf, Wire}
-use Rattle.office_rounds.specs.FedEvents.{AreTimed, frames_after, history_behind, pieces_after, text_after, told_text}
+use Rattle.office_rounds.specs.FedEvents.{AreTimed, frames_after, history_with, pieces_after, text_after, told_text}
 use Rattle.office_rounds.specs.Polling.{Holds}
 use Rattle.office_rounds.specs.declared.fault.RoundFault.{RoundFault}
 use Rattle.office_rounds.specs.declared.fault.RoundFault.TheVariants.{Refused, Link, Output, TurnsUsed}
@@ -139,7 +139,7 @@ pub record Going {B : Type 0} (ledger : B → Ledger) (device : Option (List ℕ
   pub timed : AreTimed begun.moments now.moments fed
   pub printed : Appends begun.printed now.printed (text_after past fed)
   pub holds : Holds device past fed progress.round
-  pub latest : progress.latest ≡ latest_of (history_behind past fed)
+  pub latest : progress.latest ≡ latest_of (history_with past fed)
 
 -- It was broken off.
 pub record Broken {B : Type 0} (ledger : B → Ledger) (device : Option (List ℕ)) (past : History)
@@ -152,7 +152,7 @@ pub record Broken {B : Type 0} (ledger : B → Ledger) (device : Option (List �
     pub printed : IsPrinted {X = Unit {0}} (Err cause) (text_after past fed) begun.printed
         now.printed
     pub device_is : progress.round.device ≡ device
-    pub latest : progress.latest ≡ latest_of (history_behind past fed)
+    pub latest : progress.latest ≡ latest_of (history_with past fed)
 
 -- what was taken from the link is what was fed, and what was given to it is what the office wanted sent
 pub record IsWired {X : Type 0} (past : History) (from to : Wire) (fed : List Answered)
@@ -166,7 +166,7 @@ pub record RoundGoesOn {B : Type 0} (ledger : B → Ledger) (device : Option (Li
     (office : Office B) (fed : List Answered) (one : Answered) (progress : Progress) : Type 0 where
   pub going : Going ledger device past begun now office (one ∷ fed) progress
   pub told : outgoing_in office
-      ≡ outgoing_after (history_behind past fed) one.at one.event one.result
+      ≡ outgoing_after (history_with past fed) one.at one.event one.result
 
 -- of an event that was refused no frames are sent; of one that was not printed they are not sent either
 abbrev pub IsUnsent : RoundFault → Result Answer Refusal → Type 0
@@ -249,4 +249,4 @@ pub record Closes {B : Type 0} (ledger : B → Ledger) (device : Option (List �
   pub timed : IsGoneAt past begun.moments now.moments earlier gone.at
   pub printed : IsPrinted {X = Unit {0}} (Err fault) (text_after past (gone ∷ earlier))
       begun.printed now.printed
-  pub settled : IsSettled device (history_behind past (gone ∷ earlier)) office
+  pub settled : IsSettled device (history_with past (gone ∷ earlier)) office

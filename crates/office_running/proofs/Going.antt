@@ -47,7 +47,7 @@ use Rattle.run_http.specs.RegisterReplies.{RepliesEnergy}
 use Rattle.run_http.specs.StatusRoute.{IsFor, IsRunRoute}
 use Rattle.run_http.specs.MeterReplies.{RepliesRows}
 use Rattle.run_http.specs.SiteReply.{RepliesSite}
-use Rattle.office_running.specs.Runs.{AreAt, BooksRun, Goes, IsOfRound, RunsOn, Step, Fed, Asks, TakesTurn, TakesTurns, history_behind, latest_of, steps_of, with_step}
+use Rattle.office_running.specs.Runs.{AreAt, BooksRun, Goes, IsOfRound, ReadsClock, RunsOn, Step, Fed, Asks, TakesTurns, history_with, latest_of, steps_of, with_step}
 
 -- ---- At one moment
 
@@ -60,7 +60,7 @@ goes_none names at ledger office = record {
 }
 
 after_both : {names : List (List ℕ)} (past : History) (later earlier : List (Step names))
-    → history_behind past (later ++ earlier) ≡ history_behind (history_behind past earlier) later
+    → history_with past (later ++ earlier) ≡ history_with (history_with past earlier) later
 after_both past [] earlier = refl
 after_both past (one ∷ later) earlier = ap (λ h. with_step h one) (after_both past later earlier)
 
@@ -74,7 +74,7 @@ pub goes_both : {B : Type 0} (names : List (List ℕ)) (at : ℕ) (ledger : B �
 goes_both names at ledger a b c first next = record {
   stands = λ past stands clean.
       let one = first.stands past stands (next.clean clean) in
-      let after = next.stands (history_behind past one.steps) one.stands clean in
+      let after = next.stands (history_with past one.steps) one.stands clean in
       record {
         steps = after.steps ++ one.steps;
         each = each_of_both at after.steps one.steps after.each one.each;
@@ -92,7 +92,7 @@ abbrev of_events : (names : List (List ℕ)) → List Answered → List (Step na
 of_events names [] = []
 of_events names (one ∷ earlier) = Fed one ∷ of_events names earlier
 
-after_events : (names : List (List ℕ)) (past : History) (fed : List Answered) → history_behind past (of_events names fed) ≡ telling.history_behind past fed
+after_events : (names : List (List ℕ)) (past : History) (fed : List Answered) → history_with past (of_events names fed) ≡ telling.history_with past fed
 after_events names past [] = refl
 after_events names past (one ∷ earlier) = ap (λ h. with_answer h one.at one.event one.result) (after_events names past earlier)
 
@@ -131,7 +131,7 @@ next_is : (first : Option Wished) (rounds : List Round) → IsWishedOfRound firs
 next_is None rounds h = first_is rounds
 next_is (Some one) rounds h = h
 
-behind_is : (past : History) (from : Table) (fed : List Answered) → IsWishedOfRound from.first → IsWishedOfRound (table.table_behind past from fed).first
+behind_is : (past : History) (from : Table) (fed : List Answered) → IsWishedOfRound from.first → IsWishedOfRound (table.table_with past from fed).first
 behind_is past from [] h = h
 behind_is past from (one ∷ earlier) h = tt
 
@@ -143,7 +143,7 @@ each_fed : (names : List (List ℕ)) (at : ℕ) (past : History) (from : Table) 
     → driver.AreAt at fed → AreAt at (of_events names fed)
 each_fed names at past from [] h next timed = tt
 each_fed names at past from (one ∷ earlier) h next timed =
-    let before = table.table_behind past from earlier in (
+    let before = table.table_with past from earlier in (
       (timed.1, event_is (table.next_of before) one.event (next_is before.first before.rounds (behind_is past from earlier h)) next.1),
       each_fed names at past from earlier h next.0 timed.0,
     )
@@ -269,24 +269,58 @@ no_turns names ledger first begun office = record {
   zone = refl;
 }
 
-pub one_turn : {B : Type 0} (names : List (List ℕ)) (ledger : B → Ledger) (first before latest : ℕ) (begun between now : Option (List ℕ)) (a b c : Office B)
-    → TakesTurns names ledger first before begun between a b → TakesTurn names ledger before latest between now b c
+-- The clock is read, and what comes then comes at the latest moment that it has told.
+one_turn : {B : Type 0} (names : List (List ℕ)) (ledger : B → Ledger) (first before latest : ℕ) (begun between now : Option (List ℕ)) (a b c : Office B)
+    → TakesTurns names ledger first before begun between a b → ReadsClock before latest between now → Goes names latest ledger b c
     → TakesTurns names ledger first latest begun now a c
-one_turn names ledger first before latest begun between now a b c turns turn = record {
+one_turn names ledger first before latest begun between now a b c turns reads goes = record {
   stands = λ past stands clean.
-      let some = turns.stands past stands (turn.goes.clean clean) in
-      let after = turn.goes.stands (history_behind past (steps_of some.turns)) some.stands clean in
-      let is : latest ≡ latest_of first (record { told = turn.reads.told; steps = after.steps } ∷ some.turns) = turn.reads.is_latest ∙ ap (λ n. max n turn.reads.told) some.is_latest in
+      let some = turns.stands past stands (goes.clean clean) in
+      let after = goes.stands (history_with past (steps_of some.turns)) some.stands clean in
+      let is : latest ≡ latest_of first (record { told = reads.told; steps = after.steps } ∷ some.turns) = reads.is_latest ∙ ap (λ n. max n reads.told) some.is_latest in
       record {
-        turns = record { told = turn.reads.told; steps = after.steps } ∷ some.turns;
-        are = (between, some.are, turn.reads.tells, subst (λ n. AreAt n after.steps) is after.each);
+        turns = record { told = reads.told; steps = after.steps } ∷ some.turns;
+        are = (between, some.are, reads.tells, subst (λ n. AreAt n after.steps) is after.each);
         is_latest = is;
         stands =
             let P : History → Type 0 = λ h. Stands ledger h c in
             subst P (sym (after_both past after.steps (steps_of some.turns))) after.stands;
       };
-  clean = λ clean. turns.clean (turn.goes.clean clean);
-  zone = turn.goes.zone ∙ turns.zone;
+  clean = λ clean. turns.clean (goes.clean clean);
+  zone = goes.zone ∙ turns.zone;
+}
+
+-- Turns were taken, and the clock was read since, for the next.
+pub record Begins {B : Type 0} (names : List (List ℕ)) (ledger : B → Ledger) (first latest : ℕ) (begun now : Option (List ℕ)) (old new : Office B) : Type 0 where
+  pub before : ℕ
+  pub between : Option (List ℕ)
+  pub turns : TakesTurns names ledger first before begun between old new
+  pub reads : ReadsClock before latest between now
+
+pub first_begins : {B : Type 0} (names : List (List ℕ)) (ledger : B → Ledger) (first latest : ℕ) (begun now : Option (List ℕ)) (office : Office B)
+    → ReadsClock first latest begun now → Begins names ledger first latest begun now office office
+first_begins names ledger first latest begun now office reads = record {
+  before = first;
+  between = begun;
+  turns = no_turns names ledger first begun office;
+  reads = reads;
+}
+
+-- what comes before the clock is read again comes at its latest moment
+pub turn_ends : {B : Type 0} (names : List (List ℕ)) (ledger : B → Ledger) (first latest at : ℕ) (begun now : Option (List ℕ)) (a b c : Office B)
+    → at ≡ latest → Begins names ledger first latest begun now a b → Goes names at ledger b c → TakesTurns names ledger first latest begun now a c
+turn_ends names ledger first latest at begun now a b c same begins goes =
+    let P : ℕ → Type 0 = λ n. Goes names n ledger b c in
+    one_turn names ledger first begins.before latest begun begins.between now a b c begins.turns begins.reads (subst P same goes)
+
+pub next_begins : {B : Type 0} (names : List (List ℕ)) (ledger : B → Ledger) (first latest later at : ℕ) (begun now after : Option (List ℕ)) (a b c d : Office B)
+    → at ≡ latest → Begins names ledger first latest begun now a b → Goes names at ledger b c → Goes names at ledger c d → ReadsClock latest later now after
+    → Begins names ledger first later begun after a d
+next_begins names ledger first latest later at begun now after a b c d same begins goes heard reads = record {
+  before = latest;
+  between = now;
+  turns = turn_ends names ledger first latest at begun now a b d same begins (goes_both names at ledger b c d goes heard);
+  reads = reads;
 }
 
 -- ---- A run

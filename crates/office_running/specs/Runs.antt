@@ -54,17 +54,17 @@ with_step past (Fed fed) = with_answer past fed.at fed.event fed.result
 with_step past (Asks one) = with_asked past one.at one.asked
 
 -- and after several, the latest first
-abbrev pub history_behind : {names : List (List ℕ)} → (past : History) → List (Step names)
+abbrev pub history_with : {names : List (List ℕ)} → (past : History) → List (Step names)
     → History
-history_behind past [] = past
-history_behind past (one ∷ earlier) = with_step (history_behind past earlier) one
+history_with past [] = past
+history_with past (one ∷ earlier) = with_step (history_with past earlier) one
 
 -- The office stands after some events and requests at a moment.
 pub record StandsBehind {B : Type 0} (names : List (List ℕ)) (at : ℕ) (ledger : B → Ledger)
     (past : History) (office : Office B) : Type 0 where
   pub steps : List (Step names)
   pub each : AreAt at steps
-  pub stands : Stands ledger (history_behind past steps) office
+  pub stands : Stands ledger (history_with past steps) office
 
 -- Whatever the sockets bring at a moment, the office stands after events of rounds and requests at that moment, and
 -- after nothing else; a wrong answer of a store that was taken as true stays one, and the zone stays.
@@ -81,12 +81,6 @@ pub record ReadsClock (before latest : ℕ) (begun now : Option (List ℕ)) : Ty
   pub told : ℕ
   pub tells : TellsMoment begun now told
   pub is_latest : latest ≡ max before told
-
--- The loop reads the clock, and what comes then comes at the latest moment that it has told.
-pub record TakesTurn {B : Type 0} (names : List (List ℕ)) (ledger : B → Ledger)
-    (before latest : ℕ) (begun now : Option (List ℕ)) (old new : Office B) : Type 0 where
-  pub reads : ReadsClock before latest begun now
-  pub goes : Goes names latest ledger old new
 
 -- a turn of the loop: what the clock told, and what came to the office then, the latest first
 pub record Turn (names : List (List ℕ)) : Type 0 where
@@ -117,7 +111,7 @@ pub record StandsAfterTurns {B : Type 0} (names : List (List ℕ)) (first latest
   pub turns : List (Turn names)
   pub are : AreTurns first begun now turns
   pub is_latest : latest ≡ latest_of first turns
-  pub stands : Stands ledger (history_behind past (steps_of turns)) office
+  pub stands : Stands ledger (history_with past (steps_of turns)) office
 
 -- Turns are taken, and nothing else is done with the office.
 pub record TakesTurns {B : Type 0} (names : List (List ℕ)) (ledger : B → Ledger)
@@ -154,7 +148,7 @@ pub record StandAfterOpening (names : List (List ℕ)) (begun now : Option (List
   pub tells : TellsMoment opened between first
   pub turns : List (Turn names)
   pub are : AreTurns first between now turns
-  pub stand : BooksStand ledger (history_behind (Opened at ∷ past) (steps_of turns))
+  pub stand : BooksStand ledger (history_with (Opened at ∷ past) (steps_of turns))
 
 -- Or they stand as they did.
 abbrev pub BooksRun : (names : List (List ℕ)) → (begun now : Option (List ℕ)) → Ledger

@@ -16,8 +16,8 @@ pub(crate) struct Now {
     pub(crate) moment: u64,
 }
 
-// What the clock tells that nobody sets, in milliseconds. Where it can't be read no time passes.
-fn even_milliseconds<R: std::rt::Clock>(rt: &R) -> u64 {
+/// What the clock tells that nobody sets, in milliseconds. Where it can't be read no time passes.
+pub(crate) fn even_milliseconds<R: std::rt::Clock>(rt: &R) -> u64 {
     match rt.monotonic() {
         Ok(since) => since
             .as_secs()
@@ -38,11 +38,13 @@ fn part_of_second<R: std::rt::Clock>(rt: &R) -> u64 {
     }
 }
 
-/// The time of a run that begins at a moment.
+/// The time of a run that begins at a moment. It is a millisecond behind, since both clocks are told in whole ones: so no second
+/// of the run begins before the clock tells that moment, at which what begins then would have next to no time.
 pub(crate) fn time_from<R: std::rt::Clock>(rt: &R, moment: u64) -> RunTime {
     let base = moment
         .saturating_mul(1000)
-        .saturating_add(part_of_second(rt));
+        .saturating_add(part_of_second(rt))
+        .saturating_sub(1);
     RunTime::new(base, even_milliseconds(rt))
 }
 

@@ -251,6 +251,13 @@ impl Polling {
         }
     }
 
+    /// A device of which replies are waited for is to be looked at, whether or not the system has told that something came.
+    pub(crate) fn mark_waiting(&mut self, place: usize) {
+        if self.waiting_at(place).is_some() {
+            self.mark(place);
+        }
+    }
+
     // What came of a device whose replies are waited for, a piece at most, and its name.
     fn listen(&mut self, place: usize) -> Option<(Option<Name>, Vec<u8>)> {
         let device = self.waiting_at(place)?;

@@ -1,7 +1,7 @@
 //! The loop of a run: clock, tick, devices, peers, lines, and the wait for sockets.
-ghost use Rattle.std.specs.Prelude.{ℕ, List};
+ghost use Rattle.std.specs.Prelude.{◌≡◌, ℕ, List};
 ghost use Rattle.http_request.specs.Hosts.{texts};
-ghost use Rattle.office_running.specs.Runs.{Goes, RunsOn, TakesTurn, TakesTurns, TurnsFrom};
+ghost use Rattle.office_running.specs.Runs.{Goes, ReadsClock, RunsOn, TakesTurns, TurnsFrom};
 
 use crate::clocks::{Now, read_clock, read_time, time_from, to_next_second};
 use crate::device_polls::Polling;
@@ -10,6 +10,7 @@ use crate::http_port::Serving;
 use crate::leftovers::{Left, print_left};
 use crate::outlet::Outlet;
 use crate::settings::{Settings, Site};
+use crate::turn_share::place_at;
 use crate::voice::Voice;
 use mio::{Events, Poll, Token};
 use office_books::Books;
@@ -43,8 +44,8 @@ struct Running {
     sayings: Outlet,
     /// The time of this turn.
     time: u64,
-    /// The time of the latest tick.
-    ticked: u64,
+    /// Whether it has a tick: a second has passed since the turn before, or the clock tells a later moment.
+    ticks: bool,
 }
 
 // The voice of some devices.
@@ -96,7 +97,7 @@ impl Running {
             lines: Outlet::open(rt, alloc, output),
             sayings: Outlet::open(rt, alloc, errors),
             time,
-            ticked: time,
+            ticks: false,
         })
     }
 
@@ -121,7 +122,6 @@ impl Running {
 
     // What is to be done once a second, but for the office.
     fn begin_second<R: Net>(&mut self, rt: &R, now: Now) {
-        self.ticked = now.time;
         self.serving.sweep(now.time);
         self.polling.begin_all(rt, self.poll.registry(), FIRST_DEVICE, &mut self.voice, now);
     }
@@ -132,7 +132,7 @@ impl Running {
         ensures { (names : List (List ℕ))
             → Goes names now.moment B.ledger office.old office.new }
     {
-        if self.ticked < now.time {
+        if self.ticks {
             self.polling
                 .feed(DeviceEvent::Tick, office, &mut self.voice, now);
             self.begin_second(rt, now);
@@ -140,19 +140,29 @@ impl Running {
     }
 
     // Goes on with each connection, also with those that are new.
-    fn attend_peers<B: Books>(&mut self, names: &[&str], office: &mut Office<B>, now: Now)
+    fn attend_peers<R: std::rt::Clock, B: Books>(
+        &mut self,
+        rt: &R,
+        names: &[&str],
+        office: &mut Office<B>,
+        now: Now,
+    )
         ensures { Goes (texts names.now) now.moment B.ledger office.old office.new }
     {
         self.serving.accept(self.poll.registry(), now.time);
-        for place in 0..MOST_PEERS {
-            self.serving.attend(place, names, office, &self.voice, now);
+        let first = self.serving.first();
+        for step in 0..MOST_PEERS {
+            let place = place_at(first, step);
+            self.serving
+                .attend(rt, place, names, office, &self.voice, now);
         }
     }
 
     // Goes on with the device of a place, and where something had come of it, with the peers that have asked meanwhile: they
     // wait for what one device brought, and not for all.
-    fn attend_device<B: Books>(
+    fn attend_device<R: std::rt::Clock, B: Books>(
         &mut self,
+        rt: &R,
         place: usize,
         names: &[&str],
         events: &mut Events<Global>,
@@ -163,13 +173,14 @@ impl Running {
     {
         let has_fed = self.polling.attend(place, office, &mut self.voice, now);
         if has_fed && self.look(events, 0).is_ok() {
-            self.attend_peers(names, office, now);
+            self.attend_peers(rt, names, office, now);
         }
     }
 
     // Goes on with each device.
-    fn attend_devices<B: Books>(
+    fn attend_devices<R: std::rt::Clock, B: Books>(
         &mut self,
+        rt: &R,
         names: &[&str],
         events: &mut Events<Global>,
         office: &mut Office<B>,
@@ -178,12 +189,12 @@ impl Running {
         ensures { Goes (texts names.now) now.moment B.ledger office.old office.new }
     {
         for place in 0..self.polling.count() {
-            self.attend_device(place, names, events, office, now);
+            self.attend_device(rt, place, names, events, office, now);
         }
     }
 
     // Goes on with all.
-    fn go_on<R: Net, B: Books>(
+    fn go_on<R: Net + std::rt::Clock, B: Books>(
         &mut self,
         rt: &R,
         names: &[&str],
@@ -195,8 +206,8 @@ impl Running {
     {
         self.serving.begin_turn();
         self.tick(rt, office, now);
-        self.attend_devices(names, events, office, now);
-        self.attend_peers(names, office, now);
+        self.attend_devices(rt, names, events, office, now);
+        self.attend_peers(rt, names, office, now);
     }
 
     // Ends the rounds that go on.
@@ -215,7 +226,7 @@ impl Running {
     }
 
     // Goes on with all, and ends the rounds where the time is up. It answers whether it is.
-    fn act<R: Net, B: Books>(
+    fn act<R: Net + std::rt::Clock, B: Books>(
         &mut self,
         rt: &R,
         names: &[&str],
@@ -234,12 +245,15 @@ impl Running {
         true
     }
 
-    // How many milliseconds to wait for the sockets.
+    // How many milliseconds to wait for the sockets: none where a second has passed in this turn.
     fn patience<R: std::rt::Clock>(&self, rt: &R, time: &mut RunTime) -> u64 {
         if self.polling.is_ready() || self.serving.is_ready() {
             return 0;
         }
         let second = to_next_second(rt, time);
+        if self.time < time.seconds() {
+            return 0;
+        }
         if self.serving.is_waiting() {
             second.min(RETRY)
         } else {
@@ -300,63 +314,63 @@ impl Running {
         self.wait(rt, time, events)
     }
 
-    // Feeds what has come of devices.
+    // Feeds what has come of devices. Each of which replies are waited for is read.
     fn hear_devices<B: Books>(&mut self, office: &mut Office<B>, now: Now)
         ensures { (names : List (List ℕ))
             → Goes names now.moment B.ledger office.old office.new }
     {
         for place in 0..self.polling.count() {
+            self.polling.mark_waiting(place);
             self.polling
                 .hear_device(place, office, &mut self.voice, now);
         }
     }
 
-    // The next turn begins. Where it has a tick, what has come of devices is fed before that, at the moment of the turn that
-    // ends: what came before a deadline is no silence.
-    #[tactic(auto, using(crate::proofs::Going::goes_none))]
-    fn end_turn<R: std::rt::Clock, B: Books>(
-        &mut self,
-        rt: &R,
-        time: &mut RunTime,
-        events: &mut Events<Global>,
-        office: &mut Office<B>,
-        now: Now,
-    )
-        ensures { (names : List (List ℕ))
-            → Goes names now.moment B.ledger office.old office.new }
-    {
-        self.time = read_time(rt, time);
-        if self.ticked < self.time && self.look(events, 0).is_ok() {
-            self.hear_devices(office, now);
-        }
-    }
-
     // One turn of the loop. It answers whether the time is up.
-    fn turn<R: Net + std::rt::Clock, B: Books, C: Clock, W: Write, E: Write>(
+    fn turn<R: Net + std::rt::Clock, B: Books, W: Write, E: Write>(
         &mut self,
         rt: &R,
         names: &[&str],
         office: &mut Office<B>,
-        clock: &mut C,
-        steady: &mut SteadyClock,
         time: &mut RunTime,
         events: &mut Events<Global>,
+        now: Now,
         until: u64,
         output: &mut W,
         errors: &mut E,
     ) -> Result<bool, RunFault>
-        ensures { TakesTurn (texts names.now) B.ledger steady.old.latest steady.new.latest
-            (C.moments clock.old) (C.moments clock.new) office.old office.new }
+        ensures { Goes (texts names.now) now.moment B.ledger office.old office.new }
     {
-        let moment = read_clock(steady, clock, &mut self.voice);
-        let now = Now {
-            time: self.time,
-            moment,
-        };
         let is_over = self.act(rt, names, events, office, now, until);
         self.rest(rt, time, events, now, output, errors, is_over)?;
-        self.end_turn(rt, time, events, office, now);
         Ok(is_over)
+    }
+
+    // The moment of the next turn. Where that has a tick, what has come of devices is fed before, at the moment of the turn that
+    // ends. The clocks are read first: so what had come before a deadline is no silence, wherever the process was held up.
+    #[tactic(auto, using(crate::proofs::Going::goes_none))]
+    fn end_turn<R: std::rt::Clock, B: Books, C: Clock>(
+        &mut self,
+        rt: &R,
+        office: &mut Office<B>,
+        clock: &mut C,
+        steady: &mut SteadyClock,
+        time: &mut RunTime,
+        now: Now,
+    ) -> u64
+        ensures reads { ReadsClock steady.old.latest steady.new.latest
+            (C.moments clock.old) (C.moments clock.new) }
+        ensures moment { result ≡ steady.new.latest }
+        ensures goes { (names : List (List ℕ))
+            → Goes names now.moment B.ledger office.old office.new }
+    {
+        self.time = read_time(rt, time);
+        let moment = read_clock(steady, clock, &mut self.voice);
+        self.ticks = now.moment < moment || now.time < self.time;
+        if self.ticks {
+            self.hear_devices(office, now);
+        }
+        moment
     }
 
     // Turns until the time is up.
@@ -376,13 +390,17 @@ impl Running {
         ensures { TakesTurns (texts names.now) B.ledger steady.old.latest steady.new.latest
             (C.moments clock.old) (C.moments clock.new) office.old office.new }
     {
+        let mut moment = read_clock(steady, clock, &mut self.voice);
         for _turn in 0..u64::MAX {
-            let is_over = self.turn(
-                rt, names, office, clock, steady, time, events, until, output, errors,
-            )?;
+            let now = Now {
+                time: self.time,
+                moment,
+            };
+            let is_over = self.turn(rt, names, office, time, events, now, until, output, errors)?;
             if is_over {
                 return Ok(());
             }
+            moment = self.end_turn(rt, office, clock, steady, time, now);
         }
         Ok(())
     }
@@ -438,7 +456,8 @@ fn run_from<R: Net + std::rt::Clock, B: Books, C: Clock, W: Write, E: Write>(
 {
     let mut steady = SteadyClock::new(moment);
     let mut time = time_from(rt, moment);
-    let mut events = Events::with_capacity(alloc, 64)?;
+    let sockets = FIRST_DEVICE.saturating_add(sites.len());
+    let mut events = Events::with_capacity(alloc, sockets)?;
     let begun = time.seconds();
     let mut running = open(rt, alloc, left, lacks, settings, sites, begun, output)?;
     let until = end_of(settings, begun);

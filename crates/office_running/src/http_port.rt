@@ -3,11 +3,12 @@ ghost use Rattle.std.specs.Prelude.{ℕ, List};
 ghost use Rattle.http_request.specs.Hosts.{texts};
 ghost use Rattle.office_running.specs.Runs.{Goes};
 
-use crate::clocks::Now;
+use crate::clocks::{Now, even_milliseconds};
 use crate::fault::RunFault;
 use crate::kept_room::KeptRoom;
 use crate::peers::Peer;
 use crate::settings::Settings;
+use crate::turn_share::{Share, place_at};
 use crate::voice::Voice;
 use energy_report::ReportForm;
 use http_request::{Route, Status, router};
@@ -19,7 +20,7 @@ use office_core::Office;
 use office_events::Name;
 use run_http::{
     PeerReply, RunRoute, StatusRoute, ask, reply_energy, reply_entries, reply_intervals,
-    reply_metrics, reply_site, reply_status, reply_voids, run_route,
+    reply_meters, reply_metrics, reply_site, reply_status, reply_voids, run_route,
 };
 use run_schedule::{MOST_PEERS, PEER_SECONDS, Peers, place_for};
 use std::alloc::{AllocError, Global};
@@ -36,8 +37,10 @@ pub(crate) struct Serving {
     router: Router<Route>,
     peers: Peers,
     connections: Vec<Option<Peer>>,
-    /// How many requests may still be replied to in this turn.
-    left: usize,
+    /// What may still be replied in this turn.
+    share: Share,
+    /// The place that is attended first.
+    first: usize,
     room: KeptRoom,
     /// Whether a command was refused since there is no room to keep it, which was not said yet.
     is_full: bool,
@@ -48,6 +51,23 @@ fn is_ready(connection: &Option<Peer>) -> bool {
     match connection {
         Some(peer) => peer.ready,
         None => false,
+    }
+}
+
+// Whether the connection of a place is attended, where this is left of what may be replied in a turn: those that ask wait for
+// a turn in which something is left, and replies that were made are written on.
+fn is_attended(connection: &Option<Peer>, share: Share) -> bool {
+    match connection {
+        Some(peer) => peer.ready && (peer.has_reply() || !share.is_over()),
+        None => false,
+    }
+}
+
+// How many bytes are replied.
+fn size_of(asked: &PeerReply) -> usize {
+    match asked {
+        PeerReply::Replied(reply) => reply.len(),
+        PeerReply::Open | PeerReply::Failed => 0,
     }
 }
 
@@ -94,15 +114,27 @@ impl Serving {
             router,
             peers: Peers::new(),
             connections,
-            left: MOST_PEERS,
+            share: Share::whole(),
+            first: 0,
             room: KeptRoom::of(settings),
             is_full: false,
         })
     }
 
-    /// A turn begins, in which so many requests are replied to as there are places: devices wait for no more.
+    /// A turn begins, with what may be replied in it: devices wait for no more.
     pub(crate) fn begin_turn(&mut self) {
-        self.left = MOST_PEERS;
+        self.share = Share::whole();
+    }
+
+    /// The place that is attended first: the one behind that which was replied to last.
+    pub(crate) fn first(&self) -> usize {
+        self.first
+    }
+
+    // A place was replied to, which took so long.
+    fn note_reply(&mut self, place: usize, asked: &PeerReply, milliseconds: u64) {
+        self.share = self.share.after(size_of(asked), milliseconds);
+        self.first = place_at(place, 1);
     }
 
     /// Takes whether a command was refused since there is no room to keep it.
@@ -314,6 +346,18 @@ impl Serving {
         }
     }
 
+    // The reply to the question which meters are at a register.
+    #[tactic(auto, using(crate::proofs::Going::goes_rows))]
+    fn reply_meters<B: Books>(&self, office: &mut Office<B>, register: &Option<Name>) -> PeerReply
+        ensures { (names : List (List ℕ)) (at : ℕ) → Goes names at B.ledger office.old office.new }
+    {
+        let mut text = Vec::new(self.alloc);
+        match reply_meters(self.alloc, &mut text, office, register) {
+            Ok(()) => PeerReply::Replied(text),
+            Err(_) => PeerReply::Failed,
+        }
+    }
+
     // What comes of what a peer has asked. Who asks is tested before all else, and then whether what is kept has room.
     #[tactic(auto, using(crate::proofs::Going::goes_none, crate::proofs::Going::goes_both))]
     fn reply<B: Books>(
@@ -336,6 +380,7 @@ impl Serving {
             Some(RunRoute::Energy { register, form }) => {
                 self.reply_energy(office, &register, &form)
             }
+            Some(RunRoute::Meters { register }) => self.reply_meters(office, &register),
             None => {
                 if self.room.lacks(request) {
                     return self.reply_status(StatusRoute::Rejected(Status::Unavailable), voice);
@@ -347,7 +392,7 @@ impl Serving {
 
     // Takes the connection of a place whose turn it is.
     fn take_ready(&mut self, place: usize) -> Option<Peer> {
-        if self.left > 0 && place < self.connections.len() && is_ready(&self.connections[place]) {
+        if place < self.connections.len() && is_attended(&self.connections[place], self.share) {
             return self.connections[place].take();
         }
         None
@@ -368,8 +413,9 @@ impl Serving {
 
     /// Goes on with the connection of a place, where something may have come.
     #[tactic(auto, using(crate::proofs::Going::goes_none, crate::proofs::Going::goes_both))]
-    pub(crate) fn attend<B: Books>(
+    pub(crate) fn attend<R: std::rt::Clock, B: Books>(
         &mut self,
+        rt: &R,
         place: usize,
         names: &[&str],
         office: &mut Office<B>,
@@ -382,8 +428,10 @@ impl Serving {
             return;
         };
         if peer.hear(&self.router) {
-            self.left = self.left.saturating_sub(1);
+            let begun = even_milliseconds(rt);
             let asked = self.reply(names, &peer.asked, office, voice, now);
+            let took = even_milliseconds(rt).saturating_sub(begun);
+            self.note_reply(place, &asked, took);
             self.is_full = self.is_full || self.room.lacks(&peer.asked);
             self.room.count(&peer.asked, &asked);
             peer.take(asked);

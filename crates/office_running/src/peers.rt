@@ -23,7 +23,7 @@ pub(crate) struct Peer {
     over: bool,
 }
 
-// As much of a piece as there is room for behind what has come. No request needs more.
+// As much of a piece as there is room for after what has come. No request needs more.
 fn fitting<'p>(asked: &[u8], piece: &'p [u8]) -> &'p [u8] {
     let room = MOST_ROOM.saturating_sub(asked.len());
     piece.get(..room).unwrap_or(piece)

@@ -13,7 +13,7 @@ use Rattle.round_advice.specs.declared.remarks.Remark.TheVariants.{Refused, Held
 abbrev pub small : ℕ → Option ℕ
 small number = if nat_lt number 4294967296 then Some number else None
 
--- the words behind this one
+-- the words after this one
 abbrev pub exactly : (wanted : List ℕ) → List (List ℕ) → Option (List (List ℕ))
 exactly wanted [] = None
 exactly wanted (word ∷ words) = if bytes_eq word wanted then Some words else None

@@ -6,7 +6,7 @@ use command_io::ExitStatus;
 use office_program::PollEnd;
 use office_rounds::RoundFault;
 
-/// Whether more is said behind a round: it came to its end, or was refused. After a failure what failed is said, and that first.
+/// Whether more is said after a round: it came to its end, or was refused. After a failure what failed is said, and that first.
 pub(crate) fn is_told(end: PollEnd) -> bool
     ensures { result ≡ ends.is_told end }
 {

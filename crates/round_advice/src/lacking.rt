@@ -39,7 +39,7 @@ fn put_lacks_of<B: Books>(
     Ok(())
 }
 
-/// Says behind the round of a device what it lacks by what the books hold, a line each, as a run says it; nothing behind a round
+/// Says after the round of a device what it lacks by what the books hold, a line each, as a run says it; nothing after a round
 /// that failed. A text that is no name is a device that isn't there. Where the books, memory or the writing fail, a part of that is
 /// said.
 pub fn say_lacks<B: Books, E: Write>(

@@ -49,8 +49,8 @@ fn put_remarks(text: &mut Vec<u8>, device: &Option<Name>, printed: &[u8]) -> Res
     Ok(())
 }
 
-/// Says behind the round of a device what the refusals and the held readings mean that it printed, a line each, and what to do;
-/// nothing behind a round that failed. Where memory or the writing fails, a part of that is said.
+/// Says after the round of a device what the refusals and the held readings mean that it printed, a line each, and what to do;
+/// nothing after a round that failed. Where memory or the writing fails, a part of that is said.
 pub fn say_remarks<E: Write>(
     alloc: Global,
     device: &str,

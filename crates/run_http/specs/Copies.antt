@@ -46,7 +46,7 @@ changes_of facts place (Some opening) = quarter_of (stood_at facts opening place
 abbrev pub changes_from : List Fact → (meter : List ℕ) → (place : ℕ) → ℕ
 changes_from facts meter place = changes_of facts place (opening_of facts meter)
 
--- where a fact voids an entry of the meter, it is at the place or behind it
+-- where a fact voids an entry of the meter, it is at the place or after it
 abbrev pub VoidsFrom : (meter : List ℕ) → (place : ℕ) → Fact → Type 0
 VoidsFrom meter place (fact.Void voided) = voided.meter ≡ meter → place ≤ voided.place
 VoidsFrom meter place _ = Unit {0}

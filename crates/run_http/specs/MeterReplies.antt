@@ -1,4 +1,4 @@
--- The replies to questions for rows of a meter, by what the office answers to them.
+-- The replies to questions for rows of a meter, or of the meters at a register, by what the office answers to them.
 use Rattle.std.specs.Prelude.{◌≡◌, ℕ, true, List, [], ◌∷◌, ◌++◌, Option, Result, Ok, Err, IfOk, OnOk, codes}
 use Rattle.std.specs.declared.alloc.Global.{Global}
 use Rattle.std.specs.declared.vec.Vec.{Vec}
@@ -14,7 +14,7 @@ use Rattle.run_http.specs.SiteReply.{with_refusal}
 use Rattle.run_http.specs.StatusRoute.{with_reply}
 use Rattle.run_http.specs.declared.kept_rows.KeptRows.{KeptRows}
 
--- A row is kept behind those before it, as long as there was memory for each.
+-- A row is kept after those before it, as long as there was memory for each.
 abbrev pub KeepsRow : KeptRows → Share → KeptRows → Type 0
 KeepsRow old row new = new.is_whole ≡ true
     → (old.is_whole ≡ true) × (new.rows.items ≡ old.rows.items ++ row ∷ [])

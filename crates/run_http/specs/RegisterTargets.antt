@@ -1,5 +1,5 @@
--- What a target asks of the energy of a register: `/registers/NAME/days/FROM/TILL` the days from FROM on, and before TILL, and
--- `/registers/NAME/months` all days by months.
+-- What a target asks of a register: `/registers/NAME/days/FROM/TILL` its energy on the days from FROM on, and before TILL,
+-- `/registers/NAME/months` that of all days by months, and `/registers/NAME/meters` which meters are and were there.
 use Rattle.std.specs.Prelude.{◌≡◌, ◌⊎◌, ℕ, ◌+◌, Bool, true, false, List, take, drop, bytes_eq, Option, Some, None, codes}
 use Rattle.jiff_core.specs.declared.civil.date.Date.{Date}
 use Rattle.energy_report.specs.Days.{IsReadAs, Spells}
@@ -14,7 +14,7 @@ use Rattle.http_request.specs.declared.status.Status.TheVariants.{BadRequest}
 use Rattle.office_events.specs.Names.{named}
 use Rattle.run_http.specs.MeterTargets.{after, slash_in}
 use Rattle.run_http.specs.declared.route.RunRoute.{RunRoute}
-use Rattle.run_http.specs.declared.route.RunRoute.TheVariants.{Own, Energy}
+use Rattle.run_http.specs.declared.route.RunRoute.TheVariants.{Own, Energy, Meters}
 use Rattle.run_http.specs.declared.route.StatusRoute.TheVariants.{Rejected}
 
 -- ---- ranges
@@ -72,10 +72,18 @@ IsEnergyAsked false name text route = IsDaysAsked name (after (codes "days/") te
 abbrev pub IsEnergyIn : (name text : List ℕ) → Option RunRoute → Type 0
 IsEnergyIn name text route = IsEnergyAsked (bytes_eq text (codes "months")) name text route
 
+-- the meters there, or energy
+abbrev pub IsRowsAsked : (is_meters : Bool) → (name text : List ℕ) → Option RunRoute → Type 0
+IsRowsAsked true name text route = route ≡ Some (Meters (named name))
+IsRowsAsked false name text route = IsEnergyIn name text route
+
+abbrev pub IsRowsIn : (name text : List ℕ) → Option RunRoute → Type 0
+IsRowsIn name text route = IsRowsAsked (bytes_eq text (codes "meters")) name text route
+
 -- what follows the word for registers
 abbrev pub IsRegisterCut : (text : List ℕ) → (at : Option ℕ) → Option RunRoute → Type 0
 IsRegisterCut text None route = route ≡ None
-IsRegisterCut text (Some at) route = IsEnergyIn (take at text) (drop (at + 1) text) route
+IsRegisterCut text (Some at) route = IsRowsIn (take at text) (drop (at + 1) text) route
 
 abbrev pub IsRegisterIn : (text : List ℕ) → Option RunRoute → Type 0
 IsRegisterIn text route = IsRegisterCut text (slash_in text) route

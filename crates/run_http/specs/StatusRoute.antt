@@ -41,7 +41,7 @@ or_meter target (Some route) = Some route
 abbrev pub plain_target : (target : List ℕ) → Option RunRoute
 plain_target target = or_meter target (path_named target)
 
--- or the energy of a register
+-- or the energy of a register, or its meters
 abbrev pub IsElse : (target : List ℕ) → Option RunRoute → Option RunRoute → Type 0
 IsElse target None route = IsRegisterTarget target route
 IsElse target (Some plain) route = route ≡ Some plain

@@ -1,4 +1,4 @@
-//! What a target asks of the energy of a register.
+//! What a target asks of a register: its energy, or which meters are and were there.
 ghost use Rattle.std.specs.Prelude.{◌≡◌};
 ghost use Rattle.energy_report.specs.Days.{IsReadAs};
 ghost use Rattle.run_http.specs.RegisterTargets as targets;
@@ -103,17 +103,29 @@ fn energy_in(name: &[u8], text: &[u8]) -> Option<RunRoute>
     }
 }
 
-// What asks for energy, by what follows the word for registers.
+// What asks for the meters at a register, or for its energy, by what follows its name.
+fn rows_in(name: &[u8], text: &[u8]) -> Option<RunRoute>
+    ensures { targets.IsRowsIn name.now text.now result }
+{
+    if text == b"meters".as_slice() {
+        return Some(RunRoute::Meters {
+            register: Name::new(name),
+        });
+    }
+    energy_in(name, text)
+}
+
+// What asks that of a register, by what follows the word for registers.
 fn register_in(text: &[u8]) -> Option<RunRoute>
     ensures { targets.IsRegisterIn text.now result }
 {
     match slash_in(text) {
-        Some(at) => energy_in(&text[..at], &text[at + 1..]),
+        Some(at) => rows_in(&text[..at], &text[at + 1..]),
         None => None,
     }
 }
 
-/// What a target asks of the energy of a register, if it asks for it.
+/// What a target asks of a register, if it asks for its energy or for its meters.
 pub(crate) fn register_target(target: &[u8]) -> Option<RunRoute>
     ensures { targets.IsRegisterTarget target.now result }
 {

@@ -1,5 +1,5 @@
 //! The routes of a run itself: two that tell what was counted, one that tells what there is, rows of a meter, the energy of a
-//! register, the page, and who may not ask.
+//! register and the meters at one, the page, and who may not ask.
 ghost use Rattle.std.specs.Prelude.{◌≡◌, IfOk, OnOk};
 ghost use Rattle.http_request.specs.Head.Heads.{Looks};
 ghost use Rattle.http_answer.specs.Sending.Bodies.{fault_text};
@@ -55,6 +55,10 @@ pub enum RunRoute {
     Energy {
         register: Option<Name>,
         form: ReportForm,
+    },
+    /// The meters at a register, closed ones too, which the office is asked for, as text.
+    Meters {
+        register: Option<Name>,
     },
 }
 

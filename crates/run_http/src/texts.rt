@@ -1,11 +1,13 @@
-//! The bodies of replies: what there is, what was counted, and rows of a meter.
+//! The bodies of replies: what there is, what was counted, rows of a meter, and the meters at a register.
 
 mod energy_lines;
 mod families;
 mod meter_lines;
 mod metrics;
+mod register_lines;
 mod site;
 
 pub use meter_lines::{put_entries, put_shares, put_voids};
 pub use metrics::put_metrics;
+pub use register_lines::put_register_meters;
 pub use site::put_site;

@@ -29,7 +29,7 @@ fn is_voided(entry: &MeterEntry) -> bool
     }
 }
 
-// Keeps an entry behind those before it, if a void names it.
+// Keeps an entry after those before it, if a void names it.
 fn keep_if_voided(kept: &mut Vec<MeterEntry>, entry: &MeterEntry) -> Result<(), AllocError>
     ensures { OnOk result (kept.new.items
         ≡ kept.old.items ++ voids.voided_in (entry.now ∷ [])) }

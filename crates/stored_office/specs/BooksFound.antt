@@ -84,7 +84,7 @@ module _ {S : Type 0} (g : Ghosts S) where
   Looks tells past caller text had holds status = OverBooks past (λ found left.
       LooksOver tells caller text (ledger_in left) had holds status past)
 
-  -- a round over such books, behind which it may be looked up what the device lacks
+  -- a round over such books, after which it may be looked up what the device lacks
   abbrev pub Polls : (past : History) → (device : List ℕ)
       → (moments later had holds : Option (List ℕ)) → PollEnd → Type 0
   Polls past device moments later had holds end = OverBooks past (λ found left.

@@ -25,6 +25,12 @@ pub enum AuditFault {
     NotOurs,
     /// The tables are those of an earlier program.
     Earlier,
+    /// A row has a value that can't be read, or a name that is no word.
+    Unsealable,
+    /// A text is that of no seal.
+    NoSeal,
+    /// The file of a seal can't be read.
+    Unread,
     /// The database failed.
     Store,
     Memory,

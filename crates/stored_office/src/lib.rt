@@ -7,6 +7,7 @@ mod ends;
 mod files;
 mod new_office;
 mod runs;
+mod seals;
 mod tasks;
 
 pub use audits::{AuditFault, audit_stored, write_audit};
@@ -14,4 +15,5 @@ pub use backups::{CopyFault, whole_file, whole_files};
 pub use ends::{Ending, Failure, ending_of, say};
 pub use files::{Databases, FileConnection, FileFault, is_bare, is_office, make_file, open_file};
 pub use new_office::create_stored;
+pub use seals::{check_stored_seal, seal_stored, write_checked, write_seal};
 pub use tasks::{Done, Task, carry_out_stored, ending_of_done};

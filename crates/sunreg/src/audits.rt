@@ -1,157 +1,120 @@
-//! The audit of an office's file, and seals of what it records.
-use crate::offices::{Files, open_in};
-use command_io::read_whole;
+//! The audit of an office's file, and seals of what is recorded in it.
+use crate::offices::{Files, Opening, open_in};
 use command_words::Sealing;
 use sqlite::{Alter, Connection};
 use std::fs::File;
-use std::io;
+use std::io::{self, Read};
 use std::str::from_utf8;
 use stored_office::{
-    AuditFault, Databases, Ending, Failure, FileFault, audit_stored, check_stored_seal, seal_stored,
+    AuditFault, Databases, Ending, Failure, audit_stored, check_stored_seal, seal_stored,
     write_audit, write_checked, write_seal,
 };
-use table_audit::Findings;
 
-// What is told where what an audit prints wasn't written, or why there is none.
-fn unaudited<'a>(path: &'a str, fault: AuditFault) -> Failure<'a> {
-    match fault {
-        AuditFault::Output => Failure::Streams,
-        fault => Failure::Unaudited { path, fault },
-    }
-}
+/// The most bytes that are read of a seal. One of 4,096 meters, each with a thousand voids, has fewer.
+const MOST_SEAL: u64 = 300_000_000;
 
-// Tells what an audit found, and whether all is fine.
-fn tell<'a>(rt: &HostRuntime, path: &'a str, findings: &Findings) -> Result<bool, Failure<'a>> {
-    let mut output = io::writer(rt);
-    match write_audit(rt.alloc(), findings, &mut output) {
-        Ok(fine) => Ok(fine),
-        Err(fault) => Err(unaudited(path, fault)),
-    }
-}
-
-// What an audit of a database finds.
-fn findings_of<'a, S: Alter>(
+// Prints the seal of the tables.
+fn print_seal<S: Alter>(
     rt: &HostRuntime,
     connection: &mut Connection<S>,
-    path: &'a str,
-) -> Result<Findings, Failure<'a>> {
-    match audit_stored(rt.alloc(), connection) {
-        Ok(findings) => Ok(findings),
-        Err(fault) => Err(unaudited(path, fault)),
-    }
+) -> Result<bool, AuditFault> {
+    let seals = seal_stored(rt.alloc(), connection)?;
+    let mut output = io::writer(rt);
+    write_seal(rt.alloc(), seals.as_slice(), &mut output)?;
+    Ok(true)
 }
 
-// Audits the tables in the database at a path, and tells whether they are fine.
+// Tells whether the tables still have what the seal of a text pins.
+fn hold_to<S: Alter>(
+    rt: &HostRuntime,
+    connection: &mut Connection<S>,
+    text: &str,
+) -> Result<bool, AuditFault> {
+    let checked = check_stored_seal(rt.alloc(), connection, text)?;
+    let mut output = io::writer(rt);
+    write_checked(rt.alloc(), &checked, &mut output)
+}
+
+// Audits the tables, and tells whether they are fine. Only where they are, a seal is printed, or held to: that of this text.
+fn audit_over<S: Alter>(
+    rt: &HostRuntime,
+    connection: &mut Connection<S>,
+    seal: Sealing<'_>,
+) -> Result<bool, AuditFault> {
+    let findings = audit_stored(rt.alloc(), connection)?;
+    if findings.is_fine() {
+        match seal {
+            Sealing::Nothing => {}
+            Sealing::Print => return print_seal(rt, connection),
+            Sealing::Against(text) => return hold_to(rt, connection, text),
+        }
+    }
+    let mut output = io::writer(rt);
+    write_audit(rt.alloc(), &findings, &mut output)
+}
+
+// Does so with the database at a path.
 fn audit_in<'a, D: Databases>(
     rt: &HostRuntime,
     databases: &D,
     path: &'a str,
+    seal: Sealing<'_>,
 ) -> Result<bool, Failure<'a>> {
     let mut connection = open_in(rt, databases, path)?;
-    let findings = findings_of(rt, &mut connection, path)?;
-    tell(rt, path, &findings)
-}
-
-// Prints the seal of the tables in the database at a path, if they are fine, or else how they differ.
-fn seal_in<'a, D: Databases>(
-    rt: &HostRuntime,
-    databases: &D,
-    path: &'a str,
-) -> Result<bool, Failure<'a>> {
-    let mut connection = open_in(rt, databases, path)?;
-    let findings = findings_of(rt, &mut connection, path)?;
-    if !findings.is_fine() {
-        return tell(rt, path, &findings);
-    }
-    let seals = match seal_stored(rt.alloc(), &mut connection) {
-        Ok(seals) => seals,
-        Err(fault) => return Err(unaudited(path, fault)),
-    };
-    let mut output = io::writer(rt);
-    match write_seal(rt.alloc(), seals.as_slice(), &mut output) {
-        Ok(()) => Ok(true),
-        Err(fault) => Err(unaudited(path, fault)),
-    }
-}
-
-// Holds the tables in the database at a path to a seal, if they are fine, or else tells how they differ.
-fn check_in<'a, D: Databases>(
-    rt: &HostRuntime,
-    databases: &D,
-    path: &'a str,
-    seal: &str,
-) -> Result<bool, Failure<'a>> {
-    let mut connection = open_in(rt, databases, path)?;
-    let findings = findings_of(rt, &mut connection, path)?;
-    if !findings.is_fine() {
-        return tell(rt, path, &findings);
-    }
-    let checked = match check_stored_seal(rt.alloc(), &mut connection, seal) {
-        Ok(checked) => checked,
-        Err(fault) => return Err(unaudited(path, fault)),
-    };
-    let mut output = io::writer(rt);
-    match write_checked(rt.alloc(), &checked, &mut output) {
+    match audit_over(rt, &mut connection, seal) {
         Ok(fine) => Ok(fine),
-        Err(fault) => Err(unaudited(path, fault)),
+        Err(AuditFault::Output) => Err(Failure::Streams),
+        Err(fault) => Err(Failure::Unaudited { path, fault }),
     }
 }
 
-fn ending_of<'a>(done: Result<bool, Failure<'a>>) -> Ending<'a> {
-    match done {
+// What a seal's file has.
+fn seal_in(rt: &HostRuntime, file: &str) -> io::Result<Vec<u8>> {
+    let mut bytes = Vec::new(rt.alloc());
+    File::open(rt, file)?
+        .take(MOST_SEAL)
+        .read_to_end(&mut bytes)?;
+    Ok(bytes)
+}
+
+fn ended(told: Result<bool, Failure<'_>>) -> Ending<'_> {
+    match told {
         Ok(true) => Ending::Fine,
         Ok(false) => Ending::Refused,
         Err(failure) => Ending::Failed(failure),
     }
 }
 
-fn no_seal<'a>(rt: &HostRuntime, file: &'a str) -> Ending<'a> {
-    match format!(in rt.alloc(); "error: the file '{file}' for '--against <SEAL>' is no whole seal\n")
-    {
-        Ok(text) => Ending::Wrong(text),
-        Err(_) => Ending::Failed(Failure::Memory),
+// Audits the tables, and holds them to the seal in a file.
+fn audit_against<'a>(rt: &HostRuntime, path: &'a str, file: &'a str) -> Ending<'a> {
+    let Ok(bytes) = seal_in(rt, file) else {
+        return Ending::Failed(Failure::Unaudited {
+            path: file,
+            fault: AuditFault::Unread,
+        });
+    };
+    let Ok(text) = from_utf8(bytes.as_slice()) else {
+        return Ending::NoSeal(file);
+    };
+    let files = Files::opened(rt, Opening::Copied);
+    match audit_in(rt, &files, path, Sealing::Against(text)) {
+        Err(
+            Failure::Unaudited {
+                fault: AuditFault::NoSeal,
+                ..
+            },
+        ) => Ending::NoSeal(file),
+        told => ended(told),
     }
 }
 
-// What a file has.
-fn bytes_of<'a>(rt: &HostRuntime, file: &'a str) -> Result<Vec<u8>, Failure<'a>> {
-    let unreadable = Failure::File {
-        path: file,
-        fault: FileFault::Unreadable,
-    };
-    let Ok(mut input) = File::open(rt, file) else {
-        return Err(unreadable);
-    };
-    match read_whole(rt.alloc(), &mut input) {
-        Ok(bytes) => Ok(bytes),
-        Err(_) => Err(unreadable),
-    }
-}
-
-// Holds an office's file to the seal in another one.
-fn check_against<'a>(rt: &HostRuntime, path: &'a str, file: &'a str) -> Ending<'a> {
-    let bytes = match bytes_of(rt, file) {
-        Ok(bytes) => bytes,
-        Err(failure) => return Ending::Failed(failure),
-    };
-    let Ok(seal) = from_utf8(bytes.as_slice()) else {
-        return no_seal(rt, file);
-    };
-    match check_in(rt, &Files::of(rt), path, seal) {
-        Err(Failure::Unaudited {
-            fault: AuditFault::NoSeal,
-            ..
-        }) => no_seal(rt, file),
-        done => ending_of(done),
-    }
-}
-
-/// Tells whether the rows of an office are those of lawful journals and polls. Of one that is fine it prints a seal, or tells
-/// whether it still has what a seal pins, where that is asked for. Nothing is written to its file.
+/// Tells whether the rows of an office's file are those of lawful journals and polls, and prints a seal of them, or holds them to one.
+/// Nothing is written to the file.
 pub(crate) fn audit<'a>(rt: &HostRuntime, path: &'a str, seal: Sealing<'a>) -> Ending<'a> {
     match seal {
-        Sealing::Nothing => ending_of(audit_in(rt, &Files::of(rt), path)),
-        Sealing::Print => ending_of(seal_in(rt, &Files::of(rt), path)),
-        Sealing::Against(file) => check_against(rt, path, file),
+        Sealing::Against(file) => audit_against(rt, path, file),
+        Sealing::Nothing | Sealing::Print => {
+            ended(audit_in(rt, &Files::opened(rt, Opening::Copied), path, seal))
+        }
     }
 }

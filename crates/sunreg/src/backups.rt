@@ -1,57 +1,15 @@
 //! One whole file of the office in a file, also beside a running one.
-use crate::offices::{is_blank, length_of, log_of, real_path};
+use crate::copies::{Pair, copy_settled, pair_at, remove};
 use sqlite::Unknown;
-use std::fs::{self, File, OpenOptions};
-use std::io::{self, ErrorKind, Read};
-use std::os::unix::fs::OpenOptionsExt;
-use stored_office::{CopyFault, Ending, Failure, FileFault, whole_file};
-
-/// How often a file is copied whose log is moved into it meanwhile.
-const TRIES: u32 = 8;
-
-/// How many bytes the header of a log has. A log that was moved into its file has another salt there.
-const HEADER: u64 = 32;
-
-// A file and its log.
-#[derive(Drop)]
-struct Pair {
-    file: String,
-    log: String,
-}
+use std::fs::{self, File};
+use std::io::{self, ErrorKind};
+use stored_office::{CopyFault, Ending, Failure, whole_file};
 
 // Whether there is anything of this name.
 fn is_there(rt: &HostRuntime, path: &str) -> bool {
     match fs::symlink_metadata(rt, path) {
         Ok(_) => true,
         Err(error) => error.kind() != ErrorKind::NotFound,
-    }
-}
-
-fn remove(rt: &HostRuntime, pair: &Pair) {
-    let _gone = fs::remove_file(rt, pair.file.as_str());
-    let _gone = fs::remove_file(rt, pair.log.as_str());
-}
-
-// The file that is copied, where it lies, and its log. With a journal of another program's it isn't whole.
-fn source_of<'a>(rt: &HostRuntime, db: &'a str) -> Result<Pair, Failure<'a>> {
-    let fault = FileFault::Unreadable;
-    match fs::exists(rt, db) {
-        Ok(true) => {}
-        Ok(false) => {
-            let fault = FileFault::Missing;
-            return Err(Failure::File { path: db, fault });
-        }
-        Err(_) => return Err(Failure::File { path: db, fault }),
-    }
-    let file = real_path(rt, db)?;
-    let log = log_of(rt, db)?;
-    let Ok(journal) = format!(in rt.alloc(); "{}-journal", file.as_str()) else {
-        return Err(Failure::Memory);
-    };
-    if is_blank(length_of(rt, journal.as_str())) {
-        Ok(Pair { file, log })
-    } else {
-        Err(Failure::File { path: db, fault })
     }
 }
 
@@ -75,72 +33,6 @@ fn part_of<'a>(rt: &HostRuntime, to: &'a str) -> Result<Pair, Failure<'a>> {
     Err(Failure::Uncopied { path: to, fault })
 }
 
-// The header of a log, as far as it goes: nothing where there is none.
-fn header_of(rt: &HostRuntime, log: &str) -> io::Result<Vec<u8>> {
-    let mut header = Vec::new(rt.alloc());
-    match File::open(rt, log) {
-        Ok(file) => {
-            file.take(HEADER).read_to_end(&mut header)?;
-            Ok(header)
-        }
-        Err(error) if error.kind() == ErrorKind::NotFound => Ok(header),
-        Err(error) => Err(error),
-    }
-}
-
-// Copies a file into one that is made, is its owner's alone, and is on the disk at the end.
-fn copy_file(rt: &HostRuntime, from: &str, to: &str) -> io::Result<()> {
-    let mut original = File::open(rt, from)?;
-    let mut copy = OpenOptions::new()
-        .read(true)
-        .write(true)
-        .create_new(true)
-        .mode(0o600)
-        .open(rt, to)?;
-    io::copy(&mut original, &mut copy)?;
-    copy.sync_all()
-}
-
-// Copies a file and then its log, and answers whether no log was moved into the file meanwhile: so the two belong together.
-// What an office writes meanwhile into its log is there to the end of some commit.
-fn copy_pair(rt: &HostRuntime, source: &Pair, part: &Pair) -> io::Result<bool> {
-    let before = header_of(rt, source.log.as_str())?;
-    copy_file(rt, source.file.as_str(), part.file.as_str())?;
-    match copy_file(rt, source.log.as_str(), part.log.as_str()) {
-        Ok(()) => {}
-        Err(error) if error.kind() == ErrorKind::NotFound && before.is_empty() => {}
-        Err(error) => return Err(error),
-    }
-    let after = header_of(rt, source.log.as_str())?;
-    Ok(before.as_slice() == after.as_slice())
-}
-
-// The same, again where a log was moved.
-fn copy_settled<'a>(
-    rt: &HostRuntime,
-    db: &'a str,
-    to: &'a str,
-    source: &Pair,
-    part: &Pair,
-) -> Result<(), Failure<'a>> {
-    for _ in 0..TRIES {
-        match copy_pair(rt, source, part) {
-            Ok(true) => return Ok(()),
-            Ok(false) => remove(rt, part),
-            Err(_) => {
-                return Err(Failure::Uncopied {
-                    path: to,
-                    fault: CopyFault::Unwritable,
-                });
-            }
-        }
-    }
-    Err(Failure::Uncopied {
-        path: db,
-        fault: CopyFault::Changing,
-    })
-}
-
 // Which file a fault is about.
 fn told_of<'a>(db: &'a str, to: &'a str, fault: CopyFault) -> Failure<'a> {
     match fault {
@@ -151,6 +43,21 @@ fn told_of<'a>(db: &'a str, to: &'a str, fault: CopyFault) -> Failure<'a> {
             Failure::Uncopied { path: to, fault }
         }
         CopyFault::Memory => Failure::Memory,
+    }
+}
+
+// Copies a file and its log into the parts of the copy.
+fn copy_parts<'a>(
+    rt: &HostRuntime,
+    db: &'a str,
+    to: &'a str,
+    source: &Pair,
+    part: &Pair,
+) -> Result<(), Failure<'a>> {
+    match copy_settled(rt, source, part) {
+        Ok(true) => Ok(()),
+        Ok(false) => Err(told_of(db, to, CopyFault::Changing)),
+        Err(_) => Err(told_of(db, to, CopyFault::Unwritable)),
     }
 }
 
@@ -194,10 +101,12 @@ fn finish<'a>(rt: &HostRuntime, db: &'a str, to: &'a str, part: &Pair) -> Result
 }
 
 fn back_up<'a>(rt: &HostRuntime, db: &'a str, to: &'a str) -> Result<(), Failure<'a>> {
-    let source = source_of(rt, db)?;
+    let source = match pair_at(rt, db) {
+        Ok(source) => source,
+        Err(fault) => return Err(Failure::File { path: db, fault }),
+    };
     let part = part_of(rt, to)?;
-    let copied = copy_settled(rt, db, to, &source, &part);
-    let made = match copied {
+    let made = match copy_parts(rt, db, to, &source, &part) {
         Ok(()) => finish(rt, db, to, &part),
         Err(failure) => Err(failure),
     };

@@ -38,7 +38,7 @@ fn write_names<W: Write>(commands: &[CommandText<'_>], output: &mut W) -> io::Re
     output.write_all(b"help")
 }
 
-// The words that may stand behind a command's option.
+// The words that may stand after a command's option.
 fn write_chosen<W: Write>(
     command: &str,
     option: &str,
@@ -101,7 +101,7 @@ fn write_options<W: Write>(command: &CommandText<'_>, output: &mut W) -> io::Res
     output.write_all(b"--help' ;;\n")
 }
 
-// For each command, what stands behind its options.
+// For each command, what stands after its options.
 fn write_all_values<W: Write>(commands: &[CommandText<'_>], output: &mut W) -> io::Result<()> {
     output.write_all(b"    *) case ${COMP_WORDS[1]}\" \"${COMP_WORDS[COMP_CWORD - 1]} in\n")?;
     for command in commands {
@@ -110,7 +110,7 @@ fn write_all_values<W: Write>(commands: &[CommandText<'_>], output: &mut W) -> i
     output.write_all(b"    *) case ${COMP_WORDS[1]} in\n")
 }
 
-// For each command, its options and the words that may stand behind it.
+// For each command, its options and the words that may stand after it.
 fn write_all_options<W: Write>(commands: &[CommandText<'_>], output: &mut W) -> io::Result<()> {
     for command in commands {
         write_options(command, output)?;

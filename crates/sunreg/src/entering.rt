@@ -1,7 +1,7 @@
 //! Entering lines of standard input into an office in a file.
 use crate::counters::shown_at;
 use crate::escaped::Escaped;
-use crate::offices::{Files, OWN_HOST, over_office};
+use crate::offices::{Files, OWN_HOST, Opening, over_office};
 use command_io::{Buffered, read_input};
 use office_events::{Device, Register};
 use office_program::{MOST_FILE, NamedFiles, Shown};
@@ -98,7 +98,11 @@ pub(crate) fn enter<'a>(
             } else {
                 Task::Enter { caller, text }
             };
-            let files = Files { rt, places };
+            let files = Files {
+                rt,
+                places,
+                opening: Opening::InPlace,
+            };
             ending_of_done(over_office(rt, &files, path, task), OWN_HOST, 0)
         }
     }

@@ -49,7 +49,7 @@ fn write_meaning<W: Write>(meaning: &Meaning, output: &mut W) -> io::Result<()> 
     write!(output, "What to do: {remedy}.\n")
 }
 
-// Writes the meanings of the number behind the word, with an empty line between two, and answers how many they are.
+// Writes the meanings of the number after the word, with an empty line between two, and answers how many they are.
 fn write_meanings<W: Write>(what: &str, number: u32, output: &mut W) -> io::Result<u32> {
     let mut count: u32 = 0;
     for kind in kinds() {
@@ -74,7 +74,7 @@ fn has_number(what: &str, number: u32) -> bool {
         .any(|kind| meaning_at(*kind, what, number).is_some())
 }
 
-// Writes the numbers that stand behind a word.
+// Writes the numbers that stand after a word.
 fn write_numbers<W: Write>(what: &str, output: &mut W) -> io::Result<()> {
     for number in 0..=MOST_NUMBER {
         if has_number(what, number) {
@@ -115,7 +115,7 @@ fn wrong(rt: &HostRuntime, what: &str, number: &str) -> Ending<'static> {
     }
 }
 
-/// Prints what a number means that stands behind a word.
+/// Prints what a number means that stands after a word.
 pub(crate) fn explain(rt: &HostRuntime, what: &str, number: &str) -> Ending<'static> {
     let Ok(value) = number.parse::<u32>() else {
         return wrong(rt, what, number);

@@ -10,6 +10,7 @@ mod backups;
 mod command_output;
 mod commands;
 mod completions;
+mod copies;
 mod counters;
 mod entering;
 mod escaped;

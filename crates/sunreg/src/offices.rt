@@ -3,6 +3,7 @@ ghost use Rattle.std.specs.Prelude.{IfOk};
 ghost use Rattle.stored_office.specs.Tasks.Tasks.{IsOf};
 
 use crate::command_output::CommandOutput;
+use crate::copies::open_copy;
 use crate::escaped::Escaped;
 use crate::run_words::sites_of;
 use command_words::Device;
@@ -18,8 +19,8 @@ use std::fs::{self, Permissions};
 use std::io::{self, ErrorKind, IsTerminal, Printer, Write};
 use std::os::unix::fs::PermissionsExt;
 use stored_office::{
-    Databases, Done, Ending, Failure, FileFault, Task, carry_out_stored, create_stored,
-    ending_of_done, is_bare, is_office, make_file, open_file,
+    Databases, Done, Ending, Failure, FileConnection, FileFault, Task, carry_out_stored,
+    create_stored, ending_of_done, is_bare, is_office, make_file, open_file,
 };
 
 /// The host on which HTTP is answered.
@@ -28,17 +29,38 @@ pub(crate) const OWN_HOST: &str = "127.0.0.1";
 /// From how many bytes on a file takes a second or more to open.
 const LARGE: u64 = 16_000_000;
 
+/// How a database is opened.
+#[derive(Clone, Copy)]
+pub(crate) enum Opening {
+    /// In its file, which is written to.
+    InPlace,
+    /// In its file, or in a copy where the system lets nobody write there.
+    ToRead,
+    /// In a copy, so that file and folder are left alone.
+    Copied,
+}
+
 /// The files of the system, and where the devices are of which counters are read.
 #[derive(Clone, Copy)]
 pub(crate) struct Files<'r> {
     pub(crate) rt: &'r HostRuntime,
     pub(crate) places: &'r [Device<'r>],
+    pub(crate) opening: Opening,
 }
 
 impl<'r> Files<'r> {
     /// The files of the system, where no counter is read.
     pub(crate) fn of(rt: &'r HostRuntime) -> Files<'r> {
-        Files { rt, places: &[] }
+        Files::opened(rt, Opening::InPlace)
+    }
+
+    /// The same, opened so.
+    pub(crate) fn opened(rt: &'r HostRuntime, opening: Opening) -> Files<'r> {
+        Files {
+            rt,
+            places: &[],
+            opening,
+        }
     }
 }
 
@@ -50,7 +72,19 @@ impl Databases for Files<'_> {
     }
 
     fn open(&self, path: &str) -> Result<Connection<FileStore<FileFrom<Unknown>>>, FileFault> {
-        open_file(self.rt, path, Unknown)
+        match self.opening {
+            Opening::InPlace => open_file(self.rt, path, Unknown),
+            Opening::ToRead => open_to_read(self.rt, path),
+            Opening::Copied => open_copy(self.rt, path),
+        }
+    }
+}
+
+// A connection to the database in a file, or to a copy of it where there is none since the system refuses it.
+fn open_to_read(rt: &HostRuntime, path: &str) -> Result<FileConnection<Unknown>, FileFault> {
+    match open_file(rt, path, Unknown) {
+        Err(FileFault::Unreadable) => open_copy(rt, path),
+        opened => opened,
     }
 }
 
@@ -202,7 +236,7 @@ pub(crate) fn open_in<'a, D: Databases>(
 }
 
 /// Carries a task out over the office in the database at a path, and gives out all that it printed. What the refusals and held readings
-/// of a round mean is said behind it.
+/// of a round mean is said after it.
 pub(crate) fn over_office<'a, D: Databases + NamedFiles>(
     rt: &HostRuntime,
     surroundings: &D,

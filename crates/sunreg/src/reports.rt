@@ -1,5 +1,5 @@
 //! Reports of a register.
-use crate::offices::{Files, OWN_HOST, over_office};
+use crate::offices::{Files, OWN_HOST, Opening, over_office};
 use command_words::FormWords;
 use energy_report::{
     EnergyUnit, Format, Period, RangeFault, ReportForm, StatementForm, read_range,
@@ -32,7 +32,8 @@ fn range_of<'a>(words: &FormWords<'a>) -> Result<DayRange, Ending<'a>> {
 
 // Carries out the report that a task is.
 fn report_by<'a>(rt: &HostRuntime, path: &'a str, task: Task<'_>) -> Ending<'a> {
-    ending_of_done(over_office(rt, &Files::of(rt), path, task), OWN_HOST, 0)
+    let files = Files::opened(rt, Opening::ToRead);
+    ending_of_done(over_office(rt, &files, path, task), OWN_HOST, 0)
 }
 
 /// Prints the energy of a register, by days where no form is asked for, or the statement of its meters.

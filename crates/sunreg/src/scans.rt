@@ -17,7 +17,7 @@ const PATIENCE: u64 = 5;
 /// How many seconds a scan may take.
 const LONGEST: u64 = 600;
 
-/// The most bytes of the name of a device that is set up: the names of its registers have more behind it.
+/// The most bytes of the name of a device that is set up: the names of its registers have more after it.
 const MOST_NAME: usize = 9;
 
 /// Where a device is, and how long it may take for a reply.

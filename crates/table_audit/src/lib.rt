@@ -22,5 +22,7 @@ pub use findings::{Counts, Finding, Findings};
 pub use meters::audit_meters;
 pub use poll_rows::{OutcomeRow, PollRow, RUN, RunRows};
 pub use polls::audit_tables;
+pub use queries::{installations, meter_rows};
+pub use reading::{entries, places, range};
 pub use rows::MeterRows;
 pub use texts::put_findings;

@@ -72,7 +72,7 @@ fn ask_intervals<S: Alter>(conn: &mut Connection<S>, meter: &str) -> Result<Vec<
 }
 
 /// The installations, by their places.
-pub(crate) fn installations<S: Alter>(conn: &mut Connection<S>) -> Result<Vec<Row>, RowFault>
+pub fn installations<S: Alter>(conn: &mut Connection<S>) -> Result<Vec<Row>, RowFault>
     requires { conn.old.in_transaction ≡ false }
     ensures { Finds S.Store conn.old conn.new result
         (λ content rows. showing.ShowsInstallations content rows.items) }
@@ -127,10 +127,7 @@ fn intervals<S: Alter>(conn: &mut Connection<S>, meter: &str) -> Result<Vec<Row>
 }
 
 /// The rows that the tables have for a meter.
-pub(crate) fn meter_rows<S: Alter>(
-    conn: &mut Connection<S>,
-    meter: &str,
-) -> Result<MeterRows, RowFault>
+pub fn meter_rows<S: Alter>(conn: &mut Connection<S>, meter: &str) -> Result<MeterRows, RowFault>
     requires { conn.old.in_transaction ≡ false }
     ensures { Finds S.Store conn.old conn.new result (showing.AreRowsOf meter.now) }
 {

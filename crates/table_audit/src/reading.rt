@@ -79,7 +79,7 @@ fn share(row: &Row) -> Result<Share, RowFault>
 }
 
 /// The range of a meter, where it has one row.
-pub(crate) fn range(rows: &[Row]) -> Option<u64>
+pub fn range(rows: &[Row]) -> Option<u64>
     ensures { (n : _) → (values.all_in values.range_in rows.now ≡ Ok (n ∷ [])) ↔ (result ≡ Some n) }
 {
     if rows.len() != 1 {
@@ -92,7 +92,7 @@ pub(crate) fn range(rows: &[Row]) -> Option<u64>
 }
 
 /// Entries in their order, unless one can't be read.
-pub(crate) fn entries(
+pub fn entries(
     alloc: Global,
     rows: &[Row],
     voids: &[u64],
@@ -112,7 +112,7 @@ pub(crate) fn entries(
 }
 
 /// The places that voids name, unless one can't be read.
-pub(crate) fn places(alloc: Global, rows: &[Row]) -> Result<Option<Vec<u64>>, AllocError>
+pub fn places(alloc: Global, rows: &[Row]) -> Result<Option<Vec<u64>>, AllocError>
     ensures { IfOk result (values.AreRead values.place_in rows.now) }
 {
     let mut found = Vec::new(alloc);

@@ -14,7 +14,7 @@ use Rattle.office_http.specs.Exchange.{Does, Handles, Passage, Replies}
 use Rattle.office_http.specs.Serving.{Asks, IsAnswered, IsServed, Lasts}
 use Rattle.office_http.specs.declared.fault.HandleFault.{HandleFault}
 use Rattle.office_http.specs.declared.fault.HandleFault.TheVariants.{Read, Write, Short, TurnsUsed, Cut}
-use Rattle.office_http.specs.Connections.Connections.{AskedBy, ServesOne, ServesUpTo, history_behind}
+use Rattle.office_http.specs.Connections.Connections.{AskedBy, ServesOne, ServesUpTo, history_with}
 use Rattle.office_http.specs.Connections.Named.{HandlesNamed, HasNoRoom, LetsAsk, MayAsk, TurnsAway}
 
 -- nothing was asked at a moment
@@ -97,7 +97,7 @@ pub one_more : {B : Type 0} (names : List (List ℕ)) (n : ℕ) (begun mid now :
     → ServesUpTo names n begun mid ledger past old → TellsMoment mid now at
     → After ledger old new (λ h. ServesOne names at ledger h new) → (ledger (books_in new)).is_clean → ServesUpTo names (n + 1) begun now ledger past new
 one_more names n begun mid now at ledger past old new first told next clean =
-    let then = next (history_behind past first.connections) first.stands clean in
+    let then = next (history_with past first.connections) first.stands clean in
     record {
       connections = then.connection ∷ first.connections;
       few = omega (arith, first.few);

@@ -25,10 +25,10 @@ pub record Connection (names : List (List ℕ)) : Type 0 where
 
 -- what the office has accepted after these connections, the latest first: each request is accepted, refused or answered
 -- from what was kept, as its definition says
-abbrev pub history_behind : {names : List (List ℕ)} → (past : History) → List (Connection names)
+abbrev pub history_with : {names : List (List ℕ)} → (past : History) → List (Connection names)
     → History
-history_behind past [] = past
-history_behind past (one ∷ earlier) = with_asked (history_behind past earlier) one.at one.asked
+history_with past [] = past
+history_with past (one ∷ earlier) = with_asked (history_with past earlier) one.at one.asked
 
 -- each came at the moment that the clock told for it, and for nothing else the clock was asked
 abbrev pub AreTimed : {names : List (List ℕ)} → (begun now : Option (List ℕ))
@@ -52,4 +52,4 @@ pub record ServesUpTo {B : Type 0} (names : List (List ℕ)) (most : ℕ)
   pub connections : List (Connection names)
   pub few : length connections ≤ most
   pub timed : AreTimed begun now connections
-  pub stands : Stands ledger (history_behind past connections) office
+  pub stands : Stands ledger (history_with past connections) office

@@ -15,7 +15,7 @@ use Rattle.office_core.specs.Standing.{Stands}
 use Rattle.office_core.specs.declared.office.Office.{Office}
 use Rattle.office_rounds.specs.Rounds.{RoundState}
 use Rattle.office_program.specs.declared.entering.progress.Progress.{Progress}
-use Rattle.office_program.specs.Entering.Course.{AreAnswered, AreTaken, AreTimed, Came, Comes, EntersLine, IsUntouched, Taken, Takes, TakesLine, came_text, history_behind, lines_with, progress_of, text_after}
+use Rattle.office_program.specs.Entering.Course.{AreAnswered, AreTaken, AreTimed, Came, Comes, EntersLine, IsUntouched, Taken, Takes, TakesLine, came_text, history_with, lines_with, progress_of, text_after}
 use Rattle.office_program.specs.Entering.Entered.{EntersLines, IsStopped, status_of}
 use Rattle.office_program.specs.Entering.Lines.{Telling}
 
@@ -42,8 +42,8 @@ begins ledger tells caller lines rest past first begun progress office stands is
 
 -- one more was taken
 adds : {B : Type 0} (ledger : B → Ledger) (tells : Telling) (caller : Option (List ℕ)) (past : History) (first : ℕ) (begun was now : RoundState)
-    (old new : Office B) (taken : List Taken) (line : Line) (came : Came) → AreTaken ledger tells caller past first begun was old taken → Comes tells caller (history_behind past taken) line.text came
-    → Takes ledger (history_behind past taken) (progress_of first taken).latest was now new came
+    (old new : Office B) (taken : List Taken) (line : Line) (came : Came) → AreTaken ledger tells caller past first begun was old taken → Comes tells caller (history_with past taken) line.text came
+    → Takes ledger (history_with past taken) (progress_of first taken).latest was now new came
     → AreTaken ledger tells caller past first begun now new (record { line = line; came = came } ∷ taken)
 adds ledger tells caller past first begun was now old new taken line came are comes takes = record {
   stands = takes.stands;
@@ -55,11 +55,11 @@ adds ledger tells caller past first begun was now old new taken line came are co
 pub one_more : {B : Type 0} (ledger : B → Ledger) (tells : Telling) (caller : Option (List ℕ)) (lines rest left : List Line) (past : History) (first : ℕ)
     (begun was now : RoundState) (progress next : Progress) (old new : Office B) (line : Line)
     → (under : Underway ledger tells caller lines rest past first begun was progress old) → rest ≡ line ∷ left
-    → EntersLine ledger tells caller line (history_behind past under.taken) progress was now old new (Ok next)
+    → EntersLine ledger tells caller line (history_with past under.taken) progress was now old new (Ok next)
     → Underway ledger tells caller lines left past first begun now next new
 one_more {B = B} ledger tells caller lines rest left past first begun was now progress next old new line under is enters =
     let taken = under.taken in
-    let history = history_behind past taken in
+    let history = history_with past taken in
     let P : Progress → Type 0 = λ p. EntersLine ledger tells caller line history p was now old new (Ok next) in
     let done = subst P under.come enters in
     record {
@@ -75,7 +75,7 @@ untouched : {B : Type 0} (ledger : B → Ledger) (tells : Telling) (caller : Opt
     (old new : Office B) (taken : List Taken) → AreTaken ledger tells caller past first begun was old taken → IsUntouched was now old new
     → AreTaken ledger tells caller past first begun now new taken
 untouched {B = B} ledger tells caller past first begun was now old new taken are stays =
-    let P : Office B → Type 0 = λ o. Stands ledger (history_behind past taken) o in
+    let P : Office B → Type 0 = λ o. Stands ledger (history_with past taken) o in
     let Q : Failures → Type 0 = λ n. AreAnswered past begun.failures n taken in
     let R : Option (List ℕ) → Type 0 = λ m. AreTimed first begun.moments m taken in
     record {
@@ -98,7 +98,7 @@ then_nothing a b c x whole none =
 pub ends_early : {B : Type 0} (ledger : B → Ledger) (tells : Telling) (caller : Option (List ℕ)) (lines rest left : List Line) (past : History) (first : ℕ)
     (begun was now : RoundState) (progress : Progress) (old new : Office B) (line : Line) (status : ExitStatus)
     → (under : Underway ledger tells caller lines rest past first begun was progress old) → rest ≡ line ∷ left
-    → EntersLine ledger tells caller line (history_behind past under.taken) progress was now old new (Err status)
+    → EntersLine ledger tells caller line (history_with past under.taken) progress was now old new (Err status)
     → EntersLines ledger tells caller lines first begun now new status past
 ends_early ledger tells caller lines rest left past first begun was now progress old new line Fine under is enters = absurd enters
 ends_early ledger tells caller lines rest left past first begun was now progress old new line Refused under is enters =
@@ -116,7 +116,7 @@ ends_early ledger tells caller lines rest left past first begun was now progress
     }
 ends_early ledger tells caller lines rest left past first begun was now progress old new line Failed under is (inl cut) =
     let taken = under.taken in
-    let history = history_behind past taken in
+    let history = history_with past taken in
     let P : Progress → Type 0 = λ p. TakesLine {E = ExitStatus} ledger history p was now new (Err Failed) cut.0 in
     let takes = subst P under.come cut.2 in
     record {

@@ -31,7 +31,7 @@ use Rattle.office_program.specs.Entering.Marks.{is_marked, unmarked}
 use Rattle.office_program.specs.Entering.Lines.{IsEntry, IsFileEntry, IsListEntry, IsReadEntry, IsScriptEntry, IsWantedEntry, Telling, asked_by, file_request, wanted_in}
 use Rattle.office_program.specs.Entering.ReadLines.{IsNoRead, asked_at, number_of}
 use Rattle.office_program.specs.declared.entering.read_line.ReadRequest.{ReadRequest}
-use Rattle.office_program.specs.Entering.Course.{AreAnswered, AreComing, Came, Doubted, Faulty, IsCameAnswered, IsCameOf, IsShown, Taken, Undecided, Unread, history_behind, lines_with, with_came}
+use Rattle.office_program.specs.Entering.Course.{AreAnswered, AreComing, Came, Doubted, Faulty, IsCameAnswered, IsCameOf, IsShown, Taken, Undecided, Unread, history_with, lines_with, with_came}
 use Rattle.office_program.specs.Entering.Doubts.{doubt_of, repeat_in}
 use Rattle.office_program.specs.Entering.Course as course
 use Rattle.office_program.specs.Entering.Repeats.{ActsNoMore, AreSteady, HasActed, HasRepeated, HaveActed, InputsActOnce, IsRepeated, IsSameRequest, RequestsAreRepeated}
@@ -275,12 +275,12 @@ each_out P [] rest all = (tt, all)
 each_out P (two ∷ earlier) rest all = let more = each_out P earlier (two.line ∷ rest) all in ((more.1.0, more.0), more.1.1)
 
 each_kept : (tells : Telling) (caller : Option (List ℕ)) (taken : List Taken) (past later more : History) (before after : Failures) → AreSteady tells
-    → later ≡ more ++ history_behind past taken → AreAccepted later → AreComing tells caller past taken → AreAnswered past before after taken → HaveActed taken
+    → later ≡ more ++ history_with past taken → AreAccepted later → AreComing tells caller past taken → AreAnswered past before after taken → HaveActed taken
     → EachTaken (LineKept tells caller later) taken
 each_kept tells caller [] past later more before after steady goes accepted are answered acted = tt
 each_kept tells caller (one ∷ earlier) past later more before after steady goes accepted are answered acted =
     let comes = are.0 in
-    let here = keeps_entry later more (history_behind past earlier) comes.entry one.came answered.0 after comes.comes goes accepted answered.2 acted.0 in (
+    let here = keeps_entry later more (history_with past earlier) comes.entry one.came answered.0 after comes.comes goes accepted answered.2 acted.0 in (
       line_kept tells caller later one.line comes.entry steady comes.is here.0,
       each_kept tells caller earlier past later here.1.0 before answered.0 steady here.1.1 accepted are.1 answered.1 acted.1,
     )

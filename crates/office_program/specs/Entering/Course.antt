@@ -193,21 +193,21 @@ lines_with [] rest = rest
 lines_with (one ∷ earlier) rest = lines_with earlier (one.line ∷ rest)
 
 -- what the office has accepted after them
-abbrev pub history_behind : History → List Taken → History
-history_behind past [] = past
-history_behind past (one ∷ earlier) = with_came (history_behind past earlier) one.came
+abbrev pub history_with : History → List Taken → History
+history_with past [] = past
+history_with past (one ∷ earlier) = with_came (history_with past earlier) one.came
 
 abbrev pub AreComing : Telling → (caller : Option (List ℕ)) → History → List Taken → Type 0
 AreComing tells caller past [] = Unit {0}
 AreComing tells caller past (one ∷ earlier) =
-    Comes tells caller (history_behind past earlier) one.line.text one.came
+    Comes tells caller (history_with past earlier) one.line.text one.came
     × AreComing tells caller past earlier
 
 abbrev pub AreAnswered : History → (before after : Failures) → List Taken → Type 0
 AreAnswered past before after [] = after ≡ before
 AreAnswered past before after (one ∷ earlier) =
     (between : Failures) × AreAnswered past before between earlier
-    × IsCameAnswered (history_behind past earlier) between after one.came
+    × IsCameAnswered (history_with past earlier) between after one.came
 
 -- how far they come, from this moment on
 abbrev pub progress_of : (first : ℕ) → List Taken → Progress
@@ -223,14 +223,14 @@ AreTimed first begun now (one ∷ earlier) =
 abbrev pub text_after : History → List Taken → List ℕ
 text_after past [] = []
 text_after past (one ∷ earlier) =
-    text_after past earlier ++ came_text (history_behind past earlier) one.came
+    text_after past earlier ++ came_text (history_with past earlier) one.came
 
 -- Each was asked as it says, or was not, answered as the definitions say after those before it, at its moment; the office stands
 -- after them.
 pub record AreTaken {B : Type 0} (ledger : B → Ledger) (tells : Telling)
     (caller : Option (List ℕ)) (past : History) (first : ℕ) (begun now : RoundState)
     (office : Office B) (taken : List Taken) : Type 0 where
-  pub stands : Stands ledger (history_behind past taken) office
+  pub stands : Stands ledger (history_with past taken) office
   pub each : AreComing tells caller past taken
   pub answered : AreAnswered past begun.failures now.failures taken
   pub timed : AreTimed first begun.moments now.moments taken

@@ -27,7 +27,7 @@ use Rattle.office_program.specs.Entering.Lines.{IsBad, Telling}
 abbrev pub status_of : Progress → ExitStatus
 status_of progress = if progress.refused then Refused else Fine
 
--- behind those that were taken comes a bad line, and the rest isn't carried out
+-- after those that were taken comes a bad line, and the rest isn't carried out
 pub record IsStopped (tells : Telling) (lines : List Line) (taken : List Taken) : Type 0 where
   pub line : Line
   pub rest : List Line

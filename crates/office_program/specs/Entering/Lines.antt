@@ -1,5 +1,5 @@
 -- What a line of an input asks of an office: it is a line of a script whose first word is the request's number, and which may
--- have a mark behind it; or it names the file of a point list.
+-- have a mark after it; or it names the file of a point list.
 use Rattle.std.specs.Prelude.{◌≡◌, ◌≢◌, ◌⊎◌, ℕ, ℤ, Bool, true, false, List, [], ◌∷◌, ◌++◌, Option, Some, None, Result, Ok, Err, if◌then◌else◌}
 use Rattle.point_list.specs.Lists.{SpellsList, list_faults, rows_read}
 use Rattle.read_plan.specs.PlannedLists.{IsPlanned, Planned}

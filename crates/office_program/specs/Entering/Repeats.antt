@@ -11,7 +11,7 @@ use Rattle.office_rules.specs.History.{Fed, History, kind_of}
 use Rattle.office_rules.specs.Refusals.{AreAccepted, decision_of}
 use Rattle.office_books.specs.declared.failures.Failures.{Failures}
 use Rattle.office_core.specs.Failing.{FailsOutside, IsOutside}
-use Rattle.office_program.specs.Entering.Course.{AreAnswered, AreComing, Came, Taken, Undecided, history_behind, lines_with}
+use Rattle.office_program.specs.Entering.Course.{AreAnswered, AreComing, Came, Taken, Undecided, history_with, lines_with}
 use Rattle.office_program.specs.Entering.Course as course
 use Rattle.office_program.specs.Entering.Lines.{Telling}
 
@@ -85,7 +85,7 @@ pub record EntersAgain (tells : Telling) (caller : Option (List ℕ)) (lines : L
 
 -- Then none of them acts: the office has accepted what it had before, so its facts are those of entering it once.
 pub record ActsNoMore (later : History) (again : List Taken) : Type 0 where
-  pub same : history_behind later again ≡ later
+  pub same : history_with later again ≡ later
   pub repeated : HaveRepeated again
 
 -- So it is of an input whose files tell the same each time.
@@ -93,5 +93,5 @@ abbrev pub InputsActOnce : Telling → Type 0
 InputsActOnce tells =
     (caller : Option (List ℕ)) (lines : List Line) (past later : History) (taken again : List Taken)
     → HasEntered tells caller lines past taken
-    → EntersAgain tells caller lines (history_behind past taken) later again
+    → EntersAgain tells caller lines (history_with past taken) later again
     → ActsNoMore later again

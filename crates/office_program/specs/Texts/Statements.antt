@@ -90,7 +90,7 @@ AnswersOf ledger old new result found = After ledger old new (λ past.
 abbrev pub AreRecorded : List Fact → List Installation → Type 0
 AreRecorded facts rows = All (λ row. is_some (opening_of facts row.opening.meter) ≡ true) rows
 
--- The statements of these were put behind those before, or a question failed outside.
+-- The statements of these were put after those before, or a question failed outside.
 abbrev pub IsStated : Zone → DayRange → List Fact → List Installation
     → (before after : List MeterStatement) → (had has : Failures) → Result (Unit {0}) Refusal
     → Type 0

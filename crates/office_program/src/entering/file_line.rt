@@ -15,7 +15,7 @@ pub(crate) struct FileLine<'a> {
     pub(crate) name: &'a [u8],
 }
 
-// The name of a file, behind `@`.
+// The name of a file, after `@`.
 fn file_in(word: &[u8]) -> Option<&[u8]>
     ensures { option_map (λ name. name.now) result ≡ spec.file_in word.now }
 {

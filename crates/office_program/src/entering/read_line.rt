@@ -83,7 +83,7 @@ fn exchange(number: u64, words: &mut Words<'_>) -> Option<ReadLine>
     })
 }
 
-// The line of a number and a word behind it.
+// The line of a number and a word after it.
 fn line_of(number: u64, verb: &[u8], words: &mut Words<'_>) -> Option<ReadLine>
     ensures { result ≡ spec.line_said number verb.now words.old }
 {

@@ -78,7 +78,7 @@ fn wanted_list(marked: bool, number: u64, list: GivenList) -> Wanted
     }
 }
 
-/// What a line of a script asks, which may have a mark behind it.
+/// What a line of a script asks, which may have a mark after it.
 pub(crate) fn wanted_in(marked: bool, said: ScriptLine) -> Wanted
     ensures { result ≡ lines.wanted_in marked said }
 {

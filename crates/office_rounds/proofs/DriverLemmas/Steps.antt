@@ -12,11 +12,11 @@ use Rattle.office_books.specs.Ledgers.{Ledger}
 use Rattle.office_core.specs.EventRun.{Answered}
 use Rattle.office_core.specs.Standing.{Stands, books_in, notes_in, outgoing_in}
 use Rattle.office_core.specs.Taking.{IsAnswer, IsTold}
-use Rattle.office_rounds.specs.FedEvents.{history_behind}
+use Rattle.office_rounds.specs.FedEvents.{history_with}
 use Rattle.office_rounds.specs.DeviceRounds.Rounds.{heard}
 use Rattle.office_rounds.specs.declared.device_rounds.round.Round.{Round}
 use Rattle.office_events.specs.Showing.{Shown, shown}
-use Rattle.office_rounds.specs.Driver.Turns.{IsNext, Table, Wished, answered_for, first_wish, next_by, next_of, place_of, table, table_after, table_behind, told, wished}
+use Rattle.office_rounds.specs.Driver.Turns.{IsNext, Table, Wished, answered_for, first_wish, next_by, next_of, place_of, table, table_after, table_with, told, wished}
 use Rattle.office_rounds.specs.Driver.Going.{FeedsNext, Going, OfficeGoesOn, Scene, Start, TakesTurn, start}
 
 is_next : (first : Option Wished) (rounds : List Round) (at : Table) (one : Wished) → table first rounds ≡ at
@@ -53,20 +53,20 @@ pub feeds_next : {B V : Type 0} (ledger : B → Ledger) (sees : V → Shown → 
     → frames ≡ outgoing_in new.office → sees old.observer (shown place at e answer notes frames) new.observer
     → FeedsNext ledger sees at (wished place e) old new
 feeds_next ledger sees at place e answer old new mid notes frames feeds mid_is new_is notes_are frames_are saw = λ past begun fed first going next clean.
-    let so = feeds (history_behind past fed) going.leaves.stands clean in
-    let now = is_next first old.rounds (table_behind past begun.table fed) (wished place e) going.rounds next in
-    let all_notes : notes ≡ notes_after (history_behind past fed) at e answer = notes_are ∙ so.2.notes in
-    let all_frames : frames ≡ outgoing_after (history_behind past fed) at e answer = frames_are ∙ so.2.outgoing in (
+    let so = feeds (history_with past fed) going.leaves.stands clean in
+    let now = is_next first old.rounds (table_with past begun.table fed) (wished place e) going.rounds next in
+    let all_notes : notes ≡ notes_after (history_with past fed) at e answer = notes_are ∙ so.2.notes in
+    let all_frames : frames ≡ outgoing_after (history_with past fed) at e answer = frames_are ∙ so.2.outgoing in (
       record { at = at; event = e; result = answer },
       record {
         leaves = record { stands = so.0; answered = (old.failures, going.leaves.answered, so.1) };
-        next = (going.next, next_event (next_of (table_behind past begun.table fed)) place e now);
+        next = (going.next, next_event (next_of (table_with past begun.table fed)) place e now);
         timed = (going.timed, refl);
-        rounds = next_rounds first old.rounds mid new.rounds (table_behind past begun.table fed) place e answer notes _ going.rounds now mid_is new_is all_notes;
+        rounds = next_rounds first old.rounds mid new.rounds (table_with past begun.table fed) place e answer notes _ going.rounds now mid_is new_is all_notes;
         shown = (
           old.observer,
           going.shown,
-          next_shown sees old.observer new.observer (next_of (table_behind past begun.table fed)) place at e answer notes _ frames _ now all_notes all_frames saw,
+          next_shown sees old.observer new.observer (next_of (table_with past begun.table fed)) place at e answer notes _ frames _ now all_notes all_frames saw,
         );
       },
     )

@@ -92,7 +92,7 @@ started_by (answer.Started first count of) round =
     if nat_le (length round.polls.items + count) 16 then begun first count of round
     else broken_off round
 
--- What was fed for a round is answered. Behind its connection the reads are started from the first on; a refusal breaks it
+-- What was fed for a round is answered. After its connection the reads are started from the first on; a refusal breaks it
 -- off, or was of the connection.
 abbrev pub answered_at : Stage → Result Answer Refusal → Round → Round
 answered_at Off result round = round
@@ -107,7 +107,7 @@ answered_at (Leaving closing) result round = record round { stage = Off }
 abbrev pub answered : Result Answer Refusal → Round → Round
 answered result round = answered_at round.stage result round
 
--- Behind the end of a poll the reads that are left are started; where none is left and none waits, the device is gone.
+-- After the end of a poll the reads that are left are started; where none is left and none waits, the device is gone.
 abbrev pub gone_on : Round → Round
 gone_on round =
     if nat_lt round.started round.planned then record round { stage = Starting }

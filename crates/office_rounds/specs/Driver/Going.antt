@@ -10,7 +10,7 @@ use Rattle.office_core.specs.declared.office.Office.{Office}
 use Rattle.office_rounds.specs.Rounds.{IsFed, round_state}
 use Rattle.office_rounds.specs.declared.device_rounds.round.Round.{Round}
 use Rattle.office_events.specs.Showing.{Shown}
-use Rattle.office_rounds.specs.Driver.Turns.{AreNext, AreShown, Table, Wished, first_wish, next_by, table, table_behind}
+use Rattle.office_rounds.specs.Driver.Turns.{AreNext, AreShown, Table, Wished, first_wish, next_by, table, table_with}
 
 -- the office, how its books failed so far, the rounds, and the observer
 pub record Scene (B V : Type 0) : Type 0 where
@@ -46,7 +46,7 @@ pub record Going {B V : Type 0} (ledger : B → Ledger) (sees : V → Shown → 
       (round_state None None now.failures) now.office fed
   pub next : AreNext past begun.table fed
   pub timed : AreAt at fed
-  pub rounds : table first now.rounds ≡ table_behind past begun.table fed
+  pub rounds : table first now.rounds ≡ table_with past begun.table fed
   pub shown : AreShown sees begun.observer now.observer past begun.table fed
 
 -- One more event is fed, which is next, if no wrong answer of a store was taken as true until now.

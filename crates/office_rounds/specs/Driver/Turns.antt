@@ -9,7 +9,7 @@ use Rattle.office_events.specs.declared.refusals.Refusal.{Refusal}
 use Rattle.office_rules.specs.History.{History}
 use Rattle.office_rules.specs.Notes.{notes_after, outgoing_after}
 use Rattle.office_core.specs.EventRun.{Answered}
-use Rattle.office_rounds.specs.FedEvents.{history_behind}
+use Rattle.office_rounds.specs.FedEvents.{history_with}
 use Rattle.office_rounds.specs.DeviceRounds.Rounds.{answered, heard, is_wishing, joined, leaving, wish_of}
 use Rattle.office_rounds.specs.declared.device_rounds.round.Round.{Round}
 use Rattle.office_rounds.specs.declared.device_rounds.stage.Stage.{Stage}
@@ -84,13 +84,13 @@ table_after at answer notes = table None (told (place_of (next_of at)) answer no
 
 -- what the office told of an event
 abbrev pub notes_of : (past : History) → List Answered → Answered → List Note
-notes_of past earlier one = notes_after (history_behind past earlier) one.at one.event one.result
+notes_of past earlier one = notes_after (history_with past earlier) one.at one.event one.result
 
 -- the rounds after what was fed
-abbrev pub table_behind : (past : History) → Table → List Answered → Table
-table_behind past from [] = from
-table_behind past from (one ∷ earlier) =
-    table_after (table_behind past from earlier) one.result (notes_of past earlier one)
+abbrev pub table_with : (past : History) → Table → List Answered → Table
+table_with past from [] = from
+table_with past from (one ∷ earlier) =
+    table_after (table_with past from earlier) one.result (notes_of past earlier one)
 
 -- it is what is next
 abbrev pub IsNext : Option Wished → Event → Type 0
@@ -101,14 +101,14 @@ IsNext (Some one) e = e ≡ one.event
 abbrev pub AreNext : (past : History) → Table → List Answered → Type 0
 AreNext past from [] = Unit {0}
 AreNext past from (one ∷ earlier) =
-    AreNext past from earlier × IsNext (next_of (table_behind past from earlier)) one.event
+    AreNext past from earlier × IsNext (next_of (table_with past from earlier)) one.event
 
 -- what is shown of an event
 abbrev pub shown_of : (past : History) → Table → List Answered → Answered → Shown
 shown_of past from earlier one =
-    shown (place_of (next_of (table_behind past from earlier))) one.at one.event one.result
+    shown (place_of (next_of (table_with past from earlier))) one.at one.event one.result
     (notes_of past earlier one)
-    (outgoing_after (history_behind past earlier) one.at one.event one.result)
+    (outgoing_after (history_with past earlier) one.at one.event one.result)
 
 -- each was shown in turn
 abbrev pub AreShown : {V : Type 0} → (V → Shown → V → Type 0) → (from to : V) → (past : History)

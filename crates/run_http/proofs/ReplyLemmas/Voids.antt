@@ -25,7 +25,7 @@ use Rattle.office_core.specs.declared.office.Office.{Office}
 use Rattle.run_http.specs.MeterReplies.{AsksRows}
 use Rattle.office_core.specs.Several.{Keeps}
 use Rattle.run_http.specs.Voids.{is_voided, voided_in, voids_of}
-use Rattle.office_core.proofs.Asked.{answered_as, asked, asked_after, goes_on, kept_on, without_memory}
+use Rattle.office_core.proofs.SeveralAsked.{answered_as, asked, asked_after, goes_on, kept_on, without_memory}
 use Rattle.office_books.proofs.Pieces.{last_piece, one_piece_more, piece_at}
 
 -- ---- a piece

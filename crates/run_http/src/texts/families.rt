@@ -39,7 +39,7 @@ pub(crate) fn put_family(
     put_word(text, b" ", kind_word(kind))
 }
 
-/// Puts that behind the values of another metric.
+/// Puts that after the values of another metric.
 pub(crate) fn put_next_family(
     text: &mut Vec<u8>,
     name: &[u8],

@@ -11,8 +11,8 @@ use office_books::MeterEntry;
 use run_status::{put, put_number, put_scale};
 use std::alloc::AllocError;
 
-// Puts how many rows there are.
-fn put_end(text: &mut Vec<u8>, count: usize) -> Result<(), AllocError>
+/// Puts how many rows there are.
+pub(crate) fn put_end(text: &mut Vec<u8>, count: usize) -> Result<(), AllocError>
     ensures { OnOk result (text.new.items ≡ text.old.items ++ end_line count) }
 {
     put_number(text, b"end ", count as u64)?;

@@ -63,7 +63,7 @@ abbrev pub left_out : (text : List ℕ) → Queue → Queue
 left_out text queue =
     record queue { dropped = min (queue.dropped + line_count text) (2 ^ 64 - 1) }
 
--- A text is put behind what waits where there is room, and memory; else its lines are dropped, and counted.
+-- A text is put after what waits where there is room, and memory; else its lines are dropped, and counted.
 abbrev pub PutsBy : (room : Bool) → (text : List ℕ) → (old new : Queue) → Type 0
 PutsBy true text old new = (new ≡ kept text old) ⊎ (new ≡ left_out text old)
 PutsBy false text old new = new ≡ left_out text old

@@ -90,7 +90,7 @@ impl LineQueue {
         self.dropped == 0 && (self.bytes.is_empty() || fits)
     }
 
-    // Puts lines behind what was put, or counts them as dropped.
+    // Puts lines after what was put, or counts them as dropped.
     fn put_behind(&mut self, lines: &[u8])
         ensures { queues.PutsBehind lines.now (queue_of self.old) (queue_of self.new) }
     {

@@ -22,6 +22,8 @@ pub enum Ending<'a> {
     NoDay { option: &'a str, word: &'a str },
     /// The range of days ends before it begins.
     Backward,
+    /// The file for the option has no seal.
+    NoSeal(&'a str),
     Failed(Failure<'a>),
 }
 
@@ -34,7 +36,7 @@ impl<'a> Ending<'a> {
             Ending::Fine => 0,
             Ending::Refused => 1,
             Ending::Wrong(_) | Ending::NoText | Ending::NoZone(_) => 2,
-            Ending::NoDay { .. } | Ending::Backward => 2,
+            Ending::NoDay { .. } | Ending::Backward | Ending::NoSeal(_) => 2,
             Ending::Failed(_) => 3,
         }
     }
@@ -69,6 +71,10 @@ pub fn say<W: Write>(ending: &Ending<'_>, errors: &mut W)
             "error: invalid value '{word}' for '--{option} <DAY>': no day, as 2026-11-25\n"
         ),
         Ending::Backward => errors.write_all(b"error: '--till <DAY>' is before '--from <DAY>'\n"),
+        Ending::NoSeal(file) => write!(
+            errors,
+            "error: invalid value '{file}' for '--against <SEAL>': no seal, as sunreg audit --seal prints it\n"
+        ),
         Ending::Failed(failure) => write!(errors, "failed\nsunreg: {failure}\n"),
     };
 }

@@ -192,6 +192,10 @@ fn why_unaudited(fault: AuditFault) -> &'static str {
             "it holds no office, or one of a later program: give the office's file, or its copy",
         AuditFault::Earlier =>
             "its tables are an earlier program's: let sunreg report open it once, or a copy that sunreg backup made",
+        AuditFault::Unsealable =>
+            "a row has a value or a name that no seal can have: sunreg audit without --seal tells which",
+        AuditFault::NoSeal => "it is no seal: give what sunreg audit --seal printed",
+        AuditFault::Unread => "the seal can't be read: look at its name and its rights",
         AuditFault::Store => "the database in it failed: look at its rights and the disk's room",
         AuditFault::Memory => "memory ran out",
         AuditFault::Output => "standard output can't be written",

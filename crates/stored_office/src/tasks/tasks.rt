@@ -57,7 +57,7 @@ pub enum Task<'a> {
         caller: &'a str,
         text: &'a [u8],
     },
-    /// A device at a port of a host is polled, as `poll_books` does, and behind it what it lacks is said, as `say_lacks` does.
+    /// A device at a port of a host is polled, as `poll_books` does, and after it what it lacks is said, as `say_lacks` does.
     Round {
         device: &'a str,
         host: &'a str,

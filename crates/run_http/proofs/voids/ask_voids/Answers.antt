@@ -1,7 +1,7 @@
 use Rattle.std.proofs.Common.{◌≡◌, ◌+◌, ◌*◌, ◌++◌, List, length, subst, ap, ◌∙◌, arith}
 use Rattle.office_books.specs.declared.entries.MeterEntry.{MeterEntry}
 use Rattle.run_http.specs.Voids.{voided_in}
-use Rattle.office_core.proofs.Asked.{asked, goes_on, kept_on, unasked}
+use Rattle.office_core.proofs.SeveralAsked.{asked, goes_on, kept_on, unasked}
 use Rattle.run_http.proofs.ReplyLemmas.Voids.{AreKept, more_kept, no_room, refused, told}
 use Rattle.run_http.proofs.voids.ask_voids.Goals as goal
 

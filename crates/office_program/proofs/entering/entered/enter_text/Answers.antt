@@ -1,7 +1,7 @@
 use Rattle.std.proofs.Common.{refl, ◌∙◌}
 use Rattle.command_io.specs.Lines.{seen_line, speaking_lines}
 use Rattle.office_rounds.specs.Between.{desk_of}
-use Rattle.office_program.specs.Entering.Course.{history_behind}
+use Rattle.office_program.specs.Entering.Course.{history_with}
 use Rattle.office_program.specs.Entering.Lines.{telling_of}
 use Rattle.office_program.proofs.EnteringLemmas.Course.{begins, ends_early, ends_whole, one_more}
 use Rattle.office_program.proofs.entering.entered.enter_text.Goals as goal
@@ -27,7 +27,7 @@ loop-line-preserved g c =
           (desk_of g.B.Books g.C.Clock g.W.Write c.loop-line.office c.loop-line.clock c.loop-line.output)
           (desk_of g.B.Books g.C.Clock g.W.Write c.enter_line.new.office c.enter_line.new.clock c.enter_line.new.output) c.loop-line.progress c.in-Ok.next
           c.loop-line.office c.enter_line.new.office (seen_line c.in-Some.line) under c.in-Some.ensures
-          (c.in-Ok.ensures.enters (history_behind past under.taken) under.are.stands clean),
+          (c.in-Ok.ensures.enters (history_with past under.taken) under.are.stands clean),
     )
 
 pub returns-in-Err-clause-enters : goal.returns-in-Err-clause-enters
@@ -40,7 +40,7 @@ returns-in-Err-clause-enters g c = λ past stands clean.
     (desk_of g.B.Books g.C.Clock g.W.Write c.loop-line.office c.loop-line.clock c.loop-line.output)
     (desk_of g.B.Books g.C.Clock g.W.Write c.enter_line.new.office c.enter_line.new.clock c.enter_line.new.output) c.loop-line.progress
     c.loop-line.office c.enter_line.new.office (seen_line c.in-Some.line) c.in-Err.status under c.in-Some.ensures
-    (c.in-Err.ensures.enters (history_behind past under.taken) under.are.stands clean)
+    (c.in-Err.ensures.enters (history_with past under.taken) under.are.stands clean)
 
 pub returns-in-Err-clause-lasts : goal.returns-in-Err-clause-lasts
 returns-in-Err-clause-lasts g c =

@@ -1,7 +1,7 @@
 use Rattle.std.proofs.Common.{◌≡◌, ◌+◌, ◌++◌, ◌∷◌, [], take, sym, ap, ◌∙◌}
 use Rattle.std.proofs.lemmas.List.{take_more}
 use Rattle.office_events.specs.declared.questions.Installation.{Installation}
-use Rattle.office_core.proofs.Asked.{kept_on}
+use Rattle.office_core.proofs.SeveralAsked.{kept_on}
 use Rattle.office_program.proofs.StatementLemmas.{more_refused, more_stated}
 use Rattle.office_program.proofs.texts.statement.add_statements.Goals as goal
 

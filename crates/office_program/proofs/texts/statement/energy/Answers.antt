@@ -1,4 +1,4 @@
-use Rattle.office_core.proofs.Asked.{now_as, refused_as}
+use Rattle.office_core.proofs.SeveralAsked.{now_as, refused_as}
 use Rattle.office_program.proofs.StatementLemmas.{energy_refused, energy_told}
 use Rattle.office_program.proofs.texts.statement.energy.Goals as goal
 

@@ -1,4 +1,4 @@
-use Rattle.office_core.proofs.Asked.{now_as, refused_as}
+use Rattle.office_core.proofs.SeveralAsked.{now_as, refused_as}
 use Rattle.office_program.proofs.StatementLemmas.{held_told, holds_refused}
 use Rattle.office_program.proofs.texts.statement.held.Goals as goal
 

@@ -1,7 +1,7 @@
 use Rattle.std.proofs.Common.{◌≡◌, ◌+◌, ◌*◌, ◌++◌, List, length, subst, ap, ◌∙◌, arith}
 use Rattle.energy_report.specs.Statements.{tally_of}
 use Rattle.office_books.specs.declared.entries.MeterEntry.{MeterEntry}
-use Rattle.office_core.proofs.Asked.{asked, goes_on, kept_on, unasked}
+use Rattle.office_core.proofs.SeveralAsked.{asked, goes_on, kept_on, unasked}
 use Rattle.office_program.proofs.StatementLemmas.{IsTallied, tally_more, tally_told}
 use Rattle.office_program.proofs.texts.statement.tally.Goals as goal
 

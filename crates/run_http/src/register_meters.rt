@@ -1,0 +1,49 @@
+//! What a peer is replied who asks which meters are at a register, and which were.
+ghost use Rattle.std.specs.Prelude.{◌≡◌, OnOk};
+ghost use Rattle.office_core.specs.Parts.{meters_named};
+ghost use Rattle.run_http.specs.MeterReplies.{RepliesRows, with_rows_reply};
+ghost use Rattle.run_http.specs.Texts.RegisterLines.{meters_text};
+
+use crate::route::put_reply;
+use crate::site::put_refusal;
+use crate::texts::put_register_meters;
+use http_request::Status;
+use office_books::Books;
+use office_core::Office;
+use office_events::{Installation, Name, Refusal};
+use std::alloc::{AllocError, Global};
+
+// Puts the reply for the meters that the office told of.
+fn put_meters_told(
+    alloc: Global,
+    text: &mut Vec<u8>,
+    answer: &Result<Vec<Installation>, Refusal>,
+) -> Result<(), AllocError>
+    ensures { OnOk result (text.new.items
+        ≡ with_rows_reply meters_text answer.now text.old.items) }
+{
+    match answer {
+        Ok(meters) => {
+            let mut body = Vec::new(alloc);
+            put_register_meters(&mut body, meters)?;
+            put_reply(text, Status::Fine, b"text/plain", &body)
+        }
+        Err(why) => put_refusal(text, *why),
+    }
+}
+
+/// Asks the office for the meters at a register, closed ones too, in the order in which they were installed, and puts the reply at
+/// the end of a text. Want of memory leaves a part of it.
+pub fn reply_meters<B: Books>(
+    alloc: Global,
+    text: &mut Vec<u8>,
+    office: &mut Office<B>,
+    register: &Option<Name>,
+) -> Result<(), AllocError>
+    ensures { RepliesRows B.ledger office.old office.new
+        (λ facts. meters_named facts register.now) meters_text
+        text.old.items text.new.items result }
+{
+    let answer = office.meters(register);
+    put_meters_told(alloc, text, &answer)
+}

@@ -1,0 +1,58 @@
+//! The meters at a register, as lines.
+ghost use Rattle.std.specs.Prelude.{◌≡◌, ◌++◌, OnOk, flat_map};
+ghost use Rattle.run_http.specs.Texts.RegisterLines as lines;
+
+use crate::texts::meter_lines::put_end;
+use energy_core::Last;
+use office_events::Installation;
+use run_status::{put, put_number, put_scale};
+use std::alloc::AllocError;
+
+// Puts where a counter stands.
+fn put_last(text: &mut Vec<u8>, last: &Last) -> Result<(), AllocError>
+    ensures { OnOk result (text.new.items ≡ text.old.items ++ lines.last_text last.now) }
+{
+    put_number(text, b" ", last.at)?;
+    put_number(text, b" ", u64::from(last.raw))?;
+    put_scale(text, b" ", last.sf)
+}
+
+// Puts whether a meter was closed.
+fn put_state(text: &mut Vec<u8>, ended: bool) -> Result<(), AllocError>
+    ensures { OnOk result (text.new.items ≡ text.old.items ++ lines.state_word ended) }
+{
+    if ended {
+        put(text, b" ended\n")
+    } else {
+        put(text, b" open\n")
+    }
+}
+
+// Puts the line of a meter.
+fn put_meter(text: &mut Vec<u8>, row: &Installation) -> Result<(), AllocError>
+    ensures { OnOk result (text.new.items ≡ text.old.items ++ lines.meter_line row.now) }
+{
+    put(text, row.opening.meter.as_bytes())?;
+    put_number(text, b" ", row.opening.at)?;
+    put_last(text, &row.last)?;
+    put_number(text, b" ", row.total)?;
+    put_state(text, row.ended)
+}
+
+// Puts a line for each meter.
+fn put_meter_lines(text: &mut Vec<u8>, rows: &[Installation]) -> Result<(), AllocError>
+    ensures { OnOk result (text.new.items ≡ text.old.items ++ flat_map lines.meter_line rows.now) }
+{
+    for row in rows {
+        put_meter(text, row)?;
+    }
+    Ok(())
+}
+
+/// Puts meters at the end of a text, a line each, and then how many there are. Want of memory leaves a part of it.
+pub fn put_register_meters(text: &mut Vec<u8>, rows: &[Installation]) -> Result<(), AllocError>
+    ensures { OnOk result (text.new.items ≡ text.old.items ++ lines.meters_text rows.now) }
+{
+    put_meter_lines(text, rows)?;
+    put_end(text, rows.len())
+}

@@ -1,0 +1,144 @@
+//! Seals of an office in a database.
+ghost use Rattle.std.specs.Prelude.{◌≡◌, ◌≢◌, ◌↔◌, ◌⊎◌, List, [], false, map, Err, Some, IsTrue, IfOk, IfErr, OnOk};
+ghost use Rattle.std.specs.Io.KnownBytes.{Appends};
+ghost use Rattle.sqlite.specs.Held.{state};
+ghost use Rattle.sqlite.specs.State.{HasCleanDisk};
+ghost use Rattle.store_tables.specs.Content.{Content};
+ghost use Rattle.store_files.specs.declared.layouts.Layout.{Layout as TheLayout};
+ghost use Rattle.store_files.specs.Layouts.{IsNamedAs};
+ghost use Rattle.table_audit.specs.Looking.{HoldsTables, OnlyLooks};
+ghost use Rattle.table_seals.specs.Checking.{TellsTables};
+ghost use Rattle.table_seals.specs.Reading.{AreSealable};
+ghost use Rattle.table_seals.specs.Sealed.{Sealed, sealed_of};
+ghost use Rattle.table_seals.specs.Sealing.{SealsTables, CannotBeSealed};
+ghost use Rattle.table_seals.specs.Texts.{seal_text, checked_text};
+
+use crate::audits::AuditFault;
+use sqlite::{Alter, Connection, Error, ErrorCode};
+use std::alloc::Global;
+use std::io::Write;
+use store_files::{Layout, layout_of};
+use store_tables::RowFault;
+use sun_points::Sink;
+use table_seals::{
+    Checked, MeterSeal, NoSeal, check_seal, put_checked, put_seal, read_seal, seal_tables,
+};
+
+/// Whether a database has the tables of an office, and no transaction is under way.
+fn check_ours<S: Alter>(connection: &Connection<S>) -> Result<(), AuditFault>
+    ensures foreign { ((layout : TheLayout) → ¬ IsNamedAs connection.now.schema layout)
+        → result ≡ Err AuditFault.NotOurs }
+    ensures idle { OnOk result (connection.now.in_transaction ≡ false) }
+    ensures fault { IfErr result (λ fault.
+        (fault ≡ AuditFault.NotOurs) ⊎ (fault ≡ AuditFault.Earlier)) }
+{
+    if !connection.is_autocommit() {
+        return Err(AuditFault::NotOurs);
+    }
+    match layout_of(connection.schema()) {
+        None => Err(AuditFault::NotOurs),
+        Some(Layout::First | Layout::Second) => Err(AuditFault::Earlier),
+        Some(Layout::Third) => Ok(()),
+    }
+}
+
+/// Why the store told nothing.
+fn fault_of(fault: RowFault) -> AuditFault
+    ensures { (result ≡ AuditFault.Memory) ⊎ (result ≡ AuditFault.Store) }
+{
+    match fault {
+        RowFault::Sql(Error::SqliteFailure(ErrorCode::OutOfMemory)) => AuditFault::Memory,
+        _ => AuditFault::Store,
+    }
+}
+
+/// The seal of what the tables of an office in a database have. Nothing is written to it.
+pub fn seal_stored<S: Alter>(
+    alloc: Global,
+    connection: &mut Connection<S>,
+) -> Result<Vec<MeterSeal>, AuditFault>
+    ensures foreign { ((layout : TheLayout) → ¬ IsNamedAs connection.old.schema layout)
+        → result ≡ Err AuditFault.NotOurs }
+    ensures looks { connection.old.in_transaction ≡ false
+        → OnlyLooks S.Store connection.old connection.new }
+    ensures tells { HasCleanDisk (state S.Store connection.new) → (content : Content)
+        → HoldsTables S.Store connection.old content
+        → IfOk result (λ seals. SealsTables content (Some seals)) }
+    ensures unsealed { HasCleanDisk (state S.Store connection.new) → (content : Content)
+        → HoldsTables S.Store connection.old content
+        → result ≡ Err AuditFault.Unsealable → CannotBeSealed content }
+{
+    check_ours(connection)?;
+    match seal_tables(alloc, connection) {
+        Ok(Some(seals)) => Ok(seals),
+        Ok(None) => Err(AuditFault::Unsealable),
+        Err(fault) => Err(fault_of(fault)),
+    }
+}
+
+/// Writes the text of a seal.
+pub fn write_seal<W: Write>(
+    alloc: Global,
+    seals: &[MeterSeal],
+    output: &mut W,
+) -> Result<(), AuditFault>
+    ensures { OnOk result (Appends (W.contents output.old) (W.contents output.new)
+        (seal_text (map sealed_of seals.now))) }
+{
+    let Ok(text) = put_seal(alloc, seals) else {
+        return Err(AuditFault::Memory);
+    };
+    match output.take_text(text.as_slice()) {
+        Ok(()) => Ok(()),
+        Err(_) => Err(AuditFault::Output),
+    }
+}
+
+/// Which meters the tables of an office in a database don't have any more as the seal of this text says. Nothing is written to it.
+pub fn check_stored_seal<S: Alter>(
+    alloc: Global,
+    connection: &mut Connection<S>,
+    text: &str,
+) -> Result<Checked, AuditFault>
+    ensures foreign { ((layout : TheLayout) → ¬ IsNamedAs connection.old.schema layout)
+        → result ≡ Err AuditFault.NotOurs }
+    ensures looks { connection.old.in_transaction ≡ false
+        → OnlyLooks S.Store connection.old connection.new }
+    ensures tells { HasCleanDisk (state S.Store connection.new) → (content : Content)
+        → HoldsTables S.Store connection.old content
+        → IfOk result (λ checked. (seals : List Sealed) × (text.now ≡ seal_text seals)
+        × TellsTables seals content checked) }
+    ensures no_seal { (seals : List Sealed) → AreSealable seals → text.now ≡ seal_text seals
+        → result ≢ Err AuditFault.NoSeal }
+{
+    check_ours(connection)?;
+    let seals = match read_seal(alloc, text) {
+        Ok(seals) => seals,
+        Err(NoSeal::Other) => return Err(AuditFault::NoSeal),
+        Err(NoSeal::Memory) => return Err(AuditFault::Memory),
+    };
+    match check_seal(alloc, connection, seals.as_slice()) {
+        Ok(checked) => Ok(checked),
+        Err(fault) => Err(fault_of(fault)),
+    }
+}
+
+/// Writes what a check tells, and answers whether no meter differs.
+pub fn write_checked<W: Write>(
+    alloc: Global,
+    checked: &Checked,
+    output: &mut W,
+) -> Result<bool, AuditFault>
+    ensures fine { IfOk result (λ fine. IsTrue fine ↔ (checked.now.differing.items ≡ [])) }
+    ensures told { OnOk result (Appends (W.contents output.old) (W.contents output.new)
+        (checked_text checked.now)) }
+{
+    let mut text = Vec::new(alloc);
+    if put_checked(&mut text, checked).is_err() {
+        return Err(AuditFault::Memory);
+    }
+    match output.take_text(text.as_slice()) {
+        Ok(()) => Ok(checked.is_fine()),
+        Err(_) => Err(AuditFault::Output),
+    }
+}

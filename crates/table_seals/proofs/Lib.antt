@@ -1,0 +1,5 @@
+pub mod Staying
+pub mod Rows
+pub mod Words
+pub mod Opened
+pub mod Read

@@ -1,0 +1,61 @@
+-- Rows of installations and seals, one after the other.
+use Rattle.std.proofs.Common.{◌≡◌, ℕ, ◌+◌, ◌<◌, Bool, true, false, List, [], ◌∷◌, ◌++◌, map, take, length, get_or, Some, refl, sym, ap, subst, ◌∙◌, append_assoc, arith}
+use Rattle.std.proofs.lemmas.List.{take_more, take_all, map-append}
+use Rattle.std.proofs.lemmas.Option.{slice_get-get_or}
+use Rattle.std.specs.List.{slice_get}
+use Rattle.sqlite.specs.Order.{Row}
+use Rattle.store_tables.specs.Content.{Content}
+use Rattle.table_seals.specs.declared.seals.MeterSeal.{MeterSeal}
+use Rattle.table_seals.specs.Checking.{TellsKept, AreTold, TellsMeter, TellsNames, unless_kept, differing}
+use Rattle.table_seals.specs.Sealed.{Sealed, sealed_of}
+use Rattle.table_seals.specs.Sealing.{SealsRow, AreSealed}
+
+sealed_more : (content : Content) (rows : List Row) (seals : List MeterSeal) (row : Row) (seal : MeterSeal) → AreSealed content rows seals
+    → SealsRow content row (Some seal) → AreSealed content (rows ++ row ∷ []) (seals ++ seal ∷ [])
+sealed_more content [] [] row seal h one = (one, tt)
+sealed_more content (first ∷ rows) (s ∷ seals) row seal h one = (h.0, sealed_more content rows seals row seal h.1 one)
+sealed_more content [] (s ∷ seals) row seal h one = absurd h
+sealed_more content (first ∷ rows) [] row seal h one = absurd h
+
+pub next_sealed : (content : Content) (rows : List Row) (i : ℕ) (row : Row) (seals next : List MeterSeal) (seal : MeterSeal) → i < length rows
+    → row ≡ get_or rows i row → next ≡ seals ++ seal ∷ [] → AreSealed content (take i rows) seals → SealsRow content row (Some seal)
+    → AreSealed content (take (i + 1) rows) next
+next_sealed content rows i row seals next seal lt is put before one =
+    let grown : take i rows ++ row ∷ [] ≡ take (i + 1) rows = ap (λ (r : Row). take i rows ++ r ∷ []) is ∙ sym (take_more rows i row lt) in
+    subst (λ (rs : List Row). AreSealed content rs next) grown
+    (subst (λ (ss : List MeterSeal). AreSealed content (take i rows ++ row ∷ []) ss) (sym put) (sealed_more content (take i rows) seals row seal before one))
+
+pub there_at : (rows : List Row) (i : ℕ) (row : Row) → i < length rows → row ≡ get_or rows i row → slice_get rows i ≡ Some row
+there_at rows i row lt is = slice_get-get_or rows i row lt ∙ ap (λ (r : Row). let o : _ = Some r in o) (sym is)
+
+-- ---- checks
+
+told_more : (installed : List Row) (content : Content) (seals : List Sealed) (kept : List Bool) (seal : Sealed) (one : Bool)
+    → AreTold installed content seals kept → TellsKept installed seal content one
+    → AreTold installed content (seals ++ seal ∷ []) (kept ++ one ∷ []) × (differing (seals ++ seal ∷ []) (kept ++ one ∷ []) ≡ differing seals kept ++ unless_kept one seal.meter)
+told_more installed content [] [] seal true h tells = ((tells, tt), refl)
+told_more installed content [] [] seal false h tells = ((tells, tt), refl)
+told_more installed content (s ∷ seals) (k ∷ kept) seal one h tells =
+    let rest = told_more installed content seals kept seal one h.1 tells in (
+      (h.0, rest.0),
+      ap (λ ns. unless_kept k s.meter ++ ns) rest.1 ∙ sym (append_assoc (unless_kept k s.meter) (differing seals kept) (unless_kept one seal.meter)),
+    )
+told_more installed content [] (k ∷ kept) seal one h tells = absurd h
+told_more installed content (s ∷ seals) [] seal one h tells = absurd h
+
+pub next_told : (installed : List Row) (content : Content) (seals : List MeterSeal) (i : ℕ) (seal : MeterSeal) (old new : List (List ℕ)) → i < length seals
+    → seal ≡ get_or seals i seal → TellsNames installed (map sealed_of (take i seals)) content old → TellsMeter installed (sealed_of seal) content old new
+    → TellsNames installed (map sealed_of (take (i + 1) seals)) content new
+next_told installed content seals i seal old new lt is before one =
+    let more = told_more installed content (map sealed_of (take i seals)) before.kept (sealed_of seal) one.kept before.told one.told in
+    let grown : map sealed_of (take i seals) ++ sealed_of seal ∷ [] ≡ map sealed_of (take (i + 1) seals) =
+    sym (map-append sealed_of (take i seals) (seal ∷ [])) ∙ ap (λ (s : MeterSeal). map sealed_of (take i seals ++ s ∷ [])) is
+    ∙ ap (map sealed_of) (sym (take_more seals i seal lt)) in
+    subst (λ (ss : List Sealed). TellsNames installed ss content new) grown (record {
+      kept = before.kept ++ one.kept ∷ [];
+      told = more.0;
+      names_are = one.names ∙ ap (λ ns. ns ++ unless_kept one.kept (sealed_of seal).meter) before.names_are ∙ sym more.1;
+    })
+
+pub none_told : (installed : List Row) (content : Content) (names : List (List ℕ)) → names ≡ [] → TellsNames installed [] content names
+none_told installed content names none = record { kept = []; told = tt; names_are = none }

@@ -1,0 +1,81 @@
+-- Words, numbers and digests, and where they end in a text.
+use Rattle.std.proofs.Common.{◌≡◌, ℕ, zero, suc, ◌+◌, ◌/◌, ◌%◌, ◌<◌, ◌≤◌, ◌^◌, Bool, true, false, ◌&&◌, nat_lt, List, [], ◌∷◌, ◌++◌, length, drop, get_or, Option, Some, None, refl, sym, ap, subst, ◌∙◌, arith}
+use Rattle.std.specs.Prelude.{decimal, IsSomeAnd, IfSome}
+use Rattle.std.specs.Borrow.{Bor}
+use Rattle.std.specs.List.{list_all, slice_index}
+use Rattle.std.specs.Str.Pattern.{FindsTextPrefix, StripsPrefix}
+use Rattle.std.proofs.lemmas.Bool.Decides.{nat_tests}
+use Rattle.std.proofs.lemmas.Fmt.{decimal_by_steps}
+use Rattle.std.proofs.lemmas.List.{append_cancel_left}
+use Rattle.std.proofs.lemmas.List.Folds.{list_all-append}
+use Rattle.std.proofs.lemmas.List.Sums.{AllPass-from_list_all}
+use Rattle.std.proofs.lemmas.Str.Pattern.{IsSplitOnceResult, split_after, split_parts}
+use Rattle.hex.specs.Hex.{encode_with, encode_lower, lower_digits, IsBytes}
+use Rattle.table_seals.specs.Tables.{is_word}
+
+both_true : (a b : Bool) → a && b ≡ true → (a ≡ true) × (b ≡ true)
+both_true true true h = (refl, refl)
+both_true true false h = absurd (cc)
+both_true false b h = absurd (cc)
+
+and_is : (a b : Bool) → a ≡ true → b ≡ true → a && b ≡ true
+and_is a b p q = ap (λ x. x && b) p ∙ q
+
+above : (b : ℕ) → nat_lt 32 b ≡ true → 32 < b
+above b h = grind (arith, nat_tests)
+
+is_above : (b : ℕ) → 32 < b → nat_lt 32 b ≡ true
+is_above b lt = grind (arith, nat_tests)
+
+-- a word has no end of a word in it
+pub is_free : (word : List ℕ) (end : ℕ) → is_word word ≡ true → end ≤ 32 → (i : ℕ) → i < length word → get_or word i 0 ≡ end → ⊥
+is_free [] end h le i lt e = absurd (omega (arith, lt))
+is_free (b ∷ bs) end h le zero lt e =
+    let both = both_true (nat_lt 32 b) (is_word bs) h in
+    let far : 32 < b = above b both.0 in
+    let same : b ≡ end = e in
+    omega (arith, far, same, le)
+is_free (b ∷ bs) end h le (suc i) lt e =
+    is_free bs end (both_true (nat_lt 32 b) (is_word bs) h).1 le i (omega (arith, lt)) e
+
+-- ---- numbers and digests are words
+
+pub decimal_word : (n : ℕ) → n < 2 ^ 64 → is_word (decimal n) ≡ true
+decimal_word =
+    decimal_by_steps (λ n ds. is_word ds ≡ true) (λ n lt. and_is (nat_lt 32 (48 + n)) true (is_above (48 + n) (omega arith)) refl)
+    (λ n ds le h. list_all-append (λ byte. nat_lt 32 byte) ds ((48 + n % 10) ∷ [])
+    ∙ and_is (is_word ds) (nat_lt 32 (48 + n % 10) && true) h (and_is (nat_lt 32 (48 + n % 10)) true (is_above (48 + n % 10) (omega arith)) refl))
+
+digit_word : (k : ℕ) → k < 16 → nat_lt 32 (slice_index lower_digits k) ≡ true
+digit_word k lt = AllPass-from_list_all (λ byte. nat_lt 32 byte) lower_digits refl k 0 (omega (arith, lt))
+
+pub hex_word : (bytes : List ℕ) → IsBytes bytes → is_word (encode_lower bytes) ≡ true
+unfolding encode_with
+hex_word [] h = refl
+hex_word (b ∷ bytes) h =
+    let small : b < 256 = h 0 in
+    and_is _ _ (digit_word (b / 16) (omega (arith, small)))
+    (and_is _ _ (digit_word (b % 16) (omega arith)) (hex_word bytes (λ i. h (suc i))))
+
+-- ---- a text that comes first
+
+pub stripped : (before text rest : List ℕ) → StripsPrefix (FindsTextPrefix before) text rest → text ≡ before ++ rest
+stripped before text rest h = h.1.1 ∙ ap (λ t. before ++ t) (sym h.2)
+
+pub strip_reads : (before text rest behind : List ℕ) → StripsPrefix (FindsTextPrefix before) text rest → text ≡ before ++ behind → rest ≡ behind
+strip_reads before text rest behind h is = append_cancel_left before rest behind (sym (stripped before text rest h) ∙ is)
+
+pub not_stripped : (before text behind : List ℕ) → FindsTextPrefix before text None → text ≡ before ++ behind → ⊥
+not_stripped before text behind h is = h behind is
+
+-- ---- up to an end
+
+pub split_reads : (end : ℕ) (text word behind : List ℕ) (r : Option (Bor (List ℕ) × Bor (List ℕ))) → IsSplitOnceResult end text r → end ≤ 32
+    → is_word word ≡ true → text ≡ word ++ end ∷ behind → IsSomeAnd r (λ found. (found.0.now ≡ word) × (found.1.now ≡ behind))
+split_reads end text word behind None h le w is = split_after end text word behind None h (omega (arith, le)) is (is_free word end w le)
+split_reads end text word behind (Some x) h le w is = split_after end text word behind (Some x) h (omega (arith, le)) is (is_free word end w le)
+
+pub split_is : (end : ℕ) (text : List ℕ) (r : Option (Bor (List ℕ) × Bor (List ℕ))) → IsSplitOnceResult end text r → end ≤ 32
+    → IfSome r (λ found. text ≡ found.0.now ++ end ∷ found.1.now)
+split_is end text None h le = tt
+split_is end text (Some x) h le = (split_parts end text (Some x) h (omega (arith, le))).0

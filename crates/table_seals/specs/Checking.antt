@@ -1,0 +1,83 @@
+-- Whether the tables still have what was sealed.
+use Rattle.std.specs.Prelude.{⊤, ◌≡◌, ◌↔◌, ◌≤◌, ℕ, Bool, true, false, List, [], ◌∷◌, ◌++◌, map, take, length, string_bytes, IsTrue, Any}
+use Rattle.std.specs.List.{list_all}
+use Rattle.sha2.specs.Sha256.{sha256}
+use Rattle.meter_audit.specs.declared.rows.TableRow.{TableRow}
+use Rattle.sqlite.specs.Order.{Row}
+use Rattle.store_tables.specs.Content.{Content}
+use Rattle.table_audit.specs.declared.rows.MeterRows.{MeterRows}
+use Rattle.table_audit.specs.Reading.{is_named}
+use Rattle.table_audit.specs.Showing.{AreRowsOf, ShowsInstallations}
+use Rattle.table_seals.specs.declared.checks.Checked.{Checked}
+use Rattle.table_seals.specs.Sealed.{Sealed}
+use Rattle.table_seals.specs.Tables.{HasTerms, HasRead}
+use Rattle.table_seals.specs.Texts.{entries_text}
+
+-- a row of installations has the meter on the same terms
+abbrev pub IsInstalled : List Row → Sealed → Type 0
+IsInstalled installed seal =
+    Any (λ row. HasTerms row seal.meter seal.register seal.ceiling) installed
+
+-- Its first entries are those that were sealed, of the same range, and what was voided still is. More entries and voids may have
+-- come.
+pub record HasSealed (rows : MeterRows) (seal : Sealed) : Type 0 where
+  pub voids : List ℕ
+  pub all_entries : List TableRow
+  pub read : HasRead rows seal.range voids all_entries
+  pub enough : seal.entries ≤ length all_entries
+  pub same : sha256 (entries_text (take seal.entries all_entries)) ≡ seal.digest
+  pub still : list_all (λ place. is_named voids place) seal.voids ≡ true
+
+abbrev pub Keeps : List Row → MeterRows → Sealed → Type 0
+Keeps installed rows seal = IsInstalled installed seal × HasSealed rows seal
+
+-- It is told whether the tables keep a meter as it was sealed.
+pub record TellsKept (installed : List Row) (seal : Sealed) (content : Content) (kept : Bool) :
+    Type 0 where
+  pub rows : MeterRows
+  pub theirs : AreRowsOf seal.meter content rows
+  pub told : IsTrue kept ↔ Keeps installed rows seal
+
+abbrev pub AreTold : List Row → Content → List Sealed → List Bool → Type 0
+AreTold installed content [] [] = ⊤
+AreTold installed content (seal ∷ seals) (kept ∷ others) =
+    TellsKept installed seal content kept × AreTold installed content seals others
+AreTold installed content [] (kept ∷ others) = ⊥
+AreTold installed content (seal ∷ seals) [] = ⊥
+
+-- the name of a meter that is not kept
+abbrev pub unless_kept : (kept : Bool) → (meter : List ℕ) → List (List ℕ)
+unless_kept true meter = []
+unless_kept false meter = meter ∷ []
+
+-- It is put behind the names of those before it.
+pub record TellsMeter (installed : List Row) (seal : Sealed) (content : Content)
+    (old new : List (List ℕ)) : Type 0 where
+  pub kept : Bool
+  pub told : TellsKept installed seal content kept
+  pub names : new ≡ old ++ unless_kept kept seal.meter
+
+-- the names of those that are not kept
+abbrev pub differing : List Sealed → List Bool → List (List ℕ)
+differing [] kept = []
+differing (seal ∷ seals) [] = []
+differing (seal ∷ seals) (kept ∷ others) = unless_kept kept seal.meter ++ differing seals others
+
+-- The meters that differ are told by their names, in the order of the seal.
+pub record TellsNames (installed : List Row) (seals : List Sealed) (content : Content)
+    (names : List (List ℕ)) : Type 0 where
+  pub kept : List Bool
+  pub told : AreTold installed content seals kept
+  pub names_are : names ≡ differing seals kept
+
+-- and how many meters the seal has
+pub record TellsSeals (installed : List Row) (seals : List Sealed) (content : Content)
+    (checked : Checked) : Type 0 where
+  pub names : TellsNames installed seals content (map string_bytes checked.differing.items)
+  pub count : checked.meters ≡ length seals
+
+-- the same of the rows of installations that the tables have
+pub record TellsTables (seals : List Sealed) (content : Content) (checked : Checked) : Type 0 where
+  pub installed : List Row
+  pub shown : ShowsInstallations content installed
+  pub tells : TellsSeals installed seals content checked

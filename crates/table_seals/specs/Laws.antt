@@ -1,0 +1,33 @@
+-- What stays sealed, whatever comes behind it.
+use Rattle.std.specs.Prelude.{◌≡◌, ℕ, ◌==◌, Bool, true, ◌&&◌, List, ◌++◌, take, length, reverse}
+use Rattle.std.specs.List.{list_any}
+use Rattle.meter_journal.specs.declared.lines.Installed.{Installed}
+use Rattle.meter_journal.specs.Books.{IsWellInstalled}
+use Rattle.meter_journal.specs.Fitting.{AreFitting}
+use Rattle.meter_journal.specs.Journal.{Journal, rows_of}
+use Rattle.meter_audit.specs.declared.rows.TableRow.{TableRow}
+use Rattle.meter_audit.specs.Rows.{table_rows}
+use Rattle.table_seals.specs.Texts.{entries_text}
+
+-- the entries that the tables have for a meter with this journal, the opening first
+abbrev pub entries_by : Installed → Journal → List TableRow
+entries_by meter lines = reverse (table_rows meter (rows_of meter.opening lines))
+
+-- a void names the entry at a place
+abbrev pub is_voided_at : (place : ℕ) → List TableRow → Bool
+is_voided_at place entries = list_any (λ entry. (entry.place == place) && entry.is_voided) entries
+
+-- Whatever lines come behind a lawful journal: entries, readings that are held, voids. Its entries are still the first ones,
+-- with the same text.
+abbrev pub FirstEntriesStay : Type 0
+FirstEntriesStay = (meter : Installed) (more lines : Journal) → IsWellInstalled meter
+    → AreFitting meter (more ++ lines)
+    → entries_text (take (length (entries_by meter lines)) (entries_by meter (more ++ lines)))
+    ≡ entries_text (entries_by meter lines)
+
+-- And what was voided stays voided.
+abbrev pub VoidsStay : Type 0
+VoidsStay = (meter : Installed) (more lines : Journal) → IsWellInstalled meter
+    → AreFitting meter (more ++ lines) → (place : ℕ)
+    → is_voided_at place (entries_by meter lines) ≡ true
+    → is_voided_at place (entries_by meter (more ++ lines)) ≡ true

@@ -1,0 +1,34 @@
+-- Lines of a seal at the beginning of a text.
+use Rattle.std.specs.Prelude.{◌≡◌, ◌<◌, ◌^◌, ℕ, true, List, ◌++◌, flat_map, codes}
+use Rattle.std.specs.List.{AllByRecursion}
+use Rattle.table_seals.specs.declared.parsing.MeterLine.{MeterLine}
+use Rattle.table_seals.specs.Reading.{AreSealable}
+use Rattle.table_seals.specs.Sealed.{Sealed}
+use Rattle.table_seals.specs.Tables.{is_word}
+use Rattle.table_seals.specs.Texts.{meter_text, void_line}
+
+-- a line tells all of a seal but its voids
+pub record IsLineOf (seal : Sealed) (line : MeterLine) : Type 0 where
+  pub meter : line.meter.now ≡ seal.meter
+  pub register : line.register.now ≡ seal.register
+  pub range : line.range ≡ seal.range
+  pub ceiling : line.ceiling ≡ seal.ceiling
+  pub entries : line.entries ≡ seal.entries
+  pub digest : line.digest ≡ seal.digest
+
+abbrev pub Begins : (word text : List ℕ) → Type 0
+Begins word text = (rest : List ℕ) × (text ≡ word ++ rest)
+
+-- a text is lines of a meter's voids, and a rest that begins with no such line
+pub record AreVoids (meter places rest text : List ℕ) : Type 0 where
+  pub word : is_word meter ≡ true
+  pub fit : AllByRecursion (λ place. place < 2 ^ 64) places
+  pub ends : Begins (codes "void ") rest → ⊥
+  pub is : text ≡ flat_map (void_line meter) places ++ rest
+
+-- a text is that of these meters, and a rest that begins with none
+pub record AreMeters (seals : List Sealed) (rest text : List ℕ) : Type 0 where
+  pub fit : AreSealable seals
+  pub no_meter : Begins (codes "meter ") rest → ⊥
+  pub no_void : Begins (codes "void ") rest → ⊥
+  pub is : text ≡ flat_map meter_text seals ++ rest

@@ -1,0 +1,21 @@
+-- Which seals have a text that can be read back.
+use Rattle.std.specs.Prelude.{◌≡◌, ◌<◌, ◌^◌, ℕ, true, List, length, map, All, Vec}
+use Rattle.std.specs.List.{AllByRecursion}
+use Rattle.hex.specs.Hex.{IsBytes}
+use Rattle.table_seals.specs.declared.seals.MeterSeal.{MeterSeal}
+use Rattle.table_seals.specs.Sealed.{Sealed, sealed_of}
+use Rattle.table_seals.specs.Tables.{is_word}
+
+-- its names are words, its numbers have 64 bits, and its digest 32 bytes
+pub record IsSealable (seal : Sealed) : Type 0 where
+  pub meter_word : is_word seal.meter ≡ true
+  pub register_word : is_word seal.register ≡ true
+  pub range_fits : seal.range < 2 ^ 64
+  pub ceiling_fits : seal.ceiling < 2 ^ 64
+  pub entries_fit : seal.entries < 2 ^ 64
+  pub digest_long : length seal.digest ≡ 32
+  pub digest_bytes : IsBytes seal.digest
+  pub voids_fit : AllByRecursion (λ place. place < 2 ^ 64) seal.voids
+
+abbrev pub AreSealable : List Sealed → Type 0
+AreSealable seals = AllByRecursion IsSealable seals

@@ -1,0 +1,106 @@
+//! Rows of the tables, as values of which a seal speaks.
+ghost use Rattle.std.specs.Prelude.{◌≡◌, ◌↔◌, IsTrue, IfOk, string_bytes};
+ghost use Rattle.sqlite.specs.Order.{column};
+ghost use Rattle.table_audit.specs.Reading.{IsTextIn};
+ghost use Rattle.table_seals.specs.Tables.{HasTerms, TermsAreRead, RowsAreRead};
+ghost use Rattle.table_seals.specs.Tables as tables;
+
+use energy_core::MAX_CEILING;
+use meter_audit::TableRow;
+use sqlite::{Error, ErrorCode, Row};
+use std::alloc::{AllocError, Global};
+use store_tables::whole;
+use table_audit::{MeterRows, entries, places, range};
+
+/// What a row of installations tells of a meter.
+#[derive(Drop)]
+pub(crate) struct Terms {
+    pub(crate) meter: String,
+    pub(crate) register: String,
+    pub(crate) ceiling: u64,
+}
+
+/// What the rows of a meter tell.
+#[derive(Drop)]
+pub(crate) struct ReadRows {
+    pub(crate) range: u64,
+    pub(crate) voids: Vec<u64>,
+    pub(crate) entries: Vec<TableRow>,
+}
+
+/// A column that is a text, if it is one.
+pub(crate) fn text(row: &Row, at: usize) -> Result<Option<String>, AllocError>
+    ensures { IfOk result (IsTextIn (column row.now at)) }
+{
+    match row.get::<String>(at) {
+        Ok(text) => Ok(Some(text)),
+        Err(Error::SqliteFailure(ErrorCode::OutOfMemory)) => Err(AllocError),
+        Err(_) => Ok(None),
+    }
+}
+
+/// The meter of a row of installations, its register and its ceiling, unless one can't be read.
+pub(crate) fn terms(row: &Row) -> Result<Option<Terms>, AllocError>
+    ensures { IfOk result (TermsAreRead row.now) }
+{
+    let Some(meter) = text(row, 1)? else {
+        return Ok(None);
+    };
+    let Some(register) = text(row, 2)? else {
+        return Ok(None);
+    };
+    let Ok(ceiling) = whole(row, 3, 1, MAX_CEILING) else {
+        return Ok(None);
+    };
+    Ok(Some(Terms {
+        meter,
+        register,
+        ceiling,
+    }))
+}
+
+/// The range of a meter, its voids and its entries, unless one can't be read.
+pub(crate) fn read_rows(alloc: Global, rows: &MeterRows) -> Result<Option<ReadRows>, AllocError>
+    ensures { IfOk result (RowsAreRead rows.now) }
+{
+    let Some(range) = range(&rows.ranges) else {
+        return Ok(None);
+    };
+    let Some(voids) = places(alloc, &rows.voids)? else {
+        return Ok(None);
+    };
+    let Some(entries) = entries(alloc, &rows.entries, &voids)? else {
+        return Ok(None);
+    };
+    Ok(Some(ReadRows {
+        range,
+        voids,
+        entries,
+    }))
+}
+
+/// Whether a text has no space and no end of a line.
+pub(crate) fn is_word(text: &str) -> bool
+    ensures { result ≡ tables.is_word text.now }
+{
+    text.as_bytes().iter().all(|&byte| byte > 32)
+}
+
+/// Whether a row of installations has the meter of this name, at this register, with this ceiling.
+pub(crate) fn has_terms(
+    row: &Row,
+    meter: &str,
+    register: &str,
+    ceiling: u64,
+) -> Result<bool, AllocError>
+    ensures { IfOk result (λ has. IsTrue has ↔ HasTerms row.now meter.now register.now ceiling) }
+{
+    let Some(terms) = terms(row)? else {
+        return Ok(false);
+    };
+    Ok(
+        terms.meter.as_str() == meter
+            && terms.register.as_str() == register
+            && terms.ceiling == ceiling,
+    )
+}
