@@ -73,6 +73,8 @@ class Handler(http.server.BaseHTTPRequestHandler):
             self.answer(200, "text/plain", "1970-01-01   2                   200000\nend 1\n")
         elif self.path.endswith("/months"):
             self.answer(200, "text/plain", "1970-01    2                   200000\nend 1\n")
+        elif self.path.endswith("/meters"):
+            self.answer(200, "text/plain", "m1 1000 1900 5200 0 200000 open\nend 1\n")
         elif "/entries/" in self.path:
             self.answer(200, "text/plain", "1 opening 1000 5000 0 0 0 stands\nend 1\n")
         elif self.path.startswith("/polls/"):
