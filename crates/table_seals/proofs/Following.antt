@@ -1,6 +1,6 @@
 -- Lines of voids and of meters, one after the other.
 use Rattle.std.proofs.Common.{◌≡◌, ℕ, ◌<◌, ◌^◌, true, List, [], ◌∷◌, ◌++◌, map, refl, sym, ap, subst, ◌∙◌, append_assoc, arith}
-use Rattle.std.specs.Prelude.{codes, decimal}
+use Rattle.std.specs.Prelude.{codes, decimal, Option, Some, None, IsSomeAnd, IfSome}
 use Rattle.std.specs.List.{flat_map, AllByRecursion}
 use Rattle.table_seals.specs.declared.parsing.MeterLine.{MeterLine}
 use Rattle.table_seals.specs.Lines.{IsLineOf, Begins, AreVoids, AreMeters}
@@ -113,3 +113,14 @@ pub seals_so_far : (seals next after ss all : List Sealed) (seal : Sealed) → n
     → next ++ ss ≡ all
 seals_so_far seals next after ss all seal put is so_far =
     ap (λ (xs : List Sealed). xs ++ ss) put ∙ append_assoc seals (seal ∷ []) ss ∙ ap (λ (xs : List Sealed). seals ++ xs) (sym is) ∙ so_far
+
+-- ---- what was found, if it was
+
+pub none_some : {A : Type 0} (P : A → Type 0) (o : Option A) → o ≡ None → IsSomeAnd o P → ⊥
+none_some P o is h = subst (λ q. IsSomeAnd q P) is h
+
+pub some_and : {A : Type 0} (P : A → Type 0) (o : Option A) (a : A) → o ≡ Some a → IsSomeAnd o P → P a
+some_and P o a is h = subst (λ q. IsSomeAnd q P) is h
+
+pub some_if : {A : Type 0} (P : A → Type 0) (o : Option A) (a : A) → o ≡ Some a → IfSome o P → P a
+some_if P o a is h = subst (λ q. IfSome q P) is h

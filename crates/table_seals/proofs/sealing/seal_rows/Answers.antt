@@ -35,12 +35,13 @@ returns-in_err-keep g c =
 
 pub loop-row-preserved : goal.loop-row-preserved
 loop-row-preserved g c =
-    made g.S.Store c.args.conn.now c.seal_row.new.conn c.in_ok-seal.field-0 c.keep.new.seals _ _
+    made g.S.Store c.args.conn.now c.seal_row.new.conn c.in_ok-seal.field-0 c.keep.new.seals
+    (λ content found. AreSealed content (take c.loop-row.row-index c.args.rows.now) c.loop-row.seals.items × SealsRow content c.row-item.result found) _
     (finds_then g.S.Store c.args.conn.now c.loop-row.conn c.seal_row.new.conn c.loop-row.seals (Ok c.in_ok-seal.field-0)
     (λ content seals. AreSealed content (take c.loop-row.row-index c.args.rows.now) seals.items) (λ content found. SealsRow content c.row-item.result found)
-    (λ content _. AreSealed content (take (c.loop-row.row-index + 1) c.args.rows.now) c.keep.new.seals.items)
+    (λ content found. AreSealed content (take c.loop-row.row-index c.args.rows.now) c.loop-row.seals.items × SealsRow content c.row-item.result found)
     c.loop-row.invariant c.in_ok-seal.ensures
-    (λ content _ before one.
+    (λ content _ before one. (before, one)))
+    (λ content both.
         next_sealed content c.args.rows.now c.loop-row.row-index c.row-item.result c.loop-row.seals.items c.keep.new.seals.items c.in-Some.seal (omega arith)
-        c.row-item.is c.in_ok-keep.ensures.kept before (subst (SealsRow content c.row-item.result) c.in-Some.is one)))
-    (λ content told. told)
+        c.row-item.is c.in_ok-keep.ensures.kept both.0 (subst (SealsRow content c.row-item.result) c.in-Some.is both.1))
