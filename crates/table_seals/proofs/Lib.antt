@@ -3,3 +3,4 @@ pub mod Rows
 pub mod Words
 pub mod Opened
 pub mod Read
+pub mod Following

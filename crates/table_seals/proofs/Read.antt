@@ -40,21 +40,21 @@ terms_there row m r c meter register ceiling h p q s =
 
 -- ---- no seal
 
-true_false : (b : Bool) → b ≡ true → b ≡ false → ⊥
+pub true_false : (b : Bool) → b ≡ true → b ≡ false → ⊥
 true_false true h g = absurd (cc)
 true_false false h g = absurd (cc)
 
 pub meter_no_word : (row : Row) (rows : MeterRows) (m r : List ℕ) (c : ℕ) → HasTerms row m r c → is_word m ≡ false
     → (seal : Sealed) → IsSealOf row rows seal → ⊥
-meter_no_word row rows m r c terms no seal h =
+meter_no_word row rows m r c terms other seal h =
     let same = same_terms row m r c seal.meter seal.register seal.ceiling terms h.terms in
-    true_false (is_word m) (ap is_word same.meter_is ∙ h.meter_word) no
+    true_false (is_word m) (ap is_word same.meter_is ∙ h.meter_word) other
 
 pub register_no_word : (row : Row) (rows : MeterRows) (m r : List ℕ) (c : ℕ) → HasTerms row m r c → is_word r ≡ false
     → (seal : Sealed) → IsSealOf row rows seal → ⊥
-register_no_word row rows m r c terms no seal h =
+register_no_word row rows m r c terms other seal h =
     let same = same_terms row m r c seal.meter seal.register seal.ceiling terms h.terms in
-    true_false (is_word r) (ap is_word same.register_is ∙ h.register_word) no
+    true_false (is_word r) (ap is_word same.register_is ∙ h.register_word) other
 
 -- ---- rows
 
@@ -90,10 +90,10 @@ too_few rows range voids entries seal read few h =
 
 pub not_still : (rows : MeterRows) (range : ℕ) (voids : List ℕ) (entries : List TableRow) (seal : Sealed) → HasRead rows range voids entries
     → list_all (λ place. is_named voids place) seal.voids ≡ false → HasSealed rows seal → ⊥
-not_still rows range voids entries seal read no h =
+not_still rows range voids entries seal read other h =
     let same : voids ≡ h.voids = (same_read rows range voids entries seal.range h.voids h.all_entries read h.read).voids_are in
     true_false (list_all (λ place. is_named voids place) seal.voids)
-    (ap (λ (vs : List ℕ). list_all (λ place. is_named vs place) seal.voids) same ∙ h.still) no
+    (ap (λ (vs : List ℕ). list_all (λ place. is_named vs place) seal.voids) same ∙ h.still) other
 
 pub still_there : (rows : MeterRows) (range : ℕ) (voids : List ℕ) (entries : List TableRow) (seal : Sealed) → HasRead rows range voids entries
     → range ≡ seal.range → seal.entries ≤ length entries → list_all (λ place. is_named voids place) seal.voids ≡ true

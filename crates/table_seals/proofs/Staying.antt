@@ -202,7 +202,7 @@ begins_so meter more lines h =
     let old : List (List ℕ) = lines_of meter (rows_of meter.opening lines) in (
       reverse all.0,
       entry_lines meter (more ++ lines) ∙ ap (λ ls. reverse (ls ++ first ∷ [])) all.1
-          ∙ ap (λ ls. reverse ls) (simp append_assoc) ∙ reverse-append all.0 (old ++ first ∷ [])
+          ∙ ap (λ (ls : List (List ℕ)). reverse ls) (append_assoc all.0 old (first ∷ [])) ∙ reverse-append all.0 (old ++ first ∷ [])
           ∙ ap (λ ls. ls ++ reverse all.0) (sym (entry_lines meter lines)),
     )
 

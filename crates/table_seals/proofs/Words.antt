@@ -1,5 +1,5 @@
 -- Words, numbers and digests, and where they end in a text.
-use Rattle.std.proofs.Common.{◌≡◌, ℕ, zero, suc, ◌+◌, ◌/◌, ◌%◌, ◌<◌, ◌≤◌, ◌^◌, Bool, true, false, ◌&&◌, nat_lt, List, [], ◌∷◌, ◌++◌, length, drop, get_or, Option, Some, None, refl, sym, ap, subst, ◌∙◌, arith}
+use Rattle.std.proofs.Common.{◌≡◌, ℕ, zero, suc, ◌+◌, ◌/◌, ◌%◌, ◌<◌, ◌≤◌, ◌^◌, Bool, true, false, ◌&&◌, nat_lt, List, [], ◌∷◌, ◌++◌, length, drop, get_or, Option, Some, None, Ok, append_assoc, refl, sym, ap, subst, ◌∙◌, arith}
 use Rattle.std.specs.Prelude.{decimal, IsSomeAnd, IfSome}
 use Rattle.std.specs.Borrow.{Bor}
 use Rattle.std.specs.List.{list_all, slice_index}
@@ -10,7 +10,12 @@ use Rattle.std.proofs.lemmas.List.{append_cancel_left}
 use Rattle.std.proofs.lemmas.List.Folds.{list_all-append}
 use Rattle.std.proofs.lemmas.List.Sums.{AllPass-from_list_all}
 use Rattle.std.proofs.lemmas.Str.Pattern.{IsSplitOnceResult, split_after, split_parts}
-use Rattle.hex.specs.Hex.{encode_with, encode_lower, lower_digits, IsBytes}
+use Rattle.std.specs.Str.{IsUtf8}
+use Rattle.std.proofs.lemmas.List.{length-append}
+use Rattle.std.proofs.lemmas.Str.{IsUtf8-drop, IsCharBoundary-after_ascii}
+use Rattle.std.proofs.Math.Seq.{get_or-append_seam, drop-append-add}
+use Rattle.hex.specs.Hex.{encode_with, encode_lower, lower_digits, IsBytes, decode_sized}
+use Rattle.hex.proofs.HexLemmas.{decode_sized-encode_lower}
 use Rattle.table_seals.specs.Tables.{is_word}
 
 both_true : (a b : Bool) → a && b ≡ true → (a ≡ true) × (b ≡ true)
@@ -79,3 +84,29 @@ pub split_is : (end : ℕ) (text : List ℕ) (r : Option (Bor (List ℕ) × Bor 
     → IfSome r (λ found. text ≡ found.0.now ++ end ∷ found.1.now)
 split_is end text None h le = tt
 split_is end text (Some x) h le = (split_parts end text (Some x) h (omega (arith, le))).0
+
+pub parts_are : (before text rest : List ℕ) (end : ℕ) (r : Option (Bor (List ℕ) × Bor (List ℕ))) → text ≡ before ++ rest
+    → IfSome r (λ found. rest ≡ found.0.now ++ end ∷ found.1.now) → IfSome r (λ found. text ≡ (before ++ found.0.now) ++ end ∷ found.1.now)
+parts_are before text rest end None is h = tt
+parts_are before text rest end (Some x) is h = is ∙ ap (λ t. before ++ t) h ∙ sym (append_assoc before x.0.now (end ∷ x.1.now))
+
+-- ---- what follows an end is a text
+
+utf8_behind : (text front behind : List ℕ) (end : ℕ) → IsUtf8 text → text ≡ front ++ end ∷ behind → end ≤ 32 → IsUtf8 behind
+utf8_behind text front behind end u is le =
+    let inside : length front < length text = omega (arith, ap length is, length-append front (end ∷ behind)) in
+    let there : get_or text (length front) 0 ≡ end = ap (λ (t : List ℕ). get_or t (length front) 0) is ∙ get_or-append_seam front end behind 0 in
+    let small : get_or text (length front) 0 < 128 = omega (arith, there, le) in
+    let past : drop (length front + 1) text ≡ behind = ap (drop (length front + 1)) is ∙ drop-append-add front (end ∷ behind) 1 in
+    subst IsUtf8 past (IsUtf8-drop text (length front + 1) u (IsCharBoundary-after_ascii text (length front) u inside small))
+
+pub utf8_parts : (text before : List ℕ) (end : ℕ) (r : Option (Bor (List ℕ) × Bor (List ℕ))) → IsUtf8 text → end ≤ 32
+    → IfSome r (λ found. text ≡ (before ++ found.0.now) ++ end ∷ found.1.now) → IfSome r (λ found. IsUtf8 found.1.now)
+utf8_parts text before end None u le h = tt
+utf8_parts text before end (Some x) u le h = utf8_behind text (before ++ x.0.now) x.1.now end u h le
+
+-- ---- a digest read
+
+pub decoded : (word all : List ℕ) (room : ℕ) → word ≡ encode_lower all → room ≡ 32 → length all ≡ 32 → IsBytes all → decode_sized word room ≡ Ok all
+decoded word all room is long same bytes =
+    ap (λ (t : List ℕ). decode_sized t room) is ∙ ap (decode_sized (encode_lower all)) long ∙ decode_sized-encode_lower all 32 same bytes

@@ -47,8 +47,9 @@ fn are_named(voids: &[u64], places: &[u64]) -> bool
 fn has_sealed(alloc: Global, rows: &MeterRows, seal: &MeterSeal) -> Result<bool, AllocError>
     ensures { IfOk result (λ has. IsTrue has ↔ HasSealed rows.now (sealed_of seal.now)) }
 {
-    let Some(read) = read_rows(alloc, rows)? else {
-        return Ok(false);
+    let read = match read_rows(alloc, rows)? {
+        Some(read) => read,
+        None => return Ok(false),
     };
     if read.range != seal.range {
         return Ok(false);

@@ -1,6 +1,6 @@
 //! A seal read back from its text.
 ghost use Rattle.std.specs.Prelude.{◌≡◌, ◌≤◌, ◌<◌, ◌^◌, ◌++◌, ◌∷◌, ℕ, List, true, map, codes};
-ghost use Rattle.std.specs.Prelude.{length, decimal, IfSome, IfOk, IsSomeAnd, MatchResult};
+ghost use Rattle.std.specs.Prelude.{length, decimal, IfSome, IfOk, IsSomeAnd, IsUtf8, MatchResult};
 ghost use Rattle.hex.specs.Hex.{encode_lower, IsBytes};
 ghost use Rattle.table_seals.specs.Reading.{IsSealable, AreSealable};
 ghost use Rattle.table_seals.specs.Lines.{IsLineOf, Begins, AreVoids, AreMeters};
@@ -21,6 +21,7 @@ pub enum NoSeal {
 }
 
 /// What a line tells of a meter.
+#[derive(Clone, Copy)]
 struct MeterLine<'a> {
     meter: &'a str,
     register: &'a str,
@@ -39,9 +40,11 @@ fn field<'a>(text: &'a str, before: &str, end: char) -> Option<(&'a str, &'a str
     ensures parts { IfSome result (λ found.
         text.now ≡ before.now ++ found.0.now ++ end ∷ found.1.now) }
     ensures shorter { IfSome result (λ found. length found.1.now < length text.now) }
+    ensures utf8 { IfSome result (λ found. IsUtf8 found.1.now) }
 {
-    let Some(rest) = text.strip_prefix(before) else {
-        return None;
+    let rest = match text.strip_prefix(before) {
+        Some(rest) => rest,
+        None => return None,
     };
     rest.split_once(end)
 }
@@ -53,32 +56,34 @@ fn number<'a>(text: &'a str, before: &str, end: char) -> Option<(u64, &'a str)>
         → text.now ≡ before.now ++ decimal n ++ end ∷ rest
         → IsSomeAnd result (λ found. (found.0 ≡ n) × (found.1.now ≡ rest)) }
     ensures shorter { IfSome result (λ found. length found.1.now < length text.now) }
+    ensures utf8 { IfSome result (λ found. IsUtf8 found.1.now) }
 {
-    let Some((word, rest)) = field(text, before, end) else {
-        return None;
-    };
-    let Ok(number) = word.parse::<u64>() else {
-        return None;
-    };
-    Some((number, rest))
+    match field(text, before, end) {
+        Some((word, rest)) => match word.parse::<u64>() {
+            Ok(number) => Some((number, rest)),
+            Err(_) => None,
+        },
+        None => None,
+    }
 }
 
-/// The digest behind a text that comes first, and what follows its end.
-fn digest<'a>(text: &'a str, before: &str, end: char) -> Option<([u8; 32], &'a str)>
-    requires { end ≤ 32 }
-    ensures reads { (bytes rest : List ℕ) → length bytes ≡ 32 → IsBytes bytes
-        → text.now ≡ before.now ++ encode_lower bytes ++ end ∷ rest
-        → IsSomeAnd result (λ found. (found.0 ≡ bytes) × (found.1.now ≡ rest)) }
-    ensures shorter { IfSome result (λ found. length found.1.now < length text.now) }
+/// What follows the end of the digest behind a text that comes first. The digest is put into these bytes.
+fn digest<'a>(text: &'a str, before: &str, end: char, bytes: &mut [u8]) -> Option<&'a str>
+    requires ends { end ≤ 32 }
+    requires long { length bytes.old ≡ 32 }
+    ensures reads { (all rest : List ℕ) → length all ≡ 32 → IsBytes all
+        → text.now ≡ before.now ++ encode_lower all ++ end ∷ rest
+        → IsSomeAnd result (λ found. (bytes.new ≡ all) × (found.now ≡ rest)) }
+    ensures shorter { IfSome result (λ found. length found.now < length text.now) }
+    ensures utf8 { IfSome result (λ found. IsUtf8 found.now) }
 {
-    let Some((word, rest)) = field(text, before, end) else {
-        return None;
-    };
-    let mut bytes = [0u8; 32];
-    if hex::decode_to_slice(word, &mut bytes).is_err() {
-        return None;
+    match field(text, before, end) {
+        Some((word, rest)) => match hex::decode_to_slice(word, bytes) {
+            Ok(()) => Some(rest),
+            Err(_) => None,
+        },
+        None => None,
     }
-    Some((bytes, rest))
 }
 
 /// What the line of a meter tells that comes first, and what follows the line.
@@ -88,24 +93,32 @@ fn meter_line<'a>(text: &'a str) -> Option<(MeterLine<'a>, &'a str)>
         → IsSomeAnd result (λ found. IsLineOf seal found.0 × (found.1.now ≡ rest)) }
     ensures begins { IfSome result (λ found. Begins (codes "meter ") text.now) }
     ensures shorter { IfSome result (λ found. length found.1.now < length text.now) }
+    ensures utf8 { IfSome result (λ found. IsUtf8 found.1.now) }
 {
-    let Some((meter, rest)) = field(text, "meter ", ' ') else {
-        return None;
+    let (meter, rest) = match field(text, "meter ", ' ') {
+        Some(found) => found,
+        None => return None,
     };
-    let Some((register, rest)) = field(rest, "at ", ' ') else {
-        return None;
+    let (register, rest) = match field(rest, "at ", ' ') {
+        Some(found) => found,
+        None => return None,
     };
-    let Some((range, rest)) = number(rest, "range ", ' ') else {
-        return None;
+    let (range, rest) = match number(rest, "range ", ' ') {
+        Some(found) => found,
+        None => return None,
     };
-    let Some((ceiling, rest)) = number(rest, "ceiling ", ' ') else {
-        return None;
+    let (ceiling, rest) = match number(rest, "ceiling ", ' ') {
+        Some(found) => found,
+        None => return None,
     };
-    let Some((entries, rest)) = number(rest, "entries ", ' ') else {
-        return None;
+    let (entries, rest) = match number(rest, "entries ", ' ') {
+        Some(found) => found,
+        None => return None,
     };
-    let Some((digest, rest)) = digest(rest, "sha256 ", '\n') else {
-        return None;
+    let mut bytes = [0u8; 32];
+    let rest = match digest(rest, "sha256 ", '\n', &mut bytes) {
+        Some(rest) => rest,
+        None => return None,
     };
     let line = MeterLine {
         meter,
@@ -113,7 +126,7 @@ fn meter_line<'a>(text: &'a str) -> Option<(MeterLine<'a>, &'a str)>
         range,
         ceiling,
         entries,
-        digest,
+        digest: bytes,
     };
     Some((line, rest))
 }
@@ -125,12 +138,14 @@ fn voids<'a>(alloc: Global, text: &'a str) -> Result<Option<(Vec<u64>, &'a str)>
         IsSomeAnd found (λ read. (read.0.items ≡ places) × (read.1.now ≡ rest))) }
     ensures shorter { IfOk result (λ found.
         IfSome found (λ read. length read.1.now ≤ length text.now)) }
+    ensures utf8 { IfOk result (λ found. IfSome found (λ read. IsUtf8 read.1.now)) }
 {
     let mut places = Vec::new(alloc);
     let mut rest = text;
     while let Some((_, after)) = field(rest, "void ", ' ') {
-        let Some((place, after)) = number(after, "", '\n') else {
-            return Ok(None);
+        let (place, after) = match number(after, "", '\n') {
+            Some(found) => found,
+            None => return Ok(None),
         };
         places.push(place)?;
         rest = after;
@@ -145,13 +160,14 @@ fn seal_in(alloc: Global, line: &MeterLine<'_>, voids: Vec<u64>) -> Result<Meter
 {
     let meter = String::from_str(alloc, line.meter)?;
     let register = String::from_str(alloc, line.register)?;
+    let digest = line.digest;
     Ok(MeterSeal {
         meter,
         register,
         range: line.range,
         ceiling: line.ceiling,
         entries: line.entries,
-        digest: line.digest,
+        digest,
         voids,
     })
 }
@@ -164,8 +180,9 @@ fn meters(alloc: Global, text: &str) -> Result<Option<Vec<MeterSeal>>, AllocErro
     let mut seals = Vec::new(alloc);
     let mut rest = text;
     while let Some((line, after)) = meter_line(rest) {
-        let Some((voids, after)) = voids(alloc, after)? else {
-            return Ok(None);
+        let (voids, after) = match voids(alloc, after)? {
+            Some(found) => found,
+            None => return Ok(None),
         };
         let seal = seal_in(alloc, &line, voids)?;
         seals.push(seal)?;
@@ -182,8 +199,9 @@ pub fn read_seal(alloc: Global, text: &str) -> Result<Vec<MeterSeal>, NoSeal>
         → MatchResult result (λ found. map sealed_of found.items ≡ seals)
         (λ why. why ≡ NoSeal.Memory) }
 {
-    let Some(rest) = text.strip_prefix("seal 1\n") else {
-        return Err(NoSeal::Other);
+    let rest = match text.strip_prefix("seal 1\n") {
+        Some(rest) => rest,
+        None => return Err(NoSeal::Other),
     };
     let seals = match meters(alloc, rest) {
         Ok(Some(seals)) => seals,

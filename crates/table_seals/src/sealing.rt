@@ -5,7 +5,7 @@ ghost use Rattle.table_audit.specs.Looking.{Finds};
 ghost use Rattle.table_seals.specs.Sealing.{IsSealed, SealsRow, SealsRows, SealsTables};
 
 use crate::seals::MeterSeal;
-use crate::tables::{is_word, read_rows, terms, text};
+use crate::tables::{is_word, read_rows, terms_of, text};
 use crate::texts::digest_of;
 use sqlite::{Alter, Connection, Error, ErrorCode, Row};
 use std::alloc::{AllocError, Global};
@@ -23,11 +23,13 @@ pub(crate) fn memory() -> RowFault
 fn seal_of(alloc: Global, row: &Row, rows: &MeterRows) -> Result<Option<MeterSeal>, AllocError>
     ensures { IfOk result (IsSealed row.now rows.now) }
 {
-    let Some(terms) = terms(row)? else {
-        return Ok(None);
+    let terms = match terms_of(row)? {
+        Some(terms) => terms,
+        None => return Ok(None),
     };
-    let Some(read) = read_rows(alloc, rows)? else {
-        return Ok(None);
+    let read = match read_rows(alloc, rows)? {
+        Some(read) => read,
+        None => return Ok(None),
     };
     if !is_word(&terms.meter) {
         return Ok(None);
@@ -91,8 +93,9 @@ fn seal_rows<S: Alter>(
 {
     let mut seals = Vec::new(alloc);
     for row in rows {
-        let Some(seal) = seal_row(alloc, conn, row)? else {
-            return Ok(None);
+        let seal = match seal_row(alloc, conn, row)? {
+            Some(seal) => seal,
+            None => return Ok(None),
         };
         keep(&mut seals, seal)?;
     }

@@ -40,7 +40,7 @@ pub(crate) fn text(row: &Row, at: usize) -> Result<Option<String>, AllocError>
 }
 
 /// The meter of a row of installations, its register and its ceiling, unless one can't be read.
-pub(crate) fn terms(row: &Row) -> Result<Option<Terms>, AllocError>
+pub(crate) fn terms_of(row: &Row) -> Result<Option<Terms>, AllocError>
     ensures { IfOk result (TermsAreRead row.now) }
 {
     let Some(meter) = text(row, 1)? else {
@@ -63,14 +63,17 @@ pub(crate) fn terms(row: &Row) -> Result<Option<Terms>, AllocError>
 pub(crate) fn read_rows(alloc: Global, rows: &MeterRows) -> Result<Option<ReadRows>, AllocError>
     ensures { IfOk result (RowsAreRead rows.now) }
 {
-    let Some(range) = range(&rows.ranges) else {
-        return Ok(None);
+    let range = match range(&rows.ranges) {
+        Some(range) => range,
+        None => return Ok(None),
     };
-    let Some(voids) = places(alloc, &rows.voids)? else {
-        return Ok(None);
+    let voids = match places(alloc, &rows.voids)? {
+        Some(voids) => voids,
+        None => return Ok(None),
     };
-    let Some(entries) = entries(alloc, &rows.entries, &voids)? else {
-        return Ok(None);
+    let entries = match entries(alloc, &rows.entries, &voids)? {
+        Some(entries) => entries,
+        None => return Ok(None),
     };
     Ok(Some(ReadRows {
         range,
@@ -95,7 +98,7 @@ pub(crate) fn has_terms(
 ) -> Result<bool, AllocError>
     ensures { IfOk result (λ has. IsTrue has ↔ HasTerms row.now meter.now register.now ceiling) }
 {
-    let Some(terms) = terms(row)? else {
+    let Some(terms) = terms_of(row)? else {
         return Ok(false);
     };
     Ok(
