@@ -45,6 +45,6 @@ are_few [] may = tt
 are_few (one ∷ earlier) may =
     let none = none_of ((left_after earlier).requests == 0) ((left_after earlier).bytes == 0) ((left_after earlier).milliseconds == 0) may.0 in (
       below (left_after earlier).requests 64 (length earlier) (left_requests earlier) (some_of (left_after earlier).requests none.0),
-      below (left_after earlier).bytes 262144 _ (left_bytes earlier) (some_of (left_after earlier).bytes none.1.0),
-      below (left_after earlier).milliseconds 20 _ (left_milliseconds earlier) (some_of (left_after earlier).milliseconds none.1.1),
+      below (left_after earlier).bytes 262144 _ (left_bytes earlier) (some_of (left_after earlier).bytes none.1),
+      below (left_after earlier).milliseconds 20 _ (left_milliseconds earlier) (some_of (left_after earlier).milliseconds none.2),
     )
