@@ -1,10 +1,11 @@
 """Audits of files: audit.py PROGRAM; tests/audit.sh calls it.
 
 Files that are fine: one that the program wrote, and one whose quarter hours Python computes. Then what is printed of changes to the second,
-and files that are none. Then one change at a time, in a random row and column of a copy: each is told (status 1) or refused as the file is
+files that are none, and seals, whose text Python makes too. Then one change at a time, in a random row and column of a copy: each is told (status 1) or refused as the file is
 opened (status 3), but for those that docs/AUDIT.md lists. Each time audit_rows.py says which of these it is, and in which lines.
 """
 import collections
+import hashlib
 import os
 import pathlib
 import random
@@ -26,6 +27,7 @@ LISTED = {("installations", "ceiling"), ("installations", "register"), ("ranges"
 LISTED |= {("polls", it) for it in ("unit", "started", "tid", "function", "address", "count", "added")} | {("outcomes", it) for it in ("moment", "outcome", "code", "gone")}
 IN_ONE_QUARTER = {("entries", "raw"), ("voids", "place"), ("voids", "gone"), ("voids", "added")}
 VOIDED = {("entries", "raw"), ("entries", "rolls")}
+KINDS = {1: "opening", 2: "reading", 3: "manual", 4: "closing", 5: "reset", 6: "rescale"}
 LIST = "name,function,area,address,type,scale\nwh,3,0,40094,acc32,\n"
 SITE = "1 device inv 1 5 1\n2 list inv @inv.csv\n3 register main inv 3 40094 0\n4 install main m1 65530 0 100000 65536\n"
 counts = {"passed": 0, "failed": 0}
@@ -39,10 +41,10 @@ def same(what, got, wanted):
         print(f"{what}: {got!r}\nand not {wanted!r}", flush=True)
 
 
-def audit(db):
+def audit(db, *words):
     """The status of an audit, the lines that it prints, and what it says."""
     begun = time.monotonic()
-    done = subprocess.run([PROGRAM, "audit", "--db", db], capture_output=True, stdin=subprocess.DEVNULL, timeout=60)
+    done = subprocess.run([PROGRAM, "audit", "--db", db, *words], capture_output=True, stdin=subprocess.DEVNULL, timeout=60)
     took.append(time.monotonic() - begun)
     said = [it for it in done.stderr.decode().splitlines() if "it had no log beside it" not in it]
     return done.returncode, done.stdout.decode().splitlines(), said
@@ -275,6 +277,61 @@ def changes(seed):
     print(f"of {tried} changes {told} were told, {refused} refused as the file was opened, and {sum(listed.values())} are of those that the page lists: {kept or 'none'} (seed {seed})")
 
 
+def seal_of(db):
+    """The seal of a file's tables, by Python."""
+    books, body = sqlite3.connect(db), "seal 1\n"
+    for meter, register, ceiling in books.execute("SELECT meter, register, ceiling FROM installations ORDER BY place").fetchall():
+        (span,) = books.execute('SELECT "range" FROM ranges WHERE meter = ?', [meter]).fetchone()
+        rows = books.execute('SELECT place, kind, moment, raw, "after", sf, rolls FROM entries WHERE meter = ? ORDER BY place', [meter]).fetchall()
+        # (the rollovers of a reading are its neighbours')
+        lines = [f"{place} {KINDS[kind]} {moment} {raw} {after} {sf}" + f" {rolls}" * (kind != 2) + "\n" for place, kind, moment, raw, after, sf, rolls in rows]
+        body += f"meter {meter} at {register} range {span} ceiling {ceiling} entries {len(rows)} sha256 {hashlib.sha256(''.join(lines).encode()).hexdigest()}\n"
+        body += "".join(f"void {meter} {place}\n" for place, in books.execute("SELECT place FROM voids WHERE meter = ? ORDER BY place", [meter]))
+    books.close()
+    return body + f"sha256 {hashlib.sha256(body.encode()).hexdigest()}\n"
+
+
+def held_to(db, text):
+    """The audit of a file that is held to a seal."""
+    pathlib.Path("seal.txt").write_bytes(text)
+    return audit(db, "--against", "seal.txt")
+
+
+def seals(entries):
+    """Seals of both files, and what is held to them: the same, what came since, what was changed and is fine nevertheless, and texts that are no seals."""
+    for db in ("python.db", "program.db"):
+        text = seal_of(db)
+        same(f"the seal of {db}", audit(db, "--seal"), (0, text.splitlines(), []))
+        same(f"{db} is as it was sealed", held_to(db, text.encode()), (0, ["sealed: fine"], []))
+    of_python, of_program = seal_of("python.db").encode(), seal_of("program.db").encode()
+    same("another office", held_to("python.db", of_program), (1, ["meter m1 differs from the seal", "meter m2 differs from the seal", "2 of 2 meters differ"], []))
+    enter("program.db", "12 manual main 25 0\n")
+    enter("program.db", "13 void m1 2\n")
+    same("what came since is no difference", held_to("program.db", of_program), (0, ["sealed: fine"], []))
+    whole("program.db")
+    same("a void is sealed from then on", seal_of("program.db").count("void m1 "), 2)
+    last, (day, quarter) = len(entries), (BEGIN + DAY * (DAYS - 1), 8_543 * (DAYS - 1) + 7)
+    fewer = (f"DELETE FROM entries WHERE place = {last}", f"DELETE FROM intervals WHERE start >= {day}",
+             f"UPDATE installations SET last_moment = {day}, last_raw = last_raw - {96 * quarter}, total = total - {96 * quarter}")
+    for what, commands in (
+        ("another ceiling", ("UPDATE installations SET ceiling = ceiling + 1",)),
+        ("another register", ("UPDATE installations SET register = 'spare'",)),
+        ("a reading is said to be by hand", (f"UPDATE entries SET kind = 3 WHERE place = {last}",)),
+        ("what a voided reading showed", ("UPDATE entries SET raw = raw + 1 WHERE place = 5",)),
+        ("a reading fewer, and all that followed from it", fewer),
+    ):
+        same(f"{what}: fine", changed(*commands)[0], 0)
+        same(f"{what}: not as it was sealed", held_to("changed.db", of_python), (1, ["meter m1 differs from the seal", "1 of 1 meters differ"], []))
+    same("tables that aren't fine have no seal", (changed("UPDATE installations SET total = total + 1")[1:], audit("changed.db", "--seal")[0]), (audit("changed.db", "--seal")[1:], 1))
+    same("nor are they held to one", held_to("changed.db", of_python)[1][-1], "1 differences")
+    no_seal = ["error: invalid value 'seal.txt' for '--against <SEAL>': no seal, as sunreg audit --seal prints it"]
+    for what, text in (("nothing", b""), ("a line fewer", of_python.split(b"\n", 1)[1]), ("the last line fewer", of_python.rsplit(b"sha256", 1)[0]), ("a line behind it", of_python + b"\n"),
+                       ("another number", of_python.replace(b" ceiling 1", b" ceiling 2")), ("no text", b"\xff" + of_python), ("ends of another kind", of_python.replace(b"\n", b"\r\n"))):
+        same(f"{what} is no seal", held_to("python.db", text), (2, [], no_seal))
+    same("a seal that isn't there", audit("python.db", "--against", "none.txt"), (3, [], ["failed", "sunreg: none.txt: the seal can't be read: look at its name and its rights"]))
+    same("both at once", audit("python.db", "--seal", "--against", "seal.txt")[:2], (2, []))
+
+
 def main():
     seed = int(os.environ.get("SEED", time.time_ns() % 100_000))
     random.seed(seed)
@@ -296,6 +353,7 @@ def main():
         whole("python.db")
         printed(entries, intervals)
         no_books()
+        seals(entries)
         changes(seed)
         os.chdir("/")
     print(f"an audit took {sum(took) / len(took) * 1000:.0f} ms, {max(took) * 1000:.0f} ms at most")
