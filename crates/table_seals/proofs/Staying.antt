@@ -245,12 +245,12 @@ any_reversed p [] = refl
 any_reversed p (x ∷ xs) =
     ap (list_any p) (reverse-append (x ∷ []) xs) ∙ list_any-append p (reverse xs) (x ∷ [])
     ∙ ap (λ b. b || (p x || false)) (any_reversed p xs) ∙ swapped (list_any p xs) (p x)
-    where
-      swapped : (a b : Bool) → (a || (b || false)) ≡ (b || a)
-      swapped true true = refl
-      swapped true false = refl
-      swapped false true = refl
-      swapped false false = refl
+  where
+    swapped : (a b : Bool) → (a || (b || false)) ≡ (b || a)
+    swapped true true = refl
+    swapped true false = refl
+    swapped false true = refl
+    swapped false false = refl
 
 voided_by : (meter : Installed) (place : ℕ) (lines : Journal)
     → is_voided_at place (entries_by meter lines) ≡ (struck_at place (rows_of meter.opening lines) || (at_place place (opening_row meter.opening) || false))

@@ -4,7 +4,8 @@ ghost use Rattle.std.specs.List.{list_all};
 ghost use Rattle.table_audit.specs.Looking.{Finds};
 ghost use Rattle.table_audit.specs.Reading as values;
 ghost use Rattle.table_seals.specs.Checking.{IsInstalled, HasSealed, Keeps};
-ghost use Rattle.table_seals.specs.Checking.{TellsKept, TellsMeter, TellsSeals, TellsTables, unless_kept};
+ghost use Rattle.table_seals.specs.Checking.{TellsKept, TellsMeter, unless_kept};
+ghost use Rattle.table_seals.specs.Checking.{TellsSeals, TellsTables};
 ghost use Rattle.table_seals.specs.Sealed.{sealed_of};
 
 use crate::checks::Checked;
@@ -128,7 +129,7 @@ fn check_told<S: Alter>(
     requires { conn.old.in_transaction ≡ false }
     ensures { Finds S.Store conn.old conn.new result (λ content _.
         TellsMeter installed.now (sealed_of seal.now) content
-            (map string_bytes differing.old.items) (map string_bytes differing.new.items)) }
+        (map string_bytes differing.old.items) (map string_bytes differing.new.items)) }
 {
     let kept = check_meter(alloc, conn, installed, seal)?;
     match tell(alloc, kept, &seal.meter, differing) {

@@ -135,7 +135,7 @@ fn meter_line<'a>(text: &'a str) -> Option<(MeterLine<'a>, &'a str)>
 fn voids<'a>(alloc: Global, text: &'a str) -> Result<Option<(Vec<u64>, &'a str)>, AllocError>
     ensures reads { (meter places rest : List ℕ) → AreVoids meter places rest text.now
         → IfOk result (λ found.
-            IsSomeAnd found (λ read. (read.0.items ≡ places) × (read.1.now ≡ rest))) }
+        IsSomeAnd found (λ read. (read.0.items ≡ places) × (read.1.now ≡ rest))) }
     ensures shorter { IfOk result (λ found.
         IfSome found (λ read. length read.1.now ≤ length text.now)) }
     ensures utf8 { IfOk result (λ found. IfSome found (λ read. IsUtf8 read.1.now)) }
@@ -197,7 +197,7 @@ pub fn read_seal(alloc: Global, text: &str) -> Result<Vec<MeterSeal>, NoSeal>
         text.now ≡ say.seal_text (map sealed_of seals.items)) }
     ensures reads { (seals : List Sealed) → AreSealable seals → text.now ≡ say.seal_text seals
         → MatchResult result (λ found. map sealed_of found.items ≡ seals)
-            (λ why. why ≡ NoSeal.Memory) }
+        (λ why. why ≡ NoSeal.Memory) }
 {
     let rest = match text.strip_prefix("seal 1\n") {
         Some(rest) => rest,

@@ -101,7 +101,9 @@ pub(crate) fn has_terms(
     let Some(terms) = terms_of(row)? else {
         return Ok(false);
     };
-    Ok(terms.meter.as_str() == meter
-        && terms.register.as_str() == register
-        && terms.ceiling == ceiling)
+    Ok(
+        terms.meter.as_str() == meter
+            && terms.register.as_str() == register
+            && terms.ceiling == ceiling,
+    )
 }

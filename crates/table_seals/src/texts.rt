@@ -27,11 +27,7 @@ pub(crate) fn put_word(text: &mut Vec<u8>, before: &[u8], word: &[u8]) -> Result
     put(text, word)
 }
 
-pub(crate) fn put_number(
-    text: &mut Vec<u8>,
-    before: &[u8],
-    number: u64,
-) -> Result<(), AllocError>
+pub(crate) fn put_number(text: &mut Vec<u8>, before: &[u8], number: u64) -> Result<(), AllocError>
     ensures { OnOk result (text.new.items ≡ text.old.items ++ before.now ++ decimal number) }
 {
     put(text, before)?;
@@ -73,11 +69,8 @@ fn put_rolls(text: &mut Vec<u8>, kind: RowKind, rolls: u8) -> Result<(), AllocEr
 {
     match kind {
         RowKind::Reading => Ok(()),
-        RowKind::Opening
-        | RowKind::Manual
-        | RowKind::Closing
-        | RowKind::Reset
-        | RowKind::Rescale => put_number(text, b" ", u64::from(rolls)),
+        RowKind::Opening | RowKind::Manual | RowKind::Closing | RowKind::Reset | RowKind::Rescale =>
+            put_number(text, b" ", u64::from(rolls)),
     }
 }
 

@@ -30,9 +30,9 @@ returns g c =
     made g.S.Store c.args.conn.now c.loop-seal.conn c.loop-seal.differing _ _ (TellsSeals c.args.installed.now (map sealed_of c.args.seals.now))
     c.loop-seal.invariant
     (λ content told.
-        let long : length (map sealed_of c.args.seals.now) ≡ length c.args.seals.now = length-map c.args.seals.now sealed_of in
-        record {
-          names = subst (λ (ss : List MeterSeal). TellsNames c.args.installed.now (map sealed_of ss) content (map string_bytes c.loop-seal.differing.items))
-              (take_all c.loop-seal.seal-index c.args.seals.now (omega arith)) told;
-          count = omega (arith, long);
-        })
+    let long : length (map sealed_of c.args.seals.now) ≡ length c.args.seals.now = length-map c.args.seals.now sealed_of in
+    record {
+      names = subst (λ (ss : List MeterSeal). TellsNames c.args.installed.now (map sealed_of ss) content (map string_bytes c.loop-seal.differing.items))
+          (take_all c.loop-seal.seal-index c.args.seals.now (omega arith)) told;
+      count = omega (arith, long);
+    })

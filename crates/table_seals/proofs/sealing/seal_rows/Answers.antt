@@ -20,8 +20,12 @@ returns-in-None g c =
     (finds_then g.S.Store c.args.conn.now c.loop-row.conn c.seal_row.new.conn c.loop-row.seals (Ok c.in_ok-seal.field-0) _ _
     (λ content found. SealsRow content c.row-item.result found)
     c.loop-row.invariant c.in_ok-seal.ensures (λ content _ before one. one))
-    (λ content one. (c.loop-row.row-index, c.row-item.result, there_at c.args.rows.now c.loop-row.row-index c.row-item.result (omega arith) c.row-item.is,
-    subst (SealsRow content c.row-item.result) c.in-None.is one))
+    (λ content one. (
+      c.loop-row.row-index,
+      c.row-item.result,
+      there_at c.args.rows.now c.loop-row.row-index c.row-item.result (omega arith) c.row-item.is,
+      subst (SealsRow content c.row-item.result) c.in-None.is one,
+    ))
 
 pub returns-in_err-keep : goal.returns-in_err-keep
 returns-in_err-keep g c =
@@ -43,5 +47,5 @@ loop-row-preserved g c =
     c.loop-row.invariant c.in_ok-seal.ensures
     (λ content _ before one. (before, one)))
     (λ content both.
-        next_sealed content c.args.rows.now c.loop-row.row-index c.row-item.result c.loop-row.seals.items c.keep.new.seals.items c.in-Some.seal (omega arith)
-        c.row-item.is c.in_ok-keep.ensures.kept both.0 (subst (SealsRow content c.row-item.result) c.in-Some.is both.1))
+    next_sealed content c.args.rows.now c.loop-row.row-index c.row-item.result c.loop-row.seals.items c.keep.new.seals.items c.in-Some.seal (omega arith)
+    c.row-item.is c.in_ok-keep.ensures.kept both.0 (subst (SealsRow content c.row-item.result) c.in-Some.is both.1))
