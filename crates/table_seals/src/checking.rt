@@ -4,8 +4,7 @@ ghost use Rattle.std.specs.List.{list_all};
 ghost use Rattle.table_audit.specs.Looking.{Finds};
 ghost use Rattle.table_audit.specs.Reading as values;
 ghost use Rattle.table_seals.specs.Checking.{IsInstalled, HasSealed, Keeps};
-ghost use Rattle.table_seals.specs.Checking.{TellsKept, TellsMeter, unless_kept};
-ghost use Rattle.table_seals.specs.Checking.{TellsSeals, TellsTables};
+ghost use Rattle.table_seals.specs.Checking.{TellsKept, TellsMeter, TellsSeals, TellsTables, unless_kept};
 ghost use Rattle.table_seals.specs.Sealed.{sealed_of};
 
 use crate::checks::Checked;
