@@ -153,7 +153,7 @@ const SOCKETS: [(Failure<'static>, &str); 8] = [
 ];
 
 // What stands behind the name of a file that was not audited.
-const UNAUDITED: [(AuditFault, &str); 5] = [
+const UNAUDITED: [(AuditFault, &str); 8] = [
     (
         AuditFault::NotOurs,
         "it holds no office, or one of a later program: give the office's file, or its copy",
@@ -161,6 +161,18 @@ const UNAUDITED: [(AuditFault, &str); 5] = [
     (
         AuditFault::Earlier,
         "its tables are an earlier program's: let sunreg report open it once, or a copy that sunreg backup made",
+    ),
+    (
+        AuditFault::Unsealable,
+        "a row has a value or a name that no seal can have: sunreg audit without --seal tells which",
+    ),
+    (
+        AuditFault::NoSeal,
+        "it is no seal: give what sunreg audit --seal printed",
+    ),
+    (
+        AuditFault::Unread,
+        "the seal can't be read: look at its name and its rights",
     ),
     (
         AuditFault::Store,
