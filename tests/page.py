@@ -768,7 +768,7 @@ def see_program(sunreg, program):
     device, port = free_port(), free_port()
     started(sunreg, "stand-in", "--port", str(device), "--connections", "1000", text="area holding 40000 100\nset holding 40095 5007\n")
     until_it_listens(device)
-    run = started(sunreg, "run", "--db", "office.db", "--listen", str(port), "--every", "1", "--devices", f"inv=127.0.0.1:{device}")
+    run = started(sunreg, "run", "--db", "office.db", "--listen", str(port), "--every", "2", "--devices", f"inv=127.0.0.1:{device}")
     until_it_listens(port)
     origin = f"http://127.0.0.1:{port}"
     see_parts(origin)
