@@ -57,7 +57,7 @@ pub enum WordsFault {
     Memory,
 }
 
-// Words with commas between them, behind what was written.
+// Words with commas between them, after what was written.
 fn write_words<W: fmt::Write>(f: &mut Formatter<W>, words: &[&str]) -> fmt::Result {
     let mut before = "";
     for word in words {

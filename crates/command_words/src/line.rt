@@ -112,7 +112,7 @@ pub enum CommandLine<'a> {
         most_kept: Option<u32>,
         verbose: bool,
     },
-    /// What a number means that stands behind a word.
+    /// What a number means that stands after a word.
     Explain {
         what: &'a str,
         number: &'a str,

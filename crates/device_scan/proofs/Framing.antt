@@ -53,7 +53,7 @@ frame_alone b whole =
 pub open_nil : IsOpen []
 open_nil = inl (lit< tt)
 
--- bytes behind a bad length change nothing
+-- bytes after a bad length change nothing
 pub bad_stays : (b left : List ℕ) → IsBad b → IsBad (rest (b ++ left))
 bad_stays b left bad =
     let same : span_of (b ++ left) ≡ span_of b = span_of-append b left bad.0 in
@@ -100,13 +100,13 @@ garbled_rest what r piece taken tells garbled =
     let bad : TellsFraming Garbled b = subst (λ w. TellsFraming w b) garbled tells in
     subst (λ y. IsBad (rest y)) (sym (piece_is r piece taken)) (bad_stays b (from taken piece) bad.0)
 
--- open bytes and nothing behind them
+-- open bytes and nothing after them
 pub nothing_came : (r : List ℕ) → IsOpen r → (frames (r ++ []) ≡ []) × (r ≡ rest (r ++ []))
 nothing_came r is_open =
     let alone = rest_alone r (inl is_open) in
     (ap frames (append-nil r) ∙ alone.0, sym alone.1 ∙ sym (ap rest (append-nil r)))
 
--- bytes behind those that came
+-- bytes after those that came
 pub came_more : (r came more : List ℕ) → (frames (r ++ (came ++ more)) ≡ frames (r ++ came) ++ frames (rest (r ++ came) ++ more)) × (rest (r ++ (came ++ more)) ≡ rest (rest (r ++ came) ++ more))
 came_more r came more =
     let joined : r ++ (came ++ more) ≡ (r ++ came) ++ more = sym (append_assoc r came more) in

@@ -25,7 +25,7 @@ if_ok_then P Q (Err e) holds step = tt
 abbrev brings : Ask → List ℕ → Option (List ℕ)
 brings ask frame = words_in ask (fields_of frame)
 
--- frames behind others
+-- frames after others
 pub settled_both : (ask : Ask) (fs gs : List (List ℕ)) → settled ask (fs ++ gs) ≡ first_of (settled ask fs) (settled ask gs)
 settled_both ask [] gs = refl
 settled_both ask (f ∷ fs) gs =

@@ -13,7 +13,7 @@ use Rattle.device_scan.specs.declared.counter.CounterScale.{CounterScale}
 use Rattle.device_scan.specs.declared.counter.CounterScale.TheVariants.{Fixed, Register}
 use Rattle.device_scan.specs.declared.counter.Shown.{Shown}
 
--- the first of a counter's two registers and that of its scale, and the address behind the last of them
+-- the first of a counter's two registers and that of its scale, and the address after the last of them
 abbrev pub first_register : (address : ℕ) → CounterScale → ℕ
 first_register address (Fixed sf) = address
 first_register address (Register at) = min address at

@@ -31,7 +31,7 @@ line bytes given client = record {
   next = client.next;
 }
 
--- bytes came, and are read on behind those since the last frame's end
+-- bytes came, and are read on after those since the last frame's end
 pub record Hears (old_bytes new_bytes : Option (List ℕ)) (old_open new_open came : List ℕ) : Type 0
   where
     pub took : Consumes old_bytes new_bytes came
@@ -65,7 +65,7 @@ pub record Garbles (old_bytes new_bytes : Option (List ℕ)) (old_open : List �
   pub took : Consumes old_bytes new_bytes came
   pub bad : IsBad (rest (old_open ++ came))
 
--- identifiers are counted up, and begin anew behind 65535
+-- identifiers are counted up, and begin anew after 65535
 abbrev pub next_id : ℕ → ℕ
 next_id id = (id + 1) % 65536
 

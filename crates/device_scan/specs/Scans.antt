@@ -38,7 +38,7 @@ abbrev pub words_told : Words → List Exchange → Words
 words_told word [] = word
 words_told word (exchange ∷ exchanges) = words_told (words_after word exchange) exchanges
 
--- each read was next, the device having shown these words before it, and nothing is next behind the last
+-- each read was next, the device having shown these words before it, and nothing is next after the last
 abbrev pub AsksInTurn : Words → Stage → List Exchange → Type 0
 AsksInTurn word stage [] = wanted stage ≡ None
 AsksInTurn word stage (exchange ∷ exchanges) =

@@ -47,7 +47,7 @@ abbrev pub other_mark : ℕ → Stage
 other_mark address =
     if address == 40000 then Mark 50000 else if address == 50000 then Mark 0 else Over
 
--- behind so many models another one may stand, or the end, up to the last address
+-- after so many models another one may stand, or the end, up to the last address
 abbrev pub head_at : (models address : ℕ) → Stage
 head_at models address = if nat_le address 65535 then Head address models else Over
 
@@ -68,14 +68,14 @@ checked models model = if may_stand models model then Some model else None
 abbrev pub model_at : (address id length : ℕ) → Model
 model_at address id length = record { address = address; id = id; length = length }
 
--- the model behind so many others whose ID and length stand at an address
+-- the model after so many others whose ID and length stand at an address
 abbrev pub model_in : Words → (models address : ℕ) → Option Model
 model_in word models address =
     option_and_then (λ id. option_and_then (λ length. checked models (model_at address id length))
     (word (address + 1)))
     (word address)
 
--- behind an ID that was not answered with its length: the ID alone, since the end may be the last register of a device
+-- after an ID that was not answered with its length: the ID alone, since the end may be the last register of a device
 abbrev pub ending_at : (address : ℕ) → Stage
 ending_at address = if nat_lt address 65535 then Ending address else Over
 

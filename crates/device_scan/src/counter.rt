@@ -40,7 +40,7 @@ fn first_register(address: u16, scale: CounterScale) -> u16
     }
 }
 
-// The address behind the last of them.
+// The address after the last of them.
 fn end_register(address: u16, scale: CounterScale) -> u32
     ensures { result ≡ specs.end_register address scale }
 {

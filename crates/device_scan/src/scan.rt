@@ -192,7 +192,7 @@ fn ending_at(address: u16) -> Stage
     }
 }
 
-// The model behind so many others that stands at an address.
+// The model after so many others that stands at an address.
 fn model_in(image: &Image, address: u16, models: u8) -> Option<Model>
     ensures model { result ≡ model_in (word_in image.now) models address }
     ensures inside { IfSome result (λ model. next_after model ≤ ADDRESSES) }
@@ -212,7 +212,7 @@ fn model_in(image: &Image, address: u16, models: u8) -> Option<Model>
     }
 }
 
-// What is asked for behind the head of the last of so many models.
+// What is asked for after the head of the last of so many models.
 fn in_model(model: Model, models: u8) -> Stage
     requires inside { next_after model ≤ ADDRESSES }
     requires few { models ≤ 64 }

@@ -6,7 +6,7 @@ use sun_chain::Model;
 pub(crate) enum Stage {
     /// The mark, at this address.
     Mark(u16),
-    /// The ID and the length of a model, or the end, at this address behind so many models.
+    /// The ID and the length of a model, or the end, at this address after so many models.
     Head(u16, u8),
     /// The end's ID alone, at this address.
     Ending(u16),

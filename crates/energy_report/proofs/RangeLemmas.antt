@@ -40,7 +40,7 @@ not_lt Less a b is le = absurd (omega (arith, signed_arith, is, le))
 not_lt Equal a b is le = refl
 not_lt Greater a b is le = refl
 
--- the part behind the cut has begun by each day that is not before it, if the whole range has begun by the cut
+-- the part after the cut has begun by each day that is not before it, if the whole range has begun by the cut
 begun : (from : Option Date) (cut day : Date) → begins_by from cut ≡ true → epoch_day cut ≤ℤ epoch_day day → begins_by from day ≡ true
 begun None cut day by le = refl
 begun (Some first) cut day by le =

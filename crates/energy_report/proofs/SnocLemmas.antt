@@ -13,7 +13,7 @@ use Rattle.interval_core.specs.Ranges.{days_in, is_in}
 use Rattle.energy_report.specs.Rows.{before, joined, row_of, rows_by, rows_in, shown}
 use Rattle.energy_report.proofs.PeriodLemmas.{same-like}
 
--- a day behind the rows: it is added to the last, where they are of one period
+-- a day after the rows: it is added to the last, where they are of one period
 abbrev pub after : Period → List Row → DayTotal → List Row
 after p [] total = row_of total ∷ []
 after p (row ∷ []) total = cond (is_same p row.first total.day) (joined row (row_of total) ∷ []) (row ∷ row_of total ∷ [])

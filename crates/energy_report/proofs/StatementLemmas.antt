@@ -9,7 +9,7 @@ use Rattle.energy_report.specs.declared.meter_statement.MeterStatement.{MeterSta
 use Rattle.energy_report.specs.StatementTexts.{begun_text, lead, opening, row_text, separator, statement_text}
 use Rattle.energy_report.specs.Texts.{ending_by}
 
--- a row behind another
+-- a row after another
 abbrev next_text : StatementForm → MeterStatement → List ℕ
 next_text form row = separator form ++ row_text form row
 

@@ -14,7 +14,7 @@ use Rattle.energy_report.specs.Rows.{rows_in, shown}
 use Rattle.energy_report.specs.Texts.{ending, last_text, lead, opening, report_text, row_text, rows_text, separator}
 use Rattle.energy_report.specs.Writing.{begun_text}
 
--- a row behind another
+-- a row after another
 abbrev next_text : ReportForm → Row → List ℕ
 next_text form row = separator form ++ row_text form row
 

@@ -117,7 +117,7 @@ set_apart p total days rows none far whole =
       (far, whole.1),
     )
 
--- the days behind the first, as they were counted
+-- the days after the first, as they were counted
 abbrev Behind : ℤ → DayTotal → Type 0
 Behind day total = day <ℤ epoch_day total.day
 

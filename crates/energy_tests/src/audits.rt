@@ -47,7 +47,7 @@ const SHARES: [Share; 2] = [
     },
 ];
 
-/// How a row behind the opening is refused.
+/// How a row after the opening is refused.
 fn refused(row: TableRow) -> Option<RowFault>
     requires { row.place < 2 ^ 63 }
 {

@@ -2,7 +2,7 @@
 use crate::samples::{HOUSE, of_kind, reading, struck};
 use energy_core::{Entry, Last};
 use meter_journal::{
-    EntryKind, EntryRow, are_numbered, find_row, is_voidable, last_behind, row_after, strike,
+    EntryKind, EntryRow, are_numbered, find_row, is_voidable, last_of_rows, row_after, strike,
 };
 
 /// The counter of 32 bits all but at its end.
@@ -98,6 +98,6 @@ fn the_counter_after_rows(rt: HostRuntime) {
         raw: 520,
         sf: 1,
     };
-    assert!(rt; last_behind(&HOUSE.opening, &rows) == want);
-    assert!(rt; last_behind(&HOUSE.opening, &[struck(first)]) == HOUSE.opening);
+    assert!(rt; last_of_rows(&HOUSE.opening, &rows) == want);
+    assert!(rt; last_of_rows(&HOUSE.opening, &[struck(first)]) == HOUSE.opening);
 }

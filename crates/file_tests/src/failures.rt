@@ -39,7 +39,7 @@ const UNOPENED: [(OpenFault, &str); 4] = [
     (OpenFault::Memory, "memory ran out"),
 ];
 
-// What stands behind the name of a file of which there is no backup, or of its copy.
+// What stands after the name of a file of which there is no backup, or of its copy.
 const UNCOPIED: [(CopyFault, &str); 7] = [
     (
         CopyFault::Exists,
@@ -152,7 +152,7 @@ const SOCKETS: [(Failure<'static>, &str); 8] = [
     ),
 ];
 
-// What stands behind the name of a file that was not audited.
+// What stands after the name of a file that was not audited.
 const UNAUDITED: [(AuditFault, &str); 8] = [
     (
         AuditFault::NotOurs,

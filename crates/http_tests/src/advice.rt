@@ -1,4 +1,4 @@
-//! What is said to people behind a round.
+//! What is said to people after a round.
 use crate::office::unmetered;
 use office_program::PollEnd;
 use round_advice::{say_lacks, say_remarks};

@@ -2,7 +2,7 @@
 use crate::office::opened;
 use http_request::Status;
 use run_http::{
-    PeerReply, RunRoute, StatusRoute, ask, entries_come_behind, reply_status, rows_before_stay,
+    PeerReply, RunRoute, StatusRoute, ask, entries_come_after, reply_status, rows_before_stay,
     run_route,
 };
 use run_status::Counts;
@@ -147,6 +147,6 @@ fn a_request_is_asked_once_it_is_whole(rt: HostRuntime) -> Result<(), Fail> {
 #[test]
 fn laws_of_copies_are_called(rt: HostRuntime) {
     rows_before_stay();
-    entries_come_behind();
+    entries_come_after();
     assert!(rt; PagePart::Script.body().len() > 0);
 }

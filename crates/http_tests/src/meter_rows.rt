@@ -105,7 +105,7 @@ fn no_entries_are_told_of_a_meter_that_is_none(rt: HostRuntime) -> Result<(), Fa
 static KINDS: &str =
     "1 opening 7 4294967295 0 0 -3 stands\n2 manual 18446744073709551615 4294967295 255 0 3 void\n3 rescale 9 5 0 6 -1 stands\n4 reset 10 6 0 0 -1 stands\n5 closing 11 2 1 0 -1 stands\nend 5\n";
 
-// An entry at a place, of a kind, behind which the scale is that.
+// An entry at a place, of a kind, after which the scale is that.
 fn later(place: u64, kind: EntryKind, entry: Entry, sf: i16) -> MeterEntry {
     MeterEntry::Later {
         row: EntryRow {

@@ -14,7 +14,7 @@ abbrev pub begins_by : (from : Option Date) → Date → Bool
 begins_by None day = true
 begins_by (Some from) day = is_le (int_cmp (epoch_day from) (epoch_day day))
 
--- A range that ends so ends after the day: that day is the first one behind it.
+-- A range that ends so ends after the day: that day is the first one after it.
 abbrev pub ends_after : (till : Option Date) → Date → Bool
 ends_after None day = true
 ends_after (Some till) day = is_lt (int_cmp (epoch_day day) (epoch_day till))

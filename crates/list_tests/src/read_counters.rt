@@ -19,7 +19,7 @@ static AREAS: [Area; 2] = [
     },
 ];
 
-// A counter of input registers with scales behind and before it, one of holding registers, and scales that no counter has.
+// A counter of input registers with scales after and before it, one of holding registers, and scales that no counter has.
 static WORDS: [(Kind, u16, u16); 9] = [
     (Kind::Holding, 40000, 1),
     (Kind::Holding, 40001, 2),
@@ -99,7 +99,7 @@ fn shown(raw: u32, sf: i16) -> Option<Shown> {
     Some(Shown { raw, sf })
 }
 
-// The counter with the scale behind it, under tricks.
+// The counter with the scale after it, under tricks.
 fn tricked(
     alloc: Global,
     tricks: &[(u64, Trick)],

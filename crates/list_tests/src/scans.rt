@@ -165,7 +165,7 @@ fn a_long_model_takes_several_reads(rt: HostRuntime) -> Result<(), Fail> {
     Ok(())
 }
 
-// So many models without registers, and the end behind them.
+// So many models without registers, and the end after them.
 fn many_models(alloc: Global, count: u16) -> Result<Image, Fail> {
     let mut bank = upper_bank(alloc, &TO_THE_LAST)?;
     for place in 0..count {

@@ -4,7 +4,7 @@ use Rattle.mb_wire.specs.Frames.{IsOpen, rest}
 use Rattle.mb_device.specs.Exchanges.{Exchange, Exchanges, ExchangesOver, InOrder, in_all, joined}
 use Rattle.mb_device.specs.Maps.{Maps}
 use Rattle.mb_device.specs.Tricks.{Course, Playing, CutOff, carried_out, is_cut}
-use Rattle.mb_device.specs.Server.{Around, Faulted, Holds, Over, Serves, Standing, Turns, course_behind, maps_after_all, own_frames, sent_to, standing_on}
+use Rattle.mb_device.specs.Server.{Around, Faulted, Holds, Over, Serves, Standing, Turns, course_after_all, maps_after_all, own_frames, sent_to, standing_on}
 use Rattle.mb_device.specs.declared.server.Turned.{Turned}
 use Rattle.mb_device.proofs.Framing.{nothing_taken, taken_more}
 use Rattle.mb_device.proofs.Putting.{carried_out-none}
@@ -52,8 +52,8 @@ two_exchange buffered left course mid_course first next old mid new standing one
     let more = taken_more buffered first.taken next.taken in
     let frames : own_frames (buffered ++ (first.taken ++ next.taken)) ≡ xs ++ ys = more.0 ∙ ap (λ l. xs ++ own_frames (l ++ next.taken)) (sym so.0) in
     let left_over : rest (buffered ++ (first.taken ++ next.taken)) ≡ rest (left ++ next.taken) = more.1 ∙ ap (λ l. rest (l ++ next.taken)) (sym so.0) in
-    let same : course_behind course old (own_frames (buffered ++ (first.taken ++ next.taken))) ≡ course_behind mid_course mid ys =
-    ap (course_behind course old) frames ∙ course_then course mid_course old mid xs ys dealt in
+    let same : course_after_all course old (own_frames (buffered ++ (first.taken ++ next.taken))) ≡ course_after_all mid_course mid ys =
+    ap (course_after_all course old) frames ∙ course_then course mid_course old mid xs ys dealt in
     record {
       given =
           ap (λ g. g ++ next.given) one.given
@@ -65,7 +65,7 @@ two_exchange buffered left course mid_course first next old mid new standing one
           ∙ sym (maps_after_all-append old xs (carried_out mid_course ys))
           ∙ ap (maps_after_all old) (sym (carried_then course mid_course old mid xs ys dealt))
           ∙ ap (λ fs. maps_after_all old (carried_out course fs)) (sym frames);
-      stands = other.stands ∙ ap (λ r. standing_on r (course_behind mid_course mid ys)) (sym left_over) ∙ ap (standing_on (rest (buffered ++ (first.taken ++ next.taken)))) (sym same);
+      stands = other.stands ∙ ap (λ r. standing_on r (course_after_all mid_course mid ys)) (sym left_over) ∙ ap (standing_on (rest (buffered ++ (first.taken ++ next.taken)))) (sym same);
       is_open = λ going. subst IsOpen (sym left_over) (other.is_open (ap is_cut (sym same) ∙ going));
     }
 
@@ -73,7 +73,7 @@ pub all_exchange : (buffered : List ℕ) (course : Course) (exchanges : List Exc
 all_exchange buffered course [] old new standing h =
     let none = nothing_taken buffered h.2 in
     let nothing : carried_out course (own_frames (buffered ++ [])) ≡ [] = ap (carried_out course) none.0 ∙ carried_out-none course in
-    let stays : course_behind course old (own_frames (buffered ++ [])) ≡ course = ap (course_behind course old) none.0 in
+    let stays : course_after_all course old (own_frames (buffered ++ [])) ≡ course = ap (course_after_all course old) none.0 in
     record {
       given = sym (ap (sent_to course old) none.0);
       maps = h.0 ∙ sym (ap (maps_after_all old) nothing);

@@ -7,7 +7,7 @@ use Rattle.mb_wire.specs.Links.{risen}
 use Rattle.mb_wire.specs.declared.link.LastTake.{LastTake}
 use Rattle.mb_device.specs.Maps.{Maps}
 use Rattle.mb_device.specs.Tricks.{Course, Playing, CutOff, carried_out, is_cut}
-use Rattle.mb_device.specs.Server.{Answered, Around, Counts, ServeTells, Served, Serves, Standing, Faulted, Holds, Over, TellsTake, TurnTells, Turns, came_to_end, course_behind, has_faulted, is_over, is_read_fault, is_serving, own_frames, served_to_end, standing_on, stretch}
+use Rattle.mb_device.specs.Server.{Answered, Around, Counts, ServeTells, Served, Serves, Standing, Faulted, Holds, Over, TellsTake, TurnTells, Turns, came_to_end, course_after_all, has_faulted, is_over, is_read_fault, is_serving, own_frames, served_to_end, standing_on, stretch}
 use Rattle.mb_device.specs.declared.server.ServeFault.{ServeFault}
 use Rattle.mb_device.specs.declared.server.ServeFault.TheVariants as fault
 use Rattle.mb_device.specs.declared.server.Turned.{Turned}
@@ -22,7 +22,7 @@ serving_on bytes CutOff serving = absurd cc
 pub Served-none : (buffered : List ℕ) (course : Course) (around : Around) (standing : Standing) → IsOpen buffered → is_cut course ≡ false → standing ≡ Holds buffered course → Served buffered course 0 around around standing
 Served-none buffered course around standing is_open going stands =
     let none = nothing_taken buffered is_open in
-    let stays : course_behind course around.maps (own_frames (buffered ++ [])) ≡ course = ap (course_behind course around.maps) none.0 in
+    let stays : course_after_all course around.maps (own_frames (buffered ++ [])) ≡ course = ap (course_after_all course around.maps) none.0 in
     let nothing : carried_out course (own_frames (buffered ++ [])) ≡ [] = ap (carried_out course) none.0 ∙ carried_out-none course in
     record {
       taken = [];
@@ -34,17 +34,17 @@ Served-none buffered course around standing is_open going stands =
 
 -- frames were served so far on a connection that was not cut
 reached : (buffered : List ℕ) (course : Course) (count : ℕ) (a b : Around) (before : Standing) → (so_far : Served buffered course count a b before) → is_serving before ≡ true
-    → Dealt course a.maps (own_frames (buffered ++ so_far.taken)) (course_behind course a.maps (own_frames (buffered ++ so_far.taken))) b.maps
+    → Dealt course a.maps (own_frames (buffered ++ so_far.taken)) (course_after_all course a.maps (own_frames (buffered ++ so_far.taken))) b.maps
 reached buffered course count a b before so_far serving =
-    let left = course_behind course a.maps (own_frames (buffered ++ so_far.taken)) in
+    let left = course_after_all course a.maps (own_frames (buffered ++ so_far.taken)) in
     let going : is_cut left ≡ false = serving_on (rest (buffered ++ so_far.taken)) left (ap is_serving (sym so_far.stands) ∙ serving) in
     dealt_with course left (own_frames (buffered ++ so_far.taken)) a b so_far.answered refl going
 
 turn_next : (result : Result Turned ServeFault) (buffered : List ℕ) (course : Course) (count : ℕ) (a b c : Around) (before after : Standing) → (so_far : Served buffered course count a b before) → is_serving before ≡ true
     → ((later : List ℕ) (mid : Course) → before ≡ Holds later mid → Turns later mid result b c after)
-    → Turns (rest (buffered ++ so_far.taken)) (course_behind course a.maps (own_frames (buffered ++ so_far.taken))) result b c after
+    → Turns (rest (buffered ++ so_far.taken)) (course_after_all course a.maps (own_frames (buffered ++ so_far.taken))) result b c after
 turn_next result buffered course count a b c before after so_far serving turns =
-    let left = course_behind course a.maps (own_frames (buffered ++ so_far.taken)) in
+    let left = course_after_all course a.maps (own_frames (buffered ++ so_far.taken)) in
     let dealt = reached buffered course count a b before so_far serving in
     turns (rest (buffered ++ so_far.taken)) left (so_far.stands ∙ standing-going _ left dealt.going)
 
@@ -52,18 +52,18 @@ pub Served-more : (buffered : List ℕ) (course : Course) (count : ℕ) (turned 
     → ((later : List ℕ) (mid : Course) → before ≡ Holds later mid → Turns later mid (Ok turned) b c after) → Served buffered course (count + turned.answered) a c after
 Served-more buffered course count turned a b c before after so_far serving turns =
     let bytes = buffered ++ so_far.taken in
-    let left = course_behind course a.maps (own_frames bytes) in
+    let left = course_after_all course a.maps (own_frames bytes) in
     let dealt = reached buffered course count a b before so_far serving in
     let turn = turn_next (Ok turned) buffered course count a b c before after so_far serving turns in
     let more = taken_more buffered so_far.taken turn.taken in
-    let same : course_behind course a.maps (own_frames (buffered ++ (so_far.taken ++ turn.taken))) ≡ course_behind left b.maps (own_frames (rest bytes ++ turn.taken)) =
-    ap (course_behind course a.maps) more.0 ∙ course_then course left a.maps b.maps (own_frames bytes) (own_frames (rest bytes ++ turn.taken)) dealt in
+    let same : course_after_all course a.maps (own_frames (buffered ++ (so_far.taken ++ turn.taken))) ≡ course_after_all left b.maps (own_frames (rest bytes ++ turn.taken)) =
+    ap (course_after_all course a.maps) more.0 ∙ course_then course left a.maps b.maps (own_frames bytes) (own_frames (rest bytes ++ turn.taken)) dealt in
     let counted : count ≡ length (own_frames bytes) = so_far.counts.counted ∙ ap length dealt.carried in
     record {
       taken = so_far.taken ++ turn.taken;
       consumed = Consumes-trans _ _ _ _ _ so_far.consumed turn.consumed;
       answered = AllAnswered-same course _ _ a c more.0 (all_then_all course left _ _ a b c so_far.answered dealt turn.answered);
-      stands = turn.stands ∙ ap (λ r. standing_on r (course_behind left b.maps (own_frames (rest bytes ++ turn.taken)))) (sym more.1) ∙ ap (standing_on (rest (buffered ++ (so_far.taken ++ turn.taken)))) (sym same);
+      stands = turn.stands ∙ ap (λ r. standing_on r (course_after_all left b.maps (own_frames (rest bytes ++ turn.taken)))) (sym more.1) ∙ ap (standing_on (rest (buffered ++ (so_far.taken ++ turn.taken)))) (sym same);
       counts = subst (λ n. Counts (n + turned.answered) (stretch course a.maps (buffered ++ (so_far.taken ++ turn.taken)))) (sym counted)
           (counts_then course left a.maps b.maps (own_frames bytes) (buffered ++ (so_far.taken ++ turn.taken)) (rest bytes ++ turn.taken) turned.answered dealt more.0 more.1 turn.tells.0);
     }
@@ -75,12 +75,12 @@ unfolding Served-more
 Serves-end buffered course count turned a b c before after so_far serving turns ended =
     let all = Served-more buffered course count turned a b c before after so_far serving turns in
     let bytes = buffered ++ so_far.taken in
-    let left = course_behind course a.maps (own_frames bytes) in
+    let left = course_after_all course a.maps (own_frames bytes) in
     let dealt = reached buffered course count a b before so_far serving in
     let turn = turn_next (Ok turned) buffered course count a b c before after so_far serving turns in
     let more = taken_more buffered so_far.taken turn.taken in
-    let same : course_behind course a.maps (own_frames (buffered ++ (so_far.taken ++ turn.taken))) ≡ course_behind left b.maps (own_frames (rest bytes ++ turn.taken)) =
-    ap (course_behind course a.maps) more.0 ∙ course_then course left a.maps b.maps (own_frames bytes) (own_frames (rest bytes ++ turn.taken)) dealt in
+    let same : course_after_all course a.maps (own_frames (buffered ++ (so_far.taken ++ turn.taken))) ≡ course_after_all left b.maps (own_frames (rest bytes ++ turn.taken)) =
+    ap (course_after_all course a.maps) more.0 ∙ course_then course left a.maps b.maps (own_frames bytes) (own_frames (rest bytes ++ turn.taken)) dealt in
     record {
       taken = all.taken;
       consumed = all.consumed;
@@ -101,8 +101,8 @@ serve_tells_fault fault.Read buffered taken more course left maps after remainin
     let none = nothing_taken (rest (buffered ++ taken)) is_open in
     let same = taken_more buffered taken more in
     let nothing : own_frames (rest (buffered ++ taken) ++ more) ≡ [] = ap (λ m. own_frames (rest (buffered ++ taken) ++ m)) tells ∙ none.0 in
-    let stays : course_behind course maps (own_frames (buffered ++ (taken ++ more))) ≡ left =
-    ap (course_behind course maps) same.0 ∙ course_then course left maps after _ (own_frames (rest (buffered ++ taken) ++ more)) dealt ∙ ap (course_behind left after) nothing in
+    let stays : course_after_all course maps (own_frames (buffered ++ (taken ++ more))) ≡ left =
+    ap (course_after_all course maps) same.0 ∙ course_then course left maps after _ (own_frames (rest (buffered ++ taken) ++ more)) dealt ∙ ap (course_after_all left after) nothing in
     let rests : rest (buffered ++ (taken ++ more)) ≡ rest (buffered ++ taken) = same.1 ∙ ap (λ m. rest (rest (buffered ++ taken) ++ m)) tells ∙ none.1 in
     record { going = ap is_cut stays ∙ dealt.going; is_open = subst IsOpen (sym rests) is_open }
 serve_tells_fault fault.Write buffered taken more course left maps after remaining is_open dealt tells = tells
@@ -116,7 +116,7 @@ pub Serves-fault : (e : ServeFault) (buffered : List ℕ) (course : Course) (cou
     → ((later : List ℕ) (mid : Course) → before ≡ Holds later mid → Turns later mid (Err e) b c after) → Serves buffered course (Err e) a c after
 Serves-fault e buffered course count a b c before after so_far serving turns =
     let bytes = buffered ++ so_far.taken in
-    let left = course_behind course a.maps (own_frames bytes) in
+    let left = course_after_all course a.maps (own_frames bytes) in
     let dealt = reached buffered course count a b before so_far serving in
     let turn = turn_next (Err e) buffered course count a b c before after so_far serving turns in
     let more = taken_more buffered so_far.taken turn.taken in

@@ -14,7 +14,7 @@ use Rattle.mb_device.specs.Maps.{Maps}
 use Rattle.mb_device.specs.Device.{answer_to, maps_after}
 use Rattle.mb_device.specs.Tricks.{Course, Playing, CutOff, answer_of, carried_out, course_after, course_next, is_cut, sent, sent_next}
 use Rattle.mb_wire.specs.Links.{GivesPart}
-use Rattle.mb_device.specs.Server.{AllAnswered, Answered, Around, BrokenOff, Counts, BufferedTells, IsGarbled, Holds, PieceTells, Faulted, TurnTells, Turns, answer_to_frame, answers, course_behind, buffered_frames, maps_after_all, own_frames, sent_to, standing_on, stretch}
+use Rattle.mb_device.specs.Server.{AllAnswered, Answered, Around, BrokenOff, Counts, BufferedTells, IsGarbled, Holds, PieceTells, Faulted, TurnTells, Turns, answer_to_frame, answers, course_after_all, buffered_frames, maps_after_all, own_frames, sent_to, standing_on, stretch}
 use Rattle.mb_device.specs.declared.server.ServeFault.{ServeFault}
 use Rattle.mb_device.specs.declared.server.ServeFault.TheVariants as fault
 use Rattle.mb_device.specs.declared.server.Turned.{Turned}
@@ -35,26 +35,26 @@ pub maps_after_all-append : (maps : Maps) (xs ys : List (List ℕ)) → maps_aft
 maps_after_all-append maps [] ys = refl
 maps_after_all-append maps (x ∷ xs) ys = maps_after_all-append (maps_after maps (pdu_of x)) xs ys
 
-pub sent_to-append : (course : Course) (maps : Maps) (xs ys : List (List ℕ)) → sent_to course maps (xs ++ ys) ≡ sent_to course maps xs ++ sent_to (course_behind course maps xs) (maps_after_all maps xs) ys
+pub sent_to-append : (course : Course) (maps : Maps) (xs ys : List (List ℕ)) → sent_to course maps (xs ++ ys) ≡ sent_to course maps xs ++ sent_to (course_after_all course maps xs) (maps_after_all maps xs) ys
 sent_to-append course maps xs ys = ap (sent course) (answers-append maps xs ys) ∙ sent-append course (answers maps xs) _
 
-pub course_behind-append : (course : Course) (maps : Maps) (xs ys : List (List ℕ)) → course_behind course maps (xs ++ ys) ≡ course_behind (course_behind course maps xs) (maps_after_all maps xs) ys
-course_behind-append course maps xs ys = ap (course_after course) (answers-append maps xs ys) ∙ course_after-append course (answers maps xs) _
+pub course_after_all-append : (course : Course) (maps : Maps) (xs ys : List (List ℕ)) → course_after_all course maps (xs ++ ys) ≡ course_after_all (course_after_all course maps xs) (maps_after_all maps xs) ys
+course_after_all-append course maps xs ys = ap (course_after course) (answers-append maps xs ys) ∙ course_after-append course (answers maps xs) _
 
-pub carried_out-append : (course : Course) (maps : Maps) (xs ys : List (List ℕ)) → carried_out course (xs ++ ys) ≡ carried_out course xs ++ carried_out (course_behind course maps xs) ys
+pub carried_out-append : (course : Course) (maps : Maps) (xs ys : List (List ℕ)) → carried_out course (xs ++ ys) ≡ carried_out course xs ++ carried_out (course_after_all course maps xs) ys
 carried_out-append course maps [] ys = ap (λ t. t ++ carried_out course ys) (sym (carried_out-none course))
 carried_out-append (Playing tricks number later) maps (x ∷ xs) ys =
     let course = Playing tricks number later in
     let answer = answer_to_frame maps x in
     carried_out-next course answer x (xs ++ ys) refl
     ∙ ap (λ fs. x ∷ fs) (carried_out-append (course_next course answer) (maps_after maps (pdu_of x)) xs ys)
-    ∙ ap (λ fs. fs ++ carried_out (course_behind course maps (x ∷ xs)) ys) (sym (carried_out-next course answer x xs refl))
+    ∙ ap (λ fs. fs ++ carried_out (course_after_all course maps (x ∷ xs)) ys) (sym (carried_out-next course answer x xs refl))
 carried_out-append CutOff maps (x ∷ xs) ys = ap (λ c. carried_out c ys) (sym (course_after-cut (answers maps (x ∷ xs))))
 
 -- ---- a connection that was not cut
 
 -- it carried all of its frames out
-uncut : (course : Course) (maps : Maps) (xs : List (List ℕ)) → is_cut (course_behind course maps xs) ≡ false → carried_out course xs ≡ xs
+uncut : (course : Course) (maps : Maps) (xs : List (List ℕ)) → is_cut (course_after_all course maps xs) ≡ false → carried_out course xs ≡ xs
 uncut course maps [] going = carried_out-none course
 uncut (Playing tricks number later) maps (x ∷ xs) going =
     let course = Playing tricks number later in
@@ -65,17 +65,17 @@ uncut CutOff maps (x ∷ xs) going =
 
 -- frames were dealt with on a connection, and so it stands after them, and so does the device
 pub record Dealt (course : Course) (maps : Maps) (xs : List (List ℕ)) (mid : Course) (after : Maps) : Type 0 where
-  pub stands : mid ≡ course_behind course maps xs
+  pub stands : mid ≡ course_after_all course maps xs
   pub going : is_cut mid ≡ false
   pub device : after ≡ maps_after_all maps xs
   pub carried : carried_out course xs ≡ xs
 
-pub dealt_by : (course mid : Course) (xs : List (List ℕ)) (maps after : Maps) → after ≡ maps_after_all maps (carried_out course xs) → mid ≡ course_behind course maps xs → is_cut mid ≡ false → Dealt course maps xs mid after
+pub dealt_by : (course mid : Course) (xs : List (List ℕ)) (maps after : Maps) → after ≡ maps_after_all maps (carried_out course xs) → mid ≡ course_after_all course maps xs → is_cut mid ≡ false → Dealt course maps xs mid after
 dealt_by course mid xs maps after device is going =
     let all = uncut course maps xs (ap is_cut (sym is) ∙ going) in
     record { stands = is; going = going; device = device ∙ ap (maps_after_all maps) all; carried = all }
 
-pub dealt_with : (course mid : Course) (xs : List (List ℕ)) (a b : Around) → AllAnswered course xs a b → mid ≡ course_behind course a.maps xs → is_cut mid ≡ false → Dealt course a.maps xs mid b.maps
+pub dealt_with : (course mid : Course) (xs : List (List ℕ)) (a b : Around) → AllAnswered course xs a b → mid ≡ course_after_all course a.maps xs → is_cut mid ≡ false → Dealt course a.maps xs mid b.maps
 dealt_with course mid xs a b answered is going = dealt_by course mid xs a.maps b.maps answered.maps is going
 
 pub sent_then : (course mid : Course) (maps after : Maps) (xs ys : List (List ℕ)) → Dealt course maps xs mid after → sent_to course maps (xs ++ ys) ≡ sent_to course maps xs ++ sent_to mid after ys
@@ -84,11 +84,11 @@ sent_then course mid maps after xs ys dealt =
     ∙ ap (λ c. sent_to course maps xs ++ sent_to c (maps_after_all maps xs) ys) (sym dealt.stands)
     ∙ ap (λ m. sent_to course maps xs ++ sent_to mid m ys) (sym dealt.device)
 
-pub course_then : (course mid : Course) (maps after : Maps) (xs ys : List (List ℕ)) → Dealt course maps xs mid after → course_behind course maps (xs ++ ys) ≡ course_behind mid after ys
+pub course_then : (course mid : Course) (maps after : Maps) (xs ys : List (List ℕ)) → Dealt course maps xs mid after → course_after_all course maps (xs ++ ys) ≡ course_after_all mid after ys
 course_then course mid maps after xs ys dealt =
-    course_behind-append course maps xs ys
-    ∙ ap (λ c. course_behind c (maps_after_all maps xs) ys) (sym dealt.stands)
-    ∙ ap (λ m. course_behind mid m ys) (sym dealt.device)
+    course_after_all-append course maps xs ys
+    ∙ ap (λ c. course_after_all c (maps_after_all maps xs) ys) (sym dealt.stands)
+    ∙ ap (λ m. course_after_all mid m ys) (sym dealt.device)
 
 pub carried_then : (course mid : Course) (maps after : Maps) (xs ys : List (List ℕ)) → Dealt course maps xs mid after → carried_out course (xs ++ ys) ≡ xs ++ carried_out mid ys
 carried_then course mid maps after xs ys dealt =
@@ -179,7 +179,7 @@ BrokenOff-before course xs ys a b h =
 pub counts_then : (course mid : Course) (maps after : Maps) (xs : List (List ℕ)) (bytes left : List ℕ) (count : ℕ) → Dealt course maps xs mid after → own_frames bytes ≡ xs ++ own_frames left → rest bytes ≡ rest left → Counts count (stretch mid after left) → Counts (length xs + count) (stretch course maps bytes)
 counts_then course mid maps after xs bytes left count dealt frames rests counts =
     let all = ap length (ap (carried_out course) frames ∙ carried_then course mid maps after xs (own_frames left) dealt) ∙ length-append xs _ in
-    let same = ap (course_behind course maps) frames ∙ course_then course mid maps after xs (own_frames left) dealt in
+    let same = ap (course_after_all course maps) frames ∙ course_then course mid maps after xs (own_frames left) dealt in
     record {
       counted = omega (arith, all, counts.counted);
       is_open = λ going. subst IsOpen (sym rests) (counts.is_open (ap is_cut (sym same) ∙ going));
@@ -187,12 +187,12 @@ counts_then course mid maps after xs bytes left count dealt frames rests counts 
 
 pub garbled_then : (course mid : Course) (maps after : Maps) (xs : List (List ℕ)) (bytes left : List ℕ) → Dealt course maps xs mid after → own_frames bytes ≡ xs ++ own_frames left → rest bytes ≡ rest left → IsGarbled (stretch mid after left) → IsGarbled (stretch course maps bytes)
 garbled_then course mid maps after xs bytes left dealt frames rests garbled =
-    let same = ap (course_behind course maps) frames ∙ course_then course mid maps after xs (own_frames left) dealt in
+    let same = ap (course_after_all course maps) frames ∙ course_then course mid maps after xs (own_frames left) dealt in
     record { going = ap is_cut same ∙ garbled.going; bad = subst IsBad (sym rests) garbled.bad }
 
 pub piece_then : (course mid : Course) (maps after : Maps) (xs : List (List ℕ)) (bytes left buffered : List ℕ) (first count : ℕ) → Dealt course maps xs mid after → own_frames bytes ≡ xs ++ own_frames left → rest bytes ≡ rest left → first ≡ length xs → PieceTells (Ok count) (stretch mid after left) buffered → PieceTells (Ok (first + count)) (stretch course maps bytes) buffered
 piece_then course mid maps after xs bytes left buffered first count dealt frames rests is tells =
-    let same = ap (course_behind course maps) frames ∙ course_then course mid maps after xs (own_frames left) dealt in (
+    let same = ap (course_after_all course maps) frames ∙ course_then course mid maps after xs (own_frames left) dealt in (
       subst (λ n. Counts (n + count) (stretch course maps bytes)) (sym is) (counts_then course mid maps after xs bytes left count dealt frames rests tells.0),
       λ going. tells.1 (ap is_cut (sym same) ∙ going) ∙ sym rests,
     )
@@ -205,38 +205,38 @@ piece_fault fault.TurnsUsed course mid maps after xs bytes left buffered new dea
 
 -- ---- a connection that was cut
 
-sent_cut : (course : Course) (maps : Maps) (xs ys : List (List ℕ)) → is_cut (course_behind course maps xs) ≡ true → sent_to course maps (xs ++ ys) ≡ sent_to course maps xs
+sent_cut : (course : Course) (maps : Maps) (xs ys : List (List ℕ)) → is_cut (course_after_all course maps xs) ≡ true → sent_to course maps (xs ++ ys) ≡ sent_to course maps xs
 sent_cut course maps xs ys cut =
     sent_to-append course maps xs ys
     ∙ ap (λ c. sent_to course maps xs ++ sent_to c (maps_after_all maps xs) ys) (is_cut-true _ cut)
     ∙ ap (λ t. sent_to course maps xs ++ t) (sent-cut (answers (maps_after_all maps xs) ys))
     ∙ append-nil _
 
-carried_cut : (course : Course) (maps : Maps) (xs ys : List (List ℕ)) → is_cut (course_behind course maps xs) ≡ true → carried_out course (xs ++ ys) ≡ carried_out course xs
+carried_cut : (course : Course) (maps : Maps) (xs ys : List (List ℕ)) → is_cut (course_after_all course maps xs) ≡ true → carried_out course (xs ++ ys) ≡ carried_out course xs
 carried_cut course maps xs ys cut =
     carried_out-append course maps xs ys
     ∙ ap (λ c. carried_out course xs ++ carried_out c ys) (is_cut-true _ cut)
     ∙ append-nil _
 
-pub course_cut : (course : Course) (maps : Maps) (xs ys : List (List ℕ)) → is_cut (course_behind course maps xs) ≡ true → course_behind course maps xs ≡ course_behind course maps (xs ++ ys)
+pub course_cut : (course : Course) (maps : Maps) (xs ys : List (List ℕ)) → is_cut (course_after_all course maps xs) ≡ true → course_after_all course maps xs ≡ course_after_all course maps (xs ++ ys)
 course_cut course maps xs ys cut =
     is_cut-true _ cut
     ∙ sym (course_after-cut (answers (maps_after_all maps xs) ys))
-    ∙ ap (λ c. course_behind c (maps_after_all maps xs) ys) (sym (is_cut-true _ cut))
-    ∙ sym (course_behind-append course maps xs ys)
+    ∙ ap (λ c. course_after_all c (maps_after_all maps xs) ys) (sym (is_cut-true _ cut))
+    ∙ sym (course_after_all-append course maps xs ys)
 
-pub AllAnswered-cut : (course : Course) (xs ys : List (List ℕ)) (a b : Around) → is_cut (course_behind course a.maps xs) ≡ true → AllAnswered course xs a b → AllAnswered course (xs ++ ys) a b
+pub AllAnswered-cut : (course : Course) (xs ys : List (List ℕ)) (a b : Around) → is_cut (course_after_all course a.maps xs) ≡ true → AllAnswered course xs a b → AllAnswered course (xs ++ ys) a b
 AllAnswered-cut course xs ys a b cut h =
     record {
       given = subst (Appends a.given b.given) (sym (sent_cut course a.maps xs ys cut)) h.given;
       maps = h.maps ∙ ap (maps_after_all a.maps) (sym (carried_cut course a.maps xs ys cut));
     }
 
-pub cut_tells : (count : ℕ) (course : Course) (maps : Maps) (xs ys : List (List ℕ)) (bytes buffered : List ℕ) → own_frames bytes ≡ xs ++ ys → is_cut (course_behind course maps xs) ≡ true → count ≡ length (carried_out course xs) → PieceTells (Ok count) (stretch course maps bytes) buffered
+pub cut_tells : (count : ℕ) (course : Course) (maps : Maps) (xs ys : List (List ℕ)) (bytes buffered : List ℕ) → own_frames bytes ≡ xs ++ ys → is_cut (course_after_all course maps xs) ≡ true → count ≡ length (carried_out course xs) → PieceTells (Ok count) (stretch course maps bytes) buffered
 cut_tells count course maps xs ys bytes buffered frames cut counted =
-    let same = ap (course_behind course maps) frames ∙ sym (course_cut course maps xs ys cut) in
+    let same = ap (course_after_all course maps) frames ∙ sym (course_cut course maps xs ys cut) in
     let all = ap (carried_out course) frames ∙ carried_cut course maps xs ys cut in
-    let still : is_cut (course_behind course maps (own_frames bytes)) ≡ true = ap is_cut same ∙ cut in
+    let still : is_cut (course_after_all course maps (own_frames bytes)) ≡ true = ap is_cut same ∙ cut in
     (record { counted = counted ∙ sym (ap length all); is_open = λ going. absurd (both_ways _ still going) }, λ going. absurd (both_ways _ still going))
 
 -- ---- the frame that a reader holds
@@ -285,10 +285,10 @@ buffered_broken_off course shown buffered frame old new same is gives maps =
     }
 
 pub buffered_course : (course new : Course) (shown : Option Frame) (buffered : Option (List ℕ)) (frame : Frame) (maps : Maps) → option_map spelled shown ≡ option_map fields_of buffered → shown ≡ Some frame
-    → new ≡ course_next course (answer_of frame.tid frame.unit (answer_to maps frame.pdu.now)) → new ≡ course_behind course maps (buffered_frames buffered)
+    → new ≡ course_next course (answer_of frame.tid frame.unit (answer_to maps frame.pdu.now)) → new ≡ course_after_all course maps (buffered_frames buffered)
 buffered_course course new shown buffered frame maps same is next =
     let lent = lent_frame shown buffered frame same is in
-    next ∙ ap (course_next course) (answer_is maps frame lent.0 lent.2) ∙ ap (λ h. course_behind course maps (buffered_frames h)) (sym lent.1)
+    next ∙ ap (course_next course) (answer_is maps frame lent.0 lent.2) ∙ ap (λ h. course_after_all course maps (buffered_frames h)) (sym lent.1)
 
 -- the answer to the frame that is buffered was broken off
 pub buffered_fault : (e : ServeFault) (course : Course) (frame : Option (List ℕ)) (xs ys : List (List ℕ)) (a b : Around) → BufferedTells (Err e) frame → Answered {X = ℕ} (Err e) course xs a b → Answered {X = ℕ} (Err e) course (xs ++ ys) a b
@@ -317,7 +317,7 @@ turn_over : (buffered : List ℕ) (course : Course) (ended : Bool) (old new : Ar
     → Turns buffered course (Ok record { answered = 0; ended = ended }) old new (standing_on buffered course)
 turn_over buffered course ended old new is_open going left at_end given maps =
     let none = nothing_taken buffered is_open in
-    let stays : course_behind course old.maps (own_frames (buffered ++ [])) ≡ course = ap (course_behind course old.maps) none.0 in
+    let stays : course_after_all course old.maps (own_frames (buffered ++ [])) ≡ course = ap (course_after_all course old.maps) none.0 in
     let nothing : carried_out course (own_frames (buffered ++ [])) ≡ [] = ap (carried_out course) none.0 ∙ carried_out-none course in
     record {
       taken = [];
@@ -391,12 +391,12 @@ turn_fault e course buffered piece left came_as n old mid new going bytes is few
 pub turn_bytes : (count : ℕ) (course after : Course) (buffered piece left : List ℕ) (came_as : Took) (n : ℕ) (ended : Bool) (old mid new : Around) → is_cut course ≡ false → TakeConsumes old.remaining mid.remaining (Ok came_as) piece → came_as ≡ took.Bytes n → length piece ≤ 260
     → Keeps mid.remaining new.remaining → Keeps old.given mid.given → mid.maps ≡ old.maps
     → AllAnswered course (own_frames (buffered ++ take n piece)) mid new → PieceTells (Ok count) (stretch course mid.maps (buffered ++ take n piece)) left
-    → after ≡ course_behind course mid.maps (own_frames (buffered ++ take n piece)) → ended ≡ is_cut after
+    → after ≡ course_after_all course mid.maps (own_frames (buffered ++ take n piece)) → ended ≡ is_cut after
     → Turns buffered course (Ok record { answered = count; ended = ended }) old new (standing_on left after)
 turn_bytes count course after buffered piece left came_as n ended old mid new going bytes is few kept given maps answered tells same ends =
     let came = subst (λ t. TakeConsumes old.remaining mid.remaining (Ok t) piece) is bytes in
     let bytes = buffered ++ take n piece in
-    let course_is : after ≡ course_behind course old.maps (own_frames bytes) = same ∙ ap (λ m. course_behind course m (own_frames bytes)) maps in
+    let course_is : after ≡ course_after_all course old.maps (own_frames bytes) = same ∙ ap (λ m. course_after_all course m (own_frames bytes)) maps in
     let told = subst (λ m. PieceTells (Ok count) (stretch course m bytes) left) maps tells in
     record {
       taken = take n piece;

@@ -5,7 +5,7 @@ use Rattle.std.specs.Io.KnownBytes.{Appends, Consumes}
 use Rattle.mb_wire.specs.Frames.{IsOpen, rest}
 use Rattle.mb_device.specs.Maps.{Maps}
 use Rattle.mb_device.specs.Tricks.{Course, carried_out, is_cut}
-use Rattle.mb_device.specs.Server.{Around, Holds, Serves, Standing, Turns, course_behind, maps_after_all, own_frames, sent_to, standing_on}
+use Rattle.mb_device.specs.Server.{Around, Holds, Serves, Standing, Turns, course_after_all, maps_after_all, own_frames, sent_to, standing_on}
 use Rattle.mb_device.specs.declared.server.Turned.{Turned}
 
 -- bytes that were taken, and bytes that were given
@@ -33,8 +33,8 @@ pub record Exchanges (buffered : List ℕ) (course : Course) (exchange : Exchang
   pub maps : new ≡ maps_after_all old (carried_out course (own_frames (buffered ++ exchange.taken)))
   pub stands : standing
       ≡ standing_on (rest (buffered ++ exchange.taken))
-      (course_behind course old (own_frames (buffered ++ exchange.taken)))
-  pub is_open : is_cut (course_behind course old (own_frames (buffered ++ exchange.taken))) ≡ false
+      (course_after_all course old (own_frames (buffered ++ exchange.taken)))
+  pub is_open : is_cut (course_after_all course old (own_frames (buffered ++ exchange.taken))) ≡ false
       → IsOpen (rest (buffered ++ exchange.taken))
 
 -- an exchange over a link

@@ -47,8 +47,8 @@ abbrev pub sent_to : Course → Maps → List (List ℕ) → List ℕ
 sent_to course maps frames = sent course (answers maps frames)
 
 -- the connection after frames
-abbrev pub course_behind : Course → Maps → List (List ℕ) → Course
-course_behind course maps frames = course_after course (answers maps frames)
+abbrev pub course_after_all : Course → Maps → List (List ℕ) → Course
+course_after_all course maps frames = course_after course (answers maps frames)
 
 -- The bytes that a server holds since the last frame's end, and how its connection goes on; or its
 -- connection was cut; or it has answered a fault.
@@ -113,7 +113,7 @@ pub record Stretch : Type 0 where
 
 abbrev pub stretch : Course → Maps → List ℕ → Stretch
 stretch course maps bytes =
-    record { bytes = bytes; before = course; left = course_behind course maps (own_frames bytes) }
+    record { bytes = bytes; before = course; left = course_after_all course maps (own_frames bytes) }
 
 -- so many frames were carried out, and no bad length came before the connection was cut, if it was
 pub record Counts (count : ℕ) (stretch : Stretch) : Type 0 where
@@ -195,7 +195,7 @@ pub record Turns (buffered : List ℕ) (course : Course) (result : Result Turned
   pub answered : Answered result course (own_frames (buffered ++ taken)) old new
   pub stands : standing
       ≡ standing_after result (buffered ++ taken)
-      (course_behind course old.maps (own_frames (buffered ++ taken)))
+      (course_after_all course old.maps (own_frames (buffered ++ taken)))
   pub tells : TurnTells result (stretch course old.maps (buffered ++ taken)) taken new.remaining
 
 -- all that was taken so far was answered, in so many frames
@@ -206,7 +206,7 @@ pub record Served (buffered : List ℕ) (course : Course) (count : ℕ) (old new
   pub answered : AllAnswered course (own_frames (buffered ++ taken)) old new
   pub stands : standing
       ≡ standing_on (rest (buffered ++ taken))
-      (course_behind course old.maps (own_frames (buffered ++ taken)))
+      (course_after_all course old.maps (own_frames (buffered ++ taken)))
   pub counts : Counts count (stretch course old.maps (buffered ++ taken))
 
 -- serving by a server that holds these bytes, on a connection
@@ -217,7 +217,7 @@ pub record Serves (buffered : List ℕ) (course : Course) (result : Result ℕ S
   pub answered : Answered result course (own_frames (buffered ++ taken)) old new
   pub stands : standing
       ≡ standing_after result (buffered ++ taken)
-      (course_behind course old.maps (own_frames (buffered ++ taken)))
+      (course_after_all course old.maps (own_frames (buffered ++ taken)))
   pub tells : ServeTells result (stretch course old.maps (buffered ++ taken)) new.remaining
 
 -- serving by a server that stands so, if it holds bytes on a connection

@@ -8,7 +8,7 @@ ghost use Rattle.mb_device.specs.Device.{answer_to, maps_after};
 ghost use Rattle.mb_device.specs.Tricks.{Course, answer_of, begun, course_next, is_cut, sent_next};
 ghost use Rattle.mb_device.specs.Server.{Answered, Faulted, BufferedTells, Holds, HoldsFrame};
 ghost use Rattle.mb_device.specs.Server.{Over, PieceTells, ServesFrom, TakesTurn, TellsTake, Turns};
-ghost use Rattle.mb_device.specs.Server.{around, came_to_end, course_behind, has_faulted};
+ghost use Rattle.mb_device.specs.Server.{around, came_to_end, course_after_all, has_faulted};
 ghost use Rattle.mb_device.specs.Server.{buffered_frames, is_link_fault, is_over, is_read_fault};
 ghost use Rattle.mb_device.specs.Server.{is_serving, own_frames, scene, serve_fault_number};
 ghost use Rattle.mb_device.specs.Server.{served_to_end, standing_in, stretch};
@@ -124,7 +124,7 @@ fn answer_buffered<L: Link>(
         (around (L.remaining link.new) (L.given link.new) bank.new) }
     ensures tells { BufferedTells result reader.now.frame }
     ensures after { sender.new ≡
-        course_behind sender.old bank.old (buffered_frames reader.now.frame) }
+        course_after_all sender.old bank.old (buffered_frames reader.now.frame) }
     ensures remaining { Keeps (L.remaining link.old) (L.remaining link.new) }
     ensures failures { L.failed link.new ≡ risen (is_link_fault result) (L.failed link.old) }
     ensures takes { L.taken link.new ≡ L.taken link.old }
@@ -155,7 +155,7 @@ fn answer_piece<L: Link>(
     ensures tells { PieceTells result
         (stretch sender.old bank.old (reader.old.rest ++ piece.now)) reader.new.rest }
     ensures after { let frames = own_frames (reader.old.rest ++ piece.now) in
-        IfOk result (λ count. sender.new ≡ course_behind sender.old bank.old frames) }
+        IfOk result (λ count. sender.new ≡ course_after_all sender.old bank.old frames) }
     ensures few { IfOk result (λ count. count ≤ length piece.now) }
     ensures remaining { Keeps (L.remaining link.old) (L.remaining link.new) }
     ensures failures { L.failed link.new ≡ risen (is_link_fault result) (L.failed link.old) }
@@ -265,7 +265,7 @@ impl<'t> Server<'t> {
 
     /// Takes at most 260 bytes, and answers each frame that ends in them, with its transaction identifier and
     /// unit or as a trick has it. What was carried out before a fault stands. After a fault each call
-    /// answers Garbled, and takes and gives nothing. Behind an answer that a trick cuts off nothing is
+    /// answers Garbled, and takes and gives nothing. After an answer that a trick cuts off nothing is
     /// carried out: that turn and each later one answer that the input ended, and the later ones take and
     /// give nothing.
     pub fn turn<L: Link>(&mut self, link: &mut L, bank: &mut Bank) -> Result<Turned, ServeFault>

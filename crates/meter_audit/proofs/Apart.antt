@@ -97,7 +97,7 @@ refused_next meter rows told f (row ∷ rows') well fit why all h =
     let ok : (let r : Result (Check × Option Step) RowFault = Err f in IsOk r) = subst IsOk same passes in
     absurd (cc)
 
--- rows of the table up to one that is refused, the latest first, with whatever comes behind it
+-- rows of the table up to one that is refused, the latest first, with whatever comes after it
 pub refused_below : (meter : Installed) (rows : List EntryRow) (told : TableRow) (f : RowFault) (newer : List TableRow) (all : List EntryRow)
     → IsWellInstalled meter → AllFit meter rows → passed meter (check_after meter rows) told ≡ Err f → AllFit meter all
     → newer ++ told ∷ later_rows meter rows ≡ later_rows meter all → ⊥

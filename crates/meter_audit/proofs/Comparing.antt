@@ -8,12 +8,12 @@ use Rattle.std.proofs.lemmas.List.{take-append-drop, length-take-le, take_all}
 use Rattle.interval_core.specs.declared.shares.Share.{Share}
 use Rattle.meter_audit.specs.declared.intervals.IntervalFault.{IntervalFault}
 use Rattle.meter_audit.specs.declared.intervals.IntervalFault.TheVariants as fault
-use Rattle.meter_audit.specs.Comparing.{fault_between, next_fault, difference_behind, IsFirst}
+use Rattle.meter_audit.specs.Comparing.{fault_between, next_fault, difference_after, IsFirst}
 
 -- at an index up to which both are the same
 first_at : (wanted found wanted_left found_left : List Share) (i : ℕ) (f : IntervalFault)
     → take i wanted ≡ take i found → i ≤ length wanted → drop i wanted ≡ wanted_left → drop i found ≡ found_left
-    → next_fault wanted_left found_left ≡ Some f → IsFirst wanted found (difference_behind i f)
+    → next_fault wanted_left found_left ≡ Some f → IsFirst wanted found (difference_after i f)
 first_at wanted found wanted_left found_left i f same le here there h = record {
   rows = take i wanted;
   wanted_left = wanted_left;
@@ -21,17 +21,17 @@ first_at wanted found wanted_left found_left i f same le here there h = record {
   wanted_is = sym (take-append-drop i wanted) ∙ ap (λ rs. take i wanted ++ rs) here;
   found_is = sym (take-append-drop i found) ∙ ap (λ rs. rs ++ drop i found) (sym same) ∙ ap (λ rs. take i wanted ++ rs) there;
   next = h;
-  is = ap (λ n. difference_behind n f) (sym (length-take-le i wanted le));
+  is = ap (λ n. difference_after n f) (sym (length-take-le i wanted le));
 }
 
 pub missing_at : (wanted found : List Share) (i : ℕ) (d : Share) → take i wanted ≡ take i found → i < length wanted → length found ≤ i
-    → IsFirst wanted found (difference_behind i (fault.Missing (get_or wanted i d).start (get_or wanted i d).mwh))
+    → IsFirst wanted found (difference_after i (fault.Missing (get_or wanted i d).start (get_or wanted i d).mwh))
 missing_at wanted found i d same lt le =
     first_at wanted found (get_or wanted i d ∷ drop (suc i) wanted) [] i _ same (omega (arith, lt))
     (drop-cons wanted i d lt) (drop_of_length-le found le) refl
 
 unwanted_at : (wanted found : List Share) (i : ℕ) (d : Share) → take i wanted ≡ take i found → i ≡ length wanted → i < length found
-    → IsFirst wanted found (difference_behind i (fault.Unwanted (get_or found i d).start (get_or found i d).mwh))
+    → IsFirst wanted found (difference_after i (fault.Unwanted (get_or found i d).start (get_or found i d).mwh))
 unwanted_at wanted found i d same all lt =
     first_at wanted found [] (get_or found i d ∷ drop (suc i) found) i _ same (omega (arith, all))
     (drop_of_length-le wanted (omega (arith, all))) (drop-cons found i d lt) refl
@@ -39,14 +39,14 @@ unwanted_at wanted found i d same all lt =
 pub unwanted_end : (wanted found : List Share) (i : ℕ) (d : Share) → take i wanted ≡ take i found → length wanted ≤ i → i ≤ length wanted
     → length wanted < length found
     → IsFirst wanted found
-    (difference_behind (length wanted) (fault.Unwanted (get_or found (length wanted) d).start (get_or found (length wanted) d).mwh))
+    (difference_after (length wanted) (fault.Unwanted (get_or found (length wanted) d).start (get_or found (length wanted) d).mwh))
 unwanted_end wanted found i d same le ge lt =
     let is : i ≡ length wanted = omega (arith, le, ge) in
     unwanted_at wanted found (length wanted) d (subst (λ n. take n wanted ≡ take n found) is same) refl lt
 
 pub between_at : (wanted found : List Share) (i : ℕ) (d e : Share) (f : IntervalFault) → take i wanted ≡ take i found
     → i < length wanted → i < length found → fault_between (get_or wanted i d) (get_or found i e) ≡ Some f
-    → IsFirst wanted found (difference_behind i f)
+    → IsFirst wanted found (difference_after i f)
 between_at wanted found i d e f same lt within h =
     first_at wanted found (get_or wanted i d ∷ drop (suc i) wanted) (get_or found i e ∷ drop (suc i) found) i f same (omega (arith, lt))
     (drop-cons wanted i d lt) (drop-cons found i e within) h

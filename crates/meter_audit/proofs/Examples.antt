@@ -78,7 +78,7 @@ fine_tables = record {
       place = refl;
       unended = refl;
       entry = record { step = 200000; accepted = refl };
-      voided_behind = λ off. absurd (let f : true ≡ false = off in cc);
+      voided_after = λ off. absurd (let f : true ≡ false = off in cc);
     },
     tt,
   );
@@ -93,7 +93,7 @@ behind_voided : passed house (begun house) voided_first ≡ Ok (check_as 2 (last
 unfolding unit_of
 behind_voided = refl
 
--- directly behind a row that stands it is looked at as if it stood, behind another that was voided it isn't
+-- directly after a row that stands it is looked at as if it stood, after another that was voided it isn't
 voided_too_fast : passed house (begun house) (told 2 row_kind.Reading 1900 50000 0 0 (pos 0) true) ≡ Err (fault.Held cause.TooFast)
 unfolding unit_of
 voided_too_fast = refl
@@ -102,7 +102,7 @@ voided_behind_a_voided : passed house (check_as 2 (last 1000 5000 (pos 0)) 0 fal
     ≡ Ok (check_as 3 (last 1000 5000 (pos 0)) 0 false false, None)
 voided_behind_a_voided = refl
 
--- a closing, and what can't come behind it
+-- a closing, and what can't come after it
 closed : passed house (begun house) (told 2 row_kind.Closing 1900 5200 0 0 (pos 0) false)
     ≡ Ok (check 2 (last 1900 5200 (pos 0)) 200000 true, Some (record { from = 1000; till = 1900; mwh = 200000 }))
 unfolding unit_of

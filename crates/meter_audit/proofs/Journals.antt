@@ -37,7 +37,7 @@ ended_alike whole (Entered k e ∷ lines) (row ∷ rows) h =
 ended_alike whole (Held reading cause ∷ lines) rows h = ended_alike whole lines rows h
 ended_alike whole (Voided place ∷ lines) rows h = ended_alike whole lines rows h
 
--- no row stands behind a closing
+-- no row stands after a closing
 abbrev AllUnended : List EntryRow → Type 0
 AllUnended [] = Unit {0}
 AllUnended (row ∷ rows) = (is_ended rows ≡ false) × AllUnended rows
@@ -124,7 +124,7 @@ stands_rolled kind.Reset last place e false = refl
 stands_rolled kind.Rescale last place e true = refl
 stands_rolled kind.Rescale last place e false = refl
 
--- behind a row that stands the counter stands at its moment
+-- after a row that stands the counter stands at its moment
 moment_behind : (meter : Installed) (row : EntryRow) (rows : List EntryRow) → row.stands ≡ true
     → (last_after meter (entries_in (row ∷ rows))).at ≡ moment_of row.entry
 moment_behind meter row rows on =
@@ -225,7 +225,7 @@ all_voided_fit meter (Voided place ∷ lines) well h =
     let sound = rows_are_sound meter lines well.raw h.1 in
     voided_still meter place rows a fits.there may.0 may.1 sound.account.follow sound.still (all_voided_fit meter lines well h.1)
 
--- ---- rows that were voided directly behind one that stands
+-- ---- rows that were voided directly after one that stands
 
 -- each of these may follow what still stands
 abbrev AllBehindFit : Installed → List EntryRow → Type 0
@@ -363,7 +363,7 @@ all_fit meter (row ∷ rows) numbers unended still voided behind = (
     place = numbers.0;
     unended = unended.0;
     entry = may_come meter (entries_in rows) row.stands row.kind row.entry still.0 voided.0;
-    voided_behind = behind.0;
+    voided_after = behind.0;
   },
   all_fit meter rows numbers.1 unended.1 still.1 voided.1 behind.1,
 )

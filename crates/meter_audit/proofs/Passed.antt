@@ -143,7 +143,7 @@ told_by kind.Rescale told sf hk used hs = same_told told.place told.moment told.
 same_scale : (a b : ℤ) → not (int_eq a b) ≡ false → a ≡ b
 same_scale a b h = (Decides-int_eq a b).0 (grind arith)
 
--- behind an entry of the kind, where the counter stood so
+-- after an entry of the kind, where the counter stood so
 scale_behind : (k : EntryKind) (told : TableRow) (check : Check) → is_off_scale check k told ≡ false
     → told.sf ≡ (after check.last (entry_in k told)).sf
 scale_behind kind.Reading told check h = same_scale told.sf check.last.sf h
@@ -286,7 +286,7 @@ stood_taken meter rows told k next step well fit shape stands h =
       place = omega (arith, shape.place);
       unended = shape.unended;
       entry = subst (λ b. MayCome meter es b k e) (sym on) fits;
-      voided_behind = λ off. absurd (let f : true ≡ false = sym on ∙ off in cc);
+      voided_after = λ off. absurd (let f : true ≡ false = sym on ∙ off in cc);
     } in
     let all : AllFit meter (row ∷ rows) = (row_fits, fit) in
     let is : entries_in (row ∷ rows) ≡ e ∷ es = entries_standing row rows on in
@@ -330,7 +330,7 @@ voided_taken meter rows told k next step fit shape v h =
       place = omega (arith, shape.place);
       unended = shape.unended;
       entry = subst (λ b. MayCome meter es b k e) (sym off) was;
-      voided_behind = λ _ on. was_accepted meter rows told k read (sym (cond-true _ _ _ on) ∙ stood.0);
+      voided_after = λ _ on. was_accepted meter rows told k read (sym (cond-true _ _ _ on) ∙ stood.0);
     } in
     let is : entries_in (row ∷ rows) ≡ es = entries_struck row rows off in
     let more : is_closing k ≡ false = read_kind (λ k. is_closing k ≡ false) refl k read in

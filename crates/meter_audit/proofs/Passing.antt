@@ -88,7 +88,7 @@ no_voided_fault meter check told h =
 no_reading_fault : (rolls step : ℕ) → fault_by rolls (verdict.Accepted rolls step) ≡ None
 no_reading_fault rolls step = cond-true _ _ _ (eq-eqb rolls rolls refl)
 
--- directly behind a row that stands it was accepted after what stands
+-- directly after a row that stands it was accepted after what stands
 no_stood_fault : (meter : Installed) (rows : List EntryRow) (told : TableRow)
     → (last_stands rows ≡ true → IsAcceptedAs meter (entries_in rows) told.moment told.raw told.rolls)
     → stood_fault meter (check_after meter rows) kind.Reading told ≡ None
@@ -167,4 +167,4 @@ pub fitting_rows_pass : FittingRowsPass
 fitting_rows_pass meter rows check row well taken fits =
     subst (λ (c : Check). IsOk (passed meter c (told_after meter rows row))) (sym taken.check_is)
     (passes meter rows row.place row.stands row.kind row.entry well taken.fit fits.place fits.unended fits.entry
-    fits.voided_behind)
+    fits.voided_after)

@@ -31,8 +31,8 @@ found_with (fault.Missing start wanted) = 0
 found_with (fault.Unwanted start has) = 1
 found_with (fault.Differs start has wanted) = 1
 
-abbrev pub difference_behind : (same : ℕ) → IntervalFault → IntervalDifference
-difference_behind same f = record {
+abbrev pub difference_after : (same : ℕ) → IntervalFault → IntervalDifference
+difference_after same f = record {
   same = same;
   fault = f;
   wanted_done = same + wanted_with f;
@@ -47,4 +47,4 @@ pub record IsFirst (wanted found : List Share) (difference : IntervalDifference)
   pub wanted_is : wanted ≡ rows ++ wanted_left
   pub found_is : found ≡ rows ++ found_left
   pub next : next_fault wanted_left found_left ≡ Some difference.fault
-  pub is : difference ≡ difference_behind (length rows) difference.fault
+  pub is : difference ≡ difference_after (length rows) difference.fault

@@ -43,12 +43,12 @@ last_stands [] = true
 last_stands (row ∷ rows) = row.stands
 
 -- A row may come after these: it has the next place, and the meter has not ended. A reading that was voided directly
--- behind a row that stands may follow what still stands by the journal's own rule too.
+-- after a row that stands may follow what still stands by the journal's own rule too.
 pub record RowFits (meter : Installed) (rows : List EntryRow) (row : EntryRow) : Type 0 where
   pub place : row.place ≡ length rows + 2
   pub unended : is_ended rows ≡ false
   pub entry : MayCome meter (entries_in rows) row.stands row.kind row.entry
-  pub voided_behind : row.stands ≡ false → last_stands rows ≡ true
+  pub voided_after : row.stands ≡ false → last_stands rows ≡ true
       → EntryFits meter (entries_in rows) row.kind row.entry
 
 -- Each row may come after those before it.
@@ -56,7 +56,7 @@ abbrev pub AllFit : Installed → List EntryRow → Type 0
 AllFit meter [] = Unit {0}
 AllFit meter (row ∷ rows) = RowFits meter rows row × AllFit meter rows
 
--- Rows of the table behind an opening, the latest first, are those of some rows that fit.
+-- Rows of the table after an opening, the latest first, are those of some rows that fit.
 pub record AreTold (meter : Installed) (told : List TableRow) : Type 0 where
   pub rows : List EntryRow
   pub fit : AllFit meter rows

@@ -56,14 +56,14 @@ pub record Agrees (tables : Tables) (done : List Share) (progress : Progress) : 
   pub total : tables.total ≡ progress.check.total
   pub ended : tables.ended ≡ progress.check.is_ended
 
--- Behind all rows of a meter its tables are fine exactly if they agree with the check.
+-- After all rows of a meter its tables are fine exactly if they agree with the check.
 abbrev pub FinishedIsFine : Type 0
 FinishedIsFine = (meter : Installed) (told : List TableRow) (done : List Share)
     (progress : Progress) (tables : Tables) → HasGone meter told done progress
     → tables.entries ≡ told ++ opening_row meter.opening ∷ []
     → AreFine meter tables ↔ Agrees tables done progress
 
--- A row that is refused makes that no rows with it are those of rows that fit, whatever comes behind it.
+-- A row that is refused makes that no rows with it are those of rows that fit, whatever comes after it.
 abbrev pub RefusedIsNotFine : Type 0
 RefusedIsNotFine = (meter : Installed) (told newer : List TableRow) (done : List Share)
     (progress : Progress) (row : TableRow) (fault : RowFault) → IsWellInstalled meter

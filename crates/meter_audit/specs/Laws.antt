@@ -55,7 +55,7 @@ LawfulTablesAreFine = (meter : Installed) (lines : Journal) → IsWellInstalled 
     → AreFitting meter lines
     → AreFine meter (tables_of meter (rows_of meter.opening lines))
 
--- where a check stands behind these rows
+-- where a check stands after these rows
 abbrev pub check_after : Installed → List EntryRow → Check
 check_after meter rows = record {
   place = length rows + 1;
@@ -65,12 +65,12 @@ check_after meter rows = record {
   stands = last_stands rows;
 }
 
--- All these rows fit, and the check stands behind them.
+-- All these rows fit, and the check stands after them.
 pub record HasTaken (meter : Installed) (rows : List EntryRow) (check : Check) : Type 0 where
   pub fit : AllFit meter rows
   pub check_is : check ≡ check_after meter rows
 
--- A row of the table is that of a row that fits after these. The check stands behind it, and the step to it was answered.
+-- A row of the table is that of a row that fits after these. The check stands after it, and the step to it was answered.
 pub record IsTaken (meter : Installed) (rows : List EntryRow) (told : TableRow) (after : Check)
     (step : Option Step) : Type 0 where
   pub row : EntryRow
@@ -96,7 +96,7 @@ abbrev pub RowsAreToldApart : Type 0
 RowsAreToldApart = (meter : Installed) (rows others : List EntryRow) → AllFit meter rows
     → AllFit meter others → later_rows meter rows ≡ later_rows meter others → rows ≡ others
 
--- A check went over rows of the table, the latest first: they are those of rows that fit, and it stands behind them.
+-- A check went over rows of the table, the latest first: they are those of rows that fit, and it stands after them.
 pub record HasPassed (meter : Installed) (told : List TableRow) (check : Check) : Type 0 where
   pub rows : List EntryRow
   pub taken : HasTaken meter rows check

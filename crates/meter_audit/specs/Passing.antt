@@ -1,4 +1,4 @@
--- The table by which a row passes behind those before it, or is refused for the first fault.
+-- The table by which a row passes after those before it, or is refused for the first fault.
 use Rattle.std.specs.Prelude.{ℕ, ◌+◌, ◌^◌, ◌<◌, ◌≤◌, ◌==◌, nat_lt, nat_le, Bool, true, false, not, ◌&&◌, Option, Some, None, Result, Ok, Err, if◌then◌else◌}
 use Rattle.std.specs.Ordering.{int_eq}
 use Rattle.energy_core.specs.declared.limits.TheConstants.{MAX_CEILING, MAX_TOTAL}
@@ -41,7 +41,7 @@ pub record IsSoundCheck (meter : Installed) (check : Check) : Type 0 where
   pub raw : check.last.raw < meter.range
   pub scale : IsScale check.last.sf
 
--- behind the opening
+-- after the opening
 abbrev pub begun : Installed → Check
 begun meter = record {
   place = 1;
@@ -114,7 +114,7 @@ reading_fault meter check k row =
     (reading_at check.last row.moment row.raw))
     else None
 
--- Directly behind a row that stands, one that was voided is as one that stands.
+-- Directly after a row that stands, one that was voided is as one that stands.
 abbrev pub stood_fault : Installed → Check → EntryKind → TableRow → Option RowFault
 stood_fault meter check k row = if check.stands then reading_fault meter check k row else None
 
@@ -136,7 +136,7 @@ abbrev pub energy_in : Option Step → ℕ
 energy_in None = 0
 energy_in (Some step) = step.mwh
 
--- behind an entry that was booked, and the step to it
+-- after an entry that was booked, and the step to it
 abbrev pub behind : Check → EntryKind → TableRow → Result (Last × Step) TermFault
     → Result (Check × Option Step) RowFault
 behind check k row (Err f) = Err (fault.Refused f)
@@ -156,7 +156,7 @@ stood meter check k row =
     unless (reading_fault meter check k row)
     (behind check k row (entered meter.range check.total check.last (entry_in k row)))
 
--- behind a row that was voided; there is no step to it
+-- after a row that was voided; there is no step to it
 abbrev pub voided : Installed → Check → EntryKind → TableRow
     → Result (Check × Option Step) RowFault
 voided meter check k row =
@@ -170,6 +170,6 @@ passed_by meter check row (Err f) = Err f
 passed_by meter check row (Ok k) =
     if row.is_voided then voided meter check k row else stood meter check k row
 
--- Where the check stands behind a row, and the step to it, if it stands.
+-- Where the check stands after a row, and the step to it, if it stands.
 abbrev pub passed : Installed → Check → TableRow → Result (Check × Option Step) RowFault
 passed meter check row = passed_by meter check row (shape_of check row)

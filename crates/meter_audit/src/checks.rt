@@ -10,7 +10,7 @@ use crate::rows::{TableRow, entry_of, has_unused, kind_of};
 use energy_core::{Cause, Last, Ranged, Reading, Step, Terms, Verdict, enter, judge};
 use meter_journal::{EntryKind, Installed};
 
-/// Where a check stands behind a row: the place of the row, where the counter stands after the entries that stand, their
+/// Where a check stands after a row: the place of the row, where the counter stands after the entries that stand, their
 /// energy in mWh, whether the meter was closed, and whether the row itself stands.
 #[derive(Clone, Copy, Debug, PartialEq, Eq)]
 pub struct Check {
@@ -21,7 +21,7 @@ pub struct Check {
     pub stands: bool,
 }
 
-/// A check behind the opening.
+/// A check after the opening.
 pub fn begin(meter: &Installed) -> Check
     requires { passing.MayBeChecked meter.now }
     ensures value { result ≡ passing.begun meter.now }
@@ -125,7 +125,7 @@ fn reading_fault(
     }
 }
 
-/// What is wrong with a reading that was voided directly behind a row that stands.
+/// What is wrong with a reading that was voided directly after a row that stands.
 fn stood_fault(
     meter: &Installed,
     check: &Check,
@@ -162,7 +162,7 @@ fn voided_fault(meter: &Installed, check: &Check, row: &TableRow) -> Option<RowF
     None
 }
 
-/// Where the check stands behind a row that stands, and the step to it.
+/// Where the check stands after a row that stands, and the step to it.
 fn stand(
     meter: &Installed,
     check: &Check,
@@ -202,8 +202,8 @@ fn stand(
     }
 }
 
-/// Takes the next row: where the check stands behind it, and the step to it, which a voided one has not; or the first
-/// fault. Behind a row that was refused a check goes on from the place of that row, and is otherwise as it was.
+/// Takes the next row: where the check stands after it, and the step to it, which a voided one has not; or the first
+/// fault. After a row that was refused a check goes on from the place of that row, and is otherwise as it was.
 pub fn pass(
     meter: &Installed,
     check: &Check,

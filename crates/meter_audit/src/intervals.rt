@@ -1,6 +1,6 @@
 //! Interval rows of a table against those that the entries give.
 ghost use Rattle.std.specs.Prelude.{◌≡◌, ◌↔◌, ◌<◌, ◌^◌, IsNone, IfSome};
-ghost use Rattle.meter_audit.specs.Comparing.{fault_between, difference_behind, IsFirst};
+ghost use Rattle.meter_audit.specs.Comparing.{fault_between, difference_after, IsFirst};
 
 use interval_core::Share;
 
@@ -15,7 +15,7 @@ pub enum IntervalFault {
     Differs { start: u64, has: u64, wanted: u64 },
 }
 
-/// A difference, how many rows on both sides are the same before it, and how many of each side are done with behind it.
+/// A difference, how many rows on both sides are the same before it, and how many of each side are done with after it.
 #[derive(Clone, Copy, Debug, PartialEq, Eq)]
 pub struct IntervalDifference {
     pub same: usize,
@@ -50,10 +50,10 @@ fn between(wanted: &Share, found: &Share) -> Option<IntervalFault>
     })
 }
 
-/// Where a row behind so many that are the same differs.
+/// Where a row after so many that are the same differs.
 fn difference_at(same: usize, fault: IntervalFault) -> IntervalDifference
     requires { same < 2 ^ 63 }
-    ensures { result ≡ difference_behind same fault }
+    ensures { result ≡ difference_after same fault }
 {
     let (wanted_more, found_more) = match fault {
         IntervalFault::Missing { .. } => (1, 0),

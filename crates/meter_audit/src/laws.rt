@@ -44,7 +44,7 @@ pub fn rows_are_told_apart()
     ensures { RowsAreToldApart }
 {}
 
-/// Behind all rows of a meter its tables are fine exactly if they agree with the check.
+/// After all rows of a meter its tables are fine exactly if they agree with the check.
 pub fn finished_is_fine()
     ensures { FinishedIsFine }
 {}

@@ -10,14 +10,14 @@ use crate::laws::passed_rows_fit;
 use crate::rows::TableRow;
 use meter_journal::Installed;
 
-/// A row that can't come behind those before it, by its index, and why.
+/// A row that can't come after those before it, by its index, and why.
 #[derive(Clone, Copy, Debug, PartialEq, Eq)]
 pub struct RefusedRow {
     pub index: usize,
     pub fault: RowFault,
 }
 
-/// Checks the rows behind an opening, in order of their places: where the check stands behind all of them, or the first
+/// Checks the rows after an opening, in order of their places: where the check stands after all of them, or the first
 /// that is refused.
 pub fn check_rows(meter: &Installed, rows: &[TableRow]) -> Result<Check, RefusedRow>
     requires meter { MayBeChecked meter.now }

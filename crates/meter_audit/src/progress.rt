@@ -13,7 +13,7 @@ use interval_core::{Share, shares_add_up};
 use meter_journal::{Installed, append_shares};
 use std::alloc::{AllocError, Global};
 
-/// Where the check stands behind a row, and the interval rows that the entries so far give and that were not yet looked
+/// Where the check stands after a row, and the interval rows that the entries so far give and that were not yet looked
 /// up. The next entry may add to the last of them, and to none before it.
 #[derive(Debug, Drop)]
 pub struct Progress {
@@ -21,7 +21,7 @@ pub struct Progress {
     pub wanted: Vec<Share>,
 }
 
-/// A check behind the opening. The allocator is kept; no memory is taken.
+/// A check after the opening. The allocator is kept; no memory is taken.
 pub fn start(alloc: Global, meter: &Installed) -> Progress
     requires { MayBeChecked meter.now }
     ensures sound { IsSoundProgress meter.now result }

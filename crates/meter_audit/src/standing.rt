@@ -28,7 +28,7 @@ fn is_same(last: &Last, other: &Last) -> bool
     last.at == other.at && last.raw == other.raw && last.sf == other.sf
 }
 
-/// How the row of an installation differs from where the check stands behind all entries.
+/// How the row of an installation differs from where the check stands after all entries.
 pub fn standing_faults(check: &Check, standing: &Standing) -> StandingFaults
     ensures last { IsNone result.last ↔ (standing.now.last ≡ check.now.last) }
     ensures total { IsNone result.total ↔ (standing.now.total ≡ check.now.total) }

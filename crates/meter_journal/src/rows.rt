@@ -83,7 +83,7 @@ fn behind(last: &Last, row: &EntryRow) -> Last
 }
 
 /// Where the counter stands after these rows.
-pub fn last_behind(opening: &Last, rows: &[EntryRow]) -> Last
+pub fn last_of_rows(opening: &Last, rows: &[EntryRow]) -> Last
     ensures { let es = journal.entries_in (lists.latest_first rows.now) in
         result ≡ last_of opening.now es }
 {
@@ -141,7 +141,7 @@ pub fn strike(opening: &Last, rows: &mut [EntryRow], place: u64)
         lists.latest_first rows.new ≡ journal.with_void opening.now place before }
 {
     let index = (place - 2) as usize;
-    let last = last_behind(opening, &rows[..index]);
+    let last = last_of_rows(opening, &rows[..index]);
     let mut row = rows[index];
     row.stands = false;
     rows[index] = row;

@@ -57,7 +57,7 @@ before : (till off : ℤ) (start : ℕ) → IsOffsetSeconds off → (int_div_euc
     → pos start <ℤ ((till +ℤ pos 2) *ℤ pos 86400)
 before till off start bound lt = omega (arith, signed_arith, bound.0, lt)
 
--- a moment whose day is asked for lies between the beginnings of the days two before and two behind
+-- a moment whose day is asked for lies between the beginnings of the days two before and two after
 lies_around : (from till : Date) (zone : Zone) (start : ℕ) → (is_le (int_cmp (epoch_day from) (day_at zone start)) && is_lt (int_cmp (day_at zone start) (epoch_day till))) ≡ true
     → (nat_le (utc_start (epoch_day from -ℤ pos 2)) start && nat_lt start (utc_start (epoch_day till +ℤ pos 2))) ≡ true
 lies_around from till zone start is =

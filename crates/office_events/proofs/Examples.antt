@@ -27,7 +27,7 @@ no_letters : (is_name (64 ∷ []) ≡ false) × (is_name (91 ∷ []) ≡ false) 
     × (is_name (123 ∷ []) ≡ false)
 no_letters = (refl, refl, refl, refl)
 
--- `0`, `9`, `_` and `-` stand behind the first
+-- `0`, `9`, `_` and `-` stand after the first
 digits_and_dashes : is_name (109 ∷ 48 ∷ 57 ∷ 95 ∷ 45 ∷ []) ≡ true
 digits_and_dashes = refl
 

@@ -25,7 +25,7 @@ impl Model for Name {
 
     ghost view = { λ n. take n.len n.bytes };
 
-    // Behind the bytes of the name come zeros.
+    // After the bytes of the name come zeros.
     ghost invariant = { λ n. (n.len ≤ MAX_NAME)
         × (take n.len n.bytes ++ replicate (MAX_NAME - length (take n.len n.bytes)) 0 ≡ n.bytes)
         × (length (take n.len n.bytes) ≡ n.len) × (length n.bytes ≡ MAX_NAME)

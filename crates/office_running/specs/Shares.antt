@@ -33,7 +33,7 @@ AreFew (one ∷ earlier) =
     length earlier < 64 × sum_by (λ reply. reply.0) earlier < 262144
     × sum_by (λ reply. reply.1) earlier < 20
 
--- the place that is so many places behind another, where the first is behind the last
+-- the place that is so many places after another, where the first is after the last
 abbrev pub place_at : (first step : ℕ) → ℕ
 place_at first step = (first + step) % 64
 

@@ -38,7 +38,7 @@ fn part_of_second<R: std::rt::Clock>(rt: &R) -> u64 {
     }
 }
 
-/// The time of a run that begins at a moment. It is a millisecond behind, since both clocks are told in whole ones: so no second
+/// The time of a run that begins at a moment. It is a millisecond late, since both clocks are told in whole ones: so no second
 /// of the run begins before the clock tells that moment, at which what begins then would have next to no time.
 pub(crate) fn time_from<R: std::rt::Clock>(rt: &R, moment: u64) -> RunTime {
     let base = moment

@@ -126,7 +126,7 @@ impl Serving {
         self.share = Share::whole();
     }
 
-    /// The place that is attended first: the one behind that which was replied to last.
+    /// The place that is attended first: the one after that which was replied to last.
     pub(crate) fn first(&self) -> usize {
         self.first
     }

@@ -68,7 +68,7 @@ pub(crate) fn place_at(first: usize, step: usize) -> usize
 }
 
 /// Turns go round: each place is attended in a turn; and one that waits, since another came before it, waits for less in a turn
-/// that begins behind that.
+/// that begins after that.
 pub fn turns_go_round()
     ensures each { (first place : ℕ) → first < 64 → place < 64
         → shares.place_at first (shares.before place first) ≡ place }

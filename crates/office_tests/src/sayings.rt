@@ -42,7 +42,7 @@ const FIRST: &[u8] = b"one\ntwo\n";
 
 const DROPPED: &[u8] = b"1700000000 - dropped 3 lines\n";
 
-// 65,528 bytes wait behind the first 8, so that there is no room for another line until all of them were written.
+// 65,528 bytes wait after the first 8, so that there is no room for another line until all of them were written.
 #[test]
 fn lines_that_nobody_reads_are_counted(rt: HostRuntime) {
     let long = vec![in rt.alloc(); b'x'; 65_528].expect(&rt, "some room");

@@ -12,6 +12,6 @@ pub fn rows_before_stay()
 }
 
 /// Where nothing is voided, these are the quarter hours before that of the last entry, whose moment is told beside the energy.
-pub fn entries_come_behind()
+pub fn entries_come_after()
     ensures { EntriesComeBehind }
 {}

@@ -18,7 +18,7 @@ mod texts;
 mod voids;
 
 pub use answer::{PeerReply, ask};
-pub use laws::{entries_come_behind, rows_before_stay};
+pub use laws::{entries_come_after, rows_before_stay};
 pub use meter_replies::{MOST_ENTRIES, reply_entries, reply_intervals};
 pub use metrics::reply_metrics;
 pub use register_meters::reply_meters;

@@ -182,7 +182,7 @@ fn reads_rounds(rt: HostRuntime) {
     assert!(rt; says(rt.alloc(), "5 round inv 0", &wanted));
 }
 
-// Behind the first, words that are no names of the office's.
+// After the first, words that are no names of the office's.
 static METERS: [(&str, &[u8]); 5] = [
     ("5 void m1 2", b"m1"),
     ("5 void 1m 2", b""),

@@ -17,7 +17,7 @@ fn after_lines(alloc: Global, count: usize, text: &str) -> Result<String, AllocE
     Ok(all)
 }
 
-// Behind one byte less than there may be.
+// After one byte less than there may be.
 static LAST_BYTES: [(&str, &str); 2] = [("x", "bad line 4194304\n"), ("x\n", "too long\n")];
 
 #[test]

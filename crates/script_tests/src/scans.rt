@@ -96,7 +96,7 @@ const SITE: Site<'static> = Site {
     timeout: 5,
 };
 
-// The first line, what begins the second, and the lines behind it.
+// The first line, what begins the second, and the lines after it.
 const BEGIN: &[u8] = b"1 device inv 1 5 1\n2 list inv 6e616d652c";
 
 const END: &[u8] = b"0a\n\

@@ -7,7 +7,7 @@ use Rattle.store_tables.specs.declared.faults.RowFault.TheVariants.{Damaged}
 use Rattle.store_devices.specs.declared.devices.rows.RegisterScale.TheVariants.{Fixed, At}
 use Rattle.store_devices.specs.Devices.Rows.{registers_spanned, fits_a_read, register_in}
 
--- a scale behind the counter, before it, and within it
+-- a scale after the counter, before it, and within it
 behind : registers_spanned 40094 (At 40096) ≡ 3
 behind = refl
 
@@ -18,8 +18,8 @@ fixed : registers_spanned 65534 (Fixed (negsuc 2)) ≡ 2
 fixed = refl
 
 -- 125 registers and 126, on both sides
-last_behind : fits_a_read 0 (At 124) ≡ true
-last_behind = refl
+last_of_rows : fits_a_read 0 (At 124) ≡ true
+last_of_rows = refl
 
 too_far_behind : fits_a_read 0 (At 125) ≡ false
 too_far_behind = refl

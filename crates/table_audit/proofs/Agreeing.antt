@@ -1,4 +1,4 @@
--- What agrees with a check behind all entries is lawful, and nothing else is.
+-- What agrees with a check after all entries is lawful, and nothing else is.
 use Rattle.std.proofs.Common.{◌≡◌, ℕ, ◌+◌, ◌-◌, ◌<◌, List, [], ◌∷◌, ◌++◌, reverse, take, drop, length, get_or, Option, Some, None, MatchOption, Err, refl, sym, ap, subst, ◌∙◌, arith}
 use Rattle.std.proofs.lemmas.List.{reverse-append, take_all, take-append-drop, append_cancel_right}
 use Rattle.energy_core.specs.declared.entries.Last.{Last}
@@ -42,7 +42,7 @@ pub refused_so : RefusedIsNotFine → (meter : Installed) (rows : List TableRow)
 refused_so law meter rows i d old new o fault may lt gone is goes =
     refused_there law meter rows i d old fault may lt gone (subst (GoesOver meter old (get_or rows i d) new) is goes)
 
--- the rows behind the first
+-- the rows after the first
 pub all_later : (rows : List TableRow) → take (length rows - 1) (drop 1 rows) ≡ drop 1 rows
 all_later [] = refl
 all_later (row ∷ rows) = take_all (length (row ∷ rows) - 1) rows (omega (arith))
@@ -108,7 +108,7 @@ pub no_entry : (range : ℕ) (row : InstallationRow) (voids : List ℕ) (entries
 no_entry range row voids entries shares none lawful =
     let both : [] ≡ lawful.opening ∷ lawful.later = sym none ∙ lawful.first in absurd (cc)
 
--- where the rows behind the opening are those of none that fit, they are not lawful
+-- where the rows after the opening are those of none that fit, they are not lawful
 pub not_told : (range : ℕ) (row : InstallationRow) (voids : List ℕ) (entries : List TableRow) (shares : List Share) (meter : Installed)
     (opening : TableRow) (later : List TableRow) → entries ≡ opening ∷ later → IsOpenedBy range row.ceiling opening meter
     → (AreTold meter (reverse later) → ⊥) → IsLawful range row voids entries shares → ⊥
@@ -123,7 +123,7 @@ not_told range row voids entries shares meter opening later first opened none la
       told_is = append_cancel_right (reverse later) (later_rows meter rows) (opening_row meter.opening ∷ []) both;
     })
 
--- ---- behind all entries
+-- ---- after all entries
 
 pub rest_is_lawful : FinishedIsFine → (range : ℕ) (row : InstallationRow) (voids : List ℕ) (entries : List TableRow) (shares : List Share)
     (meter : Installed) (opening : TableRow) (later : List TableRow) (progress : Progress)

@@ -18,7 +18,7 @@ pub record IsOpenedBy (range ceiling : ℕ) (row : TableRow) (meter : Installed)
   pub ceiling_is : meter.ceiling ≡ ceiling
   pub opening_is : row ≡ opening_row meter.opening
 
--- where the counter stands behind an opening
+-- where the counter stands after an opening
 abbrev pub last_shown : TableRow → Last
 last_shown row = record { at = row.moment; raw = row.raw; sf = row.sf }
 
@@ -61,7 +61,7 @@ pub record StandsThere (row : InstallationRow) (check : Check) : Type 0 where
   pub total : row.last.total ≡ check.total
   pub ended : row.is_ended ≡ check.is_ended
 
--- What else was read agrees with a check behind all entries.
+-- What else was read agrees with a check after all entries.
 pub record RestAgrees (progress : Progress) (row : InstallationRow) (voids : List ℕ) (last : ℕ)
     (shares : List Share) : Type 0 where
   pub named : rises 1 last voids ≡ true

@@ -58,7 +58,7 @@ FromLast row later = is_gt (value_cmp (column later 0) (column row 0)) ≡ false
 abbrev pub number_shown : Row → Row
 number_shown row = column row 0 ∷ []
 
--- its number, and the columns behind the device's name
+-- its number, and the columns after the device's name
 abbrev pub poll_shown : Row → Row
 poll_shown row =
     column row 0 ∷ column row 3 ∷ column row 4 ∷ column row 5 ∷ column row 6 ∷ column row 7

@@ -35,13 +35,13 @@ InOrder row later = is_gt (value_cmp (column row 1) (column later 1)) ≡ false
 abbrev pub InPlace : Row → Row → Type 0
 InPlace row later = is_gt (value_cmp (column row 0) (column later 0)) ≡ false
 
--- what the query shows of a row of installations: its place, and the columns behind it
+-- what the query shows of a row of installations: its place, and the columns after it
 abbrev pub installation_shown : Row → Row
 installation_shown row =
     column row 0 ∷ column row 2 ∷ column row 3 ∷ column row 4 ∷ column row 5 ∷ column row 6
     ∷ column row 7 ∷ column row 8 ∷ column row 9 ∷ []
 
--- what the queries show of a row: the columns behind the meter's name
+-- what the queries show of a row: the columns after the meter's name
 abbrev pub range_shown : Row → Row
 range_shown row = column row 1 ∷ []
 

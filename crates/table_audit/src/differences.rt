@@ -39,9 +39,9 @@ pub enum Difference {
     Installation { has: u64, wanted: u64 },
     /// There is no entry, or the first is no lawful opening.
     NotOpened,
-    /// An entry can't come behind the one before it.
+    /// An entry can't come after the one before it.
     Entry { place: u64, fault: RowFault },
-    /// A void names no entry behind the opening, or one that another names too.
+    /// A void names no entry after the opening, or one that another names too.
     Void { place: u64 },
     /// The energy of a quarter hour.
     Interval(IntervalFault),

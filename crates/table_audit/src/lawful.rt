@@ -19,7 +19,7 @@ use meter_journal::Installed;
 use std::alloc::{AllocError, Global};
 use store_tables::InstallationRow;
 
-/// Goes over the rows behind an opening, up to the first that is refused.
+/// Goes over the rows after an opening, up to the first that is refused.
 fn go_over(
     meter: &Installed,
     progress: &mut Progress,
@@ -44,7 +44,7 @@ fn go_over(
     Ok(None)
 }
 
-/// Tells of that row, and of each one behind it that is refused.
+/// Tells of that row, and of each one after it that is refused.
 fn tell_refused(
     meter: &Installed,
     progress: &mut Progress,
@@ -218,7 +218,7 @@ fn tell_standing(
     Ok(last && total && ended)
 }
 
-/// Tells whether what else was read agrees with a check behind all entries, and of each difference.
+/// Tells whether what else was read agrees with a check after all entries, and of each difference.
 fn tell_rest(
     progress: &Progress,
     row: &InstallationRow,

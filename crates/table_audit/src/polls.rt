@@ -116,7 +116,7 @@ fn tell_run(
     Ok(tell_order(first, end, polls.as_slice(), outcomes.as_slice()))
 }
 
-/// Puts a difference of polls behind the others, if there is one.
+/// Puts a difference of polls after the others, if there is one.
 fn put_told(found: Option<Difference>, findings: &mut Findings) -> Result<bool, AllocError>
     requires few { length findings.old.first.items ≤ MOST }
     ensures fine { IfOk result (λ fine. IsTrue fine ↔ IsNone found) }

@@ -60,7 +60,7 @@ next_told installed content seals i seal old new lt is before one =
 pub none_told : (installed : List Row) (content : Content) (names : List (List ℕ)) → names ≡ [] → TellsNames installed [] content names
 none_told installed content names none = record { kept = []; told = tt; names_are = none }
 
--- the row at an index, whatever is said of what would be behind the end
+-- the row at an index, whatever is said of what would be after the end
 pub not_this : (rows : List Row) (i : ℕ) (row x : Row) → i < length rows → row ≡ get_or rows i row → get_or rows i x ≡ x → row ≡ x
 not_this rows i row x lt is at =
     let one : Some (get_or rows i row) ≡ Some (get_or rows i x) = sym (slice_get-get_or rows i row lt) ∙ slice_get-get_or rows i x lt in

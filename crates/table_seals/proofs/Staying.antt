@@ -1,4 +1,4 @@
--- What stays of a meter's entries, whatever lines come behind them.
+-- What stays of a meter's entries, whatever lines come after them.
 use Rattle.std.proofs.Common.{◌≡◌, ℕ, ◌==◌, Bool, true, false, not, ◌&&◌, ◌||◌, List, [], ◌∷◌, ◌++◌, map, reverse, take, length, ◌+◌, Some, None, append_assoc, refl, sym, ap, subst, ◌∙◌, inl, inr}
 use Rattle.std.specs.Prelude.{ℤ}
 use Rattle.std.specs.List.{flat_map, list_any}

@@ -50,7 +50,7 @@ abbrev pub unless_kept : (kept : Bool) → (meter : List ℕ) → List (List ℕ
 unless_kept true meter = []
 unless_kept false meter = meter ∷ []
 
--- It is put behind the names of those before it.
+-- It is put after the names of those before it.
 pub record TellsMeter (installed : List Row) (seal : Sealed) (content : Content)
     (old new : List (List ℕ)) : Type 0 where
   pub kept : Bool

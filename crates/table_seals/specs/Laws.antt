@@ -1,4 +1,4 @@
--- What stays sealed, whatever comes behind it.
+-- What stays sealed, whatever comes after it.
 use Rattle.std.specs.Prelude.{◌≡◌, ℕ, ◌==◌, Bool, true, ◌&&◌, List, ◌++◌, take, length, reverse}
 use Rattle.std.specs.List.{list_any}
 use Rattle.meter_journal.specs.declared.lines.Installed.{Installed}
@@ -17,7 +17,7 @@ entries_by meter lines = reverse (table_rows meter (rows_of meter.opening lines)
 abbrev pub is_voided_at : (place : ℕ) → List TableRow → Bool
 is_voided_at place entries = list_any (λ entry. (entry.place == place) && entry.is_voided) entries
 
--- Whatever lines come behind a lawful journal: entries, readings that are held, voids. Its entries are still the first ones,
+-- Whatever lines come after a lawful journal: entries, readings that are held, voids. Its entries are still the first ones,
 -- with the same text.
 abbrev pub FirstEntriesStay : Type 0
 FirstEntriesStay = (meter : Installed) (more lines : Journal) → IsWellInstalled meter

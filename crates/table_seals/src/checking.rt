@@ -4,7 +4,8 @@ ghost use Rattle.std.specs.List.{list_all};
 ghost use Rattle.table_audit.specs.Looking.{Finds};
 ghost use Rattle.table_audit.specs.Reading as values;
 ghost use Rattle.table_seals.specs.Checking.{IsInstalled, HasSealed, Keeps};
-ghost use Rattle.table_seals.specs.Checking.{TellsKept, TellsMeter, TellsSeals, TellsTables, unless_kept};
+ghost use Rattle.table_seals.specs.Checking.{TellsKept, TellsMeter, unless_kept};
+ghost use Rattle.table_seals.specs.Checking.{TellsSeals, TellsTables};
 ghost use Rattle.table_seals.specs.Sealed.{sealed_of};
 
 use crate::checks::Checked;
@@ -99,7 +100,7 @@ fn check_meter<S: Alter>(
     }
 }
 
-/// The name of a meter, if it differs, behind those before it.
+/// The name of a meter, if it differs, after those before it.
 fn tell(
     alloc: Global,
     kept: bool,

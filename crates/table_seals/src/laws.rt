@@ -1,13 +1,13 @@
 //! What who keeps a seal may rely on. Each function's clause is the law, over all lawful journals.
 ghost use Rattle.table_seals.specs.Laws.{FirstEntriesStay, VoidsStay};
 
-/// Whatever comes behind a journal, its entries are still the first ones, with the same text. So an office that goes on keeps
+/// Whatever comes after a journal, its entries are still the first ones, with the same text. So an office that goes on keeps
 /// what was sealed.
 pub fn first_entries_stay()
     ensures { FirstEntriesStay }
 {}
 
-/// Whatever comes behind a journal, what was voided stays voided.
+/// Whatever comes after a journal, what was voided stays voided.
 pub fn voids_stay()
     ensures { VoidsStay }
 {}

@@ -31,7 +31,7 @@ struct MeterLine<'a> {
     digest: [u8; 32],
 }
 
-/// The word behind a text that comes first, and what follows its end.
+/// The word after a text that comes first, and what follows its end.
 fn field<'a>(text: &'a str, before: &str, end: char) -> Option<(&'a str, &'a str)>
     requires { end ≤ 32 }
     ensures reads { (word rest : List ℕ) → tables.is_word word ≡ true
@@ -49,7 +49,7 @@ fn field<'a>(text: &'a str, before: &str, end: char) -> Option<(&'a str, &'a str
     rest.split_once(end)
 }
 
-/// The number behind a text that comes first, and what follows its end.
+/// The number after a text that comes first, and what follows its end.
 fn number<'a>(text: &'a str, before: &str, end: char) -> Option<(u64, &'a str)>
     requires { end ≤ 32 }
     ensures reads { (n : ℕ) (rest : List ℕ) → n < 2 ^ 64
@@ -67,7 +67,7 @@ fn number<'a>(text: &'a str, before: &str, end: char) -> Option<(u64, &'a str)>
     }
 }
 
-/// What follows the end of the digest behind a text that comes first. The digest is put into these bytes.
+/// What follows the end of the digest after a text that comes first. The digest is put into these bytes.
 fn digest<'a>(text: &'a str, before: &str, end: char, bytes: &mut [u8]) -> Option<&'a str>
     requires ends { end ≤ 32 }
     requires long { length bytes.old ≡ 32 }

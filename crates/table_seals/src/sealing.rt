@@ -57,7 +57,8 @@ fn seal_row<S: Alter>(
     row: &Row,
 ) -> Result<Option<MeterSeal>, RowFault>
     requires { conn.old.in_transaction ≡ false }
-    ensures { Finds S.Store conn.old conn.new result (λ content found. SealsRow content row.now found) }
+    ensures { Finds S.Store conn.old conn.new result
+        (λ content found. SealsRow content row.now found) }
 {
     let meter = match text(row, 1) {
         Ok(Some(meter)) => meter,

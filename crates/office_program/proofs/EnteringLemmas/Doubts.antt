@@ -106,7 +106,7 @@ doubt_is facts at asked new unmarked =
 
 -- ---- What an office told
 
--- told behind a question at which no books failed, in other words
+-- told after a question at which no books failed, in other words
 pub told_on : {B : Type 0} (ledger : B → Ledger) (past : History) (before between after : Failures) (office : Office B) (doubt other : Option ℕ)
     (result : Result (Option ℕ) Refusal) → between ≡ before → doubt ≡ other → IsDoubtTold ledger past between after office doubt result
     → IsDoubtTold ledger past before after office other result

@@ -31,7 +31,7 @@ counter_told tells facts register counter device None found there told =
 counter_told tells facts register counter device (Some shown) found there told =
     record { counter = counter; device = device; register_is = found; device_is = there; told = told }
 
--- read behind a question at which no books failed
+-- read after a question at which no books failed
 pub read_on : {B : Type 0} (ledger : B → Ledger) (tells : Telling) (register : Option (List ℕ)) (past : History) (before between after : Failures) (office : Office B)
     (result : Result (Option Shown) Refusal) → between ≡ before → IsReadThere ledger tells register past between after office result
     → IsReadThere ledger tells register past before after office result
@@ -63,7 +63,7 @@ found_as tells past read found shown before after same told =
     let P : Option Shown → Type 0 = λ s. IsShownFor tells (facts_of past) read s in
     (subst P same told.0, told.1)
 
--- asked behind a question at which no books failed
+-- asked after a question at which no books failed
 pub asked_on : {B : Type 0} (ledger : B → Ledger) (request : Request) (past : History) (progress : Progress) (printed moments : Option (List ℕ)) (before between : Failures)
     (now : RoundState) (office : Office B) (result : Result Progress Error) → between ≡ before
     → HasAsked ledger request past progress (round_state printed moments between) now office result

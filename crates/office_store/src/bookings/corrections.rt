@@ -15,7 +15,7 @@ use crate::bookings::meter_entries::is_sound;
 use energy_core::{Entry, Last, MAX_RANGE, MAX_TOTAL, MIN_RANGE};
 use interval_core::Share;
 use meter_journal::{
-    EntryRow, Installed, are_numbered, find_row, interval_rows, last_behind, strike,
+    EntryRow, Installed, are_numbered, find_row, interval_rows, last_of_rows, strike,
 };
 use sqlite::Error;
 use std::alloc::Global;
@@ -70,7 +70,7 @@ fn next_of(journal: &MeterJournal, place: u64) -> Result<Option<Rollover>, RowFa
     if GREATEST_PLACE < next.place || journal.rows.len() < found.index {
         return Err(RowFault::Damaged);
     }
-    let last = last_behind(&journal.opening, &journal.rows[..found.index]);
+    let last = last_of_rows(&journal.opening, &journal.rows[..found.index]);
     Ok(Some(Rollover {
         place: next.place,
         rolls: rolls_after(&last, &next.entry),

@@ -15,7 +15,7 @@ use Rattle.meter_journal.proofs.AsEntered.{rows_stand}
 use Rattle.meter_journal.proofs.Keeping.{mapped_some}
 use Rattle.run_http.specs.Copies.{entries_before}
 
--- where lines void, they do so at the place or behind it
+-- where lines void, they do so at the place or after it
 abbrev pub LinesFrom : (place : ℕ) → Journal → Type 0
 LinesFrom place [] = Unit {0}
 LinesFrom place (Entered k e ∷ lines) = LinesFrom place lines
@@ -28,7 +28,7 @@ not_below n place le = grind (arith, nat_tests, le)
 is_below : (n place : ℕ) → n < place → nat_lt n place ≡ true
 is_below n place lt = grind (arith, nat_tests, lt)
 
--- an entry at the place or behind it
+-- an entry at the place or after it
 dropped : (place : ℕ) (row : EntryRow) (rows : List EntryRow) → place ≤ row.place → entries_before place (row ∷ rows) ≡ entries_before place rows
 dropped place row rows le = cond-false _ _ _ (not_below row.place place le)
 

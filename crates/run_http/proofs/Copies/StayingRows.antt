@@ -207,8 +207,8 @@ rows_before_stay law further facts meter o place h there le void =
     (stays_before law further facts o place h (subst (λ (m : List ℕ). opening_of facts m ≡ Some o) (sym name) there) le
     (subst (λ (m : List ℕ). All (VoidsFrom m place) further) (sym name) void))
 
-pub entries_come_behind : EntriesComeBehind
-entries_come_behind facts meter o h there =
+pub entries_come_after : EntriesComeBehind
+entries_come_after facts meter o h there =
     let own : opening_of facts o.meter ≡ Some o = subst (λ (m : List ℕ). opening_of facts m ≡ Some o) (sym (own_name facts meter o there)) there in
     let rows : List EntryRow = journal.rows_of (opened o) (journal_of facts o.meter) in
     let numbers = (rows_stand (installed o) (journal_of facts o.meter) (well facts o h own) (installed_fits facts o h own)).places in

@@ -72,7 +72,7 @@ taken_by contents (day ∷ more) from to took = taken_by contents more took.0 to
 
 -- ---- the reply
 
--- behind nothing there is the report alone
+-- after nothing there is the report alone
 alone : (zone : Zone) (past : History) (register : Option (List ℕ)) (form : ReportForm) (had holds : List ℕ) (answer : Result (Unit {0}) Refusal)
     → had ≡ [] → OnOk answer (IsReport zone past register form (Appends (Some had) (Some holds)))
     → OnOk answer (IsReport zone past register form (λ text. holds ≡ text))

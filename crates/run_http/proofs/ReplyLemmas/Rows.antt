@@ -18,7 +18,7 @@ use Rattle.office_core.specs.declared.office.Office.{Office}
 use Rattle.run_http.specs.MeterReplies.{AsksRows, KeepsRow}
 use Rattle.run_http.specs.declared.kept_rows.KeptRows.{KeptRows}
 
--- where there was memory for all, all are kept behind those before them
+-- where there was memory for all, all are kept after those before them
 all_kept : (old new : KeptRows) (rows : List Share) → TakesAll KeepsRow old rows new → new.is_whole ≡ true
     → (old.is_whole ≡ true) × (new.rows.items ≡ old.rows.items ++ rows)
 all_kept old new [] is whole = (

@@ -13,7 +13,7 @@ pub struct Site<'a> {
     pub timeout: u32,
 }
 
-/// An energy counter in Wh: its point, and what stands behind the device's name in the name of its register.
+/// An energy counter in Wh: its point, and what stands after the device's name in the name of its register.
 #[derive(Clone, Copy)]
 struct Counter {
     point: &'static str,
@@ -80,7 +80,7 @@ fn add_device(text: &mut Vec<u8>, list: &[u8], site: Site<'_>) -> io::Result<()>
     text.write_all(b"\n")
 }
 
-// The lines of the counters of the model at a place, from a number on; the number behind them.
+// The lines of the counters of the model at a place, from a number on; the number after them.
 fn add_model(
     text: &mut Vec<u8>,
     chain: &Chain<'_>,

@@ -3,7 +3,7 @@ use Rattle.mb_device.proofs.Framing.{garbled_piece, need_piece, piece_frames}
 use Rattle.mb_wire.proofs.Giving.{from}
 use Rattle.mb_device.proofs.Streams.{AllAnswered-cut, AllAnswered-same, Answered-then, all_then_all, course_cut, course_then, cut_tells, dealt_with, buffered_carried, buffered_fault, piece_fault, piece_then}
 use Rattle.mb_device.specs.Tricks.{carried_out, is_cut}
-use Rattle.mb_device.specs.Server.{Answered, PieceTells, around, course_behind, own_frames, buffered_frames, stretch}
+use Rattle.mb_device.specs.Server.{Answered, PieceTells, around, course_after_all, own_frames, buffered_frames, stretch}
 use Rattle.mb_device.proofs.server.+answer_piece.Goals as goal
 
 pub returns-in_err-answered-clause-answered : goal.returns-in_err-answered-clause-answered
@@ -37,7 +37,7 @@ returns-then-is_cut-clause-after g t c =
     let cut = sym (ap is_cut c.answer_buffered.ensures.after) ∙ sym c.is_cut.ensures ∙ c.if-is_cut.true in
     let frames = buffered_frames c.feed-fed.new.self.frame in
     let others = own_frames (c.feed-fed.new.self.rest ++ from c.feed-fed.result.taken c.args.piece.now) in
-    c.answer_buffered.ensures.after ∙ course_cut c.args.sender.now c.args.bank.now frames others cut ∙ ap (course_behind c.args.sender.now c.args.bank.now) (sym split.0)
+    c.answer_buffered.ensures.after ∙ course_cut c.args.sender.now c.args.bank.now frames others cut ∙ ap (course_after_all c.args.sender.now c.args.bank.now) (sym split.0)
 
 pub returns-in_err-more-in-Whole-clause-answered :
     goal.returns-in_err-more-in-Whole-clause-answered
@@ -81,7 +81,7 @@ returns-in-Need-clause-tells g t c =
 pub returns-in-Need-clause-after : goal.returns-in-Need-clause-after
 returns-in-Need-clause-after g t c =
     let last = need_piece c.feed-fed.result.what c.args.reader.now.rest c.args.piece.now c.feed-fed.result.taken c.feed-fed.new.self c.feed-fed.ensures.tells c.feed-fed.ensures.after c.in-Need.is (c.feed-fed.ensures.need c.in-Need.is) in
-    c.answer_buffered.ensures.after ∙ ap (course_behind c.args.sender.now c.args.bank.now) (sym last.0)
+    c.answer_buffered.ensures.after ∙ ap (course_after_all c.args.sender.now c.args.bank.now) (sym last.0)
 
 pub returns-in-Garbled-clause-answered : goal.returns-in-Garbled-clause-answered
 returns-in-Garbled-clause-answered g t c =
@@ -91,7 +91,7 @@ returns-in-Garbled-clause-answered g t c =
 pub returns-in-Garbled-clause-tells : goal.returns-in-Garbled-clause-tells
 returns-in-Garbled-clause-tells g t c =
     let last = garbled_piece c.feed-fed.result.what c.args.reader.now.rest c.args.piece.now c.feed-fed.result.taken c.feed-fed.new.self c.feed-fed.ensures.tells c.feed-fed.ensures.after c.in-Garbled.is in
-    let same = ap (course_behind c.args.sender.now c.args.bank.now) last.0 ∙ sym c.answer_buffered.ensures.after in
+    let same = ap (course_after_all c.args.sender.now c.args.bank.now) last.0 ∙ sym c.answer_buffered.ensures.after in
     record { going = ap is_cut same ∙ sym c.is_cut.ensures ∙ c.if-is_cut.false; bad = last.1 }
 
 pub returns-in_ok-more-in-Whole-clause-answered : goal.returns-in_ok-more-in-Whole-clause-answered
@@ -121,4 +121,4 @@ returns-in_ok-more-in-Whole-clause-after g t c =
     let dealt = dealt_with c.args.sender.now c.answer_buffered.new.sender (buffered_frames buffered.frame) old mid c.in_ok-answered.ensures.answered c.answer_buffered.ensures.after (sym c.is_cut.ensures ∙ c.if-is_cut.false) in
     c.in_ok-more-in-Whole.ensures.after
     ∙ sym (course_then c.args.sender.now c.answer_buffered.new.sender c.args.bank.now c.answer_buffered.new.bank (buffered_frames buffered.frame) _ dealt)
-    ∙ ap (course_behind c.args.sender.now c.args.bank.now) (sym split.0)
+    ∙ ap (course_after_all c.args.sender.now c.args.bank.now) (sym split.0)

@@ -8,5 +8,5 @@ returns-in_default-next-clause-next c =
 
 pub returns-clause-next : goal.returns-clause-next
 returns-clause-next c =
-    some_next c.args.journal.now c.args.place c.deref.result.now (take c.in-Some.found.index c.deref-2.result.now) c.in-Some.found c.in-Some-next.next c.last_behind-last.result c.rolls_after.result c.deref.ensures.value
-    c.in-Some.ensures.found c.in-Some-next.is (ap (take c.in-Some.found.index) (c.deref-2.ensures.value ∙ sym c.deref.ensures.value)) c.last_behind-last.ensures c.rolls_after.ensures
+    some_next c.args.journal.now c.args.place c.deref.result.now (take c.in-Some.found.index c.deref-2.result.now) c.in-Some.found c.in-Some-next.next c.last_of_rows-last.result c.rolls_after.result c.deref.ensures.value
+    c.in-Some.ensures.found c.in-Some-next.is (ap (take c.in-Some.found.index) (c.deref-2.ensures.value ∙ sym c.deref.ensures.value)) c.last_of_rows-last.ensures c.rolls_after.ensures

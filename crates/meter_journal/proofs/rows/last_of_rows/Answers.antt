@@ -1,6 +1,6 @@
 use Rattle.std.proofs.Common.{arith}
 use Rattle.meter_journal.proofs.Forward.{last_more, last_all}
-use Rattle.meter_journal.proofs.rows.last_behind.Goals as goal
+use Rattle.meter_journal.proofs.rows.last_of_rows.Goals as goal
 
 pub loop-row-preserved : goal.loop-row-preserved
 loop-row-preserved c =

@@ -1,5 +1,0 @@
-use Rattle.run_http.proofs.Copies.StayingRows.{entries_come_behind as lemma}
-use Rattle.run_http.proofs.laws.entries_come_behind.Goals as goal
-
-pub returns : goal.returns
-returns c = lemma
