@@ -49,8 +49,8 @@ sixty_fifth = refl
 up_to_the_last : stage_after (two 65530 9 3) (Head 65530 0) ≡ Head 65535 1
 up_to_the_last = refl
 
-behind_the_last : stage_after (two 65530 9 4) (Head 65530 0) ≡ Over
-behind_the_last = refl
+after_the_last : stage_after (two 65530 9 4) (Head 65530 0) ≡ Over
+after_the_last = refl
 
 past_the_last : stage_after (two 65530 1 5) (Head 65530 0) ≡ Over
 past_the_last = refl
@@ -81,11 +81,11 @@ one_more = refl
 last_one : wanted (Registers (model_at 10 1 126) 125 1) ≡ Some (holding 137 1)
 last_one = refl
 
-behind_126 : stage_after nothing (Registers (model_at 10 1 126) 125 1) ≡ Head 138 1
-behind_126 = refl
+after_126 : stage_after nothing (Registers (model_at 10 1 126) 125 1) ≡ Head 138 1
+after_126 = refl
 
-behind_125 : stage_after nothing (Registers (model_at 10 1 125) 0 1) ≡ Head 137 1
-behind_125 = refl
+after_125 : stage_after nothing (Registers (model_at 10 1 125) 0 1) ≡ Head 137 1
+after_125 = refl
 
 empty_model : stage_after (two 10 1 0) (Head 10 0) ≡ Head 12 1
 empty_model = refl
@@ -118,8 +118,8 @@ answered = refl
 another_id : settled one_read (reply 6 1 ∷ []) ≡ None
 another_id = refl
 
-behind_another : settled one_read (reply 6 1 ∷ reply 7 1 ∷ []) ≡ Some (Some (265 ∷ []))
-behind_another = refl
+after_another : settled one_read (reply 6 1 ∷ reply 7 1 ∷ []) ≡ Some (Some (265 ∷ []))
+after_another = refl
 
 another_unit : settled one_read (reply 7 2 ∷ reply 7 1 ∷ []) ≡ Some None
 another_unit = refl
@@ -135,8 +135,8 @@ two_alone = refl
 by_function_4 : counter_span InputRegisters 10 (Fixed (pos 0)) ≡ Some (record { function = InputRegisters; address = 10; count = 2 })
 by_function_4 = refl
 
-scale_behind : counter_span HoldingRegisters 10 (Register 14) ≡ Some (holding 10 5)
-scale_behind = refl
+scale_following : counter_span HoldingRegisters 10 (Register 14) ≡ Some (holding 10 5)
+scale_following = refl
 
 scale_before : counter_span HoldingRegisters 10 (Register 4) ≡ Some (holding 4 8)
 scale_before = refl

@@ -70,9 +70,9 @@ model_potential models address model stands =
     let at : model.address ≡ address = stands.at in
     let few : models < 64 = stands.few in
     let inside : model.address + 2 + model.length ≤ 65536 = stands.inside in
-    let behind : potential (head_at (models + 1) (next_after model)) ≤ 250 + 250 * (64 - (models + 1)) + (65536 - next_after model) = head_potential (models + 1) (next_after model) in
+    let following : potential (head_at (models + 1) (next_after model)) ≤ 250 + 250 * (64 - (models + 1)) + (65536 - next_after model) = head_potential (models + 1) (next_after model) in
     elim (is_known model.id && nat_lt 0 model.length) as (λ b. potential (if b then Registers model 0 (models + 1) else head_at (models + 1) (next_after model)) + 125 ≤ 250 + 250 * (64 - models) + (65536 - address))
-    [ true ↦ omega arith | false ↦ omega (arith, behind) ]
+    [ true ↦ omega arith | false ↦ omega (arith, following) ]
 
 found_potential : (models address : ℕ) (found : Option Model) → ((model : Model) → found ≡ Some model → Standing models address model) → potential (option_map_or (in_model (models + 1)) found Over) + 125 ≤ potential (Head address models)
 found_potential models address None stands = omega arith
@@ -92,10 +92,10 @@ less_potential word (Mark address) span is =
 less_potential word (Head address models) span is =
     head_step word models address (word address)
 less_potential word (Registers model asked models) span is =
-    let behind : potential (head_at models (next_after model)) ≤ 250 + 250 * (64 - models) + (65536 - next_after model) = head_potential models (next_after model) in
+    let following : potential (head_at models (next_after model)) ≤ 250 + 250 * (64 - models) + (65536 - next_after model) = head_potential models (next_after model) in
     let more : (b : Bool) → nat_lt (asked + 125) model.length ≡ b → potential (if b then Registers model (asked + 125) models else head_at models (next_after model)) + 125 ≤ potential (Registers model asked models) =
     λ b. elim b as (λ b. nat_lt (asked + 125) model.length ≡ b → potential (if b then Registers model (asked + 125) models else head_at models (next_after model)) + 125 ≤ potential (Registers model asked models))
-    [ true ↦ λ e. let below : asked + 125 < model.length = ltb-true _ _ e in omega arith | false ↦ λ e. omega (arith, behind) ] in
+    [ true ↦ λ e. let below : asked + 125 < model.length = ltb-true _ _ e in omega arith | false ↦ λ e. omega (arith, following) ] in
     more (nat_lt (asked + 125) model.length) refl
 less_potential word (Ending address) span is = omega arith
 less_potential word Over span is = cc

@@ -74,8 +74,8 @@ impl Scan {
     pub fn answered(&mut self, span: ReadSpan, words: &[u16]) -> Result<(), AllocError>
         requires next { wanted (stage_of self.old) ≡ Some (span_view span) }
         requires all { length words.now ≡ span.count }
-        ensures words { OnOk result ((address : ℕ)
-            → words_of self.new address ≡ put_words (words_of self.old) span.address words.now address) }
+        ensures words { OnOk result ((at : ℕ)
+            → words_of self.new at ≡ put_words (words_of self.old) span.address words.now at) }
         ensures stage { OnOk result
             (stage_of self.new ≡ stage_after (words_of self.new) (stage_of self.old)) }
         ensures err { OnErr result ((address : ℕ)

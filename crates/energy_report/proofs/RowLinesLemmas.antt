@@ -26,8 +26,8 @@ pub longer : (x y : List ℕ) (a b : Option (List ℕ)) → GotPart x a b → Go
 longer x y a b got =
     (got.0, got.1 ++ y, ap (λ (front : List ℕ). front ++ y) got.2 ∙ append_assoc got.0 got.1 y, got.3)
 
-pub behind : (x y : List ℕ) (a b c : Option (List ℕ)) → Appends a b x → GotPart y b c → GotPart (x ++ y) a c
-behind x y a b c first got = (
+pub following : (x y : List ℕ) (a b c : Option (List ℕ)) → Appends a b x → GotPart y b c → GotPart (x ++ y) a c
+following x y a b c first got = (
   x ++ got.0,
   got.1,
   ap (λ (more : List ℕ). x ++ more) got.2 ∙ sym (append_assoc x got.0 got.1),
@@ -75,7 +75,7 @@ written_on contents x y n from next to works first more =
       whole = λ still.
           let later = more.whole still in
           (Appends-trans _ _ _ x y here.0 later.0, later.1 ∙ ap (λ c. counted (c + n)) here.1 ∙ counted_on from.count n);
-      part = λ failed. behind x y _ _ _ here.0 (more.part failed);
+      part = λ failed. following x y _ _ _ here.0 (more.part failed);
     }
 
 written_no_more : {W : Type 0} (contents : W → Option (List ℕ)) (x y : List ℕ) (n : ℕ) (from next to : RowLines W) → next.failed ≡ true

@@ -16,7 +16,7 @@ use Rattle.energy_report.specs.Rows.{joined, row_of, rows_in, shown}
 use Rattle.energy_report.specs.Texts.{last_text, lead, report_text, row_text}
 use Rattle.energy_report.specs.Writing.{AreWritten, GotUnless, Finishes, HasTaken, IsFinished, WritesRow, WritesText, begun_text}
 use Rattle.energy_report.proofs.SnocLemmas.{after, after-push, few, shown-joined, with_day, without_day}
-use Rattle.energy_report.proofs.TextLemmas.{begun-append, begun-push, behind, longer, whole}
+use Rattle.energy_report.proofs.TextLemmas.{begun-append, begun-push, following, longer, whole}
 
 -- one day less is fewer
 fewer : (days : List DayTotal) (t : DayTotal) → length (days ++ t ∷ []) < 2 ^ 64 → length days < 2 ^ 64
@@ -189,7 +189,7 @@ module _ {W : Type 0} (contents : W → Option (List ℕ)) where
   broken_row from done last o old mid writes works is count failed text =
       let P : Bool → Type 0 = λ b. GotUnless b (lead (old.count == 0) old.form ++ row_text old.form o) (contents old.output.now) (contents mid.output.now) in
       let got = subst P failed (writes.written works) in
-      let both = behind (begun_text old.form done) (lead (old.count == 0) old.form ++ row_text old.form o) _ _ _ text got in
+      let both = following (begun_text old.form done) (lead (old.count == 0) old.form ++ row_text old.form o) _ _ _ text got in
       let piece : lead (old.count == 0) old.form ++ row_text old.form o ≡ lead (length done == 0) old.form ++ row_text old.form (shown last) =
       ap (λ n. lead (n == 0) old.form ++ row_text old.form o) count ∙ ap (λ row. lead (length done == 0) old.form ++ row_text old.form row) is in
       let Q : List ℕ → Type 0 = λ text. GotPart text (contents from) (contents mid.output.now) in
@@ -247,7 +247,7 @@ module _ {W : Type 0} (contents : W → Option (List ℕ)) where
   ends from text last whole_text old new writes works is got true failed =
       let P : Bool → Type 0 = λ b. GotUnless b last (contents old.output.now) (contents new.output.now) in
       let Q : List ℕ → Type 0 = λ text. GotPart text (contents from) (contents new.output.now) in
-      subst Q is (behind text last _ _ _ got (subst P failed (writes.written works)))
+      subst Q is (following text last _ _ _ got (subst P failed (writes.written works)))
 
   -- a write failed before: nothing more is written
   pub ends_broken : (days : List DayTotal) (from old new : ReportRows W) → old.failed ≡ true → new.failed ≡ true → new.output.now ≡ old.output.now

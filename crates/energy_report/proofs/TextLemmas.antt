@@ -60,8 +60,8 @@ pub longer : (x y : List ℕ) (a b : Option (List ℕ)) → GotPart x a b → Go
 longer x y a b got =
     (got.0, got.1 ++ y, ap (λ (front : List ℕ). front ++ y) got.2 ∙ append_assoc got.0 got.1 y, got.3)
 
-pub behind : (x y : List ℕ) (a b c : Option (List ℕ)) → Appends a b x → GotPart y b c → GotPart (x ++ y) a c
-behind x y a b c first got = (
+pub following : (x y : List ℕ) (a b c : Option (List ℕ)) → Appends a b x → GotPart y b c → GotPart (x ++ y) a c
+following x y a b c first got = (
   x ++ got.0,
   got.1,
   ap (λ (more : List ℕ). x ++ more) got.2 ∙ sym (append_assoc x got.0 got.1),

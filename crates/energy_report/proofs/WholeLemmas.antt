@@ -118,15 +118,15 @@ set_apart p total days rows none far whole =
     )
 
 -- the days after the first, as they were counted
-abbrev Behind : ℤ → DayTotal → Type 0
-Behind day total = day <ℤ epoch_day total.day
+abbrev LaterThan : ℤ → DayTotal → Type 0
+LaterThan day total = day <ℤ epoch_day total.day
 
-behind : (day : ℤ) (days : List DayTotal) → All (λ account. day <ℤ account.day) (map account_of days) → All (Behind day) days
-behind day [] all = All-nil (Behind day)
-behind day (total ∷ days) all =
+following : (day : ℤ) (days : List DayTotal) → All (λ account. day <ℤ account.day) (map account_of days) → All (LaterThan day) days
+following day [] all = All-nil (LaterThan day)
+following day (total ∷ days) all =
     let P : DayAccount → Type 0 = λ account. day <ℤ account.day in
-    All-cons (Behind day) total days (All-head P (account_of total) (map account_of days) all)
-    (behind day days (All-tail P (account_of total) (map account_of days) all))
+    All-cons (LaterThan day) total days (All-head P (account_of total) (map account_of days) all)
+    (following day days (All-tail P (account_of total) (map account_of days) all))
 
 -- if the next day is of another period than a day, so are all after it
 all_other : (p : Period) (total next : DayTotal) (days : List DayTotal) → AreInOrder (map account_of (total ∷ next ∷ days))
@@ -134,15 +134,15 @@ all_other : (p : Period) (total next : DayTotal) (days : List DayTotal) → AreI
 all_other p total next days order other =
     let P : DayTotal → Type 0 = λ day. is_same p total.day day.day ≡ false in
     let first : epoch_day total.day <ℤ epoch_day next.day =
-    All-head (Behind (epoch_day total.day)) next days (behind (epoch_day total.day) (next ∷ days) order.0) in
+    All-head (LaterThan (epoch_day total.day)) next days (following (epoch_day total.day) (next ∷ days) order.0) in
     All-cons P next days other
-    (All-weaker (Behind (epoch_day next.day)) P
+    (All-weaker (LaterThan (epoch_day next.day)) P
     (λ day later. false_from_ne_true (is_same p total.day day.day)
     (λ same.
     let met = between p total.day next.day day.day (omega (arith, signed_arith, first)) (omega (arith, signed_arith, later)) same in
     let clash : false ≡ true = sym other ∙ met in
     absurd (cc clash)))
-    days (behind (epoch_day next.day) days order.1.0))
+    days (following (epoch_day next.day) days order.1.0))
 
 abbrev StartsAt : Date → List Row → Type 0
 StartsAt day [] = ⊥

@@ -98,7 +98,7 @@ fn a_voided_row_gives_none(rt: HostRuntime) -> Result<(), Fail> {
 }
 
 #[test]
-fn a_voided_row_is_looked_at_behind_one_that_stands(rt: HostRuntime) {
+fn a_voided_row_is_looked_at_after_one_that_stands(rt: HostRuntime) {
     let fast = TableRow {
         raw: 50_000,
         is_voided: true,
@@ -109,8 +109,8 @@ fn a_voided_row_is_looked_at_behind_one_that_stands(rt: HostRuntime) {
         is_voided: true,
         ..FIRST
     };
-    let behind = TableRow { place: 3, ..fast };
-    assert!(rt; check_rows(&HOUSE, &[before, behind]).is_ok());
+    let following = TableRow { place: 3, ..fast };
+    assert!(rt; check_rows(&HOUSE, &[before, following]).is_ok());
 }
 
 #[test]
@@ -177,7 +177,7 @@ fn rows_in_their_order(rt: HostRuntime) {
 }
 
 #[test]
-fn nothing_comes_behind_a_closing(rt: HostRuntime) {
+fn nothing_comes_after_a_closing(rt: HostRuntime) {
     let closing = TableRow {
         kind: RowKind::Closing,
         ..FIRST

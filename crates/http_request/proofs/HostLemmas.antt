@@ -4,6 +4,6 @@ use Rattle.std.specs.Borrow.{Bor}
 use Rattle.std.specs.List.{list_any}
 
 -- a test of what stands after each
-pub any_behind : (test : List ℕ → Bool) (names : List (Bor (List ℕ))) → list_any (λ name. test name.now) names ≡ list_any test (map (λ name. name.now) names)
-any_behind test [] = refl
-any_behind test (name ∷ names) = ap (λ rest. test name.now || rest) (any_behind test names)
+pub any_after : (test : List ℕ → Bool) (names : List (Bor (List ℕ))) → list_any (λ name. test name.now) names ≡ list_any test (map (λ name. name.now) names)
+any_after test [] = refl
+any_after test (name ∷ names) = ap (λ rest. test name.now || rest) (any_after test names)

@@ -66,7 +66,7 @@ pub(crate) fn poll(alloc: Global) -> Result<[Event; 3], Fail> {
 }
 
 // The office after these events, each at its moment.
-fn behind(
+fn following(
     mut office: Office<ListBooks>,
     moments: &[u64],
     events: &[Event],
@@ -82,11 +82,11 @@ fn behind(
 /// An office that has polled its device: the meter has gone from 5000 to 5200, which is 200 Wh.
 pub(crate) fn polled(alloc: Global) -> Result<Office<ListBooks>, Fail> {
     let events = poll(alloc)?;
-    behind(metered(alloc)?, &[1898, 1898, 1900], &events)
+    following(metered(alloc)?, &[1898, 1898, 1900], &events)
 }
 
 /// Books in which the poll 1 of the device waits since moment 2000.
 pub(crate) fn waiting(alloc: Global) -> Result<ListBooks, Fail> {
     let events = poll(alloc)?;
-    Ok(behind(unmetered(alloc)?, &[2000, 2000], &events)?.into_books())
+    Ok(following(unmetered(alloc)?, &[2000, 2000], &events)?.into_books())
 }

@@ -115,9 +115,9 @@ fn is_backward(from: Day, till: Day) -> bool {
 #[test]
 fn the_last_day_of_a_range_is_not_in_it(rt: HostRuntime) -> Result<(), Fail> {
     let (first, last) = (day("2024-02-01")?, day("2024-02-29")?);
-    let behind = day("2024-03-01")?;
-    assert!(rt; is_within(first, behind, last));
-    assert!(rt; !is_within(first, behind, behind));
+    let following = day("2024-03-01")?;
+    assert!(rt; is_within(first, following, last));
+    assert!(rt; !is_within(first, following, following));
     assert!(rt; !is_within(first, first, first));
     Ok(())
 }

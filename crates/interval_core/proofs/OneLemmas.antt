@@ -102,9 +102,9 @@ none-contained : (day : ℤ) → Contains (days_of []) day → ⊥
 none-contained day contains = omega (arith, contains.1)
 
 -- the days after the first are those of the rest
-behind : (a b : DayAccount) (xs ys : List DayAccount) → a.day ≡ b.day → AreInOrder (a ∷ xs) → (d : ℤ)
+following : (a b : DayAccount) (xs ys : List DayAccount) → a.day ≡ b.day → AreInOrder (a ∷ xs) → (d : ℤ)
     → (Contains (days_of (a ∷ xs)) d → Contains (days_of (b ∷ ys)) d) → Contains (days_of xs) d → Contains (days_of ys) d
-behind a b xs ys same order d into contains =
+following a b xs ys same order d into contains =
     let P : ℤ → Type 0 = λ x. a.day <ℤ x in
     let later : a.day <ℤ d = All-contains P (days_of xs) d (All-map P (λ (x : DayAccount). x.day) xs order.0) contains in
     elim (Contains-append_cases (b.day ∷ []) (days_of ys) d (into (Contains-append_right (a.day ∷ []) (days_of xs) d contains))) [
@@ -127,7 +127,7 @@ same_accounts zone rows (x ∷ xs) (y ∷ ys) ox oy ex ey there back =
     let P = IsExact zone rows in
     let first : x ≡ y = All-head P x xs ex ∙ ap (account_on zone rows) same ∙ sym (All-head P y ys ey) in
     let rest : xs ≡ ys = same_accounts zone rows xs ys ox.1 oy.1 (All-tail P x xs ex) (All-tail P y ys ey)
-    (λ d. behind x y xs ys same ox d (there d)) (λ d. behind y x ys xs (sym same) oy d (back d)) in
+    (λ d. following x y xs ys same ox d (there d)) (λ d. following y x ys xs (sym same) oy d (back d)) in
     rw (first, rest))
     (λ gt. absurd (before-all y.day x xs ox gt (back y.day (first-contained y ys))))
 

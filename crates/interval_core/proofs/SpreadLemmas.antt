@@ -57,8 +57,8 @@ outside-zero : (step : Step) (start : ℕ) → step.from < step.till → (start 
 outside-zero step start forward (inl before) =
     let up = running_mono step (min (start + 900) step.till) (max start step.from) forward (omega (arith, before)) in
     omega (arith, up)
-outside-zero step start forward (inr behind) =
-    let up = running_mono step (min (start + 900) step.till) (max start step.from) forward (omega (arith, behind)) in
+outside-zero step start forward (inr following) =
+    let up = running_mono step (min (start + 900) step.till) (max start step.from) forward (omega (arith, following)) in
     omega (arith, up)
 
 pub spread : (step : Step) → step.from < step.till → IsSpread step (shares_of step)

@@ -127,13 +127,13 @@ fn a_scale_point_scales(rt: HostRuntime) -> Result<(), Fail> {
 }
 
 // A mark at 50000, 64 models of no register, and these words after them.
-fn sixty_four_models(alloc: Global, behind: &[u16]) -> Result<Image, Fail> {
+fn sixty_four_models(alloc: Global, following: &[u16]) -> Result<Image, Fail> {
     let mut image = Image::new(alloc);
     put(&mut image, 50000, &[0x5375, 0x6E53])?;
     for place in 0..64u16 {
         put(&mut image, 50002 + 2 * place, &[9, 0])?;
     }
-    put(&mut image, 50130, behind)?;
+    put(&mut image, 50130, following)?;
     Ok(image)
 }
 

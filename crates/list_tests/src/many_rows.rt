@@ -6,7 +6,7 @@ use std::io::Write;
 use std::test::Fail;
 
 // What comes after 512 rows, and what is told of it. No row is read after the 513th, whose lesser faults show.
-static BEHIND_512_ROWS: [(&str, &str); 3] = [
+static AFTER_512_ROWS: [(&str, &str); 3] = [
     ("q,3,0,0,int16,\n", "row 514 fault 12\n"),
     ("q,3,0,0,int16,\n1x\n", "row 514 fault 12\n"),
     ("1x,3,0,0,int16,\n", "row 514 fault 3\n"),
@@ -30,7 +30,7 @@ fn as_many_as_may_be(rt: HostRuntime) -> Result<(), Fail> {
 
 #[test]
 fn too_many(rt: HostRuntime) -> Result<(), Fail> {
-    for (more, told) in &BEHIND_512_ROWS {
+    for (more, told) in &AFTER_512_ROWS {
         let mut text = many_rows(rt.alloc())?;
         text.extend_from_slice(more.as_bytes())?;
         let found = faults_of(rt.alloc(), &text)?;

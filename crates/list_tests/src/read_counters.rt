@@ -148,7 +148,7 @@ static REQUESTS: [u8; 24] = [
 ];
 
 #[test]
-fn words_may_come_behind_an_exception(rt: HostRuntime) {
+fn words_may_come_after_an_exception(rt: HostRuntime) {
     let mut given = [0; 36];
     let mut link = MemoryLink::new(&EXCEPTION_THEN_WORDS, &mut given, 9, None);
     let scale = CounterScale::Fixed(-1);

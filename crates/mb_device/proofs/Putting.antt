@@ -4,7 +4,7 @@ use Rattle.std.specs.List.{flat_map}
 use Rattle.std.proofs.lemmas.List.{append-nil}
 use Rattle.mb_wire.specs.Reader.{Fields}
 use Rattle.mb_wire.specs.Links.{risen}
-use Rattle.mb_device.specs.Tricks.{Course, Playing, CutOff, behind, carried_out, course_after, course_in, course_next, cuts, first_trick, frame_of, is_cut, later_of, sent, sent_next, sent_of, spelled_by, trick_at, up_to_cut}
+use Rattle.mb_device.specs.Tricks.{Course, Playing, CutOff, following, carried_out, course_after, course_in, course_next, cuts, first_trick, frame_of, is_cut, later_of, sent, sent_next, sent_of, spelled_by, trick_at, up_to_cut}
 use Rattle.mb_device.specs.declared.trick.Trick.{Trick}
 
 -- what a sender sends that is not cut
@@ -16,11 +16,11 @@ sends course false tricks number later answer is going = ap (λ c. sent_next c a
 
 -- and how it goes on
 pub goes_on : (course : Course) (cut : Bool) (tricks : List (ℕ × Trick)) (number : ℕ) (later : List ℕ) (answer : Fields) → course ≡ course_in cut tricks number later → is_cut course ≡ false
-    → course_next course answer ≡ behind (trick_at tricks number) (spelled_by (trick_at tricks number) answer) course
+    → course_next course answer ≡ following (trick_at tricks number) (spelled_by (trick_at tricks number) answer) course
 unfolding course_next
 goes_on course true tricks number later answer is going = let both : true ≡ false = sym (ap is_cut is) ∙ going in absurd cc
 goes_on course false tricks number later answer is going =
-    ap (λ c. course_next c answer) is ∙ ap (behind (trick_at tricks number) (spelled_by (trick_at tricks number) answer)) (sym is)
+    ap (λ c. course_next c answer) is ∙ ap (following (trick_at tricks number) (spelled_by (trick_at tricks number) answer)) (sym is)
 
 -- ---- answers one after another
 
@@ -88,7 +88,7 @@ sent_truly tricks number answer none = ap (λ t. sent_of t (spelled_by t answer)
 
 next_truly : (tricks : List (ℕ × Trick)) (number : ℕ) (answer : Fields) → trick_at tricks number ≡ None → course_next (Playing tricks number []) answer ≡ Playing tricks (risen true number) []
 unfolding course_next
-next_truly tricks number answer none = ap (λ t. behind t (spelled_by t answer) (Playing tricks number [])) none
+next_truly tricks number answer none = ap (λ t. following t (spelled_by t answer) (Playing tricks number [])) none
 
 one_truly : (tricks : List (ℕ × Trick)) (number next : ℕ) (answer : Fields) (answers : List Fields) → trick_at tricks number ≡ None → risen true number ≡ next
     → (sent (Playing tricks number []) (answer ∷ answers) ≡ frame_of answer ++ sent (Playing tricks next []) answers) × (course_after (Playing tricks number []) (answer ∷ answers) ≡ course_after (Playing tricks next []) answers)

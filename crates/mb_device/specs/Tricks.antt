@@ -88,10 +88,10 @@ later_of (Some play.Garble) frame = []
 later_of (Some (play.Cut count)) frame = []
 
 -- a connection after a frame with this trick
-abbrev pub behind : Option Trick → List ℕ → Course → Course
-behind trick frame (Playing tricks number later) =
+abbrev pub following : Option Trick → List ℕ → Course → Course
+following trick frame (Playing tricks number later) =
     if cuts trick then CutOff else Playing tricks (risen true number) (later_of trick frame)
-behind trick frame CutOff = CutOff
+following trick frame CutOff = CutOff
 
 -- The next answer of a connection: what is sent, and how it goes on.
 unfoldable pub sent_next : Course → Fields → List ℕ
@@ -101,7 +101,7 @@ sent_next CutOff answer = []
 
 unfoldable pub course_next : Course → Fields → Course
 course_next (Playing tricks number later) answer =
-    behind (trick_at tricks number) (spelled_by (trick_at tricks number) answer)
+    following (trick_at tricks number) (spelled_by (trick_at tricks number) answer)
     (Playing tricks number later)
 course_next CutOff answer = CutOff
 

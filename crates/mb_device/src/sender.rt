@@ -2,7 +2,7 @@
 ghost use Rattle.std.specs.Prelude.{◌≡◌, ◌≤◌, ◌++◌, length, take, false, is_err};
 ghost use Rattle.std.specs.Io.KnownBytes.{Keeps};
 ghost use Rattle.mb_wire.specs.Links.{Gives, risen};
-ghost use Rattle.mb_device.specs.Tricks.{answer_of, begun, behind, course_next, first_trick};
+ghost use Rattle.mb_device.specs.Tricks.{answer_of, begun, following, course_next, first_trick};
 ghost use Rattle.mb_device.specs.Tricks.{is_cut, sent_next, sent_of, spelled_by, trick_at};
 
 use crate::trick::Trick;
@@ -147,7 +147,7 @@ impl<'t> Sender<'t> {
     // Goes on to the next frame, after one that was spelled so.
     fn go_on(&mut self, trick: Option<Trick>, frame: [u8; MAX_ADU], end: usize)
         requires { end ≤ MAX_ADU }
-        ensures { self.new ≡ behind trick (take end frame) self.old }
+        ensures { self.new ≡ following trick (take end frame) self.old }
     {
         self.next = self.next.saturating_add(1);
         match trick {

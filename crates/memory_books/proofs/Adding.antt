@@ -16,14 +16,14 @@ use Rattle.memory_books.specs.Figures.{AreFigures}
 use Rattle.memory_books.specs.Listed.{AreListed, FiguresFollow, HasOne, ledger_of}
 use Rattle.memory_books.specs.Looking.{failures_in, told}
 
-behind : (known facts : List Fact) → reverse known ++ facts ≡ reverse (with_facts facts known)
-behind known facts = sym (reverse-append (reverse facts) known ∙ ap (λ (xs : List Fact). reverse known ++ xs) (reverse-reverse facts))
+following : (known facts : List Fact) → reverse known ++ facts ≡ reverse (with_facts facts known)
+following known facts = sym (reverse-append (reverse facts) known ∙ ap (λ (xs : List Fact). reverse known ++ xs) (reverse-reverse facts))
 
 listed_on : (old new : ListBooks) (known facts : List Fact) → new.facts.items ≡ old.facts.items ++ facts → new.tables ≡ old.tables → FiguresFollow facts old new
     → AreListed old known → AreLawful (with_facts facts known) → AreListed new (with_facts facts known)
 listed_on old new known facts is tables figures listed lawful = record {
   lawful = lawful;
-  facts = is ∙ ap (λ (xs : List Fact). xs ++ facts) listed.facts ∙ behind known facts;
+  facts = is ∙ ap (λ (xs : List Fact). xs ++ facts) listed.facts ∙ following known facts;
   tables = subst (λ (t : Tables). HaveCome t new.facts.items) (sym tables)
       (subst (HaveCome old.tables) (sym is) (have_come_with old.tables old.facts.items facts listed.tables));
   figures = figures known listed.facts listed.figures;

@@ -55,10 +55,10 @@ check place l total ended = check_as place l total ended true
 abbrev first : TableRow
 first = told 2 row_kind.Reading 1900 5200 0 0 (pos 0) false
 
-behind_first : passed house (begun house) first
+after_first : passed house (begun house) first
     ≡ Ok (check 2 (last 1900 5200 (pos 0)) 200000 false, Some (record { from = 1000; till = 1900; mwh = 200000 }))
 unfolding unit_of
-behind_first = refl
+after_first = refl
 
 abbrev row : (place : ℕ) → EntryKind → Entry → Bool → EntryRow
 row place k e stands = record { place = place; kind = k; entry = e; stands = stands }
@@ -89,18 +89,18 @@ fine_tables = record {
 abbrev voided_first : TableRow
 voided_first = told 2 row_kind.Reading 1900 5200 0 0 (pos 0) true
 
-behind_voided : passed house (begun house) voided_first ≡ Ok (check_as 2 (last 1000 5000 (pos 0)) 0 false false, None)
+after_voided : passed house (begun house) voided_first ≡ Ok (check_as 2 (last 1000 5000 (pos 0)) 0 false false, None)
 unfolding unit_of
-behind_voided = refl
+after_voided = refl
 
 -- directly after a row that stands it is looked at as if it stood, after another that was voided it isn't
 voided_too_fast : passed house (begun house) (told 2 row_kind.Reading 1900 50000 0 0 (pos 0) true) ≡ Err (fault.Held cause.TooFast)
 unfolding unit_of
 voided_too_fast = refl
 
-voided_behind_a_voided : passed house (check_as 2 (last 1000 5000 (pos 0)) 0 false false) (told 3 row_kind.Reading 1900 50000 0 0 (pos 0) true)
+voided_after_a_voided : passed house (check_as 2 (last 1000 5000 (pos 0)) 0 false false) (told 3 row_kind.Reading 1900 50000 0 0 (pos 0) true)
     ≡ Ok (check_as 3 (last 1000 5000 (pos 0)) 0 false false, None)
-voided_behind_a_voided = refl
+voided_after_a_voided = refl
 
 -- a closing, and what can't come after it
 closed : passed house (begun house) (told 2 row_kind.Closing 1900 5200 0 0 (pos 0) false)
@@ -108,9 +108,9 @@ closed : passed house (begun house) (told 2 row_kind.Closing 1900 5200 0 0 (pos 
 unfolding unit_of
 closed = refl
 
-behind_a_closing : passed house (check 2 (last 1900 5200 (pos 0)) 200000 true) (told 3 row_kind.Reading 2800 5300 0 0 (pos 0) false)
+after_a_closing : passed house (check 2 (last 1900 5200 (pos 0)) 200000 true) (told 3 row_kind.Reading 2800 5300 0 0 (pos 0) false)
     ≡ Err fault.AfterClosing
-behind_a_closing = refl
+after_a_closing = refl
 
 -- a rescaling sets the scale factor; a reset doesn't
 rescaled : passed house (begun house) (told 2 row_kind.Rescale 2000 5000 0 500 (pos 1) false)

@@ -125,9 +125,9 @@ stands_rolled kind.Rescale last place e true = refl
 stands_rolled kind.Rescale last place e false = refl
 
 -- after a row that stands the counter stands at its moment
-moment_behind : (meter : Installed) (row : EntryRow) (rows : List EntryRow) → row.stands ≡ true
+moment_after : (meter : Installed) (row : EntryRow) (rows : List EntryRow) → row.stands ≡ true
     → (last_after meter (entries_in (row ∷ rows))).at ≡ moment_of row.entry
-moment_behind meter row rows on =
+moment_after meter row rows on =
     ap (λ (es : List Entry). (last_after meter es).at) (entries_standing row rows on) ∙ last_moment meter row.entry (entries_in rows)
 
 -- without its row the counter stands no later
@@ -138,7 +138,7 @@ last_without meter row rows h =
       | inl on ↦
           let follow : AllFollow meter.range meter.opening (row.entry ∷ entries_in rows) =
           subst (AllFollow meter.range meter.opening) (entries_standing row rows on) h in
-          omega (arith, follow.0.later, moment_behind meter row rows on)
+          omega (arith, follow.0.later, moment_after meter row rows on)
       | inr off ↦ omega (arith, ap (λ (es : List Entry). (last_after meter es).at) (entries_struck row rows off))
     ]
 
@@ -163,9 +163,9 @@ goes_back meter place (row ∷ rows) h =
                 omega (
                   arith,
                   made,
-                  moment_behind meter (rolled l row) rest (stands_rolled row.kind l row.place row.entry row.stands ∙ on),
+                  moment_after meter (rolled l row) rest (stands_rolled row.kind l row.place row.entry row.stands ∙ on),
                   moment_rolled row.kind l row.place row.entry row.stands,
-                  moment_behind meter row rows on,
+                  moment_after meter row rows on,
                 )
             | inr not_on ↦
                 let same = ap (λ (r : EntryRow). (last_after meter (entries_in (r ∷ rest))).at) (unrolled l row not_on) in
@@ -228,11 +228,11 @@ all_voided_fit meter (Voided place ∷ lines) well h =
 -- ---- rows that were voided directly after one that stands
 
 -- each of these may follow what still stands
-abbrev AllBehindFit : Installed → List EntryRow → Type 0
-AllBehindFit meter [] = Unit {0}
-AllBehindFit meter (row ∷ rows) =
+abbrev AllAfterFit : Installed → List EntryRow → Type 0
+AllAfterFit meter [] = Unit {0}
+AllAfterFit meter (row ∷ rows) =
     (row.stands ≡ false → last_stands rows ≡ true → EntryFits meter (entries_in rows) row.kind row.entry)
-    × AllBehindFit meter rows
+    × AllAfterFit meter rows
 
 voided_is_read : (range : ℕ) (l : Last) (k : EntryKind) (e : Entry) → VoidedFits range l k e → is_read k e ≡ true
 voided_is_read range l kind.Reading (entry.Step at raw rolls) h = refl
@@ -291,12 +291,12 @@ next_below : (meter : Installed) (es : List Entry) (n m : Option EntryRow) → N
 next_below meter es None m h = tt
 next_below meter es (Some n) m h = h
 
-behind_still : (meter : Installed) (place : ℕ) (rows : List EntryRow) (a : Around) → meter.opening.raw < meter.range
+after_still : (meter : Installed) (place : ℕ) (rows : List EntryRow) (a : Around) → meter.opening.raw < meter.range
     → row_at place rows ≡ Some a → a.row.stands ≡ true → is_read a.row.kind a.row.entry ≡ true
     → NextFits meter (entries_in a.before) a.next → AllFollow meter.range meter.opening (entries_in rows)
-    → AllStillFit meter rows → AllVoidedFit meter rows → AllBehindFit meter rows → AllBehindFit meter (with_void meter.opening place rows)
-behind_still meter place [] a below there stands read fits follow still voided h = absurd (cc)
-behind_still meter place (row ∷ rows) a below there stands read fits follow still voided h =
+    → AllStillFit meter rows → AllVoidedFit meter rows → AllAfterFit meter rows → AllAfterFit meter (with_void meter.opening place rows)
+after_still meter place [] a below there stands read fits follow still voided h = absurd (cc)
+after_still meter place (row ∷ rows) a below there stands read fits follow still voided h =
     let rest : List EntryRow = with_void meter.opening place rows in
     let l : Last = last_after meter (entries_in rest) in
     elim (cases_Bool (row.place == place)) [
@@ -304,7 +304,7 @@ behind_still meter place (row ∷ rows) a below there stands read fits follow st
           let made : with_void meter.opening place (row ∷ rows) ≡ struck row ∷ rows = cond-true _ _ _ at in
           let is : (let x : Around = record { before = rows; row = row; next = None } in x) ≡ a = same_Some _ _ (sym (cond-true _ _ _ at) ∙ there) in
           let row_stands : row.stands ≡ true = ap (λ (x : Around). x.row.stands) is ∙ stands in
-          subst (AllBehindFit meter) (sym made) (λ off on. still.0 row_stands, h.1)
+          subst (AllAfterFit meter) (sym made) (λ off on. still.0 row_stands, h.1)
       | inr off ↦
           let found = mapped_some (passed row) (row_at place rows) a (sym (cond-false _ _ _ off) ∙ there) in
           let x : Around = found.0 in
@@ -316,8 +316,8 @@ behind_still meter place (row ∷ rows) a below there stands read fits follow st
           (subst (λ (y : Around). NextFits meter (entries_in y.before) y.next) (sym is) fits) in
           let follow_below = follows_below meter row rows follow in
           let left = leaves meter place rows x below found.1 stands_x read_x fits_x follow_below still.1 in
-          let there_below : AllBehindFit meter rest =
-          behind_still meter place rows x below found.1 stands_x read_x fits_x follow_below still.1 voided.1 h.1 in
+          let there_below : AllAfterFit meter rest =
+          after_still meter place rows x below found.1 stands_x read_x fits_x follow_below still.1 voided.1 h.1 in
           let here : (rolled l row).stands ≡ false → last_stands rest ≡ true → EntryFits meter (entries_in rest) (rolled l row).kind (rolled l row).entry =
           λ not_on on.
           let off_row : row.stands ≡ false = sym (stands_rolled row.kind l row.place row.entry row.stands) ∙ not_on in
@@ -326,7 +326,7 @@ behind_still meter place (row ∷ rows) a below there stands read fits follow st
           voided_is_read meter.range (last_after meter (entries_in rows)) row.kind row.entry (voided.0 off_row) in
           subst (λ (r : EntryRow). EntryFits meter (entries_in rest) r.kind r.entry) (sym (unrolled l row off_row))
           (fits_lower meter (entries_in rows) (entries_in rest) row.kind row.entry was_read last.1 (h.0 off_row last.0)) in
-          subst (AllBehindFit meter) (sym (above meter.opening place row rows off)) (here, there_below)
+          subst (AllAfterFit meter) (sym (above meter.opening place row rows off)) (here, there_below)
     ]
 
 next_where_free : (meter : Installed) (es : List Entry) (next : Option EntryRow) → is_free next ≡ true → IsNextPlausible meter es next
@@ -334,19 +334,19 @@ next_where_free : (meter : Installed) (es : List Entry) (next : Option EntryRow)
 next_where_free meter es None free h = tt
 next_where_free meter es (Some next) free h = (free, h)
 
-all_behind_fit : (meter : Installed) (lines : Journal) → IsWellInstalled meter → AreFitting meter lines → AllBehindFit meter (rows_of meter.opening lines)
-all_behind_fit meter [] well h = tt
-all_behind_fit meter (Entered k e ∷ lines) well h =
-    (λ off. absurd (let f : true ≡ false = off in cc), all_behind_fit meter lines well h.1)
-all_behind_fit meter (Held reading cause ∷ lines) well h = all_behind_fit meter lines well h.1
-all_behind_fit meter (Voided place ∷ lines) well h =
+all_after_fit : (meter : Installed) (lines : Journal) → IsWellInstalled meter → AreFitting meter lines → AllAfterFit meter (rows_of meter.opening lines)
+all_after_fit meter [] well h = tt
+all_after_fit meter (Entered k e ∷ lines) well h =
+    (λ off. absurd (let f : true ≡ false = off in cc), all_after_fit meter lines well h.1)
+all_after_fit meter (Held reading cause ∷ lines) well h = all_after_fit meter lines well h.1
+all_after_fit meter (Voided place ∷ lines) well h =
     let rows : List EntryRow = rows_of meter.opening lines in
     let fits : VoidFits meter rows place = h.0 in
     let a : Around = fits.around in
     let may = all_three a.row.stands (is_read a.row.kind a.row.entry) (is_free a.next) fits.voidable in
     let sound = rows_are_sound meter lines well.raw h.1 in
-    behind_still meter place rows a well.raw fits.there may.0 may.1 (next_where_free meter (entries_in a.before) a.next may.2 fits.next)
-    sound.account.follow sound.still (all_voided_fit meter lines well h.1) (all_behind_fit meter lines well h.1)
+    after_still meter place rows a well.raw fits.there may.0 may.1 (next_where_free meter (entries_in a.before) a.next may.2 fits.next)
+    sound.account.follow sound.still (all_voided_fit meter lines well h.1) (all_after_fit meter lines well h.1)
 
 -- ---- all of it
 
@@ -356,16 +356,16 @@ may_come meter es true k e on off = on refl
 may_come meter es false k e on off = off refl
 
 all_fit : (meter : Installed) (rows : List EntryRow) → AreNumbered rows → AllUnended rows → AllStillFit meter rows → AllVoidedFit meter rows
-    → AllBehindFit meter rows → AllFit meter rows
-all_fit meter [] numbers unended still voided behind = tt
-all_fit meter (row ∷ rows) numbers unended still voided behind = (
+    → AllAfterFit meter rows → AllFit meter rows
+all_fit meter [] numbers unended still voided following = tt
+all_fit meter (row ∷ rows) numbers unended still voided following = (
   record {
     place = numbers.0;
     unended = unended.0;
     entry = may_come meter (entries_in rows) row.stands row.kind row.entry still.0 voided.0;
-    voided_after = behind.0;
+    voided_after = following.0;
   },
-  all_fit meter rows numbers.1 unended.1 still.1 voided.1 behind.1,
+  all_fit meter rows numbers.1 unended.1 still.1 voided.1 following.1,
 )
 
 pub rows_of_journals_fit : RowsOfJournalsFit
@@ -373,4 +373,4 @@ rows_of_journals_fit meter lines well h =
     let rows : List EntryRow = rows_of meter.opening lines in
     all_fit meter rows (rows_stand meter lines well h).places
     (all_unended meter lines lines rows h (rows_are_entered meter lines h).rows)
-    (rows_are_sound meter lines well.raw h).still (all_voided_fit meter lines well h) (all_behind_fit meter lines well h)
+    (rows_are_sound meter lines well.raw h).still (all_voided_fit meter lines well h) (all_after_fit meter lines well h)

@@ -29,7 +29,7 @@ use Rattle.meter_audit.specs.declared.rows.RowKind.TheVariants as row_kind
 use Rattle.meter_audit.specs.declared.rows.TableRow.{TableRow}
 use Rattle.meter_audit.specs.Rows.{kind_as, scale_after, table_row}
 use Rattle.meter_audit.specs.Fitting.{is_ended, WasReading, VoidedFits, MayCome, RowFits, AllFit}
-use Rattle.meter_audit.specs.Passing.{kind_in, entry_in, has_unused, is_off_scale, shape_by, shape_of, fault_by, reading_fault, stood_fault, voided_fault, unless, behind, stood, voided, passed_by, passed}
+use Rattle.meter_audit.specs.Passing.{kind_in, entry_in, has_unused, is_off_scale, shape_by, shape_of, fault_by, reading_fault, stood_fault, voided_fault, unless, following, stood, voided, passed_by, passed}
 use Rattle.meter_audit.specs.Laws.{check_after, IsTaken, PassedRowsFit}
 use Rattle.meter_audit.proofs.Alone.{fitting_account}
 
@@ -144,13 +144,13 @@ same_scale : (a b : ℤ) → not (int_eq a b) ≡ false → a ≡ b
 same_scale a b h = (Decides-int_eq a b).0 (grind arith)
 
 -- after an entry of the kind, where the counter stood so
-scale_behind : (k : EntryKind) (told : TableRow) (check : Check) → is_off_scale check k told ≡ false
+scale_following : (k : EntryKind) (told : TableRow) (check : Check) → is_off_scale check k told ≡ false
     → told.sf ≡ (after check.last (entry_in k told)).sf
-scale_behind kind.Reading told check h = same_scale told.sf check.last.sf h
-scale_behind kind.Manual told check h = same_scale told.sf check.last.sf h
-scale_behind kind.Closing told check h = same_scale told.sf check.last.sf h
-scale_behind kind.Reset told check h = refl
-scale_behind kind.Rescale told check h = refl
+scale_following kind.Reading told check h = same_scale told.sf check.last.sf h
+scale_following kind.Manual told check h = same_scale told.sf check.last.sf h
+scale_following kind.Closing told check h = same_scale told.sf check.last.sf h
+scale_following kind.Reset told check h = refl
+scale_following kind.Rescale told check h = refl
 
 -- ---- a reading that was voided
 
@@ -199,8 +199,8 @@ accepted_by rolls (verdict.Accepted wanted step) h =
       | inr other ↦ absurd (let f : Some _ ≡ None = sym (cond-false _ _ _ other) ∙ h in cc)
     ]
 
--- what was booked, and where the check stands behind it
-record IsBehind (check : Check) (k : EntryKind) (told : TableRow) (answer : Result (Last × Step) TermFault) (next : Check) (step : Option Step) : Type 0 where
+-- what was booked, and where the check stands after it
+record IsAfter (check : Check) (k : EntryKind) (told : TableRow) (answer : Result (Last × Step) TermFault) (next : Check) (step : Option Step) : Type 0 where
   last : Last
   gone : Step
   answered : answer ≡ Ok (last, gone)
@@ -208,10 +208,10 @@ record IsBehind (check : Check) (k : EntryKind) (told : TableRow) (answer : Resu
       ≡ record { place = told.place; last = last; total = check.total + gone.mwh; is_ended = is_closing k; stands = true }
   step_is : step ≡ Some gone
 
-booked_behind : (check : Check) (k : EntryKind) (told : TableRow) (answer : Result (Last × Step) TermFault) (next : Check) (step : Option Step)
-    → behind check k told answer ≡ Ok (next, step) → IsBehind check k told answer next step
-booked_behind check k told (Err f) next step h = absurd (cc)
-booked_behind check k told (Ok (last, gone)) next step h =
+booked_after : (check : Check) (k : EntryKind) (told : TableRow) (answer : Result (Last × Step) TermFault) (next : Check) (step : Option Step)
+    → following check k told answer ≡ Ok (next, step) → IsAfter check k told answer next step
+booked_after check k told (Err f) next step h = absurd (cc)
+booked_after check k told (Ok (last, gone)) next step h =
     let made : Check = record {
       place = told.place;
       last = last;
@@ -252,7 +252,7 @@ was_accepted meter rows told kind.Closing is none = absurd (cc)
 was_accepted meter rows told kind.Reset is none = absurd (cc)
 was_accepted meter rows told kind.Rescale is none = absurd (cc)
 
--- ---- where the check stands behind it
+-- ---- where the check stands after it
 
 abbrev check_with : (place : ℕ) → Last → (total : ℕ) → (ended stands : Bool) → Check
 check_with place last total ended stands =
@@ -279,7 +279,7 @@ stood_taken meter rows told k next step well fit shape stands h =
     let e : Entry = entry_in k told in
     let row : EntryRow = row_in k told in
     let free = no_fault (reading_fault meter check k told) _ (next, step) h in
-    let gone = booked_behind check k told _ next step free.1 in
+    let gone = booked_after check k told _ next step free.1 in
     let fits : EntryFits meter es k e = stood_fits meter rows told k gone.last gone.gone shape.scale free.0 gone.answered in
     let on : row.stands ≡ true = ap not stands in
     let row_fits : RowFits meter rows row = record {
@@ -300,7 +300,7 @@ stood_taken meter rows told k next step well fit shape stands h =
     record {
       row = row;
       told_is = told_by k told (scale_after meter (row ∷ rows)) shape.kind_is shape.used
-          (scale_behind k told check shape.scale ∙ sym (ap (λ (xs : List Entry). (last_after meter xs).sf) is));
+          (scale_following k told check shape.scale ∙ sym (ap (λ (xs : List Entry). (last_after meter xs).sf) is));
       taken = record {
         fit = all;
         check_is = gone.next_is

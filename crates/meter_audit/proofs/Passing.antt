@@ -23,7 +23,7 @@ use Rattle.meter_audit.specs.declared.faults.RowFault.{RowFault}
 use Rattle.meter_audit.specs.declared.rows.TableRow.{TableRow}
 use Rattle.meter_audit.specs.Rows.{kind_as, scale_after, table_row}
 use Rattle.meter_audit.specs.Fitting.{is_ended, last_stands, WasReading, MayCome, AllFit}
-use Rattle.meter_audit.specs.Passing.{kind_in, entry_in, has_unused, is_off_scale, shape_by, shape_of, fault_by, terms_of, reading_fault, stood_fault, voided_fault, unless, behind, passed_by, passed}
+use Rattle.meter_audit.specs.Passing.{kind_in, entry_in, has_unused, is_off_scale, shape_by, shape_of, fault_by, terms_of, reading_fault, stood_fault, voided_fault, unless, following, passed_by, passed}
 use Rattle.meter_audit.specs.Laws.{check_after, FittingRowsPass}
 use Rattle.meter_audit.proofs.Alone.{fitting_account}
 
@@ -55,8 +55,8 @@ pub passes_standing : (meter : Installed) (check : Check) (told : TableRow) (k :
 passes_standing meter check told k next step shape stands none booked =
     subst IsOk (sym (
     ap (passed_by meter check told) shape ∙ cond-false _ _ _ stands
-    ∙ ap (λ o. unless o (behind check k told (entered meter.range check.total check.last (entry_in k told)))) none
-    ∙ ap (behind check k told) booked
+    ∙ ap (λ o. unless o (following check k told (entered meter.range check.total check.last (entry_in k told)))) none
+    ∙ ap (following check k told) booked
     )) refl
 
 pub passes_voided : (meter : Installed) (check : Check) (told : TableRow) (k : EntryKind)

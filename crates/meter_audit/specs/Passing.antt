@@ -137,10 +137,10 @@ energy_in None = 0
 energy_in (Some step) = step.mwh
 
 -- after an entry that was booked, and the step to it
-abbrev pub behind : Check → EntryKind → TableRow → Result (Last × Step) TermFault
+abbrev pub following : Check → EntryKind → TableRow → Result (Last × Step) TermFault
     → Result (Check × Option Step) RowFault
-behind check k row (Err f) = Err (fault.Refused f)
-behind check k row (Ok (last, step)) = Ok (
+following check k row (Err f) = Err (fault.Refused f)
+following check k row (Ok (last, step)) = Ok (
   record {
     place = row.place;
     last = last;
@@ -154,7 +154,7 @@ behind check k row (Ok (last, step)) = Ok (
 abbrev pub stood : Installed → Check → EntryKind → TableRow → Result (Check × Option Step) RowFault
 stood meter check k row =
     unless (reading_fault meter check k row)
-    (behind check k row (entered meter.range check.total check.last (entry_in k row)))
+    (following check k row (entered meter.range check.total check.last (entry_in k row)))
 
 -- after a row that was voided; there is no step to it
 abbrev pub voided : Installed → Check → EntryKind → TableRow

@@ -31,7 +31,7 @@ not_before meter (e ∷ es) h = omega (arith, h.0.later, last_moment meter e es,
 -- a quarter hour between the opening and a later moment
 pub record Lies (opened last s : ℕ) : Type 0 where
   pub whole : s % 900 ≡ 0
-  pub behind : opened < s + 900
+  pub following : opened < s + 900
   pub before : s < last
   pub gone_on : opened < last
 
@@ -43,7 +43,7 @@ touched_lies meter (e ∷ es) s h (inl touches) =
     let begun = not_before meter es h.1 in
     record {
       whole = touches.0;
-      behind = omega (arith, touches.2, begun);
+      following = omega (arith, touches.2, begun);
       before = omega (arith, touches.1, now);
       gone_on = omega (arith, begun, h.0.later, now);
     }
@@ -52,7 +52,7 @@ touched_lies meter (e ∷ es) s h (inr there) =
     let now = last_moment meter e es in
     record {
       whole = rest.whole;
-      behind = rest.behind;
+      following = rest.following;
       before = omega (arith, rest.before, h.0.later, now);
       gone_on = omega (arith, rest.gone_on, h.0.later, now);
     }
@@ -66,9 +66,9 @@ lies_touched meter (e ∷ es) s h lies =
       | inl lt ↦ inl (lies.whole, omega (arith, lies.before, now), lt)
       | inr ge ↦ inr (lies_touched meter es s h.1 (record {
         whole = lies.whole;
-        behind = lies.behind;
+        following = lies.following;
         before = omega (arith, ge);
-        gone_on = omega (arith, lies.behind, ge);
+        gone_on = omega (arith, lies.following, ge);
       }))
     ]
 
@@ -77,7 +77,7 @@ all_lie opened last [] h = All-nil (LiesWithin opened last)
 all_lie opened last (row ∷ rows) h =
     let here = h row.start (inl (omega arith)) in
     All-cons (LiesWithin opened last) row rows
-    (record { quarter = here.whole; behind = here.behind; before = here.before; gone_on = here.gone_on })
+    (record { quarter = here.whole; following = here.following; before = here.before; gone_on = here.gone_on })
     (all_lie opened last rows (λ s there. h s (inr there)))
 
 pub rows_lie_within : SharesAddUp → RowsLieWithin

@@ -9,7 +9,7 @@ use Rattle.energy_core.specs.declared.entries.Last.{Last}
 use Rattle.energy_core.specs.Account.{last_of}
 use Rattle.meter_journal.specs.declared.lines.EntryRow.{EntryRow}
 use Rattle.meter_journal.specs.Journal.{Around, standing, entries_in, rolled, struck, with_void, if_standing, passed, row_at}
-use Rattle.meter_journal.specs.Lists.{latest_first, AreNumbered, behind, rolled_on}
+use Rattle.meter_journal.specs.Lists.{latest_first, AreNumbered, following, rolled_on}
 
 pub reverse_cons : {X : Type 0} (x : X) (xs : List X) → reverse (x ∷ xs) ≡ reverse xs ++ x ∷ []
 reverse_cons x xs = reverse-append (x ∷ []) xs
@@ -18,7 +18,7 @@ pub reverse_onto : {X : Type 0} (x : X) (xs ys : List X) → reverse (x ∷ xs) 
 reverse_onto x xs ys = ap (λ zs. zs ++ ys) (reverse_cons x xs) ∙ append_assoc (reverse xs) (x ∷ []) ys
 
 -- where the counter stands after one more row
-pub last_on : (opening : Last) (row : EntryRow) (rows : List EntryRow) → last_of opening (entries_in (row ∷ rows)) ≡ behind (last_of opening (entries_in rows)) row
+pub last_on : (opening : Last) (row : EntryRow) (rows : List EntryRow) → last_of opening (entries_in (row ∷ rows)) ≡ following (last_of opening (entries_in rows)) row
 last_on opening row rows =
     elim (cases_Bool row.stands) [
       | inl on ↦
@@ -31,10 +31,10 @@ pub turned : (rows : List EntryRow) (i : ℕ) (d : EntryRow) → i < length rows
 turned rows i d lt = ap (λ (rs : List EntryRow). reverse rs) (take_more rows i d lt) ∙ reverse-append (take i rows) (get_or rows i d ∷ [])
 
 pub last_more : (opening : Last) (rows : List EntryRow) (i : ℕ) (d : EntryRow) (last next : Last) → i < length rows
-    → last ≡ last_of opening (entries_in (latest_first (take i rows))) → next ≡ behind last (get_or rows i d)
+    → last ≡ last_of opening (entries_in (latest_first (take i rows))) → next ≡ following last (get_or rows i d)
     → next ≡ last_of opening (entries_in (latest_first (take (i + 1) rows)))
 last_more opening rows i d last next lt last_is next_is =
-    next_is ∙ ap (λ (l : Last). behind l (get_or rows i d)) last_is
+    next_is ∙ ap (λ (l : Last). following l (get_or rows i d)) last_is
     ∙ sym (last_on opening (get_or rows i d) (latest_first (take i rows)))
     ∙ ap (λ (rs : List EntryRow). last_of opening (entries_in rs)) (sym (turned rows i d lt))
 
@@ -85,11 +85,11 @@ void_onto opening place n (row ∷ newer) before done lt h is =
     ap (with_void opening place) (reverse_onto row newer before)
     ∙ void_onto opening place (suc n) newer (row ∷ before) (next ∷ done) (omega (arith, lt)) h.1 step
     ∙ ap (λ (l : Last). reverse (rolled_on l newer) ++ next ∷ done) (last_on opening next done)
-    ∙ sym (reverse_onto next (rolled_on (behind (last_of opening (entries_in done)) next) newer) done)
+    ∙ sym (reverse_onto next (rolled_on (following (last_of opening (entries_in done)) next) newer) done)
 
 -- one more row takes the rollovers of its neighbour
 pub roll_step : (rows : List EntryRow) (i : ℕ) (last stand : Last) (d next : EntryRow) → i < length rows → next ≡ rolled last (get_or rows i d)
-    → stand ≡ behind last next
+    → stand ≡ following last next
     → take (i + 1) (set rows i next) ++ rolled_on stand (drop (i + 1) (set rows i next)) ≡ take i rows ++ rolled_on last (drop i rows)
 roll_step rows i last stand d next lt next_is stand_is =
     let row : EntryRow = get_or rows i d in
@@ -97,8 +97,8 @@ roll_step rows i last stand d next lt next_is stand_is =
     ap (λ rs. rs ++ rolled_on stand (drop (i + 1) (set rows i next))) (take_more_set rows i next lt)
     ∙ ap (λ rs. (take i rows ++ next ∷ []) ++ rolled_on stand rs) (drop-set-lt (i + 1) rows i next (omega arith))
     ∙ append_assoc (take i rows) (next ∷ []) (rolled_on stand rest)
-    ∙ ap (λ (l : Last). take i rows ++ next ∷ rolled_on l rest) (stand_is ∙ ap (behind last) next_is)
-    ∙ ap (λ (r : EntryRow). take i rows ++ r ∷ rolled_on (behind last (rolled last row)) rest) next_is
+    ∙ ap (λ (l : Last). take i rows ++ next ∷ rolled_on l rest) (stand_is ∙ ap (following last) next_is)
+    ∙ ap (λ (r : EntryRow). take i rows ++ r ∷ rolled_on (following last (rolled last row)) rest) next_is
     ∙ ap (λ rs. take i rows ++ rolled_on last rs) (sym (drop_more rows i d lt))
 
 pub roll_end : (rows : List EntryRow) (i : ℕ) (last : Last) → length rows ≤ i → take i rows ++ rolled_on last (drop i rows) ≡ rows

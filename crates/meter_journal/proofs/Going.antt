@@ -12,7 +12,7 @@ use Rattle.meter_journal.specs.declared.lines.Installed.{Installed}
 use Rattle.meter_journal.specs.declared.lines.EntryRow.{EntryRow}
 use Rattle.meter_journal.specs.Books.{last_after, total_after, steps_after, HasAccount, IsWellInstalled}
 use Rattle.meter_journal.specs.Journal.{entries_in}
-use Rattle.meter_journal.specs.Lists.{latest_first, behind, step_past, energy_past, MayGoOn}
+use Rattle.meter_journal.specs.Lists.{latest_first, following, step_past, energy_past, MayGoOn}
 use Rattle.interval_core.specs.declared.shares.Share.{Share}
 use Rattle.interval_core.specs.Share.{shares_of}
 use Rattle.interval_core.specs.Account.{SharesAddUp, energy_of as energy_in}
@@ -81,7 +81,7 @@ may_go_on meter rows i d last total well h lt on last_is total_is =
 
 -- the tally after one more row
 pub last_next : (meter : Installed) (rows : List EntryRow) (i : ℕ) (d : EntryRow) (last next : Last) → i < length rows
-    → last ≡ last_after meter (earlier rows i) → next ≡ behind last (get_or rows i d) → next ≡ last_after meter (earlier rows (i + 1))
+    → last ≡ last_after meter (earlier rows i) → next ≡ following last (get_or rows i d) → next ≡ last_after meter (earlier rows (i + 1))
 last_next meter rows i d last next lt last_is next_is =
     last_more meter.opening rows i d last next lt last_is next_is
 

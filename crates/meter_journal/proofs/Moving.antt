@@ -73,9 +73,9 @@ amount_of_step law step s lt whole =
     λ none. amount_none (shares_of step) s (λ there. none ((spread.touched s).0 (contains_of s (shares_of step) there))) in
     elim (cases_lt s step.till) [
       | inl before ↦ elim (cases_lt step.from (s + 900)) [
-        | inl behind ↦
+        | inl following ↦
             amount_is (share_at step) (shares_of step) s rising (each_of (share_at step) (shares_of step) spread.each)
-            (among_of s (shares_of step) ((spread.touched s).1 (whole, before, behind)))
+            (among_of s (shares_of step) ((spread.touched s).1 (whole, before, following)))
         | inr early ↦ outside (λ t. omega (arith, early, t.2)) ∙ sym (spread.outside s (inl early))
       ]
       | inr late ↦ outside (λ t. omega (arith, late, t.1)) ∙ sym (spread.outside s (inr late))
@@ -389,7 +389,7 @@ put_have law opened last (step ∷ steps) rows h there =
     let t : Touches step s = (spread.touched s).0 (contains_of s (shares_of step) found) in
     there s (record {
       whole = t.0;
-      behind = omega (arith, t.2, h.0);
+      following = omega (arith, t.2, h.0);
       before = omega (arith, t.1, h.2);
       gone_on = omega (arith, h.0, h.1, h.2);
     })))
@@ -419,14 +419,14 @@ until_last f opened last last' rows target begun le up each lie back up' each' l
           let l = lie' s there in
           among_kept last' s rows (back s (record {
             whole = l.whole;
-            behind = l.behind;
+            following = l.following;
             before = omega (arith, l.before, le);
             gone_on = omega (arith, lt, le);
           })) l.before)
           (λ s there.
           let found = among_before last' s rows there in
           let l = lie s found.0 in
-          back' s (record { whole = l.whole; behind = l.behind; before = found.1; gone_on = lt }))
+          back' s (record { whole = l.whole; following = l.following; before = found.1; gone_on = lt }))
           ∙ sym (cond-false _ _ _ e)
     ]
 

@@ -16,7 +16,7 @@ use Rattle.meter_journal.specs.declared.lines.EntryRow.{EntryRow}
 use Rattle.meter_journal.specs.Books.{last_after, steps_after}
 use Rattle.meter_journal.specs.Journal.{Around, is_reading, is_read, entries_in, with_rolls, rolled, struck, with_void, if_standing, passed, row_at}
 use Rattle.meter_journal.specs.Fitting.{is_free}
-use Rattle.meter_journal.specs.Lists.{AreNumbered, behind}
+use Rattle.meter_journal.specs.Lists.{AreNumbered, following}
 use Rattle.meter_journal.specs.Standing.{AllStillFit}
 use Rattle.meter_journal.specs.Voids.{last_before, is_next, changed_by, steps_out, steps_put}
 use Rattle.meter_journal.proofs.AsEntered.{settled, row_with, rolled_is}
@@ -182,7 +182,7 @@ row_after meter place row rows x next off numbers fits follow h =
     record {
       rows_are = made ∙ ap (λ rs. row ∷ rs) h.rows_are
           ∙ ap (λ r. r ∷ map change rows) (sym (unchanged place (Some next) (last_before meter.opening x) row off other));
-      last = ap (last_after meter) entries ∙ last_on meter.opening row rest ∙ ap (λ (k : Last). behind k row) h.last
+      last = ap (last_after meter) entries ∙ last_on meter.opening row rest ∙ ap (λ (k : Last). following k row) h.last
           ∙ sym (last_on meter.opening row rows);
       below = omega (arith, h.below);
       moved = record {
@@ -270,11 +270,11 @@ next_moved meter before e0 at raw rolls rolls' h =
     }
 
 -- the next row itself
-next_behind : (meter : Installed) (place : ℕ) (row : EntryRow) (rows : List EntryRow) (x : Around)
+next_after : (meter : Installed) (place : ℕ) (row : EntryRow) (rows : List EntryRow) (x : Around)
     → row.place == place ≡ false → row.stands ≡ true → is_read row.kind row.entry ≡ true → is_read x.row.kind x.row.entry ≡ true
     → AreNumbered (row ∷ rows) → AllFollow meter.range meter.opening (entries_in (row ∷ rows))
     → IsLast meter place rows x → IsFollowed meter place (row ∷ rows) (passed row x) row
-next_behind meter place row rows x off on is is0 numbers follow h =
+next_after meter place row rows x off on is is0 numbers follow h =
     let rest : List EntryRow = with_void meter.opening place rows in
     let before : List Entry = entries_in x.before in
     let l : Last = last_after meter before in
@@ -324,7 +324,7 @@ one_after : (meter : Installed) (place : ℕ) (row : EntryRow) (rows : List Entr
 one_after meter place row rows x (Some next) stands is off read free numbers fits follow h =
     row_after meter place row rows x next off numbers fits follow h
 one_after meter place row rows x None true is off read free numbers fits follow h =
-    next_behind meter place row rows x off is free read numbers follow h
+    next_after meter place row rows x off is free read numbers follow h
 one_after meter place row rows x None false is off read free numbers fits follow h =
     struck_after meter place row rows x off is h
 

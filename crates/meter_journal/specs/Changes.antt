@@ -21,7 +21,7 @@ use Rattle.meter_journal.specs.Fitting.{AreFitting}
 -- counter has gone on since then
 pub record LiesWithin (opened last : ℕ) (row : Share) : Type 0 where
   pub quarter : row.start % INTERVAL_SECONDS ≡ 0
-  pub behind : opened < row.start + INTERVAL_SECONDS
+  pub following : opened < row.start + INTERVAL_SECONDS
   pub before : row.start < last
   pub gone_on : opened < last
 

@@ -19,8 +19,8 @@ AreNumbered [] = Unit {0}
 AreNumbered (row ∷ rows) = (row.place ≡ length rows + 2) × AreNumbered rows
 
 -- where the counter stands after a row
-abbrev pub behind : Last → EntryRow → Last
-behind last row = if row.stands then after last row.entry else last
+abbrev pub following : Last → EntryRow → Last
+following last row = if row.stands then after last row.entry else last
 
 -- the step to a row, and its energy, from where the counter stood; a struck one has none
 abbrev pub step_past : (range : ℕ) → Last → EntryRow → Option Step
@@ -32,7 +32,7 @@ energy_past range last row = if row.stands then energy_of range last row.entry e
 -- rows in their order, each reading that stands with the rollovers of its neighbour
 abbrev pub rolled_on : Last → List EntryRow → List EntryRow
 rolled_on last [] = []
-rolled_on last (row ∷ rows) = let next = rolled last row in next ∷ rolled_on (behind last next) rows
+rolled_on last (row ∷ rows) = let next = rolled last row in next ∷ rolled_on (following last next) rows
 
 -- an entry may be booked where the counter stands, with so much energy booked before
 pub record MayGoOn (meter : Installed) (last : Last) (total : ℕ) (e : Entry) : Type 0 where

@@ -55,7 +55,7 @@ fn go_past(meter: &Installed, tally: &mut Tally, row: &EntryRow) -> Option<Step>
     requires follows { let entry = row.now.entry in
         row.now.stands ≡ true → lists.MayGoOn meter.now tally.old.last tally.old.total entry }
     ensures step { result ≡ lists.step_past meter.now.range tally.old.last row.now }
-    ensures last { tally.new.last ≡ lists.behind tally.old.last row.now }
+    ensures last { tally.new.last ≡ lists.following tally.old.last row.now }
     ensures total { let gain = lists.energy_past meter.now.range tally.old.last row.now in
         tally.new.total ≡ tally.old.total + gain }
 {

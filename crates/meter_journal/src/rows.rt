@@ -66,8 +66,8 @@ pub fn is_voidable(row: &EntryRow, next: &Option<EntryRow>) -> bool
 }
 
 /// Where the counter stands after a row. One that was struck changes nothing.
-fn behind(last: &Last, row: &EntryRow) -> Last
-    ensures { result ≡ lists.behind last.now row.now }
+fn following(last: &Last, row: &EntryRow) -> Last
+    ensures { result ≡ lists.following last.now row.now }
 {
     if !row.stands {
         return *last;
@@ -89,7 +89,7 @@ pub fn last_of_rows(opening: &Last, rows: &[EntryRow]) -> Last
 {
     let mut last = *opening;
     for row in rows {
-        last = behind(&last, row);
+        last = following(&last, row);
     }
     last
 }
@@ -128,7 +128,7 @@ fn roll_on(last: &Last, rows: &mut [EntryRow], from: usize)
     for i in from..rows.len() {
         let row = rolled(&stand, &rows[i]);
         rows[i] = row;
-        stand = behind(&stand, &row);
+        stand = following(&stand, &row);
     }
 }
 

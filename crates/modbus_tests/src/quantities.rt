@@ -56,11 +56,11 @@ pub(crate) fn request_of(
     address: u16,
     number: u16,
     count: u8,
-    behind: u8,
+    following: u8,
 ) -> [u8; 254] {
     let [address_high, address_low] = address.to_be_bytes();
     let [high, low] = number.to_be_bytes();
-    let mut pdu = [behind; 254];
+    let mut pdu = [following; 254];
     pdu[..6].copy_from_slice(&[function, address_high, address_low, high, low, count]);
     pdu
 }

@@ -1,5 +1,5 @@
 pub mod Replies
 pub mod Drafts
-pub mod Behind
+pub mod Following
 pub mod Settling
 pub mod Events

@@ -1,8 +1,8 @@
 //! What the events of devices settle: polls that end, and the readings of their replies, booked all at once.
 
-mod behind;
 mod drafts;
 mod events;
+mod following;
 mod outcomes;
 mod readings;
 mod sessions;

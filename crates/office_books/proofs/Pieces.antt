@@ -56,10 +56,10 @@ abbrev Ascends : ℕ → List MeterEntry → Type 0
 Ascends k [] = Unit {0}
 Ascends k (e ∷ es) = (place_of e ≡ k) × Ascends (k + 1) es
 
-one_behind : (k : ℕ) (es : List MeterEntry) (e : MeterEntry) → Ascends k es → place_of e ≡ k + length es → Ascends k (es ++ e ∷ [])
-one_behind k [] e h is = (is ∙ (let z : k + 0 ≡ k = omega arith in z), tt)
-one_behind k (x ∷ es) e h is =
-    (h.0, one_behind (k + 1) es e h.1 (is ∙ (let z : k + suc (length es) ≡ k + 1 + length es = omega arith in z)))
+one_following : (k : ℕ) (es : List MeterEntry) (e : MeterEntry) → Ascends k es → place_of e ≡ k + length es → Ascends k (es ++ e ∷ [])
+one_following k [] e h is = (is ∙ (let z : k + 0 ≡ k = omega arith in z), tt)
+one_following k (x ∷ es) e h is =
+    (h.0, one_following (k + 1) es e h.1 (is ∙ (let z : k + suc (length es) ≡ k + 1 + length es = omega arith in z)))
 
 how_many : (opening : Opening) (rows : List EntryRow) → length (listed_rows opening rows) ≡ length rows + 1
 how_many opening [] = refl
@@ -73,7 +73,7 @@ turned opening (row ∷ rows) h =
     let e = entry.Later row (scale_after opening (row ∷ rows)) in
     let size : length (reverse rest) ≡ length rows + 1 = length-reverse rest ∙ how_many opening rows in
     subst (Ascends 1) (sym (reverse_cons e rest))
-    (one_behind 1 (reverse rest) e (turned opening rows h.1)
+    (one_following 1 (reverse rest) e (turned opening rows h.1)
     (h.0 ∙ (let z : length rows + 2 ≡ 1 + length (reverse rest) = omega (arith, size) in z)))
 
 all_later : (m k : ℕ) (es : List MeterEntry) → m ≤ k → Ascends k es → filter (λ e. nat_le m (place_of e)) es ≡ es

@@ -38,24 +38,24 @@ pub reported : {B W : Type 0} (ledger : B → Ledger) (contents : W → Option (
     → name ≡ named register
     → ((ledger (books_in opened)).is_clean → OpensToAsk ledger past moments later opened)
     → silent ≡ before
-    → After ledger opened left (λ behind. TellsEnd (ReportPrints (ledger (books_in opened)).zone behind name
+    → After ledger opened left (λ following. TellsEnd (ReportPrints (ledger (books_in opened)).zone following name
     (failures_of ledger opened) (failures_of ledger left)) status (contents silent) holds)
     → Asks ledger opened left → back ≡ books_in left → (ledger back).is_clean
     → TellsReport ledger past register moments later books back (contents before) holds status
 reported {W = W} ledger contents past register name moments later books back opened left before silent holds status names opens same prints asks is clean =
     let whole = kept ledger left back is clean in
-    let behind = opens (asks.only.clean whole) in
-    let P : W → Type 0 = λ w. TellsEnd (ReportPrints (ledger (books_in opened)).zone (Opened (asking_moment past behind.told) ∷ past) name
+    let following = opens (asks.only.clean whole) in
+    let P : W → Type 0 = λ w. TellsEnd (ReportPrints (ledger (books_in opened)).zone (Opened (asking_moment past following.told) ∷ past) name
     (failures_of ledger opened) (failures_of ledger left)) status (contents w) holds in
-    let Q : Option (List ℕ) → Type 0 = λ n. TellsEnd (ReportPrints (ledger (books_in opened)).zone (Opened (asking_moment past behind.told) ∷ past) n
+    let Q : Option (List ℕ) → Type 0 = λ n. TellsEnd (ReportPrints (ledger (books_in opened)).zone (Opened (asking_moment past following.told) ∷ past) n
     (failures_of ledger opened) (failures_of ledger left)) status (contents before) holds in
     inr (record {
       opened = opened;
-      opens = behind;
+      opens = following;
       left = left;
       does = record {
-        prints = subst Q names (subst P same (prints _ behind.stands whole));
-        stands = asks.only.stands _ behind.stands;
+        prints = subst Q names (subst P same (prints _ following.stands whole));
+        stands = asks.only.stands _ following.stands;
       };
       handed = is;
     })
@@ -66,24 +66,24 @@ pub range_reported : {B W : Type 0} (ledger : B → Ledger) (contents : W → Op
     → name ≡ named register
     → ((ledger (books_in opened)).is_clean → OpensToAsk ledger past moments later opened)
     → silent ≡ before
-    → After ledger opened left (λ behind. TellsEnd (RangePrints (ledger (books_in opened)).zone behind name form
+    → After ledger opened left (λ following. TellsEnd (RangePrints (ledger (books_in opened)).zone following name form
     (failures_of ledger opened) (failures_of ledger left)) status (contents silent) holds)
     → Asks ledger opened left → back ≡ books_in left → (ledger back).is_clean
     → TellsRange ledger past register form moments later books back (contents before) holds status
 range_reported {W = W} ledger contents past register name form moments later books back opened left before silent holds status names opens same prints asks is clean =
     let whole = kept ledger left back is clean in
-    let behind = opens (asks.only.clean whole) in
-    let P : W → Type 0 = λ w. TellsEnd (RangePrints (ledger (books_in opened)).zone (Opened (asking_moment past behind.told) ∷ past) name form
+    let following = opens (asks.only.clean whole) in
+    let P : W → Type 0 = λ w. TellsEnd (RangePrints (ledger (books_in opened)).zone (Opened (asking_moment past following.told) ∷ past) name form
     (failures_of ledger opened) (failures_of ledger left)) status (contents w) holds in
-    let Q : Option (List ℕ) → Type 0 = λ n. TellsEnd (RangePrints (ledger (books_in opened)).zone (Opened (asking_moment past behind.told) ∷ past) n form
+    let Q : Option (List ℕ) → Type 0 = λ n. TellsEnd (RangePrints (ledger (books_in opened)).zone (Opened (asking_moment past following.told) ∷ past) n form
     (failures_of ledger opened) (failures_of ledger left)) status (contents before) holds in
     inr (record {
       opened = opened;
-      opens = behind;
+      opens = following;
       left = left;
       does = record {
-        prints = subst Q names (subst P same (prints _ behind.stands whole));
-        stands = asks.only.stands _ behind.stands;
+        prints = subst Q names (subst P same (prints _ following.stands whole));
+        stands = asks.only.stands _ following.stands;
       };
       handed = is;
     })
@@ -94,26 +94,26 @@ pub stated : {B W : Type 0} (ledger : B → Ledger) (contents : W → Option (Li
     → name ≡ named register → zone ≡ (ledger books).zone
     → ((ledger (books_in opened)).is_clean → OpensToAsk ledger past moments later opened)
     → silent ≡ before
-    → After ledger opened left (λ behind. TellsEnd (StatementPrints zone behind name form
+    → After ledger opened left (λ following. TellsEnd (StatementPrints zone following name form
     (failures_of ledger opened) (failures_of ledger left)) status (contents silent) holds)
     → Asks ledger opened left → back ≡ books_in left → (ledger back).is_clean
     → TellsStatement ledger past register form moments later books back (contents before) holds status
 stated {W = W} ledger contents past register name form zone moments later books back opened left before silent holds status names clocks opens same prints asks is clean =
     let whole = kept ledger left back is clean in
-    let behind = opens (asks.only.clean whole) in
-    let P : W → Type 0 = λ w. TellsEnd (StatementPrints zone (Opened (asking_moment past behind.told) ∷ past) name form
+    let following = opens (asks.only.clean whole) in
+    let P : W → Type 0 = λ w. TellsEnd (StatementPrints zone (Opened (asking_moment past following.told) ∷ past) name form
     (failures_of ledger opened) (failures_of ledger left)) status (contents w) holds in
-    let Q : Option (List ℕ) → Type 0 = λ n. TellsEnd (StatementPrints zone (Opened (asking_moment past behind.told) ∷ past) n form
+    let Q : Option (List ℕ) → Type 0 = λ n. TellsEnd (StatementPrints zone (Opened (asking_moment past following.told) ∷ past) n form
     (failures_of ledger opened) (failures_of ledger left)) status (contents before) holds in
-    let R : Zone → Type 0 = λ z. TellsEnd (StatementPrints z (Opened (asking_moment past behind.told) ∷ past) (named register) form
+    let R : Zone → Type 0 = λ z. TellsEnd (StatementPrints z (Opened (asking_moment past following.told) ∷ past) (named register) form
     (failures_of ledger opened) (failures_of ledger left)) status (contents before) holds in
     inr (record {
       opened = opened;
-      opens = behind;
+      opens = following;
       left = left;
       does = record {
-        prints = subst R clocks (subst Q names (subst P same (prints _ behind.stands whole)));
-        stands = asks.only.stands _ behind.stands;
+        prints = subst R clocks (subst Q names (subst P same (prints _ following.stands whole)));
+        stands = asks.only.stands _ following.stands;
       };
       handed = is;
     })
@@ -122,45 +122,45 @@ pub served : {B : Type 0} (ledger : B → Ledger) (past : History) (at : Port) (
     (books back : B) (opened left : Office B) (had holds : Option (List ℕ)) (end : ServeEnd)
     → ((ledger (books_in opened)).is_clean → Opens ledger past moments then opened)
     → ((ledger (books_in left)).is_clean → (ledger (books_in opened)).is_clean)
-    → After ledger opened left (λ behind. ServesPort at then later ledger behind opened left end)
+    → After ledger opened left (λ following. ServesPort at then later ledger following opened left end)
     → holds ≡ had → back ≡ books_in left → (ledger back).is_clean
     → TellsServing ledger past at moments later books back had holds end
 served ledger past at moments then later books back opened left had holds Served opens lasts serves silent is clean =
     let whole = kept ledger left back is clean in
-    let behind = opens (lasts whole) in
+    let following = opens (lasts whole) in
     record {
       then = then;
       opened = opened;
-      opens = behind;
+      opens = following;
       left = left;
       handed = is;
-      does = record { serves = serves _ behind.stands whole; silent = silent };
+      does = record { serves = serves _ following.stands whole; silent = silent };
     }
 served ledger past at moments then later books back opened left had holds NoPort opens lasts serves silent is clean =
     let whole = kept ledger left back is clean in
-    let behind = opens (lasts whole) in
+    let following = opens (lasts whole) in
     record {
       then = then;
       opened = opened;
-      opens = behind;
+      opens = following;
       left = left;
       handed = is;
-      does = record { serves = serves _ behind.stands whole; silent = silent };
+      does = record { serves = serves _ following.stands whole; silent = silent };
     }
 served ledger past at moments then later books back opened left had holds Broken opens lasts serves silent is clean =
     let whole = kept ledger left back is clean in
-    let behind = opens (lasts whole) in
+    let following = opens (lasts whole) in
     record {
       then = then;
       opened = opened;
-      opens = behind;
+      opens = following;
       left = left;
       handed = is;
-      does = record { serves = serves _ behind.stands whole; silent = silent };
+      does = record { serves = serves _ following.stands whole; silent = silent };
     }
 served ledger past at moments then later books back opened left had holds (Unopened status) opens lasts serves silent is clean =
     let whole = kept ledger left back is clean in
-    let behind = opens (lasts whole) in absurd (serves _ behind.stands whole)
+    let following = opens (lasts whole) in absurd (serves _ following.stands whole)
 
 pub polled : {B W : Type 0} (ledger : B → Ledger) (contents : W → Option (List ℕ)) (past : History) (device : List ℕ)
     (moments then later : Option (List ℕ)) (books back : B) (opened left : Office B) (before silent : W)
@@ -168,19 +168,19 @@ pub polled : {B W : Type 0} (ledger : B → Ledger) (contents : W → Option (Li
     → ((ledger (books_in opened)).is_clean → Opens ledger past moments then opened)
     → silent ≡ before
     → ((ledger (books_in left)).is_clean → (ledger (books_in opened)).is_clean)
-    → After ledger opened left (λ behind. PollsPort ledger device later (contents silent) holds end behind then opened left)
+    → After ledger opened left (λ following. PollsPort ledger device later (contents silent) holds end following then opened left)
     → back ≡ books_in left → (ledger back).is_clean
     → TellsPolling ledger past device moments later books back (contents before) holds end
 polled {W = W} ledger contents past device moments then later books back opened left before silent holds (polling.Polled done) opens same lasts polls is clean =
     let whole = kept ledger left back is clean in
-    let behind = opens (lasts whole) in
-    let P : W → Type 0 = λ w. PollsPort ledger device later (contents w) holds (polling.Polled done) (Opened behind.at ∷ past) then opened left in
-    record { then = then; opened = opened; opens = behind; left = left; handed = is; does = subst P same (polls _ behind.stands whole) }
+    let following = opens (lasts whole) in
+    let P : W → Type 0 = λ w. PollsPort ledger device later (contents w) holds (polling.Polled done) (Opened following.at ∷ past) then opened left in
+    record { then = then; opened = opened; opens = following; left = left; handed = is; does = subst P same (polls _ following.stands whole) }
 polled {W = W} ledger contents past device moments then later books back opened left before silent holds polling.Unconnected opens same lasts polls is clean =
     let whole = kept ledger left back is clean in
-    let behind = opens (lasts whole) in
-    let P : W → Type 0 = λ w. PollsPort ledger device later (contents w) holds polling.Unconnected (Opened behind.at ∷ past) then opened left in
-    record { then = then; opened = opened; opens = behind; left = left; handed = is; does = subst P same (polls _ behind.stands whole) }
+    let following = opens (lasts whole) in
+    let P : W → Type 0 = λ w. PollsPort ledger device later (contents w) holds polling.Unconnected (Opened following.at ∷ past) then opened left in
+    record { then = then; opened = opened; opens = following; left = left; handed = is; does = subst P same (polls _ following.stands whole) }
 polled {W = W} ledger contents past device moments then later books back opened left before silent holds (polling.Unopened status) opens same lasts polls is clean =
     let whole = kept ledger left back is clean in
-    let behind = opens (lasts whole) in absurd (polls _ behind.stands whole)
+    let following = opens (lasts whole) in absurd (polls _ following.stands whole)

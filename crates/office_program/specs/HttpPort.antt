@@ -32,8 +32,8 @@ ServesPort at then later ledger past opened left (Unopened status) = ⊥
 -- The office served so on a port, and nothing was printed.
 pub record Serves {B : Type 0} (ledger : B → Ledger) (at : Port)
     (later had holds : Option (List ℕ)) (end : ServeEnd)
-    (behind : History) (then : Option (List ℕ)) (opened left : Office B) : Type 0 where
-  pub serves : ServesPort at then later ledger behind opened left end
+    (following : History) (then : Option (List ℕ)) (opened left : Office B) : Type 0 where
+  pub serves : ServesPort at then later ledger following opened left end
   pub silent : holds ≡ had
 
 -- The opening was refused, and that alone was printed; or the office was opened, and served.

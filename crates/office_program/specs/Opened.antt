@@ -13,7 +13,7 @@ use Rattle.office_program.specs.Texts.OpenedOffice.{Opens}
 -- what was left, from what the clock would tell then on; and the books of that are handed back.
 pub record WithOffice {B : Type 0} (ledger : B → Ledger) (past : History)
     (moments : Option (List ℕ)) (back : B)
-    (Does : (behind : History) → (then : Option (List ℕ)) → (opened left : Office B) → Type 0)
+    (Does : (following : History) → (then : Option (List ℕ)) → (opened left : Office B) → Type 0)
     : Type 0 where
   pub then : Option (List ℕ)
   pub opened : Office B
@@ -26,7 +26,7 @@ pub record WithOffice {B : Type 0} (ledger : B → Ledger) (past : History)
 -- back. The clock was asked once.
 pub record WithAsked {B : Type 0} (ledger : B → Ledger) (past : History)
     (moments later : Option (List ℕ)) (back : B)
-    (Does : (behind : History) → (opened left : Office B) → Type 0) : Type 0 where
+    (Does : (following : History) → (opened left : Office B) → Type 0) : Type 0 where
   pub opened : Office B
   pub opens : OpensToAsk ledger past moments later opened
   pub left : Office B

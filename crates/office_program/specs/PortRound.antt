@@ -20,10 +20,10 @@ use Rattle.office_program.specs.declared.port_round.PollEnd.TheVariants.{Polled,
 -- What a round at a port leaves of an office, and prints: the round, over some link; or nothing, where there is no device.
 pub record IsPolled {B : Type 0} (ledger : B → Ledger) (device : List ℕ)
     (later had holds : Option (List ℕ)) (done : Result (Unit {0}) RoundFault)
-    (behind : History) (then : Option (List ℕ)) (opened left : Office B) : Type 0 where
+    (following : History) (then : Option (List ℕ)) (opened left : Office B) : Type 0 where
   pub from : Wire
   pub to : Wire
-  pub polls : PollsRound ledger (named device) behind
+  pub polls : PollsRound ledger (named device) following
       (passage (round_state had then (failures_of ledger opened))
       (round_state holds later (failures_of ledger left)) from to) left done
 
@@ -34,12 +34,12 @@ pub record IsLeft {B : Type 0} (had holds : Option (List ℕ)) (opened left : Of
 
 abbrev pub PollsPort : {B : Type 0} → (B → Ledger) → (device : List ℕ)
     → (later had holds : Option (List ℕ)) → PollEnd
-    → (behind : History) → (then : Option (List ℕ)) → (opened left : Office B) → Type 0
-PollsPort ledger device later had holds (Polled done) behind then opened left =
-    IsPolled ledger device later had holds done behind then opened left
-PollsPort ledger device later had holds Unconnected behind then opened left =
+    → (following : History) → (then : Option (List ℕ)) → (opened left : Office B) → Type 0
+PollsPort ledger device later had holds (Polled done) following then opened left =
+    IsPolled ledger device later had holds done following then opened left
+PollsPort ledger device later had holds Unconnected following then opened left =
     IsLeft had holds opened left
-PollsPort ledger device later had holds (Unopened status) behind then opened left = ⊥
+PollsPort ledger device later had holds (Unopened status) following then opened left = ⊥
 
 -- So it is of an office that is open, the clock and the writer, each as it was found and as it was left.
 abbrev pub PollsPortOf : {B C W : Type 0} → stores.Ghosts B → clocks.Ghosts C → writers.Ghosts W

@@ -18,11 +18,11 @@ use Rattle.office_program.specs.Opened.{OverStanding, WithAsked}
 
 -- All rows of the register's days in the form were printed, or why there are none; and the office was only asked.
 pub record ReportsRange {B : Type 0} (ledger : B → Ledger) (register : Option (List ℕ))
-    (form : ReportForm) (had holds : Option (List ℕ)) (status : ExitStatus) (behind : History)
+    (form : ReportForm) (had holds : Option (List ℕ)) (status : ExitStatus) (following : History)
     (opened left : Office B) : Type 0 where
-  pub prints : TellsEnd (RangePrints (ledger (books_in opened)).zone behind register form
+  pub prints : TellsEnd (RangePrints (ledger (books_in opened)).zone following register form
       (failures_of ledger opened) (failures_of ledger left)) status had holds
-  pub stands : Stands ledger behind left
+  pub stands : Stands ledger following left
 
 -- The opening was refused, and that alone was printed; or the office was opened to be asked, and reported.
 abbrev pub TellsRange : {B : Type 0} → (B → Ledger) → (past : History) → (register : List ℕ)

@@ -17,10 +17,10 @@ use Rattle.office_program.specs.Opened.{OverStanding, WithAsked}
 
 -- All days of the register were printed, or why there are none; and the office was only asked.
 pub record Reports {B : Type 0} (ledger : B → Ledger) (register had holds : Option (List ℕ))
-    (status : ExitStatus) (behind : History) (opened left : Office B) : Type 0 where
-  pub prints : TellsEnd (ReportPrints (ledger (books_in opened)).zone behind register
+    (status : ExitStatus) (following : History) (opened left : Office B) : Type 0 where
+  pub prints : TellsEnd (ReportPrints (ledger (books_in opened)).zone following register
       (failures_of ledger opened) (failures_of ledger left)) status had holds
-  pub stands : Stands ledger behind left
+  pub stands : Stands ledger following left
 
 -- The opening was refused, and that alone was printed; or the office was opened to be asked, and reported.
 abbrev pub TellsReport : {B : Type 0} → (B → Ledger) → (past : History) → (register : List ℕ)

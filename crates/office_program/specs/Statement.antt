@@ -20,10 +20,10 @@ use Rattle.office_program.specs.Opened.{OverStanding, WithAsked}
 -- The statements of the register's meters were printed, or why there are none; and the office was only asked.
 pub record StatesMeters {B : Type 0} (ledger : B → Ledger) (zone : Zone)
     (register : Option (List ℕ)) (form : StatementForm) (had holds : Option (List ℕ))
-    (status : ExitStatus) (behind : History) (opened left : Office B) : Type 0 where
-  pub prints : TellsEnd (StatementPrints zone behind register form
+    (status : ExitStatus) (following : History) (opened left : Office B) : Type 0 where
+  pub prints : TellsEnd (StatementPrints zone following register form
       (failures_of ledger opened) (failures_of ledger left)) status had holds
-  pub stands : Stands ledger behind left
+  pub stands : Stands ledger following left
 
 -- The opening was refused, and that alone was printed; or the office was opened to be asked, and stated its meters by the zone
 -- of the books.

@@ -166,7 +166,7 @@ pub record Settles (history : History) (at : ℕ) (e : Event) : Type 0 where
       ≡ with_settled (next_poll (facts_of history)) at e (slots_of history) (facts_of history)
   pub notes : notes_after history at e (Ok answer.Noted)
       ≡ settled_notes (next_poll (facts_of history)) at e (slots_of history) (facts_of history)
-  pub behind : (next : Next) → next_by e next ≡ next
+  pub following : (next : Next) → next_by e next ≡ next
 
 record IsSettledBy (number started before : ℕ) (history : History) (at : ℕ) (e : Event) : Type 0 where
   beyond : (n : ℕ) → number + started ≤ n → told n (notes_after history at e (Ok answer.Noted)) ≡ 0
@@ -236,7 +236,7 @@ settled_round laws device past fed at e polls started planned sum way accepted s
     ∙ leaves_as none (nat_lt s (reads_planned fed)) (length left == 0) leave
     (λ no. all_ended s (reads_planned fed) (polls_ended past (one ∷ fed)) (length left) more_ended way.within no) in
     let next_is : next_in past (one ∷ fed) ≡ next_at stage started =
-    settles.behind _
+    settles.following _
     ∙ ap (λ n. next_after (endings_of past fed one) n (polls_ended past (one ∷ fed)) (reads_planned fed)) same_started
     ∙ next_by_stage none (nat_lt s (reads_planned fed)) leave s
     ∙ ap (λ x. next_at x s) (sym stage_is) ∙ ap (λ n. next_at stage n) (sym way.started) in
@@ -474,12 +474,12 @@ taken_round laws device past fed at (event.Connected d) polls started planned su
 taken_round laws device past fed at (event.Bytes d piece) polls started planned sum way taken accepted =
     let history = history_with past fed in
     settled_round laws device past fed at (event.Bytes d piece) polls started planned sum way accepted
-    (record { facts = refl; notes = refl; behind = λ next. refl })
+    (record { facts = refl; notes = refl; following = λ next. refl })
     (on_piece laws.session (next_poll (facts_of history)) at d piece (slots_of history) device (from_on way.number (reads_started fed)) way.session) _
 taken_round laws device past fed at event.Tick polls started planned sum way taken accepted =
     let history = history_with past fed in
     settled_round laws device past fed at event.Tick polls started planned sum way accepted
-    (record { facts = refl; notes = refl; behind = λ next. refl })
+    (record { facts = refl; notes = refl; following = λ next. refl })
     (on_tick laws.session (next_poll (facts_of history)) at (slots_of history) device (from_on way.number (reads_started fed)) way.session) _
 taken_round laws device past fed at (event.Gone d cause) polls started planned sum way taken accepted =
     record { device_is = refl; next = refl; stands = tt }

@@ -60,17 +60,17 @@ after_not : (none : Bool) (started ended planned : ℕ) → cond none Take (next
 after_not true started ended planned h = absurd (cc)
 after_not false started ended planned h = left_not (nat_lt started planned) (nat_le planned ended) started h
 
-behind_not : (device : Option (List ℕ)) (e : Event) (endings started ended planned : ℕ) → IsTaken device e
+after_is_not : (device : Option (List ℕ)) (e : Event) (endings started ended planned : ℕ) → IsTaken device e
     → next_by e (next_after endings started ended planned) ≡ Connect → ⊥
-behind_not device (event.Connected given) endings started ended planned taken h = absurd taken
-behind_not device (event.Bytes given piece) endings started ended planned taken h = after_not (endings == 0) started ended planned h
-behind_not device event.Tick endings started ended planned taken h = after_not (endings == 0) started ended planned h
-behind_not device (event.Gone given c) endings started ended planned taken h = absurd (cc)
-behind_not device (event.Command c) endings started ended planned taken h = absurd taken
-behind_not device (event.Asked asked) endings started ended planned taken h = absurd taken
+after_is_not device (event.Connected given) endings started ended planned taken h = absurd taken
+after_is_not device (event.Bytes given piece) endings started ended planned taken h = after_not (endings == 0) started ended planned h
+after_is_not device event.Tick endings started ended planned taken h = after_not (endings == 0) started ended planned h
+after_is_not device (event.Gone given c) endings started ended planned taken h = absurd (cc)
+after_is_not device (event.Command c) endings started ended planned taken h = absurd taken
+after_is_not device (event.Asked asked) endings started ended planned taken h = absurd taken
 
 pub not_anew : (past : History) (fed : List Answered) (one : Answered) (device : Option (List ℕ)) (e : Event) → one.event ≡ e → IsTaken device e
     → next_in past (one ∷ fed) ≡ Connect → ⊥
 not_anew past fed one device e is taken h =
-    behind_not device one.event (endings_of past fed one) (reads_started (one ∷ fed)) (polls_ended past (one ∷ fed)) (reads_planned (one ∷ fed))
+    after_is_not device one.event (endings_of past fed one) (reads_started (one ∷ fed)) (polls_ended past (one ∷ fed)) (reads_planned (one ∷ fed))
     (subst (IsTaken device) (sym is) taken) h

@@ -130,10 +130,10 @@ ends_grown : (laws : SessionLaws) (device : Device) (ended : List EndedSession) 
     → IsPermutation end (ends_in (polls_of_slot (slot_with device ended (Some before))) ++ map as_end (settled_in device before (h ∷ later)))
 ends_grown laws device ended before later h end p =
     let first = outcomes_at device.timeout before h in
-    let behind = settled_in device (before ++ h ∷ []) later in
+    let following = settled_in device (before ++ h ∷ []) later in
     let start = ends_in (polls_of_slot (slot_with device ended (Some before))) in
-    IsPermutation-trans _ _ _ (grown end _ start (map as_end first) (map as_end behind) p (ends_more laws device ended before h))
-    (same_is _ _ (ap (λ ends. start ++ ends) (sym (map-append as_end first behind))))
+    IsPermutation-trans _ _ _ (grown end _ start (map as_end first) (map as_end following) p (ends_more laws device ended before h))
+    (same_is _ _ (ap (λ ends. start ++ ends) (sym (map-append as_end first following))))
 
 numbers_grown : (laws : SessionLaws) (device : Device) (ended : List EndedSession) (before later : List session.Event) (h : session.Event)
     (end : List ℕ)

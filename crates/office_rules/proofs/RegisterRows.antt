@@ -43,9 +43,9 @@ abbrev Before : ℕ → List Share → Type 0
 Before n [] = Unit {0}
 Before n (row ∷ rows) = (row.start % 900 ≡ 0) × (row.start < n) × Before n rows
 
-abbrev Behind : ℕ → List Share → Type 0
-Behind n [] = Unit {0}
-Behind n (row ∷ rows) = (row.start % 900 ≡ 0) × (n < row.start + 900) × Behind n rows
+abbrev RowsAfter : ℕ → List Share → Type 0
+RowsAfter n [] = Unit {0}
+RowsAfter n (row ∷ rows) = (row.start % 900 ≡ 0) × (n < row.start + 900) × RowsAfter n rows
 
 from_append : (n : ℕ) (xs ys : List Share) → From n xs → From n ys → From n (xs ++ ys)
 from_append n [] ys h k = k
@@ -59,15 +59,15 @@ before_later : (m n : ℕ) (rows : List Share) → m ≤ n → Before m rows →
 before_later m n [] le h = tt
 before_later m n (row ∷ rows) le h = (h.0, omega (arith, h.1, le), before_later m n rows le h.2)
 
-from_row : (s n : ℕ) (rows : List Share) → s % 900 ≡ 0 → s < n → Behind n rows → From s rows
+from_row : (s n : ℕ) (rows : List Share) → s % 900 ≡ 0 → s < n → RowsAfter n rows → From s rows
 from_row s n [] whole lt h = tt
 from_row s n (row ∷ rows) whole lt h = (omega (arith, whole, lt, h.0, h.1), from_row s n rows whole lt h.2)
 
-never_append : (n : ℕ) (xs ys : List Share) → NeverFall xs → NeverFall ys → Before n xs → Behind n ys → NeverFall (xs ++ ys)
-never_append n [] ys h k before behind = k
-never_append n (x ∷ xs) ys h k before behind = (
-  from_append x.start xs ys h.0 (from_row x.start n ys before.0 before.1 behind),
-  never_append n xs ys h.1 k before.2 behind,
+never_append : (n : ℕ) (xs ys : List Share) → NeverFall xs → NeverFall ys → Before n xs → RowsAfter n ys → NeverFall (xs ++ ys)
+never_append n [] ys h k before following = k
+never_append n (x ∷ xs) ys h k before following = (
+  from_append x.start xs ys h.0 (from_row x.start n ys before.0 before.1 following),
+  never_append n xs ys h.1 k before.2 following,
 )
 
 from_at : (n : ℕ) (rows : List Share) (j : ℕ) (d : Share) → From n rows → j < length rows → n ≤ (slice_index_or rows j d).start
@@ -102,11 +102,11 @@ before_within opened last (row ∷ rows) h =
     let here = All-head (LiesWithin opened last) row rows h in
     (here.quarter, here.before, before_within opened last rows (All-tail (LiesWithin opened last) row rows h))
 
-after_within : (opened last : ℕ) (rows : List Share) → All (LiesWithin opened last) rows → Behind opened rows
+after_within : (opened last : ℕ) (rows : List Share) → All (LiesWithin opened last) rows → RowsAfter opened rows
 after_within opened last [] h = tt
 after_within opened last (row ∷ rows) h =
     let here = All-head (LiesWithin opened last) row rows h in
-    (here.quarter, here.behind, after_within opened last rows (All-tail (LiesWithin opened last) row rows h))
+    (here.quarter, here.following, after_within opened last rows (All-tail (LiesWithin opened last) row rows h))
 
 -- what is said of the rows of an installation
 record IsFine (facts : List Fact) (o : Opening) : Type 0 where

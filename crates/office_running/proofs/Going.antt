@@ -131,9 +131,9 @@ next_is : (first : Option Wished) (rounds : List Round) → IsWishedOfRound firs
 next_is None rounds h = first_is rounds
 next_is (Some one) rounds h = h
 
-behind_is : (past : History) (from : Table) (fed : List Answered) → IsWishedOfRound from.first → IsWishedOfRound (table.table_with past from fed).first
-behind_is past from [] h = h
-behind_is past from (one ∷ earlier) h = tt
+after_is : (past : History) (from : Table) (fed : List Answered) → IsWishedOfRound from.first → IsWishedOfRound (table.table_with past from fed).first
+after_is past from [] h = h
+after_is past from (one ∷ earlier) h = tt
 
 event_is : (next : Option Wished) (e : Event) → IsWishedOfRound next → table.IsNext next e → IsOfRound e
 event_is None e h is = absurd is
@@ -144,7 +144,7 @@ each_fed : (names : List (List ℕ)) (at : ℕ) (past : History) (from : Table) 
 each_fed names at past from [] h next timed = tt
 each_fed names at past from (one ∷ earlier) h next timed =
     let before = table.table_with past from earlier in (
-      (timed.1, event_is (table.next_of before) one.event (next_is before.first before.rounds (behind_is past from earlier h)) next.1),
+      (timed.1, event_is (table.next_of before) one.event (next_is before.first before.rounds (after_is past from earlier h)) next.1),
       each_fed names at past from earlier h next.0 timed.0,
     )
 

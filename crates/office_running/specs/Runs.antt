@@ -60,7 +60,7 @@ history_with past [] = past
 history_with past (one ∷ earlier) = with_step (history_with past earlier) one
 
 -- The office stands after some events and requests at a moment.
-pub record StandsBehind {B : Type 0} (names : List (List ℕ)) (at : ℕ) (ledger : B → Ledger)
+pub record StandsAfterSteps {B : Type 0} (names : List (List ℕ)) (at : ℕ) (ledger : B → Ledger)
     (past : History) (office : Office B) : Type 0 where
   pub steps : List (Step names)
   pub each : AreAt at steps
@@ -70,7 +70,7 @@ pub record StandsBehind {B : Type 0} (names : List (List ℕ)) (at : ℕ) (ledge
 -- after nothing else; a wrong answer of a store that was taken as true stays one, and the zone stays.
 pub record Goes {B : Type 0} (names : List (List ℕ)) (at : ℕ) (ledger : B → Ledger)
     (old new : Office B) : Type 0 where
-  pub stands : After ledger old new (λ past. StandsBehind names at ledger past new)
+  pub stands : After ledger old new (λ past. StandsAfterSteps names at ledger past new)
   pub clean : (ledger (books_in new)).is_clean → (ledger (books_in old)).is_clean
   pub zone : (ledger (books_in new)).zone ≡ (ledger (books_in old)).zone
 

@@ -1,5 +1,5 @@
 pub mod Leaving
-pub mod Behind
+pub mod NextPlaces
 pub mod Entering
 pub mod Installing
 pub mod Seen

@@ -53,9 +53,9 @@ named place name few short =
     let digits = digits-of-name (decimal place) (digits_decimal numerals place fits) in
     let size : length (decimal place) ≤ 2 = length-decimal-le 2 place (omega arith) (omega (arith, few)) fits in
     let whole = length-append (decimal place) (46 ∷ name) in
-    let behind : length (46 ∷ name) ≡ suc (length name) = refl in
+    let following : length (46 ∷ name) ≡ suc (length name) = refl in
     let small : length name ≤ 20 = grind (arith, k.0) in
-    let all : nat_le (length (decimal place ++ (46 ∷ name))) 31 ≡ true = grind (arith, whole, behind, small, size) in
+    let all : nat_le (length (decimal place ++ (46 ∷ name))) 31 ≡ true = grind (arith, whole, following, small, size) in
     let bytes : list_all is_name_byte (decimal place ++ (46 ∷ name)) ≡ true = list_all-append is_name_byte (decimal place) (46 ∷ name) ∙ rw (digits) k.1 in
     rw (all) bytes
 

@@ -51,8 +51,8 @@ plain_count false b x h = not_is b h
 -- by the length and the byte count
 as_many : (pdu : List ℕ) (count given : ℕ) → length pdu ≡ 2 + given → given ≡ 2 * count → length (words_of (drop 2 pdu)) ≡ count
 as_many pdu count given all h =
-    let behind : length (drop 2 pdu) ≡ 2 * count = omega (arith, length-drop 2 pdu) in
-    length-words_of (drop 2 pdu) count behind
+    let following : length (drop 2 pdu) ≡ 2 * count = omega (arith, length-drop 2 pdu) in
+    length-words_of (drop 2 pdu) count following
 
 read : (function : ReadFunction) (address count : ℕ) (pdu words : List ℕ) → by_reply (answer_in (query_of (read_request function address count)) pdu) ≡ Answered words → length words ≡ count
 read HoldingRegisters address count pdu words is =

@@ -4,7 +4,7 @@ use Rattle.std.specs.Str.{bytes_eq}
 use Rattle.printed_numbers.specs.Numbers.{has_number}
 use Rattle.printed_numbers.specs.declared.kind.Kind.{Kind}
 use Rattle.printed_numbers.specs.declared.kind.Kind.TheVariants as kind
-use Rattle.run_status.specs.Advice.Sentences.{MeansBehind, with_subject}
+use Rattle.run_status.specs.Advice.Sentences.{MeansAfter, with_subject}
 use Rattle.script_lines.specs.LineWords.Fields.{AnyName, Number, first_value, nothing_more, ◌>>=◌}
 use Rattle.round_advice.specs.declared.remarks.Remark.{Remark}
 use Rattle.round_advice.specs.declared.remarks.Remark.TheVariants.{Refused, Held}
@@ -33,8 +33,8 @@ hold_of words =
     exactly (codes "held") words >>= λ rest.
     first_value AnyName rest >>= λ meter.
     first_value Number meter.1 >>= λ raw.
-    exactly (codes "cause") raw.1 >>= λ behind.
-    first_value Number behind >>= λ number.
+    exactly (codes "cause") raw.1 >>= λ following.
+    first_value Number following >>= λ number.
     nothing_more number.1 >>= λ none.
     meter.0 >>= λ name.
     small number.0 >>= λ n.
@@ -51,7 +51,7 @@ remark_of words = or_hold (refusal_of words) (hold_of words)
 abbrev pub MeansIf : (known : Bool) → (subject : Option (List ℕ)) → Kind → (before : List ℕ)
     → (number : ℕ) → (old new : List ℕ) → Type 0
 MeansIf true subject k before number old new =
-    MeansBehind k number before (with_subject subject old) new
+    MeansAfter k number before (with_subject subject old) new
 MeansIf false subject k before number old new = new ≡ old
 
 abbrev pub MayMean : (subject : Option (List ℕ)) → Kind → (before : List ℕ) → (number : ℕ)

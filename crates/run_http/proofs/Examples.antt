@@ -1,5 +1,5 @@
 -- Worked examples of the meters at a register: their lines, the targets that ask for them, and refusals.
-use Rattle.std.proofs.Common.{◌≡◌, ℕ, ℤ, List, [], ◌∷◌, Option, Some, None, Err, true, false, refl}
+use Rattle.std.proofs.Common.{◌≡◌, ℕ, List, [], ◌∷◌, Option, Some, None, Err, true, false, refl}
 use Rattle.std.specs.Prelude.{pos, negsuc, codes}
 use Rattle.std.specs.Fmt.{digits}
 use Rattle.http_request.specs.declared.status.Status.TheVariants.{MethodNotAllowed}

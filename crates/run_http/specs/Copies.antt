@@ -75,8 +75,8 @@ RowsBeforeStay = (further facts : List Fact) (meter : List ℕ) (opening : Openi
     → StaysBefore further facts meter opening place
 
 -- Where nothing is voided, what can change is told beside a meter's energy: the quarter hours from that of its last entry on.
-abbrev pub EntriesComeBehind : Type 0
-EntriesComeBehind = (facts : List Fact) (meter : List ℕ) (opening : Opening) → AreLawful facts
+abbrev pub EntriesComeAfter : Type 0
+EntriesComeAfter = (facts : List Fact) (meter : List ℕ) (opening : Opening) → AreLawful facts
     → opening_of facts meter ≡ Some opening
     → changes_from facts meter (next_place facts opening)
     ≡ quarter_of (installation_of facts opening).last.at

@@ -1,5 +1,5 @@
 //! What who copies the quarter hours of meters may rely on. Each function's clause is the law, over all lawful facts.
-ghost use Rattle.run_http.specs.Copies.{EntriesComeBehind, RowsBeforeStay};
+ghost use Rattle.run_http.specs.Copies.{EntriesComeAfter, RowsBeforeStay};
 
 use interval_core::shares_add_up;
 
@@ -13,5 +13,5 @@ pub fn rows_before_stay()
 
 /// Where nothing is voided, these are the quarter hours before that of the last entry, whose moment is told beside the energy.
 pub fn entries_come_after()
-    ensures { EntriesComeBehind }
+    ensures { EntriesComeAfter }
 {}

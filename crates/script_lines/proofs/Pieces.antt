@@ -49,12 +49,12 @@ only_piece device hex bytes h =
     let alone : piece_alone (hex ∷ []) ≡ Some bytes = spelled_made {X = List ℕ} (Hex ∷ []) (λ values. values.0) (bytes, tt) (hex ∷ []) (h, tt) in
     made_again {X = List ℕ} {Y = Pair} (Hex ∷ []) (λ values. values.0) (with_device device) (hex ∷ []) bytes alone
 
-pub piece_said : (words behind rest : List (List ℕ)) (device : Option (List ℕ)) (hex : List ℕ) → Some (device, behind) ≡ first_value AnyName words
-    → behind ≡ hex ∷ rest → Some tt ≡ nothing_more rest → IsSome (bytes_of hex) → SaysPiece (device_bytes_said words)
-piece_said words behind (word ∷ rest) device hex first next none some = cc none
-piece_said words behind [] device hex first next none some =
+pub piece_said : (words following rest : List (List ℕ)) (device : Option (List ℕ)) (hex : List ℕ) → Some (device, following) ≡ first_value AnyName words
+    → following ≡ hex ∷ rest → Some tt ≡ nothing_more rest → IsSome (bytes_of hex) → SaysPiece (device_bytes_said words)
+piece_said words following (word ∷ rest) device hex first next none some = cc none
+piece_said words following [] device hex first next none some =
     let bytes = some_bytes hex (bytes_of hex) refl some in
-    let said : device_bytes_said words ≡ piece_after device behind =
+    let said : device_bytes_said words ≡ piece_after device following =
     ap (λ (o : Option (Option (List ℕ) × List (List ℕ))). o >>= (λ first. piece_after first.0 first.1)) (sym first) in
-    let here : piece_after device behind ≡ piece_after device (hex ∷ []) = ap (λ (behind : List (List ℕ)). piece_after device behind) next in
+    let here : piece_after device following ≡ piece_after device (hex ∷ []) = ap (λ (following : List (List ℕ)). piece_after device following) next in
     (device, bytes.0, said ∙ here ∙ only_piece device hex bytes.0 bytes.1, bytes.2)

@@ -8,8 +8,8 @@ use Rattle.store_devices.specs.declared.devices.rows.RegisterScale.TheVariants.{
 use Rattle.store_devices.specs.Devices.Rows.{registers_spanned, fits_a_read, register_in}
 
 -- a scale after the counter, before it, and within it
-behind : registers_spanned 40094 (At 40096) ≡ 3
-behind = refl
+following : registers_spanned 40094 (At 40096) ≡ 3
+following = refl
 
 before : registers_spanned 40094 (At 40093) ≡ 3
 before = refl
@@ -21,8 +21,8 @@ fixed = refl
 last_of_rows : fits_a_read 0 (At 124) ≡ true
 last_of_rows = refl
 
-too_far_behind : fits_a_read 0 (At 125) ≡ false
-too_far_behind = refl
+too_far_after : fits_a_read 0 (At 125) ≡ false
+too_far_after = refl
 
 last_before : fits_a_read 123 (At 0) ≡ true
 last_before = refl

@@ -51,9 +51,9 @@ pub entries_count : (o : Opening) (rows : List journal.EntryRow) (passes : Enter
 entries_count o [] passes all last numbered are h = greatest entry_place passes all (entered o.meter (opening_row o)) [] last are tt h
 entries_count o (row ∷ rows) passes all last numbered are h =
     let place = numbered.0 in
-    let behind = greatest entry_place passes all (entered o.meter (entry_row (scale_after o (row ∷ rows)) row)) (entered_rows o rows) last are
+    let following = greatest entry_place passes all (entered o.meter (entry_row (scale_after o (row ∷ rows)) row)) (entered_rows o rows) last are
     (few_entered o rows row.place numbered.1 (omega (arith, place))) h in
-    omega (arith, behind, place)
+    omega (arith, following, place)
 
 -- ---- the tables
 

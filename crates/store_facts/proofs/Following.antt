@@ -11,10 +11,10 @@ use Rattle.store_facts.specs.Recording.{Records, RecordsAll}
 pub none_recorded : (content : Content) → RecordsAll [] content content
 none_recorded content zone facts a lawful = a
 
-behind : (fs : List Fact) (f : Fact) (facts : List Fact) → reverse (fs ++ f ∷ []) ++ facts ≡ f ∷ (reverse fs ++ facts)
-behind fs f facts = ap (λ l. l ++ facts) (reverse-append fs (f ∷ []))
+following : (fs : List Fact) (f : Fact) (facts : List Fact) → reverse (fs ++ f ∷ []) ++ facts ≡ f ∷ (reverse fs ++ facts)
+following fs f facts = ap (λ l. l ++ facts) (reverse-append fs (f ∷ []))
 
 pub one_recorded : (fs : List Fact) (f : Fact) (content mid after : Content) → RecordsAll fs content mid → Records f mid after → RecordsAll (fs ++ f ∷ []) content after
 one_recorded fs f content mid after all one zone facts a lawful =
-    let here : AreLawful (f ∷ (reverse fs ++ facts)) = subst AreLawful (behind fs f facts) lawful in
-    subst (λ l. AreOf zone l after) (sym (behind fs f facts)) (one zone (reverse fs ++ facts) (all zone facts a here.1) here)
+    let here : AreLawful (f ∷ (reverse fs ++ facts)) = subst AreLawful (following fs f facts) lawful in
+    subst (λ l. AreOf zone l after) (sym (following fs f facts)) (one zone (reverse fs ++ facts) (all zone facts a here.1) here)

@@ -40,7 +40,7 @@ module _ (f : Fact) (facts : List Fact) (stays : (o : Opening) → Stays f facts
 -- a held reading, at the place after the last
 pub hold_recorded : HoldsChangeNothing → (reading : HeldReading) (place : ℕ) (content after : Content) → IsAfter poll_tree.holds hold_columns every hold_place place content
     → Edits poll_tree.holds hold_columns (with_row (held_row place reading)) content after → Records (fact.Hold reading) content after
-hold_recorded law reading place content after behind e zone facts a lawful =
+hold_recorded law reading place content after following e zone facts a lawful =
     let f = fact.Hold reading in
     let stays = λ (o : Opening). law reading facts o in
     record {
@@ -57,7 +57,7 @@ hold_recorded law reading place content after behind e zone facts a lawful =
       polls = stay poll_tree.polls poll_columns (map started (polls_in facts)) content after (e.others 11 (λ is. omega (arith, is))) a.polls;
       holds =
           let hs = holds_in facts in
-          let it = behind (placed held_row hs) a.holds in
+          let it = following (placed held_row hs) a.holds in
           let count : place ≡ length hs + 1 = it.1 ∙ last_counts held_row hold_place (λ place h. refl) hs it.0 it.2 in
           subst (λ n. HasRows poll_tree.holds hold_columns (held_row n reading ∷ placed held_row hs) after) count (e.rows (placed held_row hs) a.holds);
       outcomes = stay poll_tree.outcomes outcome_columns (map outcome_row (ended_in facts)) content after (e.others 13 (λ is. omega (arith, is))) a.outcomes;

@@ -78,7 +78,7 @@ pub opening_recorded : OpeningsBegin → (o : Opening) (place : ℕ) (zone : Lis
     → Edits meter_tree.ranges ranged_columns (with_row (ranged o)) one two
     → Edits entry_tree.entries entry_columns (with_row (entered o.meter (opening_row o))) two after
     → AreOf zone (fact.Opening o ∷ facts) after
-opening_recorded law o place zone facts content one two after a lawful behind i r e =
+opening_recorded law o place zone facts content one two after a lawful following i r e =
     let f = fact.Opening o in
     let begins = law o facts lawful in
     let new = lawful.0.0.new in
@@ -92,7 +92,7 @@ opening_recorded law o place zone facts content one two after a lawful behind i 
       installations =
           let os = openings_in facts in
           let rows = placed (installed_row facts) os in
-          let it = behind rows a.installations in
+          let it = following rows a.installations in
           let count : place ≡ length os + 1 = it.1 ∙ last_counts (installed_row facts) installed_place (λ place x. refl) os it.0 it.2 in
           stay meter_tree.installations installed_columns (installed_row (f ∷ facts) (length os + 1) o ∷ rows) one after (e.others 7 (λ is. omega (arith, is)) ∙ r.others 7 (λ is. omega (arith, is)))
           (subst (λ row. HasRows meter_tree.installations installed_columns (installed_as (length os + 1) row ∷ rows) one) (sym begins.installation)

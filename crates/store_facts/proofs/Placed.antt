@@ -43,10 +43,10 @@ module _ {X Y : Type 0} (row : ℕ → X → Y) (key : Y → ℕ) (keyed : (plac
   last_counts [] (Some n) h = let long = length_permutation _ _ h.3 in absurd (omega (arith, long))
   last_counts (x ∷ xs) last h =
       let first = keyed (length xs + 1) x in
-      let behind = greatest key every (placed row (x ∷ xs)) (row (length xs + 1) x) (placed row xs) last
+      let following = greatest key every (placed row (x ∷ xs)) (row (length xs + 1) x) (placed row xs) last
       (IsPermutation-same _ _ (all_every (placed row (x ∷ xs))))
       (few (key (row (length xs + 1) x)) xs (omega (arith, first))) h in
-      omega (arith, first, behind)
+      omega (arith, first, following)
 
 -- Rows whose elements came to be others.
 pub placed_same : {X Y : Type 0} (row other : ℕ → X → Y) (xs : List X) → AllByRecursion (λ x. (place : ℕ) → row place x ≡ other place x) xs

@@ -57,12 +57,12 @@ intervals_stay facts others content after same of a = record {
 -- a device, at the place after the last
 pub device_recorded : (device : Device) (place : ℕ) (content after : Content) → IsAfter list_tree.devices device_columns every device_place place content
     → Edits list_tree.devices device_columns (with_row (added place device)) content after → Records (fact.Device device) content after
-device_recorded device place content after behind e zone facts a lawful = record {
+device_recorded device place content after following e zone facts a lawful = record {
   lawful = lawful;
   meta = stay meta_tree meta_columns (zone ∷ []) content after (e.others 0 (λ is. omega (arith, is))) a.meta;
   devices =
       let ds = devices_in facts in
-      let it = behind (placed added ds) a.devices in
+      let it = following (placed added ds) a.devices in
       let count : place ≡ length ds + 1 = it.1 ∙ last_counts added device_place (λ place d. refl) ds it.0 it.2 in
       subst (λ n. HasRows list_tree.devices device_columns (added n device ∷ placed added ds) after) count (e.rows (placed added ds) a.devices);
   points = points_stay facts (fact.Device device ∷ facts) content after (e.others 3 (λ is. omega (arith, is))) (λ device. refl) a.points;
@@ -81,14 +81,14 @@ device_recorded device place content after behind e zone facts a lawful = record
 -- a register, at the place after the last
 pub register_recorded : (register : Register) (place : ℕ) (content after : Content) → IsAfter list_tree.registers register_columns every register_place place content
     → Edits list_tree.registers register_columns (with_row (registered place register)) content after → Records (fact.Register register) content after
-register_recorded register place content after behind e zone facts a lawful = record {
+register_recorded register place content after following e zone facts a lawful = record {
   lawful = lawful;
   meta = stay meta_tree meta_columns (zone ∷ []) content after (e.others 0 (λ is. omega (arith, is))) a.meta;
   devices = stay list_tree.devices device_columns (placed added (devices_in facts)) content after (e.others 1 (λ is. omega (arith, is))) a.devices;
   points = points_stay facts (fact.Register register ∷ facts) content after (e.others 3 (λ is. omega (arith, is))) (λ device. refl) a.points;
   registers =
       let rs = registers_in facts in
-      let it = behind (placed registered rs) a.registers in
+      let it = following (placed registered rs) a.registers in
       let count : place ≡ length rs + 1 = it.1 ∙ last_counts registered register_place (λ place r. refl) rs it.0 it.2 in
       subst (λ n. HasRows list_tree.registers register_columns (registered n register ∷ placed registered rs) after) count (e.rows (placed registered rs) a.registers);
   installations = stay meter_tree.installations installed_columns (placed (installed_row facts) (openings_in facts)) content after (e.others 7 (λ is. omega (arith, is))) a.installations;

@@ -34,4 +34,4 @@ IsAfter {X} tree columns passes key place content =
 pub record IsNext {X : Type 0} (tree : ℕ) (columns : X → Row) (passes : X → Bool) (key : X → ℕ)
     (place : ℕ) (content after : Content) : Type 0 where
   pub same : after ≡ content
-  pub behind : IsAfter tree columns passes key place content
+  pub following : IsAfter tree columns passes key place content

@@ -46,7 +46,7 @@ has_second db content has = record {
   apart = has.apart;
   none = λ t there out. elim (has_split books_schema.tables 12 t there) [
     | inl before ↦ absurd (out before)
-    | inr behind ↦ second_none content t behind
+    | inr following ↦ second_none content t following
   ];
 }
 
@@ -87,7 +87,7 @@ has_first db content has = record {
   apart = has.apart;
   none = λ t there out. elim (has_split books_schema.tables 11 t there) [
     | inl before ↦ absurd (out before)
-    | inr behind ↦ first_none content t behind
+    | inr following ↦ first_none content t following
   ];
 }
 

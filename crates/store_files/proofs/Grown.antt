@@ -58,7 +58,7 @@ has_split (x ∷ tables) zero t has = inr has
 has_split (x ∷ tables) (suc n) t (inl is) = inl (inl is)
 has_split (x ∷ tables) (suc n) t (inr more) = elim (has_split tables n t more) [
   | inl before ↦ inl (inr before)
-  | inr behind ↦ inr behind
+  | inr following ↦ inr following
 ]
 
 has_either : (tables : List Table) (x : Table) (t : ℕ) → HasTree (tables ++ x ∷ []) t → HasTree tables t ⊎ (t ≡ x.tree)

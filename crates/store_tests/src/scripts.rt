@@ -274,7 +274,7 @@ end 1
 ];
 
 /// What is printed of a script after what went before it, over new books.
-fn behind(alloc: Global, before: &str, script: &str) -> Result<Vec<u8>, Fail> {
+fn following(alloc: Global, before: &str, script: &str) -> Result<Vec<u8>, Fail> {
     let mut office = after(alloc, before)?;
     play(alloc, &mut office, script)
 }
@@ -282,7 +282,7 @@ fn behind(alloc: Global, before: &str, script: &str) -> Result<Vec<u8>, Fail> {
 #[test]
 fn scripts_are_answered_as_over_books_in_memory(rt: HostRuntime) -> Result<(), Fail> {
     for (before, script, printed) in &SCRIPTS {
-        let text = behind(rt.alloc(), before, script)?;
+        let text = following(rt.alloc(), before, script)?;
         assert!(rt; str::from_utf8(&text)? == *printed, "{script}");
     }
     Ok(())

@@ -22,9 +22,9 @@ no_lack word count model stands few =
     let in_space : nat_lt 65535 model.address ≡ false = le-ltb 65535 model.address (omega (arith, stands.inside)) in
     let room : nat_le 64 count ≡ false = lt-leb 64 count few in
     let other : (model.id == 0xFFFF) ≡ false = ne_eqb model.id 0xFFFF stands.no_end in
-    let behind : nat_lt 65535 (model.address + 1) ≡ false = le-ltb 65535 (model.address + 1) (omega (arith, stands.inside)) in
+    let following : nat_lt 65535 (model.address + 1) ≡ false = le-ltb 65535 (model.address + 1) (omega (arith, stands.inside)) in
     let inside : nat_lt 65536 (model.address + 2 + model.length) ≡ false = le-ltb 65536 (model.address + 2 + model.length) stands.inside in
-    rw (in_space, stands.id) (rw (other, room, behind, stands.length) (rw inside refl))
+    rw (in_space, stands.id) (rw (other, room, following, stands.length) (rw inside refl))
 
 pub some_same : {X : Type 0} (a b : X) (found : Option X) → found ≡ Some a → found ≡ Some b → a ≡ b
 some_same a b found is_a is_b = cc

@@ -41,11 +41,11 @@ words_in-read read words start (suc count) fits sized all =
     let both : get_or read start false && all_read read (start + 1) count ≡ true = sym (first_read read start count (omega arith)) ∙ all in
     let one : get_or read start false ≡ true = and-left (get_or read start false) (all_read read (start + 1) count) both in
     let others : all_read read (start + 1) count ≡ true = and-right (get_or read start false) (all_read read (start + 1) count) both in
-    let behind : words_in (cell read words) (start + 1) count ≡ Some (take count (drop (start + 1) words)) =
+    let following : words_in (cell read words) (start + 1) count ≡ Some (take count (drop (start + 1) words)) =
     words_in-read read words (start + 1) count (omega arith) sized others in
     let inside : start < length words = omega arith in
     let unfolded : option_and_then (λ first. option_map (λ (rest : List ℕ). first ∷ rest) (words_in (cell read words) (start + 1) count)) (cell read words start)
-    ≡ Some (get_or words start 0 ∷ take count (drop (start + 1) words)) = rw (one, behind) refl in
+    ≡ Some (get_or words start 0 ∷ take count (drop (start + 1) words)) = rw (one, following) refl in
     let whole : take (suc count) (drop start words) ≡ get_or words start 0 ∷ take count (drop (start + 1) words) = rw (drop-cons words start 0, add-one) refl in
     words_in-suc (cell read words) start count ∙ unfolded ∙ sym (ap (λ (rest : List ℕ). Some rest) whole)
 

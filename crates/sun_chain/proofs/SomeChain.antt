@@ -20,9 +20,9 @@ data Next (word : Words) (count address : ℕ) : Type 0 where
 after_length : (word : Words) (count address id size : ℕ) → nat_lt 65535 address ≡ false → word address ≡ Some id → (id == 0xFFFF) ≡ false →
     nat_le 64 count ≡ false → nat_lt 65535 (address + 1) ≡ false → word (address + 1) ≡ Some size →
     (past : Bool) → nat_lt 65536 (address + 2 + size) ≡ past → Next word count address
-after_length word count address id size in_space id_is other room behind size_is true past =
-    Lacking PastEnd (λ e. cc) (rw (in_space, id_is) (rw (other, room, behind, size_is) (rw past refl)))
-after_length word count address id size in_space id_is other room behind size_is false past =
+after_length word count address id size in_space id_is other room following size_is true past =
+    Lacking PastEnd (λ e. cc) (rw (in_space, id_is) (rw (other, room, following, size_is) (rw past refl)))
+after_length word count address id size in_space id_is other room following size_is false past =
     let model : Model = record { address = address; id = id; length = size } in
     let stands : Stands word model = record {
       id = id_is;
@@ -34,10 +34,10 @@ after_length word count address id size in_space id_is other room behind size_is
 
 after_id : (word : Words) (count address id : ℕ) → nat_lt 65535 address ≡ false → word address ≡ Some id → (id == 0xFFFF) ≡ false →
     nat_le 64 count ≡ false → nat_lt 65535 (address + 1) ≡ false → (found : Option ℕ) → word (address + 1) ≡ found → Next word count address
-after_id word count address id in_space id_is other room behind None is =
-    Lacking (Unreadable (address + 1)) (λ e. cc) (rw (in_space, id_is) (rw (other, room, behind, is) refl))
-after_id word count address id in_space id_is other room behind (Some size) is =
-    after_length word count address id size in_space id_is other room behind is (nat_lt 65536 (address + 2 + size)) refl
+after_id word count address id in_space id_is other room following None is =
+    Lacking (Unreadable (address + 1)) (λ e. cc) (rw (in_space, id_is) (rw (other, room, following, is) refl))
+after_id word count address id in_space id_is other room following (Some size) is =
+    after_length word count address id size in_space id_is other room following is (nat_lt 65536 (address + 2 + size)) refl
 
 with_length : (word : Words) (count address id : ℕ) → nat_lt 65535 address ≡ false → word address ≡ Some id → (id == 0xFFFF) ≡ false →
     nat_le 64 count ≡ false → (past : Bool) → nat_lt 65535 (address + 1) ≡ past → Next word count address

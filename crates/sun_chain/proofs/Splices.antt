@@ -26,9 +26,9 @@ get_or-padded n xs k d =
     ⊎_elim
     (λ (in_pad : k - length xs < n).
     get_or-append_right xs (replicate n d) (length xs) k d refl past ∙ get_or-replicate n (k - length xs) d d in_pad ∙ sym (get_or_past xs k d past))
-    (λ (behind : n ≤ k - length xs).
+    (λ (following : n ≤ k - length xs).
     get_or-append_right xs (replicate n d) (length xs) k d refl past
-    ∙ get_or_past (replicate n d) (k - length xs) d (rw (length-replicate n d) behind)
+    ∙ get_or_past (replicate n d) (k - length xs) d (rw (length-replicate n d) following)
     ∙ sym (get_or_past xs k d past))
     (cases_lt (k - length xs) n))
     (cases_lt k (length xs))
@@ -45,7 +45,7 @@ cell-splice read words new s n marks copied at fits sized size copies marked =
     let marks_size : length marks ≡ n = ap length marked ∙ length-replicate n true in
     let start : s ≤ length read = omega arith in
     let start_too : s ≤ length words = omega arith in
-    let behind : s + length new ≡ s + n = ap (λ (m : ℕ). s + m) size in
+    let following : s + length new ≡ s + n = ap (λ (m : ℕ). s + m) size in
     ⊎_elim
     (λ (below : at < s).
     rw (get_or-splice_below s n read marks at false start below, get_or-splice_below s n words copied at 0 start_too below, lt-leb s at below) refl)
@@ -55,11 +55,11 @@ cell-splice read words new s n marks copied at fits sized size copies marked =
     let mark : get_or marks (at - s) false ≡ true = rw marked (get_or-replicate n (at - s) true false (omega arith)) in
     let inside : nat_le s at ≡ true = le-leb s at from in
     let before_end : nat_lt at (s + n) ≡ true = lt-ltb at (s + n) before in
-    rw (get_or-splice_within s n read marks at false start from (omega arith), get_or-splice_within s n words copied at 0 start_too from (omega arith), mark, copies, behind) (rw (inside, before_end) refl))
+    rw (get_or-splice_within s n read marks at false start from (omega arith), get_or-splice_within s n words copied at 0 start_too from (omega arith), mark, copies, following) (rw (inside, before_end) refl))
     (λ (above : s + n ≤ at).
     let inside : nat_le s at ≡ true = le-leb s at from in
     let after_end : nat_lt at (s + n) ≡ false = le-ltb at (s + n) above in
-    rw (get_or-splice_above s n read marks at false fits marks_size above, get_or-splice_above s n words copied at 0 (omega arith) copied_size above, behind) (rw (inside, after_end) refl))
+    rw (get_or-splice_above s n read marks at false fits marks_size above, get_or-splice_above s n words copied at 0 (omega arith) copied_size above, following) (rw (inside, after_end) refl))
     (cases_lt at (s + n)))
     (cases_lt at s)
 

@@ -31,14 +31,14 @@ in_order_from_less from later (point ∷ points) below stand =
     (omega (arith, first), stand.1)
 
 -- One more point, if it is there, before others.
-one_before : (model : Model) (from : ℕ) (row : Row) (scale : PointScale) (found : Option Value) (behind : List Named) → from ≤ row.offset →
-    StandInOrder (model.address + end_of_row row) behind →
+one_before : (model : Model) (from : ℕ) (row : Row) (scale : PointScale) (found : Option Value) (following : List Named) → from ≤ row.offset →
+    StandInOrder (model.address + end_of_row row) following →
     StandInOrder (model.address + from)
-    (cons_option (option_map (λ value. record { name = row.name; address = model.address + row.offset; ty = row.ty; value = value; scale = scale }) found) behind)
-one_before model from row scale None behind begins stand =
-    in_order_from_less (model.address + from) (model.address + end_of_row row) behind (omega arith) stand
-one_before model from row scale (Some value) behind begins stand =
-    (omega arith, in_order_from_less (model.address + row.offset + registers_of row.ty) (model.address + end_of_row row) behind (omega arith) stand)
+    (cons_option (option_map (λ value. record { name = row.name; address = model.address + row.offset; ty = row.ty; value = value; scale = scale }) found) following)
+one_before model from row scale None following begins stand =
+    in_order_from_less (model.address + from) (model.address + end_of_row row) following (omega arith) stand
+one_before model from row scale (Some value) following begins stand =
+    (omega arith, in_order_from_less (model.address + row.offset + registers_of row.ty) (model.address + end_of_row row) following (omega arith) stand)
 
 rows_in_order : (word : Words) (model : Model) (from : ℕ) (rows : List Row) → ascends_from from rows ≡ true →
     StandInOrder (model.address + from) (filter_map (point_in word model) rows)

@@ -76,8 +76,10 @@ fn model_at(image: &Image, count: usize, address: u32) -> Result<Option<Model>, 
     if count >= MOST_MODELS {
         return Err(ChainFault::TooMany);
     }
-    let behind = address.checked_add(1).ok_or(ChainFault::PastEnd)?;
-    let length = image.word(behind).ok_or(ChainFault::Unreadable(behind))?;
+    let following = address.checked_add(1).ok_or(ChainFault::PastEnd)?;
+    let length = image
+        .word(following)
+        .ok_or(ChainFault::Unreadable(following))?;
     let model = Model {
         address,
         id,

@@ -26,32 +26,32 @@ no_more_voids meter (p ∷ ps) rest text none h =
     absurd (none meter (decimal p ++ 10 ∷ (flat_map (void_line meter) ps ++ rest)) h.word (void_first meter p ps rest text h))
 
 -- what follows the name in the line of a void
-pub void_number : (meter after rest text word behind : List ℕ)
-    → ((w r : List ℕ) → is_word w ≡ true → text ≡ codes "void " ++ (w ++ 32 ∷ r) → (word ≡ w) × (behind ≡ r))
-    → text ≡ codes "void " ++ (word ++ 32 ∷ behind) → AreVoids meter after rest text
-    → (p : ℕ) × (ps : List ℕ) × (after ≡ p ∷ ps) × (p < 2 ^ 64) × (behind ≡ decimal p ++ 10 ∷ (flat_map (void_line meter) ps ++ rest))
-void_number meter [] rest text word behind reads is h = absurd (h.ends (word ++ 32 ∷ behind, sym h.is ∙ is))
-void_number meter (p ∷ ps) rest text word behind reads is h =
+pub void_number : (meter after rest text word following : List ℕ)
+    → ((w r : List ℕ) → is_word w ≡ true → text ≡ codes "void " ++ (w ++ 32 ∷ r) → (word ≡ w) × (following ≡ r))
+    → text ≡ codes "void " ++ (word ++ 32 ∷ following) → AreVoids meter after rest text
+    → (p : ℕ) × (ps : List ℕ) × (after ≡ p ∷ ps) × (p < 2 ^ 64) × (following ≡ decimal p ++ 10 ∷ (flat_map (void_line meter) ps ++ rest))
+void_number meter [] rest text word following reads is h = absurd (h.ends (word ++ 32 ∷ following, sym h.is ∙ is))
+void_number meter (p ∷ ps) rest text word following reads is h =
     let one = reads meter (decimal p ++ 10 ∷ (flat_map (void_line meter) ps ++ rest)) h.word (void_first meter p ps rest text h) in
     (p, ps, refl, h.fit.0, one.1)
 
-pub no_void_number : (meter after rest text word behind : List ℕ)
-    → ((w r : List ℕ) → is_word w ≡ true → text ≡ codes "void " ++ (w ++ 32 ∷ r) → (word ≡ w) × (behind ≡ r))
-    → text ≡ codes "void " ++ (word ++ 32 ∷ behind)
-    → ((n : ℕ) (r : List ℕ) → n < 2 ^ 64 → behind ≡ decimal n ++ 10 ∷ r → ⊥)
+pub no_void_number : (meter after rest text word following : List ℕ)
+    → ((w r : List ℕ) → is_word w ≡ true → text ≡ codes "void " ++ (w ++ 32 ∷ r) → (word ≡ w) × (following ≡ r))
+    → text ≡ codes "void " ++ (word ++ 32 ∷ following)
+    → ((n : ℕ) (r : List ℕ) → n < 2 ^ 64 → following ≡ decimal n ++ 10 ∷ r → ⊥)
     → AreVoids meter after rest text → ⊥
-no_void_number meter after rest text word behind reads is none h =
-    let k = void_number meter after rest text word behind reads is h in
+no_void_number meter after rest text word following reads is none h =
+    let k = void_number meter after rest text word following reads is h in
     none k.0 (flat_map (void_line meter) k.1 ++ rest) k.3 k.4
 
-pub next_void : (meter after rest text word behind : List ℕ) (number : ℕ) (follows : List ℕ)
-    → ((w r : List ℕ) → is_word w ≡ true → text ≡ codes "void " ++ (w ++ 32 ∷ r) → (word ≡ w) × (behind ≡ r))
-    → text ≡ codes "void " ++ (word ++ 32 ∷ behind)
-    → ((n : ℕ) (r : List ℕ) → n < 2 ^ 64 → behind ≡ decimal n ++ 10 ∷ r → (number ≡ n) × (follows ≡ r))
+pub next_void : (meter after rest text word following : List ℕ) (number : ℕ) (follows : List ℕ)
+    → ((w r : List ℕ) → is_word w ≡ true → text ≡ codes "void " ++ (w ++ 32 ∷ r) → (word ≡ w) × (following ≡ r))
+    → text ≡ codes "void " ++ (word ++ 32 ∷ following)
+    → ((n : ℕ) (r : List ℕ) → n < 2 ^ 64 → following ≡ decimal n ++ 10 ∷ r → (number ≡ n) × (follows ≡ r))
     → AreVoids meter after rest text
     → (ps : List ℕ) × (after ≡ number ∷ ps) × AreVoids meter ps rest follows
-next_void meter after rest text word behind number follows reads is numbers h =
-    let k = void_number meter after rest text word behind reads is h in
+next_void meter after rest text word following number follows reads is numbers h =
+    let k = void_number meter after rest text word following reads is h in
     let p : ℕ = k.0 in
     let ps : List ℕ = k.1 in
     let two = numbers p (flat_map (void_line meter) ps ++ rest) k.3 k.4 in
@@ -79,19 +79,19 @@ no_more_meters (s ∷ ss) rest text none h =
     ∙ append_assoc (meter_line s) (flat_map (void_line s.meter) s.voids) (flat_map meter_text ss ++ rest)))
 
 -- the first meter of which a line was read
-pub record FirstMeter (after : List Sealed) (rest : List ℕ) (line : MeterLine) (behind : List ℕ) : Type 0 where
+pub record FirstMeter (after : List Sealed) (rest : List ℕ) (line : MeterLine) (following : List ℕ) : Type 0 where
   pub seal : Sealed
   pub others : List Sealed
   pub is : after ≡ seal ∷ others
   pub line_is : IsLineOf seal line
   pub fit : AreSealable others
-  pub voids : AreVoids seal.meter seal.voids (flat_map meter_text others ++ rest) behind
+  pub voids : AreVoids seal.meter seal.voids (flat_map meter_text others ++ rest) following
 
-pub first_meter : (after : List Sealed) (rest text : List ℕ) (line : MeterLine) (behind : List ℕ)
-    → ((s : Sealed) (r : List ℕ) → IsSealable s → text ≡ meter_line s ++ r → IsLineOf s line × (behind ≡ r))
-    → Begins (codes "meter ") text → AreMeters after rest text → FirstMeter after rest line behind
-first_meter [] rest text line behind reads begins h = absurd (h.no_meter (begins.0, sym h.is ∙ begins.1))
-first_meter (s ∷ ss) rest text line behind reads begins h =
+pub first_meter : (after : List Sealed) (rest text : List ℕ) (line : MeterLine) (following : List ℕ)
+    → ((s : Sealed) (r : List ℕ) → IsSealable s → text ≡ meter_line s ++ r → IsLineOf s line × (following ≡ r))
+    → Begins (codes "meter ") text → AreMeters after rest text → FirstMeter after rest line following
+first_meter [] rest text line following reads begins h = absurd (h.no_meter (begins.0, sym h.is ∙ begins.1))
+first_meter (s ∷ ss) rest text line following reads begins h =
     let one = reads s (flat_map (void_line s.meter) s.voids ++ (flat_map meter_text ss ++ rest)) h.fit.0
     (h.is ∙ append_assoc (meter_text s) (flat_map meter_text ss) rest
     ∙ append_assoc (meter_line s) (flat_map (void_line s.meter) s.voids) (flat_map meter_text ss ++ rest)) in

@@ -67,18 +67,18 @@ hex_word (b ∷ bytes) h =
 pub stripped : (before text rest : List ℕ) → StripsPrefix (FindsTextPrefix before) text rest → text ≡ before ++ rest
 stripped before text rest h = h.1.1 ∙ ap (λ t. before ++ t) (sym h.2)
 
-pub strip_reads : (before text rest behind : List ℕ) → StripsPrefix (FindsTextPrefix before) text rest → text ≡ before ++ behind → rest ≡ behind
-strip_reads before text rest behind h is = append_cancel_left before rest behind (sym (stripped before text rest h) ∙ is)
+pub strip_reads : (before text rest following : List ℕ) → StripsPrefix (FindsTextPrefix before) text rest → text ≡ before ++ following → rest ≡ following
+strip_reads before text rest following h is = append_cancel_left before rest following (sym (stripped before text rest h) ∙ is)
 
-pub not_stripped : (before text behind : List ℕ) → FindsTextPrefix before text None → text ≡ before ++ behind → ⊥
-not_stripped before text behind h is = h behind is
+pub not_stripped : (before text following : List ℕ) → FindsTextPrefix before text None → text ≡ before ++ following → ⊥
+not_stripped before text following h is = h following is
 
 -- ---- up to an end
 
-pub split_reads : (end : ℕ) (text word behind : List ℕ) (r : Option (Bor (List ℕ) × Bor (List ℕ))) → IsSplitOnceResult end text r → end ≤ 32
-    → is_word word ≡ true → text ≡ word ++ end ∷ behind → IsSomeAnd r (λ found. (found.0.now ≡ word) × (found.1.now ≡ behind))
-split_reads end text word behind None h le w is = split_after end text word behind None h (omega (arith, le)) is (is_free word end w le)
-split_reads end text word behind (Some x) h le w is = split_after end text word behind (Some x) h (omega (arith, le)) is (is_free word end w le)
+pub split_reads : (end : ℕ) (text word following : List ℕ) (r : Option (Bor (List ℕ) × Bor (List ℕ))) → IsSplitOnceResult end text r → end ≤ 32
+    → is_word word ≡ true → text ≡ word ++ end ∷ following → IsSomeAnd r (λ found. (found.0.now ≡ word) × (found.1.now ≡ following))
+split_reads end text word following None h le w is = split_after end text word following None h (omega (arith, le)) is (is_free word end w le)
+split_reads end text word following (Some x) h le w is = split_after end text word following (Some x) h (omega (arith, le)) is (is_free word end w le)
 
 pub split_is : (end : ℕ) (text : List ℕ) (r : Option (Bor (List ℕ) × Bor (List ℕ))) → IsSplitOnceResult end text r → end ≤ 32
     → IfSome r (λ found. text ≡ found.0.now ++ end ∷ found.1.now)
@@ -92,18 +92,18 @@ parts_are before text rest end (Some x) is h = is ∙ ap (λ t. before ++ t) h �
 
 -- ---- what follows an end is a text
 
-utf8_behind : (text front behind : List ℕ) (end : ℕ) → IsUtf8 text → text ≡ front ++ end ∷ behind → end ≤ 32 → IsUtf8 behind
-utf8_behind text front behind end u is le =
-    let inside : length front < length text = omega (arith, ap length is, length-append front (end ∷ behind)) in
-    let there : get_or text (length front) 0 ≡ end = ap (λ (t : List ℕ). get_or t (length front) 0) is ∙ get_or-append_seam front end behind 0 in
+utf8_after : (text front following : List ℕ) (end : ℕ) → IsUtf8 text → text ≡ front ++ end ∷ following → end ≤ 32 → IsUtf8 following
+utf8_after text front following end u is le =
+    let inside : length front < length text = omega (arith, ap length is, length-append front (end ∷ following)) in
+    let there : get_or text (length front) 0 ≡ end = ap (λ (t : List ℕ). get_or t (length front) 0) is ∙ get_or-append_seam front end following 0 in
     let small : get_or text (length front) 0 < 128 = omega (arith, there, le) in
-    let past : drop (length front + 1) text ≡ behind = ap (drop (length front + 1)) is ∙ drop-append-add front (end ∷ behind) 1 in
+    let past : drop (length front + 1) text ≡ following = ap (drop (length front + 1)) is ∙ drop-append-add front (end ∷ following) 1 in
     subst IsUtf8 past (IsUtf8-drop text (length front + 1) u (IsCharBoundary-after_ascii text (length front) u inside small))
 
 pub utf8_parts : (text before : List ℕ) (end : ℕ) (r : Option (Bor (List ℕ) × Bor (List ℕ))) → IsUtf8 text → end ≤ 32
     → IfSome r (λ found. text ≡ (before ++ found.0.now) ++ end ∷ found.1.now) → IfSome r (λ found. IsUtf8 found.1.now)
 utf8_parts text before end None u le h = tt
-utf8_parts text before end (Some x) u le h = utf8_behind text (before ++ x.0.now) x.1.now end u h le
+utf8_parts text before end (Some x) u le h = utf8_after text (before ++ x.0.now) x.1.now end u h le
 
 -- ---- a digest read
 

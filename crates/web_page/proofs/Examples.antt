@@ -24,8 +24,8 @@ a_target_in_other_case = refl
 a_target_with_a_query : part_of (codes "/?") ≡ None
 a_target_with_a_query = refl
 
-a_target_behind_it : part_of (codes "/page.js/") ≡ None
-a_target_behind_it = refl
+a_target_after_it : part_of (codes "/page.js/") ≡ None
+a_target_after_it = refl
 
 a_file_that_has_another_target : part_of (codes "/page.html") ≡ None
 a_file_that_has_another_target = refl

@@ -177,19 +177,19 @@ struck_one fit kept ranges facts v lawful (Some m) after (n, there, has) is =
     let later : List Fact = fact.Void v ∷ facts in
     let line : journal.Line = journal.Voided v.place in
     let lines : journal.Journal = journal_of facts o.meter in
-    let behind : journal_of later o.meter ≡ line ∷ lines = line_after facts v.meter line o (named_so facts v.meter o is.there) in
+    let following : journal_of later o.meter ≡ line ∷ lines = line_after facts v.meter line o (named_so facts v.meter o is.there) in
     let fits : VoidFits (installed o) (rows_of facts o) v.place = own_line facts v.meter line o lawful.0.0 is.there in
     let numbered : lists.AreNumbered (rows_of facts o) = rows_numbered (opened o) lines in
     let inside = row_inside v.place (rows_of facts o) fits.around numbered fits.there in
     let opening_is : m.row.opening ≡ o = ap (λ (r : Installation). r.opening) is.row in
-    let ended_is : m.row.ended ≡ is_ended later o = ap (λ (r : Installation). r.ended) is.row ∙ sym (ap journal.is_ended behind) in
+    let ended_is : m.row.ended ≡ is_ended later o = ap (λ (r : Installation). r.ended) is.row ∙ sym (ap journal.is_ended following) in
     let low : 2 ≤ v.place = inside.0 in
     let high : v.place < length (lists.latest_first m.rows.items) + 2 =
     subst (λ (rs : List EntryRow). v.place < length rs + 2) (sym is.rows) inside.1 in
     let rows_are : lists.latest_first n.rows.items ≡ rows_of later o =
     has.rows (subst lists.AreNumbered (sym is.rows) numbered) low high
     ∙ ap (λ (p : Opening). journal.with_void (opened p) v.place (lists.latest_first m.rows.items)) opening_is
-    ∙ ap (journal.with_void (opened o) v.place) is.rows ∙ sym (ap (journal.rows_of (opened o)) behind) in
+    ∙ ap (journal.with_void (opened o) v.place) is.rows ∙ sym (ap (journal.rows_of (opened o)) following) in
     let recorded : IsRecorded later o = found_is_there (λ (x : Opening). same x.meter v.meter) (openings_in facts) o is.there in
     let all = known fit kept ranges later o lawful recorded in
     let numbers : HasNumbers m.row.opening = subst HasNumbers (sym opening_is) all.numbers in

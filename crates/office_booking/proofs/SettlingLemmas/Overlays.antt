@@ -28,7 +28,7 @@ use Rattle.office_rules.proofs.Lookups.{same_text}
 use Rattle.office_rules.specs.Lawfulness.{NamesAreDistinct}
 use Rattle.office_rules.specs.Ranges.{IsSound}
 use Rattle.office_booking.specs.Settling.Drafts.{IsTold, AreTold}
-use Rattle.office_booking.specs.Settling.Behind.{with_result, with_entry, installation_with, IsIn, StandsBehind}
+use Rattle.office_booking.specs.Settling.Following.{with_result, with_entry, installation_with, IsIn, IsAfterFacts}
 use Rattle.office_booking.proofs.SettlingLemmas.Told.{told_openings, told_first, told_at, lawful_first}
 
 -- The laws of entries.
@@ -106,8 +106,8 @@ goes_on laws (fact.Reply reply) facts o told h recorded low = absurd told
 
 -- after the first facts of a draft it stands so
 abbrev pub StandsAfterFirst : Installation → List Fact → ℕ → Installation → Type 0
-StandsAfterFirst row facts i behind = (known : List Fact) → AreTold facts → AreLawful (reverse facts ++ known)
-    → IsIn known row → behind ≡ installation_of (reverse (take i facts) ++ known) row.opening
+StandsAfterFirst row facts i following = (known : List Fact) → AreTold facts → AreLawful (reverse facts ++ known)
+    → IsIn known row → following ≡ installation_of (reverse (take i facts) ++ known) row.opening
 
 still_recorded : (facts known : List Fact) (o : Opening) → AreTold facts → IsRecorded known o → IsRecorded (reverse facts ++ known) o
 still_recorded facts known o told recorded =
@@ -117,14 +117,14 @@ reverse_more : (facts : List Fact) (i : ℕ) (x : Fact) → i < length facts →
 reverse_more facts i x less is =
     ap reverse (take_more facts i x less ∙ ap (λ y. take i facts ++ y ∷ []) (sym is)) ∙ reverse-append (take i facts) (x ∷ [])
 
-pub one_fact_more : Laws → (row : Installation) (facts : List Fact) (i : ℕ) (behind new : Installation) (x : Fact)
-    → i < length facts → x ≡ get_or facts i x → IsSound behind → StandsAfterFirst row facts i behind → new ≡ installation_with x behind
+pub one_fact_more : Laws → (row : Installation) (facts : List Fact) (i : ℕ) (following new : Installation) (x : Fact)
+    → i < length facts → x ≡ get_or facts i x → IsSound following → StandsAfterFirst row facts i following → new ≡ installation_with x following
     → StandsAfterFirst row facts (i + 1) new
-one_fact_more laws row facts i behind new x less is sound stands with_it = λ known told lawful at_first.
+one_fact_more laws row facts i following new x less is sound stands with_it = λ known told lawful at_first.
     let first : List Fact = reverse (take i facts) ++ known in
     let more : reverse (take (i + 1) facts) ++ known ≡ x ∷ first = ap (λ fs. fs ++ known) (reverse_more facts i x less is) in
     let fits : AreLawful (x ∷ first) = subst AreLawful more (lawful_first facts known (i + 1) lawful) in
-    let here : behind ≡ installation_of first row.opening = stands known told lawful at_first in
+    let here : following ≡ installation_of first row.opening = stands known told lawful at_first in
     let low : (installation_of first row.opening).last.raw < row.opening.range =
     subst (λ (r : Installation). r.last.raw < r.opening.range) here sound.raw in
     with_it
@@ -161,7 +161,7 @@ none_open facts known register told none =
 
 -- the installation at a register, after what is told
 found_open : (facts known : List Fact) (register : List ℕ) (row new : Installation) (found : Option Opening) → AreTold facts → AreLawful (reverse facts ++ known)
-    → StandsBehind row facts new → installed_at known register ≡ found → Some row ≡ option_map (installation_of known) found
+    → IsAfterFacts row facts new → installed_at known register ≡ found → Some row ≡ option_map (installation_of known) found
     → if_open new ≡ open_at (reverse facts ++ known) register
 found_open facts known register row new None told lawful stands there is = absurd (cc)
 found_open facts known register row new (Some o) told lawful stands there is =
@@ -179,6 +179,6 @@ found_open facts known register row new (Some o) told lawful stands there is =
     ∙ ap (λ x. option_and_then if_open (option_map (installation_of F) x)) (sym (installed_after facts known register told ∙ there))
 
 pub open_after : (facts known : List Fact) (register : List ℕ) (row new : Installation) → AreTold facts → AreLawful (reverse facts ++ known)
-    → StandsBehind row facts new → Some row ≡ installation_at known register → if_open new ≡ open_at (reverse facts ++ known) register
+    → IsAfterFacts row facts new → Some row ≡ installation_at known register → if_open new ≡ open_at (reverse facts ++ known) register
 open_after facts known register row new told lawful stands is =
     found_open facts known register row new (installed_at known register) told lawful stands refl is

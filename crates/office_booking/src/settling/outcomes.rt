@@ -11,8 +11,8 @@ ghost use Rattle.office_rules.specs.Ranges.{IsSound};
 ghost use Rattle.office_booking.specs.Settling.Drafts.{HasMore, Adds};
 ghost use Rattle.office_booking.specs.Settling.Replies.{words_of};
 
-use crate::settling::behind::open_installation;
 use crate::settling::drafts::Draft;
+use crate::settling::following::open_installation;
 use crate::settling::readings::{is_read_by, reading_of};
 use energy_core::{Entry, Reading, Verdict};
 use mb_wire::Reply;

@@ -15,17 +15,17 @@ use Rattle.office_program.specs.Entering.Entered.{EntersLines, TellsEntering}
 use Rattle.office_program.specs.Entering.Lines.{Telling}
 
 -- the moment of an opening is the one that the clock told
-told_at : (moments then : Option (List ℕ)) (listed : List ℕ) (behind : Option (List ℕ)) (first at : ℕ) → TellsMoment moments then first
-    → listed ≡ first ∷ [] → TellsMoment (Some listed) behind at → at ≡ first
-told_at moments then listed behind first at told is opens = opens.0 ∙ ap next_moment is
+told_at : (moments then : Option (List ℕ)) (listed : List ℕ) (following : Option (List ℕ)) (first at : ℕ) → TellsMoment moments then first
+    → listed ≡ first ∷ [] → TellsMoment (Some listed) following at → at ≡ first
+told_at moments then listed following first at told is opens = opens.0 ∙ ap next_moment is
 
 -- The opening was refused.
 pub unopened : {B : Type 0} (ledger : B → Ledger) (tells : Telling) (past : History) (caller text : List ℕ) (moments then : Option (List ℕ)) (listed : List ℕ)
-    (behind : Option (List ℕ)) (first : ℕ) (books back : B) (had holds : Option (List ℕ)) (status : ExitStatus) → TellsMoment moments then first → listed ≡ first ∷ []
-    → TellsUnopened past (Some listed) behind (ledger books) (ledger back) status had holds
+    (following : Option (List ℕ)) (first : ℕ) (books back : B) (had holds : Option (List ℕ)) (status : ExitStatus) → TellsMoment moments then first → listed ≡ first ∷ []
+    → TellsUnopened past (Some listed) following (ledger books) (ledger back) status had holds
     → TellsEntering ledger past tells caller text moments then books back had holds status
-unopened ledger tells past caller text moments then listed behind first books back had holds status told is refused =
-    let same = told_at moments then listed behind first refused.at told is refused.timed in
+unopened ledger tells past caller text moments then listed following first books back had holds status told is refused =
+    let same = told_at moments then listed following first refused.at told is refused.timed in
     let P : ℕ → Type 0 = λ at. TellsMoment moments then at in
     inl (record {
       at = refused.at;
@@ -41,18 +41,18 @@ kept {B = B} ledger left back is clean = let P : B → Type 0 = λ b. (ledger b)
 
 -- It was opened, and entered into.
 pub entered : {B W : Type 0} (ledger : B → Ledger) (contents : W → Option (List ℕ)) (tells : Telling) (past : History) (caller text : List ℕ) (name : Option (List ℕ))
-    (moments then later : Option (List ℕ)) (listed : List ℕ) (behind : Option (List ℕ)) (first : ℕ) (books back : B) (opened left : Office B) (before silent : W)
+    (moments then later : Option (List ℕ)) (listed : List ℕ) (following : Option (List ℕ)) (first : ℕ) (books back : B) (opened left : Office B) (before silent : W)
     (holds : Option (List ℕ)) (status : ExitStatus) → name ≡ named caller → TellsMoment moments then first → listed ≡ first ∷ []
-    → ((ledger (books_in opened)).is_clean → Opens ledger past (Some listed) behind opened) → silent ≡ before
+    → ((ledger (books_in opened)).is_clean → Opens ledger past (Some listed) following opened) → silent ≡ before
     → ((ledger (books_in left)).is_clean → (ledger (books_in opened)).is_clean)
     → After ledger opened left (EntersLines ledger tells name (speaking_lines text) first (round_state (contents silent) then (failures_of ledger opened))
     (round_state holds later (failures_of ledger left)) left status)
     → back ≡ books_in left → (ledger back).is_clean
     → TellsEntering ledger past tells caller text moments later books back (contents before) holds status
-entered {W = W} ledger contents tells past caller text name moments then later listed behind first books back opened left before silent holds status names told is opens same lasts enters handed clean =
+entered {W = W} ledger contents tells past caller text name moments then later listed following first books back opened left before silent holds status names told is opens same lasts enters handed clean =
     let whole = kept ledger left back handed clean in
     let opening = opens (lasts whole) in
-    let at_first = told_at moments then listed behind first opening.at told is opening.timed in
+    let at_first = told_at moments then listed following first opening.at told is opening.timed in
     let done = enters (Opened opening.at ∷ past) opening.stands whole in
     let P : Option (List ℕ) → Type 0 = λ n. EntersLines ledger tells n (speaking_lines text) first (round_state (contents silent) then (failures_of ledger opened))
     (round_state holds later (failures_of ledger left)) left status (Opened opening.at ∷ past) in

@@ -127,15 +127,15 @@ verb_spelled number verb words all line first h =
           ]
     ]
 
-behind_spelled : (number : ℕ) (words all : List (List ℕ)) (line : ReadLine) → first_value Number all ≡ Some (number, words)
+after_spelled : (number : ℕ) (words all : List (List ℕ)) (line : ReadLine) → first_value Number all ≡ Some (number, words)
     → verb_said number words ≡ Some line → IsReadLine all line
-behind_spelled number [] all line first h = absurd (cc h)
-behind_spelled number (verb ∷ words) all line first h = verb_spelled number verb words all line first h
+after_spelled number [] all line first h = absurd (cc h)
+after_spelled number (verb ∷ words) all line first h = verb_spelled number verb words all line first h
 
 pub spelled_of : (words : List (List ℕ)) (line : ReadLine) → read_said words ≡ Some line → IsReadLine words line
 spelled_of words line h =
     let number = bound (first_value Number words) _ line h in
-    behind_spelled number.0.0 number.0.1 words line number.1 number.2
+    after_spelled number.0.0 number.0.1 words line number.1 number.2
 
 -- where nothing is said, the words are no such line
 pub none_of : (words : List (List ℕ)) → (let o : Option ReadLine = None in o) ≡ read_said words → IsNoReadLine words

@@ -6,7 +6,7 @@ use Rattle.std.proofs.KnownBytes.{Appends-trans}
 use Rattle.office_books.specs.Rows.{TakesAll}
 use Rattle.energy_report.specs.RowLines.{counted}
 use Rattle.energy_report.specs.declared.row_lines.RowLines.{RowLines}
-use Rattle.energy_report.proofs.RowLinesLemmas.{Fits, TakesLine, all_written, behind, longer}
+use Rattle.energy_report.proofs.RowLinesLemmas.{Fits, TakesLine, all_written, following, longer}
 use Rattle.command_io.specs.declared.status.ExitStatus.{ExitStatus}
 use Rattle.command_io.specs.declared.status.ExitStatus.TheVariants.{Failed}
 use Rattle.office_program.specs.Texts.EndTexts.{IsTold}
@@ -27,7 +27,7 @@ told_part contents line rows last from to meant o o' works none took failed star
 told_after : (x y : List ℕ) (meant status : ExitStatus) (a b c : Option (List ℕ)) → Appends a b x → IsTold y meant status b c
     → IsTold (x ++ y) meant status a c
 told_after x y meant status a b c first (inl told) = inl (told.0, Appends-trans a b c x y first told.1)
-told_after x y meant status a b c first (inr part) = inr (part.0, behind x y a b c first part.1)
+told_after x y meant status a b c first (inr part) = inr (part.0, following x y a b c first part.1)
 
 -- the lines of all days, and a last text after them
 pub told_all : {W T : Type 0} (contents : W → Option (List ℕ)) (line : T → List ℕ) (rows : List T) (last : ℕ → List ℕ)

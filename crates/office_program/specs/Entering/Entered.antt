@@ -88,11 +88,11 @@ EntersTextOf b c w tells caller text first old new before after had holds status
 -- The opened office was entered into, from the moment of its opening on.
 abbrev pub Enters : {B : Type 0} → (B → Ledger) → Telling → (caller : Option (List ℕ))
     → (text : List ℕ) → (later had holds : Option (List ℕ)) → ExitStatus
-    → (behind : History) → (since : Option (List ℕ)) → (opened left : Office B) → Type 0
-Enters ledger tells caller text later had holds status behind since opened left =
-    EntersLines ledger tells caller (speaking_lines text) (latest_of behind)
+    → (following : History) → (since : Option (List ℕ)) → (opened left : Office B) → Type 0
+Enters ledger tells caller text later had holds status following since opened left =
+    EntersLines ledger tells caller (speaking_lines text) (latest_of following)
     (round_state had since (failures_of ledger opened))
-    (round_state holds later (failures_of ledger left)) left status behind
+    (round_state holds later (failures_of ledger left)) left status following
 
 -- The opening was refused, and that alone was printed; or the office was opened, and entered into.
 abbrev pub TellsEntering : {B : Type 0} → (B → Ledger) → (past : History) → Telling

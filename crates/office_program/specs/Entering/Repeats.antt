@@ -72,9 +72,9 @@ pub record HasEntered (tells : Telling) (caller : Option (List ℕ)) (lines : Li
 
 -- Some first lines of it are taken again later, whatever else the office has accepted until then.
 pub record EntersAgain (tells : Telling) (caller : Option (List ℕ)) (lines : List Line)
-    (behind later : History) (again : List Taken) : Type 0 where
+    (following later : History) (again : List Taken) : Type 0 where
   pub more : History
-  pub later_is : later ≡ more ++ behind
+  pub later_is : later ≡ more ++ following
   pub accepted : AreAccepted later
   pub rest : List Line
   pub part : lines ≡ lines_with again rest

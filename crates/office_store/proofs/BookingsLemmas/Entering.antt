@@ -40,7 +40,7 @@ pub device_entered : (device : Device) (place : ℕ) (name : List ℕ) (row : De
     → (before mid after : Content) → IsNextDevice place before mid → AddsDevice name row mid after → Records (fact.Device device) before after
 device_entered device place name row name_is row_is before mid after next adds =
     let is : (let d : Added = record { name = name; row = row } in d) ≡ added place device = λ i. record { name = name_is i; row = row_is i } in
-    device_recorded device place before after next.behind
+    device_recorded device place before after next.following
     (subst (λ (d : Added). Edits list_tree.devices device_columns (with_row d) before after) is (subst (λ tables. AddsDevice name row tables after) next.same adds))
 
 -- ---- lists
@@ -66,7 +66,7 @@ pub register_entered : (register : Register) (place : ℕ) (name device : List �
     → (before mid after : Content) → IsNextRegister place before mid → AddsRegister name device row mid after → Records (fact.Register register) before after
 register_entered register place name device row name_is device_is row_is before mid after next adds =
     let is : (let r : Registered = record { name = name; device = device; row = row } in r) ≡ registered place register = λ i. record { name = name_is i; device = device_is i; row = row_is i } in
-    register_recorded register place before after next.behind
+    register_recorded register place before after next.following
     (subst (λ (r : Registered). Edits list_tree.registers register_columns (with_row r) before after) is (subst (λ tables. AddsRegister name device row tables after) next.same adds))
 
 -- ---- polls
@@ -96,7 +96,7 @@ pub hold_entered : HoldsChangeNothing → (held : HeldReading) (place : ℕ) (me
     → (before mid after : Content) → IsNextHold place before mid → AddsHold meter row mid after → Records (fact.Hold held) before after
 hold_entered law held place meter row meter_is row_is before mid after next adds =
     let is : (let h : Held = record { meter = meter; row = row } in h) ≡ held_row place held = λ i. record { meter = meter_is i; row = row_is i } in
-    hold_recorded law held place before after next.behind
+    hold_recorded law held place before after next.following
     (subst (λ (h : Held). Edits poll_tree.holds hold_columns (with_row h) before after) is (subst (λ content. AddsHold meter row content after) next.same adds))
 
 -- ---- replies

@@ -38,7 +38,7 @@ opening_entered law o place meter register row first meter_is register_is row_is
     let range_is : (let r : Ranged = record { meter = meter; range = o.range } in r) ≡ ranged o = λ i. record { meter = meter_is i; range = o.range } in
     let entry_is : (let e : Entered = record { meter = meter; entry = first } in e) ≡ entered o.meter (opening_row o) = λ i. record { meter = meter_is i; entry = first_is i } in
     let next = one.1.1 in
-    opening_recorded law o place zone facts before one.0 mid after a lawful next.behind
+    opening_recorded law o place zone facts before one.0 mid after a lawful next.following
     (subst (λ (x : Installed). Edits meter_tree.installations installed_columns (with_row x) before one.0) installed_is
     (subst (λ content. AddsInstallation meter register row content one.0) next.same one.1.2))
     (subst (λ (x : Ranged). Edits meter_tree.ranges ranged_columns (with_row x) one.0 mid) range_is one.2)

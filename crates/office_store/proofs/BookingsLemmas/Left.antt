@@ -292,11 +292,11 @@ module _ (v : VoidedEntry) (facts : List Fact) (lawful : AreLawful (fact.Void v 
       let next_is : around.next ≡ Some next = one.1 in
       let it = rolling.next_there v.place rows around next numbered at next_is in
       let read : is_read next.kind next.entry ≡ true = subst (λ n. journals.is_free n ≡ true) next_is free in
-      let edit = rolling.edit o v.place next last it.behind it.stands read in
-      let rolls = rolling.rolls o v.place next last it.behind it.stands read in
+      let edit = rolling.edit o v.place next last it.following it.stands read in
+      let rolls = rolling.rolls o v.place next last it.following it.stands read in
       let rolled_rows : entered_rows o (map (changed_by v.place (Some next) last) rows) ≡ map edit (entered_rows o rows) =
-      rolling.all_edited o v.place (Some next) last edit (rolling.opening_spared o v.place next last it.behind it.stands read it.late) rows each_read
-      (all_weaker (FoundThere next.place next) (rolling.IsEdited o v.place (Some next) last edit) (rolling.one_next o v.place next last it.behind it.stands read) rows it.each) in
+      rolling.all_edited o v.place (Some next) last edit (rolling.opening_spared o v.place next last it.following it.stands read it.late) rows each_read
+      (all_weaker (FoundThere next.place next) (rolling.IsEdited o v.place (Some next) last edit) (rolling.one_next o v.place next last it.following it.stands read) rows it.each) in
       let place_is : rollover.place ≡ next.place = ap (λ (r : Rollover). r.place) one.2 in
       let rolls_are : rollover.rolls ≡ rolls = ap (λ (r : Rollover). r.rolls) one.2
       ∙ ap (λ (l : Last). rolls_of (journal.with_rolls (last_before l around) next.entry)) from.opening in

@@ -43,7 +43,7 @@ pub stands : (meter : List ℕ) (it : Standing) (a b c d : Content) → IsNext e
     → IsStanding meter it a d
 stands meter it a b c d p q r = record {
   same = r.same ∙ (q.same ∙ p.same);
-  behind = p.behind;
+  following = p.following;
   last = λ rows has. q.seen rows (subst (HasRows meter_tree.installations installed_columns rows) (sym p.same) has);
   range = λ rows has. r.seen rows (subst (HasRows meter_tree.ranges ranged_columns rows) (sym (q.same ∙ p.same)) has);
 }
@@ -117,10 +117,10 @@ entry_entered moves others sums limits traces booked standing advance row advanc
     let last_is : standing.last ≡ last_row (installation_of facts o) = last.1 ∙ last.2 in
     let range = range_found facts lawful.1 meter o there HasRange standing.range (at.range (map ranged (openings_in facts)) a.ranges) in
     let range_is : standing.range ≡ o.range = range.1 ∙ range.2 in
-    let behind = at.behind a.entries.rows a.entries.there in
+    let following = at.following a.entries.rows a.entries.there in
     let are : IsPermutation (filter (is_of meter) a.entries.rows) (entered_rows o (rows_of facts o)) =
     subst (λ (l : List Entered). IsPermutation (filter (is_of meter) a.entries.rows) l) (ap (entries_at facts) there) (a.entries.each meter) in
-    let place_is : standing.place ≡ length (rows_of facts o) + 2 = behind.1 ∙ entries_count o (rows_of facts o) (is_of meter) a.entries.rows behind.0 numbered are behind.2 in
+    let place_is : standing.place ≡ length (rows_of facts o) + 2 = following.1 ∙ entries_count o (rows_of facts o) (is_of meter) a.entries.rows following.0 numbered are following.2 in
     entry_recorded moves others sums limits booked zone facts o (settled advance.last (is_closing booked.kind)) before enters.one enters.two after a lawful there
     (changed booked facts o on standing advance advances last_is range_is)
     (subst (λ (e : EntryRow). Edits entry_tree.entries entry_columns (with_row (entered meter e)) before enters.one) (same_row booked facts o on standing advance advances last_is range_is row place_is row_is)

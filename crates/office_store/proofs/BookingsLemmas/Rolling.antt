@@ -29,7 +29,7 @@ use Rattle.store_queries.proofs.MeteringLemmas.Shapes.{IsBelow, below, FoundTher
 pub record IsNextThere (place : ℕ) (next : EntryRow) (rows : List EntryRow) : Type 0 where
   pub each : AllByRecursion (FoundThere next.place next) rows
   pub stands : next.stands ≡ true
-  pub behind : place < next.place
+  pub following : place < next.place
   pub late : 1 < next.place
   pub within : next.place ≤ length rows + 1
 
@@ -47,7 +47,7 @@ past place row rows (Some m) next numbered low before whole =
     record {
       each = (λ same. absurd (omega (arith, same, within, number)), more.each);
       stands = more.stands;
-      behind = more.behind;
+      following = more.following;
       late = more.late;
       within = omega (arith, within);
     }
@@ -61,7 +61,7 @@ past place row rows None next numbered low before whole =
         all_weaker (IsBelow (length rows + 1)) (FoundThere next.place next) (λ r le same. absurd (omega (arith, le, same, at, number))) rows (below (length rows + 1) rows numbered.1 (omega arith)),
       );
       stands = sym (ap (λ (r : EntryRow). r.stands) this.1) ∙ this.0;
-      behind = omega (arith, at, number, low);
+      following = omega (arith, at, number, low);
       late = omega (arith, at, number);
       within = omega (arith, at, number);
     }
@@ -177,7 +177,7 @@ module _ (o : Opening) where
   none_next place last row s = ap (entered o.meter) (struck_or_not (row.place == place) last row s)
 
   -- one comes next
-  module _ (place : ℕ) (next : EntryRow) (last : Last) (behind : place < next.place) (stands : next.stands ≡ true) (read : is_read next.kind next.entry ≡ true) where
+  module _ (place : ℕ) (next : EntryRow) (last : Last) (following : place < next.place) (stands : next.stands ≡ true) (read : is_read next.kind next.entry ≡ true) where
     abbrev pub rolls : ℕ
     rolls = rolls_of (with_rolls last next.entry)
 
@@ -216,7 +216,7 @@ module _ (o : Opening) where
     by_place true c row s at is found =
         let here : row.place ≡ place = eqb-true row.place place at in
         ap (λ (r : EntryRow). entered o.meter (entry_row s r)) (at_void place (Some next) last row at)
-        ∙ sym (spared (entered o.meter (entry_row s row)) (ne_eqb row.place next.place (λ same. omega (arith, same, here, behind))))
+        ∙ sym (spared (entered o.meter (entry_row s row)) (ne_eqb row.place next.place (λ same. omega (arith, same, here, following))))
     by_place false true row s off is found =
         ap (λ (r : EntryRow). entered o.meter (entry_row s r)) (off_void place (Some next) last row off ∙ cond-true (row.place == next.place) (rolled last row) row is)
         ∙ subst (λ (r : EntryRow). entered o.meter (entry_row s (rolled last r)) ≡ edit (entered o.meter (entry_row s r))) (found (eqb-true row.place next.place is)) (next_rolled s)

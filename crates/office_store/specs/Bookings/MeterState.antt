@@ -24,7 +24,7 @@ use Rattle.office_store.specs.Bookings.Places.{StandsThere}
 pub record IsStanding (meter : List ℕ) (standing : Standing)
     (content after : Content) : Type 0 where
   pub same : after ≡ content
-  pub behind : IsAfter entry_tree.entries entry_columns (is_of meter) entry_place standing.place
+  pub following : IsAfter entry_tree.entries entry_columns (is_of meter) entry_place standing.place
       content
   pub last : (rows : List Installed)
       → HasRows meter_tree.installations installed_columns rows content

@@ -15,13 +15,13 @@ use Rattle.store_tables.specs.Meters.Rows.{Installed}
 abbrev pub one_on : ℕ → Result ℕ RowFault
 one_on place = if nat_le greatest_place place then Err Damaged else Ok (place + 1)
 
-abbrev pub place_behind : Row → Result ℕ RowFault
-place_behind row = and_then (or_damaged (whole_in 1 greatest_place (column row 0))) one_on
+abbrev pub following_place : Row → Result ℕ RowFault
+following_place row = and_then (or_damaged (whole_in 1 greatest_place (column row 0))) one_on
 
 -- the place after the row that is shown, and 1 where none is
 abbrev pub place_after : Option Row → Result ℕ RowFault
 place_after None = Ok 1
-place_after (Some row) = place_behind row
+place_after (Some row) = following_place row
 
 abbrev pub next_in : List Row → Result ℕ RowFault
 next_in rows = place_after (slice_get rows 0)

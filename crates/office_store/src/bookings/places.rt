@@ -15,15 +15,15 @@ ghost use Rattle.store_devices.specs.Polls.Rows.{hold_columns, hold_place};
 ghost use Rattle.store_devices.specs.Polls.Trees as poll_tree;
 ghost use Rattle.store_facts.specs.Going.{Goes};
 ghost use Rattle.store_facts.specs.Recording.{IsNext};
-ghost use Rattle.office_store.specs.Bookings.Places.{place_behind, next_in, Answered};
+ghost use Rattle.office_store.specs.Bookings.Places.{following_place, next_in, Answered};
 
 use sqlite::{Alter, Row, Transaction};
 use store_devices::{last_device_rows, last_hold_rows, last_register_rows};
 use store_tables::{GREATEST_PLACE, RowFault, last_entry_rows, last_installation_rows, whole};
 
 /// The place after the one that a row shows.
-fn behind(row: &Row) -> Result<u64, RowFault>
-    ensures next { result ≡ place_behind row.now }
+fn following(row: &Row) -> Result<u64, RowFault>
+    ensures next { result ≡ following_place row.now }
     ensures sound { IfOk result IsPlace }
 {
     let place = whole(row, 0, 1, GREATEST_PLACE)?;
@@ -41,7 +41,7 @@ fn next_place(rows: &[Row]) -> Result<u64, RowFault>
 {
     match rows.first() {
         None => Ok(1),
-        Some(row) => behind(row),
+        Some(row) => following(row),
     }
 }
 

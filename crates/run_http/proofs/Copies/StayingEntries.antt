@@ -58,17 +58,17 @@ void_leaves opening place named (row ∷ rows) a le h there =
     elim (cases_Bool (row.place == named)) [
       | inl at ↦
           let is : row.place ≡ named = eqb-true row.place named at in
-          let behind : place ≤ row.place = omega (arith, is, le) in
-          ap (entries_before place) (cond-true _ _ _ at) ∙ dropped place (struck row) rows behind ∙ sym (dropped place row rows behind)
+          let following : place ≤ row.place = omega (arith, is, le) in
+          ap (entries_before place) (cond-true _ _ _ at) ∙ dropped place (struck row) rows following ∙ sym (dropped place row rows following)
       | inr off ↦
           let found = mapped_some (passed row) (row_at named rows) a (sym (cond-false _ _ _ off) ∙ there) in
           let lt = place_below named rows found.0 h.1 found.1 in
-          let behind : place ≤ row.place = omega (arith, lt, le, h.0) in
+          let following : place ≤ row.place = omega (arith, lt, le, h.0) in
           let rest : List EntryRow = with_void opening named rows in
           let next : EntryRow = rolled (last_of opening (entries_in rest)) row in
-          let next_behind : place ≤ next.place = omega (arith, behind, rolled_place (last_of opening (entries_in rest)) row) in
-          ap (entries_before place) (cond-false _ _ _ off) ∙ dropped place next rest next_behind
-          ∙ void_leaves opening place named rows found.0 le h.1 found.1 ∙ sym (dropped place row rows behind)
+          let next_after : place ≤ next.place = omega (arith, following, rolled_place (last_of opening (entries_in rest)) row) in
+          ap (entries_before place) (cond-false _ _ _ off) ∙ dropped place next rest next_after
+          ∙ void_leaves opening place named rows found.0 le h.1 found.1 ∙ sym (dropped place row rows following)
     ]
 
 more_entered : (more lines : Journal) → entered_count lines ≤ entered_count (more ++ lines)
@@ -90,8 +90,8 @@ entries_stay meter place (Entered k e ∷ more) lines well h le from =
     let rows : List EntryRow = rows_of meter.opening (more ++ lines) in
     let count : length rows ≡ entered_count (more ++ lines) = (rows_stand meter (more ++ lines) well h.1).count in
     let row : EntryRow = record { place = length rows + 2; kind = k; entry = e; stands = true } in
-    let behind : place ≤ row.place = omega (arith, count, le, more_entered more lines) in
-    dropped place row rows behind ∙ entries_stay meter place more lines well h.1 le from
+    let following : place ≤ row.place = omega (arith, count, le, more_entered more lines) in
+    dropped place row rows following ∙ entries_stay meter place more lines well h.1 le from
 entries_stay meter place (Held reading cause ∷ more) lines well h le from = entries_stay meter place more lines well h.1 le from
 entries_stay meter place (Voided named ∷ more) lines well h le from =
     let rows : List EntryRow = rows_of meter.opening (more ++ lines) in

@@ -33,7 +33,7 @@ use Rattle.office_rules.proofs.Journals.{by_name, none_and_some, installed_fits,
 use Rattle.office_rules.proofs.Lookups.{same_text, find_passes}
 use Rattle.office_books.specs.Spans.{rows_within}
 use Rattle.office_books.specs.declared.spans.Span.TheVariants.{Between}
-use Rattle.run_http.specs.Copies.{rows_before, entries_before, next_place, quarter_of, changes_of, changes_from, VoidsFrom, StaysBefore, RowsBeforeStay, EntriesComeBehind}
+use Rattle.run_http.specs.Copies.{rows_before, entries_before, next_place, quarter_of, changes_of, changes_from, VoidsFrom, StaysBefore, RowsBeforeStay, EntriesComeAfter}
 use Rattle.run_http.proofs.Copies.StayingEntries.{LinesFrom, entries_stay, all_below, first_ones}
 use Rattle.run_http.proofs.Copies.StayingShares.{entries_leave, before_earlier, rows_part, all_before}
 
@@ -207,7 +207,7 @@ rows_before_stay law further facts meter o place h there le void =
     (stays_before law further facts o place h (subst (λ (m : List ℕ). opening_of facts m ≡ Some o) (sym name) there) le
     (subst (λ (m : List ℕ). All (VoidsFrom m place) further) (sym name) void))
 
-pub entries_come_after : EntriesComeBehind
+pub entries_come_after : EntriesComeAfter
 entries_come_after facts meter o h there =
     let own : opening_of facts o.meter ≡ Some o = subst (λ (m : List ℕ). opening_of facts m ≡ Some o) (sym (own_name facts meter o there)) there in
     let rows : List EntryRow = journal.rows_of (opened o) (journal_of facts o.meter) in

@@ -92,26 +92,26 @@ lack_by e refusal.NotFound = lack_at e
 lack_by e _ = None
 
 -- the line says this of a meaning of the number
-abbrev pub MeansBehind : Kind → (number : ℕ) → (before old new : List ℕ) → Type 0
-MeansBehind k number before old new =
+abbrev pub MeansAfter : Kind → (number : ℕ) → (before old new : List ℕ) → Type 0
+MeansAfter k number before old new =
     (meaning : Bor Meaning) × IsMeaningOf k number meaning
     × (new ≡ with_meaning before meaning.now old)
 
-abbrev pub RefusalBehind : Option Lack → (device : Option (List ℕ)) → Refusal
+abbrev pub RefusalAfter : Option Lack → (device : Option (List ℕ)) → Refusal
     → (old new : List ℕ) → Type 0
-RefusalBehind (Some lack) device why old new = new ≡ with_lack_of device lack old
-RefusalBehind None device why old new =
-    MeansBehind kind.Refused (refusal_number why) (codes ": ") (with_subject device old) new
+RefusalAfter (Some lack) device why old new = new ≡ with_lack_of device lack old
+RefusalAfter None device why old new =
+    MeansAfter kind.Refused (refusal_number why) (codes ": ") (with_subject device old) new
 
 -- What a device lacks is said where its event was refused for that; else what the number means.
 abbrev pub PutsRefusal : {E : Type 0} → (device : Option (List ℕ)) → Event → Refusal
     → (old new : List ℕ) → Result (Unit {0}) E → Type 0
 PutsRefusal device e why old new result =
-    OnOk result (RefusalBehind (lack_by e why) device why old new)
+    OnOk result (RefusalAfter (lack_by e why) device why old new)
 
 abbrev pub PutsHeld : {E : Type 0} → (meter : List ℕ) → Cause → (old new : List ℕ)
     → Result (Unit {0}) E → Type 0
 PutsHeld meter cause old new result =
     OnOk result
-    (MeansBehind kind.Held (cause_number cause) (codes ": held: ") (with_subject (Some meter) old)
+    (MeansAfter kind.Held (cause_number cause) (codes ": held: ") (with_subject (Some meter) old)
     new)

@@ -68,8 +68,8 @@ abbrev pub PutsBy : (room : Bool) → (text : List ℕ) → (old new : Queue) �
 PutsBy true text old new = (new ≡ kept text old) ⊎ (new ≡ left_out text old)
 PutsBy false text old new = new ≡ left_out text old
 
-abbrev pub PutsBehind : (text : List ℕ) → (old new : Queue) → Type 0
-PutsBehind text old new = PutsBy (has_room text old) text old new
+abbrev pub PutsAfter : (text : List ℕ) → (old new : Queue) → Type 0
+PutsAfter text old new = PutsBy (has_room text old) text old new
 
 abbrev pub Puts : (text : List ℕ) → (old new : Queue) → Type 0
-Puts text old new = PutsBehind text (emptied old) new
+Puts text old new = PutsAfter text (emptied old) new

@@ -91,8 +91,8 @@ impl LineQueue {
     }
 
     // Puts lines after what was put, or counts them as dropped.
-    fn put_behind(&mut self, lines: &[u8])
-        ensures { queues.PutsBehind lines.now (queue_of self.old) (queue_of self.new) }
+    fn put_after(&mut self, lines: &[u8])
+        ensures { queues.PutsAfter lines.now (queue_of self.old) (queue_of self.new) }
     {
         if !self.has_room(lines) {
             self.leave_out(lines);
@@ -109,7 +109,7 @@ impl LineQueue {
         ensures { queues.Puts lines.now (queue_of self.old) (queue_of self.new) }
     {
         self.empty();
-        self.put_behind(lines);
+        self.put_after(lines);
     }
 
     /// Puts a line that tells how many were dropped up to this moment, once all that waited was written. Where there is no

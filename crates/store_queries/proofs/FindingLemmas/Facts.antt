@@ -185,9 +185,9 @@ polls_counted facts last lawful h = count (polls_in facts) (numbered facts lawfu
         none (Some n) e = absurd (let long = Rattle.std.proofs.lemmas.List.Sorted.length_permutation _ _ e.3 in omega (arith, long))
     count (p ∷ polls) are is =
         let n = are.0 in
-        let behind = greatest poll_number every (map started (p ∷ polls)) (started p) (map started polls) last
+        let following = greatest poll_number every (map started (p ∷ polls)) (started p) (map started polls) last
         (IsPermutation-same _ _ (all_every (map started (p ∷ polls)))) (low p.number polls (below p.number polls are.1 (omega (arith, n)))) is in
-        omega (arith, n, behind)
+        omega (arith, n, following)
 
 pub pending_shown : (facts : List Fact) (rows : List Row) → AreLawful facts
     → Shows (is_pending (map outcome_row (ended_in facts))) (FirstFirst poll_number) poll_shown (map started (polls_in facts)) rows

@@ -5,7 +5,7 @@ use Rattle.script_text.proofs.Got.{appends_both, got_both, got_first}
 use Rattle.energy_report.specs.StatementTexts.{begun_text, lead, opening, row_text}
 use Rattle.energy_report.specs.Texts.{ending_by}
 use Rattle.energy_report.proofs.StatementLemmas.{from_opening, from_row, next, piece, rest, tail}
-use Rattle.energy_report.proofs.TextLemmas.{behind}
+use Rattle.energy_report.proofs.TextLemmas.{following}
 use Rattle.energy_report.proofs.statement_text.write_statement.Goals as goal
 
 pub returns-in_err-take_text : goal.returns-in_err-take_text
@@ -27,7 +27,7 @@ returns-in_err-take_text-2 g c =
     c.bytes-in-loop-row.ensures ∙ c.row_page.ensures ∙ ap (λ b. lead b form ++ row_text form row) c.loop-row.invariant.first in
     got_first c.from_residual-in_err-take_text-2.result _ _ (begun ++ c.bytes-in-loop-row.result.now) (tail form rows i) _
     c.from_residual-in_err-take_text-2.ensures.0
-    (behind begun c.bytes-in-loop-row.result.now _ _ _ c.loop-row.invariant.text c.in_err-take_text-2.ensures.bytes)
+    (following begun c.bytes-in-loop-row.result.now _ _ _ c.loop-row.invariant.text c.in_err-take_text-2.ensures.bytes)
     (ap (λ (text : List ℕ). (begun ++ text) ++ tail form rows i) said ∙ from_row form rows i row c.loop-row-test.true c.row-item.is)
 
 pub loop-row-preserved : goal.loop-row-preserved

@@ -8,7 +8,7 @@ loop-i-preserved c =
     let lt : c.loop-i.i < length c.loop-i.rows = omega arith in
     record {
       as_many = length-set c.loop-i.rows c.loop-i.i c.rolled-row.result ∙ c.loop-i.invariant.as_many;
-      rolled = roll_step c.loop-i.rows c.loop-i.i c.loop-i.stand c.behind-stand.result _ c.rolled-row.result lt c.rolled-row.ensures c.behind-stand.ensures
+      rolled = roll_step c.loop-i.rows c.loop-i.i c.loop-i.stand c.following-stand.result _ c.rolled-row.result lt c.rolled-row.ensures c.following-stand.ensures
           ∙ c.loop-i.invariant.rolled;
     }
 

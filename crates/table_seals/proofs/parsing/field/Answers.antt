@@ -4,10 +4,10 @@ use Rattle.table_seals.proofs.parsing.field.Goals as goal
 
 pub returns-clause-reads : goal.returns-clause-reads
 returns-clause-reads c =
-    λ word behind w is.
-    split_reads c.args.end c.in-Some.rest.now word behind c.split_once.result c.split_once.ensures.cases c.requires w
-    (strip_reads c.args.before.now c.args.text.now c.in-Some.rest.now (word ++ c.args.end ∷ behind) c.in-Some.ensures.cases
-    (is ∙ append_assoc c.args.before.now word (c.args.end ∷ behind)))
+    λ word following w is.
+    split_reads c.args.end c.in-Some.rest.now word following c.split_once.result c.split_once.ensures.cases c.requires w
+    (strip_reads c.args.before.now c.args.text.now c.in-Some.rest.now (word ++ c.args.end ∷ following) c.in-Some.ensures.cases
+    (is ∙ append_assoc c.args.before.now word (c.args.end ∷ following)))
 
 pub returns-clause-parts : goal.returns-clause-parts
 returns-clause-parts c =

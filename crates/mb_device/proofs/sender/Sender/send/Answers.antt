@@ -1,7 +1,7 @@
 use Rattle.std.proofs.Common.{take, subst, sym, ap, ◌∙◌}
 use Rattle.mb_device.proofs.Putting.{goes_on, sends}
 use Rattle.mb_wire.specs.Links.{Gives}
-use Rattle.mb_device.specs.Tricks.{answer_of, behind, sent_of, spelled_by}
+use Rattle.mb_device.specs.Tricks.{answer_of, following, sent_of, spelled_by}
 use Rattle.mb_device.proofs.sender.Sender.send.Goals as goal
 
 pub returns-clause-given : goal.returns-clause-given
@@ -21,6 +21,6 @@ returns-clause-after g c =
     let later = take c.self.inside.len c.self.inside.later in
     let next = goes_on c.args.self.now c.self.inside.is_cut c.self.inside.tricks.now c.self.inside.next later answer (sym c.self.view_is) c.requires.going in
     c.go_on.ensures
-    ∙ ap (λ f. behind trick f c.args.self.now) c.write_by-end.ensures.written
-    ∙ ap (λ t. behind t (spelled_by t answer) c.args.self.now) c.find_trick-trick.ensures
+    ∙ ap (λ f. following trick f c.args.self.now) c.write_by-end.ensures.written
+    ∙ ap (λ t. following t (spelled_by t answer) c.args.self.now) c.find_trick-trick.ensures
     ∙ sym next

@@ -3,7 +3,7 @@ use Rattle.store_tables.specs.Entries.Rows.{entry_columns, entry_place, is_of}
 use Rattle.store_tables.specs.Entries.Trees as tree
 use Rattle.office_store.specs.Bookings.Places.{next_in}
 use Rattle.office_store.proofs.BookingsLemmas.Leaving.{no_answer}
-use Rattle.office_store.proofs.BookingsLemmas.Behind.{next_told}
+use Rattle.office_store.proofs.BookingsLemmas.NextPlaces.{next_told}
 use Rattle.office_store.proofs.bookings.places.next_entry.Goals as goal
 
 pub returns-in_err-rows-clause-does : goal.returns-in_err-rows-clause-does

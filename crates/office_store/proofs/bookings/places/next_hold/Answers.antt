@@ -4,7 +4,7 @@ use Rattle.store_devices.specs.Polls.Rows.{hold_columns, hold_place}
 use Rattle.store_devices.specs.Polls.Trees as tree
 use Rattle.office_store.specs.Bookings.Places.{next_in}
 use Rattle.office_store.proofs.BookingsLemmas.Leaving.{no_answer}
-use Rattle.office_store.proofs.BookingsLemmas.Behind.{next_told}
+use Rattle.office_store.proofs.BookingsLemmas.NextPlaces.{next_told}
 use Rattle.office_store.proofs.bookings.places.next_hold.Goals as goal
 
 pub returns-in_err-rows-clause-does : goal.returns-in_err-rows-clause-does

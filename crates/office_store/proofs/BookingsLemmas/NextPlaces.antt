@@ -46,7 +46,7 @@ module _ {X : Type 0} (passes : X → Bool) (key : X → ℕ) where
       told_less {D = Error} (state g old) (state g new) rows n (Told tree columns (λ xs a. ShowsFirst passes (LastFirst key) shown xs items) rows) (IsNext tree columns passes key n)
       (λ content after (told : Told tree columns (λ xs a. ShowsFirst passes (LastFirst key) shown xs items) rows content after). record {
         same = told.same;
-        behind = λ xs has. let it = told.answers xs has in counted xs it.0 items n it.1 it.2 (sym next);
+        following = λ xs has. let it = told.answers xs has in counted xs it.0 items n it.1 it.2 (sym next);
       })
       (of_answer g old new tree columns (λ xs a. ShowsFirst passes (LastFirst key) shown xs items) rows asks tells)
   next_told g old new tree columns rows items (Err e) asks tells next =

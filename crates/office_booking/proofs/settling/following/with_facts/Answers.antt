@@ -1,5 +1,5 @@
 use Rattle.office_booking.proofs.SettlingLemmas.Overlays.{Laws, one_fact_more}
-use Rattle.office_booking.proofs.settling.behind.with_facts.Goals as goal
+use Rattle.office_booking.proofs.settling.following.with_facts.Goals as goal
 
 pub loop-fact-preserved : goal.loop-fact-preserved
 loop-fact-preserved c =
@@ -10,7 +10,7 @@ loop-fact-preserved c =
       booked = c.entered_is_booked.ensures;
       go_on = c.accounts_go_on.ensures;
     } in (
-      c.with_fact-behind.ensures.sound,
+      c.with_fact-following.ensures.sound,
       one_fact_more laws _ _ c.loop-fact.fact-index _ _ c.fact-item.result c.loop-fact-test.true c.fact-item.is c.loop-fact.invariant.0
-          c.loop-fact.invariant.1 c.with_fact-behind.ensures.with_it,
+          c.loop-fact.invariant.1 c.with_fact-following.ensures.with_it,
     )

@@ -38,7 +38,7 @@ pub record IsIn (facts : List Fact) (row : Installation) : Type 0 where
   pub stands : row ≡ installation_of facts row.opening
 
 -- after these facts it stands so
-abbrev pub StandsBehind : Installation → (facts : List Fact) → Installation → Type 0
-StandsBehind row facts behind =
+abbrev pub IsAfterFacts : Installation → (facts : List Fact) → Installation → Type 0
+IsAfterFacts row facts following =
     (known : List Fact) → AreTold facts → AreLawful (reverse facts ++ known) → IsIn known row
-    → behind ≡ installation_of (reverse facts ++ known) row.opening
+    → following ≡ installation_of (reverse facts ++ known) row.opening

@@ -4,7 +4,7 @@ ghost use Rattle.office_rules.specs.Meters.{open_at};
 ghost use Rattle.office_rules.specs.Ranges.{IsSound};
 ghost use Rattle.office_books.specs.Sound.{ReadsInstallation};
 ghost use Rattle.office_booking.specs.Settling.Drafts.{FindsAfter};
-ghost use Rattle.office_booking.specs.Settling.Behind.{installation_with, StandsBehind};
+ghost use Rattle.office_booking.specs.Settling.Following.{installation_with, IsAfterFacts};
 
 use crate::settling::drafts::Draft;
 use energy_core::{accepted_is_entered, accounts_go_on, entered_is_booked};
@@ -31,18 +31,18 @@ fn with_fact(row: &Installation, fact: &Fact) -> Installation
 fn with_facts(row: &Installation, facts: &[Fact]) -> Installation
     requires { IsSound row.now }
     ensures sound { IsSound result }
-    ensures behind { StandsBehind row.now facts.now result }
+    ensures following { IsAfterFacts row.now facts.now result }
 {
     names_are_distinct();
     meters_are_kept();
     accepted_is_entered();
     entered_is_booked();
     accounts_go_on();
-    let mut behind = *row;
+    let mut following = *row;
     for fact in facts {
-        behind = with_fact(&behind, fact);
+        following = with_fact(&following, fact);
     }
-    behind
+    following
 }
 
 /// The installation that is open at a register after the draft.
