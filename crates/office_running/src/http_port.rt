@@ -8,7 +8,6 @@ use crate::fault::RunFault;
 use crate::kept_room::KeptRoom;
 use crate::peers::Peer;
 use crate::settings::Settings;
-use crate::turn_share::{Share, place_at};
 use crate::voice::Voice;
 use energy_report::ReportForm;
 use http_request::{Route, Status, router};
@@ -22,7 +21,7 @@ use run_http::{
     PeerReply, RunRoute, StatusRoute, ask, reply_energy, reply_entries, reply_intervals,
     reply_meters, reply_metrics, reply_site, reply_status, reply_voids, run_route,
 };
-use run_schedule::{MOST_PEERS, PEER_SECONDS, Peers, place_for};
+use run_schedule::{MOST_PEERS, PEER_SECONDS, Peers, TurnShare, place_at, place_for};
 use std::alloc::{AllocError, Global};
 use std::io::ErrorKind;
 use std::mem;
@@ -38,7 +37,7 @@ pub(crate) struct Serving {
     peers: Peers,
     connections: Vec<Option<Peer>>,
     /// What may still be replied in this turn.
-    share: Share,
+    share: TurnShare,
     /// The place that is attended first.
     first: usize,
     room: KeptRoom,
@@ -56,7 +55,7 @@ fn is_ready(connection: &Option<Peer>) -> bool {
 
 // Whether the connection of a place is attended, where this is left of what may be replied in a turn: those that ask wait for
 // a turn in which something is left, and replies that were made are written on.
-fn is_attended(connection: &Option<Peer>, share: Share) -> bool {
+fn is_attended(connection: &Option<Peer>, share: TurnShare) -> bool {
     match connection {
         Some(peer) => peer.ready && (peer.has_reply() || !share.is_over()),
         None => false,
@@ -114,7 +113,7 @@ impl Serving {
             router,
             peers: Peers::new(),
             connections,
-            share: Share::whole(),
+            share: TurnShare::whole(),
             first: 0,
             room: KeptRoom::of(settings),
             is_full: false,
@@ -123,7 +122,7 @@ impl Serving {
 
     /// A turn begins, with what may be replied in it: devices wait for no more.
     pub(crate) fn begin_turn(&mut self) {
-        self.share = Share::whole();
+        self.share = TurnShare::whole();
     }
 
     /// The place that is attended first: the one after that which was replied to last.

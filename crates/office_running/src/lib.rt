@@ -15,10 +15,8 @@ mod outbox;
 mod outlet;
 mod peers;
 mod settings;
-mod turn_share;
 mod voice;
 
 pub use fault::RunFault;
 pub use office::{Ran, run_office};
 pub use settings::{Descriptors, Settings, Site};
-pub use turn_share::{replies_are_few, turns_go_round};

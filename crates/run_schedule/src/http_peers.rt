@@ -3,7 +3,9 @@
 mod choice;
 mod peers;
 mod place;
+mod turn_share;
 
 pub use choice::place_for;
 pub use peers::{Admission, MOST_PEERS, Peers};
 pub use place::Place;
+pub use turn_share::{TurnShare, place_at, replies_are_few, turns_go_round};

@@ -1,15 +1,15 @@
 -- How much is replied in a turn, and which place is attended first.
 use Rattle.std.specs.Prelude.{◌≡◌, ℕ, ◌+◌, ◌-◌, ◌%◌, ◌<◌, ◌==◌, ◌||◌, Bool, false, List, [], ◌∷◌, length, sum_by}
-use Rattle.office_running.specs.declared.turn_share.Share.{Share}
+use Rattle.run_schedule.specs.declared.http_peers.turn_share.TurnShare.{TurnShare}
 
 -- 64 requests, 256 KiB, 20 ms
-abbrev pub whole : Share
+abbrev pub whole : TurnShare
 whole = record { requests = 64; bytes = 262144; milliseconds = 20 }
 
-abbrev pub is_over : Share → Bool
+abbrev pub is_over : TurnShare → Bool
 is_over share = share.requests == 0 || share.bytes == 0 || share.milliseconds == 0
 
-abbrev pub after : Share → (bytes milliseconds : ℕ) → Share
+abbrev pub after : TurnShare → (bytes milliseconds : ℕ) → TurnShare
 after share bytes milliseconds = record {
   requests = share.requests - 1;
   bytes = share.bytes - bytes;
@@ -17,7 +17,7 @@ after share bytes milliseconds = record {
 }
 
 -- what is left of a turn after some replies, by their bytes and how many milliseconds they took, the latest first
-abbrev pub left_after : List (ℕ × ℕ) → Share
+abbrev pub left_after : List (ℕ × ℕ) → TurnShare
 left_after [] = whole
 left_after (one ∷ earlier) = after (left_after earlier) one.0 one.1
 

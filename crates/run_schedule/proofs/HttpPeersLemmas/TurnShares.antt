@@ -2,7 +2,7 @@
 use Rattle.std.proofs.Common.{◌≡◌, ℕ, ◌+◌, ◌-◌, ◌<◌, zero, suc, Bool, true, false, List, [], ◌∷◌, length, refl, arith}
 use Rattle.std.specs.Prelude.{◌==◌, ◌||◌, sum_by}
 use Rattle.std.proofs.lemmas.List.Sums.{sum_by-cons}
-use Rattle.office_running.specs.Shares.{AreFew, MayReply, left_after}
+use Rattle.run_schedule.specs.HttpPeers.TurnShares.{AreFew, MayReply, left_after}
 
 -- what is left of all after a part, and after one more
 less : (left one all part total : ℕ) → left ≡ all - part → total ≡ one + part → left - one ≡ all - total

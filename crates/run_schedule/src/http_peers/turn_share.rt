@@ -1,9 +1,9 @@
 //! How much is replied in a turn, and which place is attended first.
 ghost use Rattle.std.specs.Prelude.{◌≡◌, ◌<◌, ℕ, List};
-ghost use Rattle.office_running.specs.Shares as shares;
-ghost use Rattle.office_running.specs.Shares.{AreFew, MayReply};
+ghost use Rattle.run_schedule.specs.HttpPeers.TurnShares as shares;
+ghost use Rattle.run_schedule.specs.HttpPeers.TurnShares.{AreFew, MayReply};
 
-use run_schedule::MOST_PEERS;
+use crate::http_peers::peers::MOST_PEERS;
 
 /// How many bytes the replies of a turn may have together before the other requests wait for the next. The rows of a meter of
 /// two years are a reply of 1.8 MB, and take 50 to 100 ms to make, so these are some 10 ms; and the one that goes past them is
@@ -16,18 +16,18 @@ const MOST_MILLISECONDS: u64 = 20;
 
 /// What is left of the replies of a turn.
 #[derive(Clone, Copy, Debug, PartialEq, Eq)]
-pub(crate) struct Share {
+pub struct TurnShare {
     requests: usize,
     bytes: usize,
     milliseconds: u64,
 }
 
-impl Share {
+impl TurnShare {
     /// That of a turn that begins.
-    pub(crate) fn whole() -> Share
+    pub fn whole() -> TurnShare
         ensures { result ≡ shares.whole }
     {
-        Share {
+        TurnShare {
             requests: MOST_PEERS,
             bytes: MOST_BYTES,
             milliseconds: MOST_MILLISECONDS,
@@ -35,17 +35,17 @@ impl Share {
     }
 
     /// Whether the requests that wait are for the next turn.
-    pub(crate) fn is_over(self) -> bool
+    pub fn is_over(self) -> bool
         ensures { result ≡ shares.is_over self }
     {
         self.requests == 0 || self.bytes == 0 || self.milliseconds == 0
     }
 
     /// What is left after a reply of so many bytes, which took so long.
-    pub(crate) fn after(self, bytes: usize, milliseconds: u64) -> Share
+    pub fn after(self, bytes: usize, milliseconds: u64) -> TurnShare
         ensures { result ≡ shares.after self bytes milliseconds }
     {
-        Share {
+        TurnShare {
             requests: self.requests.saturating_sub(1),
             bytes: self.bytes.saturating_sub(bytes),
             milliseconds: self.milliseconds.saturating_sub(milliseconds),
@@ -60,7 +60,7 @@ pub fn replies_are_few()
 {}
 
 /// The place that is attended at a step of a turn that begins with the first one.
-pub(crate) fn place_at(first: usize, step: usize) -> usize
+pub fn place_at(first: usize, step: usize) -> usize
     ensures place { result < 64 }
     ensures round { first < 64 → step < 64 → result ≡ shares.place_at first step }
 {
