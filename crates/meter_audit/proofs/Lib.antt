@@ -7,4 +7,5 @@ pub mod Comparing
 pub mod Apart
 pub mod Going
 pub mod Finished
+pub mod CarriedLemmas
 pub mod Examples

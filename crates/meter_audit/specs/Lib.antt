@@ -4,3 +4,5 @@ pub mod Passing
 pub mod Comparing
 pub mod Laws
 pub mod Going
+pub mod Carried
+pub mod CarriedTables

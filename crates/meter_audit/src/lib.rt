@@ -1,6 +1,7 @@
 //! Whether a meter's rows are those of a lawful journal, whoever wrote them.
 #![tactic(auto)]
 
+mod carried;
 mod checks;
 mod faults;
 mod intervals;
@@ -10,6 +11,10 @@ mod progress;
 mod rows;
 mod standing;
 
+pub use carried::{
+    carried_journals_fit, carried_tables_are_fine, carried_tables_are_one, carries_count_once,
+    carries_go_on, later_lines_are_carried,
+};
 pub use checks::{Check, begin, pass};
 pub use faults::RowFault;
 pub use intervals::{IntervalDifference, IntervalFault, first_difference};

@@ -1,0 +1,110 @@
+-- A worked example, computed from the definitions.
+use Rattle.std.proofs.Common.{◌≡◌, ℕ, pos, true, [], ◌∷◌, Some, None, refl, arith}
+use Rattle.std.proofs.lemmas.Int.{ints}
+use Rattle.energy_core.specs.declared.entries.Entry.TheVariants as entry
+use Rattle.energy_core.specs.Value.{unit_of}
+use Rattle.interval_core.specs.declared.shares.Share.{Share}
+use Rattle.meter_journal.specs.declared.lines.EntryKind.TheVariants as kind
+use Rattle.meter_journal.specs.declared.lines.EntryRow.{EntryRow}
+use Rattle.meter_journal.specs.declared.lines.Installed.{Installed}
+use Rattle.meter_journal.specs.Books.{IsWellInstalled, total_in, interval_rows}
+use Rattle.meter_journal.specs.Fitting.{AreFitting}
+use Rattle.meter_journal.specs.Journal.{Journal, Line, Entered, Voided}
+use Rattle.meter_audit.specs.Carried.{carried, joined_journal, StaysWithin}
+use Rattle.meter_audit.proofs.CarriedLemmas.Fitting.{carried_journals_fit}
+
+-- of a counter of 32 bits that counts Wh, at no more than 100 kW
+abbrev installed : (at raw : ℕ) → Installed
+installed at raw = record { range = 4294967296; ceiling = 100000; opening = record { at = at; raw = raw; sf = pos 0 } }
+
+abbrev read : (at raw : ℕ) → Line
+read at raw = Entered kind.Reading (entry.Step at raw 0)
+
+abbrev row : (place at raw : ℕ) → EntryRow
+row place at raw = record { place = place; kind = kind.Reading; entry = entry.Step at raw 0; stands = true }
+
+abbrev share : (start mwh : ℕ) → Share
+share start mwh = record { start = start; mwh = mwh }
+
+abbrev house : Installed
+house = installed 1000 5000
+
+-- The last entry of the old file, at 2550, was voided; so the meter is carried at 2500.
+abbrev old : Journal
+old = Voided 4 ∷ read 2550 5305 ∷ read 2500 5300 ∷ read 1900 5200 ∷ []
+
+old_fits : AreFitting house old
+unfolding unit_of
+old_fits = (
+  record {
+    around = record { before = row 3 2500 5300 ∷ row 2 1900 5200 ∷ []; row = row 4 2550 5305; next = None };
+    there = refl;
+    voidable = refl;
+    next = tt;
+  },
+  (
+    (refl, record { step = 5000; accepted = refl }),
+    ((refl, record { step = 100000; accepted = refl }), ((refl, record { step = 200000; accepted = refl }), tt)),
+  ),
+)
+
+carried_at_2500 : carried house old ≡ installed 2500 5300
+carried_at_2500 = refl
+
+-- In the new file two readings, the first in the quarter hour from 1800, in which the meter was carried.
+abbrev new : Journal
+new = read 3600 5400 ∷ read 2600 5310 ∷ []
+
+new_fits : AreFitting (installed 2500 5300) new
+unfolding unit_of
+new_fits = ((refl, record { step = 90000; accepted = refl }), ((refl, record { step = 10000; accepted = refl }), tt))
+
+old_intervals : interval_rows house old ≡ share 900 177777 ∷ share 1800 122223 ∷ []
+unfolding unit_of
+old_intervals = refl
+
+new_intervals : interval_rows (installed 2500 5300) new ≡ share 1800 19000 ∷ share 2700 81000 ∷ []
+unfolding unit_of
+new_intervals = refl
+
+-- the quarter hour from 1800 has the energy of both files
+intervals_of_both : interval_rows house (joined_journal old new) ≡ share 900 177777 ∷ share 1800 141223 ∷ share 2700 81000 ∷ []
+unfolding unit_of
+intervals_of_both = refl
+
+total_of_both : total_in house (joined_journal old new) ≡ 400000
+unfolding unit_of
+total_of_both = refl
+
+-- Place 2 of the new file is place 5 of both: three entries were made in the old one.
+void_of_both : joined_journal old (Voided 2 ∷ new)
+    ≡ Voided 5 ∷ read 3600 5400 ∷ read 2600 5310 ∷ Voided 4 ∷ read 2550 5305 ∷ read 2500 5300 ∷ read 1900 5200 ∷ []
+void_of_both = refl
+
+-- it is lawful in the new file, and so in the journal of both
+void_fits : AreFitting (installed 2500 5300) (Voided 2 ∷ new)
+unfolding unit_of
+void_fits = (
+  record {
+    around = record { before = []; row = row 2 2600 5310; next = Some (row 3 3600 5400) };
+    there = refl;
+    voidable = refl;
+    next = (0, record { step = 100000; accepted = refl });
+  },
+  new_fits,
+)
+
+stays_within : StaysWithin house old (Voided 2 ∷ new)
+unfolding unit_of
+stays_within = (omega arith, (omega arith, (omega arith, tt)))
+
+well_installed : IsWellInstalled house
+well_installed = record { raw = omega arith; scale = (grind (arith, ints), grind (arith, ints)) }
+
+void_of_both_fits : AreFitting house (joined_journal old (Voided 2 ∷ new))
+void_of_both_fits = carried_journals_fit house old (Voided 2 ∷ new) well_installed old_fits refl void_fits stays_within
+
+-- the step from 2500 to 3600 instead of two
+void_intervals : interval_rows house (joined_journal old (Voided 2 ∷ new)) ≡ share 900 177777 ∷ share 1800 140404 ∷ share 2700 81819 ∷ []
+unfolding unit_of
+void_intervals = refl
