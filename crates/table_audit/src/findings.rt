@@ -34,7 +34,7 @@ pub struct Findings {
 
 impl Findings {
     ghost use Rattle.table_audit.specs.Meters.{none_counted, counted, up_to_most};
-    ghost use Rattle.table_audit.specs.Named.{KeepsFirst};
+    ghost use Rattle.table_audit.specs.Named.{KeepsFirst, IsTold};
     ghost use Rattle.table_audit.specs.Polls.{counting_polls};
 
     /// None yet.
@@ -103,6 +103,21 @@ impl Findings {
             self.push(finding)?;
         }
         self.more = self.more.saturating_add(more);
+        Ok(())
+    }
+
+    /// Differences of no meter.
+    pub(crate) fn tell_all(&mut self, found: &[Difference]) -> Result<(), AllocError>
+        requires few { length self.old.first.items ≤ MOST }
+        ensures told { OnOk result (IsTold found.now self.old self.new) }
+        ensures few { OnOk result (length self.new.first.items ≤ MOST) }
+    {
+        for difference in found {
+            self.push(Finding {
+                meter: None,
+                difference: *difference,
+            })?;
+        }
         Ok(())
     }
 
