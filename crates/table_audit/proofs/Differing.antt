@@ -26,11 +26,13 @@ use Rattle.table_audit.proofs.Named.{append_none, both_none}
 pub each_more : (differs : Row → List Difference) (rows : List Row) (i : ℕ) (row : Row) (found next all : List Difference) → i < length rows → row ≡ get_or rows i row
     → found ++ each_of differs (drop i rows) ≡ all → next ≡ found ++ differs row → next ++ each_of differs (drop (i + 1) rows) ≡ all
 each_more differs rows i row found next all inside is so_far put =
+    let one : each_of differs (drop i rows) ≡ differs row ++ each_of differs (drop (i + 1) rows) =
+    ap (λ (rs : List Row). each_of differs rs) (drop-cons rows i row inside)
+    ∙ ap (λ (r : Row). differs r ++ each_of differs (drop (suc i) rows)) (sym is)
+    ∙ ap (λ n. differs row ++ each_of differs (drop n rows)) (sym (add-one i)) in
     ap (λ (l : List Difference). l ++ each_of differs (drop (i + 1) rows)) put
     ∙ append_assoc found (differs row) (each_of differs (drop (i + 1) rows))
-    ∙ ap (λ n. found ++ differs row ++ each_of differs (drop n rows)) (add-one i)
-    ∙ ap (λ (r : Row). found ++ differs r ++ each_of differs (drop (suc i) rows)) is
-    ∙ ap (λ (rs : List Row). found ++ each_of differs rs) (sym (drop-cons rows i row inside)) ∙ so_far
+    ∙ ap (λ (l : List Difference). found ++ l) (sym one) ∙ so_far
 
 pub each_done : (differs : Row → List Difference) (rows : List Row) (i : ℕ) (found all : List Difference) → length rows ≤ i
     → found ++ each_of differs (drop i rows) ≡ all → found ≡ all
@@ -41,12 +43,14 @@ pub order_more : (rows : List Row) (i : ℕ) (row : Row) (last before next : ℕ
     → found ++ order_of before last (drop i rows) ≡ all → new ≡ found ++ told_by before last (number_of row) → next ≡ after_by before last (number_of row)
     → new ++ order_of next last (drop (i + 1) rows) ≡ all
 order_more rows i row last before next found new all inside is so_far put after =
+    let one : order_of before last (drop i rows) ≡ told_by before last (number_of row) ++ order_of next last (drop (i + 1) rows) =
+    ap (λ (rs : List Row). order_of before last rs) (drop-cons rows i row inside)
+    ∙ ap (λ (r : Row). told_by before last (number_of r) ++ order_of (after_by before last (number_of r)) last (drop (suc i) rows)) (sym is)
+    ∙ ap (λ n. told_by before last (number_of row) ++ order_of (after_by before last (number_of row)) last (drop n rows)) (sym (add-one i))
+    ∙ ap (λ n. told_by before last (number_of row) ++ order_of n last (drop (i + 1) rows)) (sym after) in
     ap (λ (l : List Difference). l ++ order_of next last (drop (i + 1) rows)) put
     ∙ append_assoc found (told_by before last (number_of row)) (order_of next last (drop (i + 1) rows))
-    ∙ ap (λ n. found ++ told_by before last (number_of row) ++ order_of n last (drop (i + 1) rows)) after
-    ∙ ap (λ n. found ++ told_by before last (number_of row) ++ order_of (after_by before last (number_of row)) last (drop n rows)) (add-one i)
-    ∙ ap (λ (r : Row). found ++ told_by before last (number_of r) ++ order_of (after_by before last (number_of r)) last (drop (suc i) rows)) is
-    ∙ ap (λ (rs : List Row). found ++ order_of before last rs) (sym (drop-cons rows i row inside)) ∙ so_far
+    ∙ ap (λ (l : List Difference). found ++ l) (sym one) ∙ so_far
 
 pub order_done : (rows : List Row) (i last next : ℕ) (found new all : List Difference) → length rows ≤ i
     → found ++ order_of next last (drop i rows) ≡ all → new ≡ found ++ gap next (last + 1) → new ≡ all
@@ -182,9 +186,9 @@ order_none next last (row ∷ rows) polls h none =
     let inside = it.inside in
     let later : order_of (next + 1) last rows ≡ [] = subst (λ (m : ℕ). order_of m last rows ≡ []) (then_next next last n it) none_at.1 in
     sym (ap (are_numbered next last) (ok_is two.2))
-    ∙ both_and (n == next) (nat_le next last && are_numbered (next + 1) last two.0) (eq_is n next is)
-    (both_and (nat_le next last) (are_numbered (next + 1) last two.0) (le_is next last (omega (arith, is, inside)))
-    (order_none (next + 1) last rows two.0 two.1 later))
+    ∙ both_and ((n == next) && nat_le next last) (are_numbered (next + 1) last two.0)
+    (both_and (n == next) (nat_le next last) (eq_is n next is) (le_is next last (omega (arith, is, inside))))
+    (order_none (next + 1) last rows two.0 two.1 later)
 
 none_order : (next last : ℕ) (rows : List Row) (polls : List PollRow) → all_in poll_in rows ≡ Ok polls → are_numbered next last polls ≡ true → order_of next last rows ≡ []
 none_order next last [] polls h all =
@@ -193,10 +197,10 @@ none_order next last (row ∷ rows) polls h all =
     let one = then_read (poll_in row) _ polls h in
     let two = then_read (all_in poll_in rows) _ polls one.2 in
     let n = one.0.number in
-    let first = and_both (n == next) (nat_le next last && are_numbered (next + 1) last two.0) (ap (are_numbered next last) (ok_is two.2) ∙ all) in
-    let second = and_both (nat_le next last) (are_numbered (next + 1) last two.0) first.1 in
+    let second = and_both ((n == next) && nat_le next last) (are_numbered (next + 1) last two.0) (ap (are_numbered next last) (ok_is two.2) ∙ all) in
+    let first = and_both (n == next) (nat_le next last) second.0 in
     let is = eq_of n next first.0 in
-    let low = le_of next last second.0 in
+    let low = le_of next last first.1 in
     let it : IsNext next last n = record { is = is; inside = omega (arith, is, low) } in
     order_at next last row rows one.0 one.1
     ∙ ap (λ (ds : List Difference). ds ++ order_of (next_after next last n) last rows) (next_none next last n it)

@@ -1,5 +1,5 @@
 -- Differences of a meter among those of others.
-use Rattle.std.proofs.Common.{◌≡◌, ◌↔◌, ◌+◌, ◌-◌, ◌<◌, ◌≤◌, ◌^◌, ℕ, zero, suc, min, Bool, true, false, List, [], ◌∷◌, ◌++◌, map, take, length, get_or, IsTrue, refl, sym, ap, subst, ◌∙◌, append_assoc, arith}
+use Rattle.std.proofs.Common.{◌≡◌, ◌↔◌, ◌+◌, ◌-◌, ◌<◌, ◌≤◌, ◌^◌, ℕ, zero, suc, min, Bool, true, false, List, [], ◌∷◌, ◌++◌, None, map, take, length, get_or, IsTrue, refl, sym, ap, subst, ◌∙◌, append_assoc, arith}
 use Rattle.std.proofs.lemmas.List.{take_all, take_at, take_more, length-map, length-append, length-take, length-take-le, map-append}
 use Rattle.sqlite.specs.Order.{Row}
 use Rattle.table_audit.specs.declared.differences.Difference.{Difference}
@@ -158,14 +158,14 @@ told_then ds es old mid new one two = record {
   counts = two.counts ∙ one.counts;
 }
 
-pub told_more : (differences : List Difference) (i : ℕ) (d : Difference) (old mid new : Findings) → i < length differences
-    → IsTold (take i differences) old mid → d ≡ get_or differences i d → new.first.items ≡ take MOST (mid.first.items ++ of_none d ∷ [])
+pub told_more : (differences : List Difference) (i : ℕ) (x d : Difference) (old mid new : Findings) → i < length differences
+    → IsTold (take i differences) old mid → x ≡ get_or differences i d → new.first.items ≡ take MOST (mid.first.items ++ of_none x ∷ [])
     → new.more ≡ up_to_most (mid.more + (length mid.first.items + 1 - MOST)) → new.counts ≡ mid.counts → IsTold (take (i + 1) differences) old new
-told_more differences i d old mid new lt told is kept more counts =
-    let one : IsTold (d ∷ []) mid new = record { kept = kept; more = more; counts = counts } in
-    let added : take i differences ++ d ∷ [] ≡ take (i + 1) differences =
-    ap (λ (x : Difference). take i differences ++ x ∷ []) is ∙ sym (take_more differences i d lt) in
-    subst (λ (ds : List Difference). IsTold ds old new) added (told_then (take i differences) (d ∷ []) old mid new told one)
+told_more differences i x d old mid new lt told is kept more counts =
+    let one : IsTold (x ∷ []) mid new = record { kept = kept; more = more; counts = counts } in
+    let added : take i differences ++ x ∷ [] ≡ take (i + 1) differences =
+    ap (λ (y : Difference). take i differences ++ y ∷ []) is ∙ sym (take_more differences i d lt) in
+    subst (λ (ds : List Difference). IsTold ds old new) added (told_then (take i differences) (x ∷ []) old mid new told one)
 
 pub told_all : (differences : List Difference) (i : ℕ) (old new : Findings) → length differences ≤ i → IsTold (take i differences) old new → IsTold differences old new
 told_all differences i old new le told = subst (λ (ds : List Difference). IsTold ds old new) (take_all i differences le) told
@@ -179,3 +179,7 @@ pub none_so_told : (ds : List Difference) (old new : Findings) → IsTold ds old
 none_so_told ds old new told none no_more =
     told.kept ∙ ap (λ (fs : List Finding). take MOST (fs ++ map of_none ds)) none
     ∙ ap (λ (es : List Difference). take MOST (map of_none es)) no_more ∙ take_all MOST [] (omega arith)
+
+-- a finding of no meter is its difference's
+pub with_none : (n : ℕ) (fs : List Finding) (f : Finding) → f.meter ≡ None → take n (fs ++ f ∷ []) ≡ take n (fs ++ of_none f.difference ∷ [])
+with_none n fs f none = ap (λ m. let g : Finding = record { meter = m; difference = f.difference } in take n (fs ++ g ∷ [])) none

@@ -51,15 +51,21 @@ module _ (last n : ℕ) (old mid new : Findings) (content : Content) (goes_on : 
   there : 0 + length before.runs ≡ n
   there = let long = before.long in omega (arith, long)
 
+  pub more_theirs : AreRuns content 0 (before.runs ++ one.rows ∷ [])
+  more_theirs = runs_more content 0 before.runs one.rows before.theirs (subst (λ (k : ℕ). AreRowsOfRun k content one.rows) (sym there) one.theirs)
+
+  pub more_told : IsTold (differences_of_runs 0 last (before.runs ++ one.rows ∷ [])) old new
+  more_told =
+      subst (λ (ds : List Difference). IsTold ds old new) (sym (differences_more 0 last before.runs one.rows))
+      (told_then (differences_of_runs 0 last before.runs) (differences_of_run (0 + length before.runs) last one.rows) old mid new before.told
+      (subst (λ (k : ℕ). IsTold (differences_of_run k last one.rows) mid new) (sym there) one.told))
+
   pub one_more : IsSoFar last (n + 1) old new content
   one_more = record {
     runs = before.runs ++ one.rows ∷ [];
     long = let more = length-append before.runs (one.rows ∷ []) in let long = before.long in omega (arith, more, long);
-    theirs = runs_more content 0 before.runs one.rows before.theirs (subst (λ (k : ℕ). AreRowsOfRun k content one.rows) (sym there) one.theirs);
-    told =
-        subst (λ (ds : List Difference). IsTold ds old new) (sym (differences_more 0 last before.runs one.rows))
-        (told_then (differences_of_runs 0 last before.runs) (differences_of_run (0 + length before.runs) last one.rows) old mid new before.told
-        (subst (λ (k : ℕ). IsTold (differences_of_run k last one.rows) mid new) (sym there) one.told));
+    theirs = more_theirs;
+    told = more_told;
   }
 
 module _ (last : ℕ) (old new : Findings) (content : Content) (runs : List RunRows) (theirs : AreRuns content 0 runs)
@@ -92,8 +98,8 @@ all_runs last n old new content before reached =
 pub up_to_stop : (last n : ℕ) (old mid new : Findings) (content : Content) (goes_on : Bool) → IsSoFar last n old mid content
     → TellsRun n last mid new content goes_on → goes_on ≡ false → TellsRuns last old new content
 up_to_stop last n old mid new content goes_on before one stopped =
-    let all = one_more last n old mid new content goes_on before one in
-    tells_runs_so last old new content (before.runs ++ one.rows ∷ []) all.theirs all.told (inr (stops_last before.runs one.rows new (one.stops stopped)))
+    tells_runs_so last old new content (before.runs ++ one.rows ∷ []) (more_theirs last n old mid new content goes_on before one)
+    (more_told last n old mid new content goes_on before one) (inr (stops_last before.runs one.rows new (one.stops stopped)))
 
 -- ---- so many runs go up to the last poll
 

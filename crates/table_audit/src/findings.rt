@@ -113,10 +113,8 @@ impl Findings {
         ensures few { OnOk result (length self.new.first.items ≤ MOST) }
     {
         for difference in found {
-            self.push(Finding {
-                meter: None,
-                difference: *difference,
-            })?;
+            let finding = alone(difference);
+            self.push(finding)?;
         }
         Ok(())
     }
@@ -162,4 +160,15 @@ fn under(alloc: Global, meter: &str, difference: &Difference) -> Result<Finding,
         meter: Some(name),
         difference: *difference,
     })
+}
+
+/// A difference of no meter.
+fn alone(difference: &Difference) -> Finding
+    ensures meter { result.meter ≡ None }
+    ensures difference { result.difference ≡ difference.now }
+{
+    Finding {
+        meter: None,
+        difference: *difference,
+    }
 }
