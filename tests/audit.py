@@ -188,6 +188,20 @@ def printed(entries, intervals):
         ("an outcome of the second run", f"{more}; UPDATE outcomes SET moment = 0 WHERE poll = 4097", "poll 4097 outcome comes before the poll"),
     ):
         same(what, changed(*command.split("; ")), (1, [line, "1 differences"], []))
+    for what, command, lines in (
+        ("many polls are gone", f"{more}; DELETE FROM outcomes WHERE poll BETWEEN 10 AND 4200; DELETE FROM polls WHERE poll BETWEEN 10 AND 4200",
+         ["polls 10 to 4096 are missing", "polls 4097 to 4200 are missing"]),
+        ("each difference of a run", "UPDATE polls SET address = 65535 WHERE poll IN (2, 4); UPDATE outcomes SET outcome = 6 WHERE poll = 5; "
+         f"DELETE FROM outcomes WHERE poll = 3; DELETE FROM polls WHERE poll = 3; UPDATE outcomes SET moment = {BEGIN - 2} WHERE poll IN (1, 2)",
+         [f"poll 2 {astray}".replace("with", "has"), f"poll 4 {astray}".replace("with", "has"), f"poll 5 outcome {astray}".replace("with", "has"),
+          "poll 3 is missing", "poll 1 outcome comes before the poll"]),
+        ("a poll far off", "INSERT INTO polls VALUES (4500000000000000000, 'inv', 1, 0, 7, 4, 0, 125)", None),
+    ):
+        if lines is None:
+            # (each run without a poll is told, until 100 differences are kept)
+            runs = [f"polls {it * 4096 + 1} to {it * 4096 + 4096} are missing" for it in range(100)]
+            lines = [runs[0].replace("polls 1 ", "polls 9 "), *runs[1:]]
+        same(what, changed(*command.split("; ")), (1, [*lines, f"{len(lines)} differences"], []))
     same("polls of two runs", changed(*more.split("; ")), (0, [f"fine: 1 meters, {last} entries, {len(intervals)} intervals, 5000 polls"], []))
     wanted = [f"meter m1 interval {start} has {mwh + 1}, entries give {mwh}" for _, start, mwh in intervals[:100]]
     wanted += [f"and {len(intervals) - 100} more", f"{len(intervals)} differences"]

@@ -160,26 +160,44 @@ def is_outcome(poll, moment, kind, code):
     return kind in CODES and within([(poll, moment, code)], (1, GREATEST_PLACE), (0, LATEST), CODES[kind])
 
 
-def poll_difference(books):
-    """What differs first of polls, in a list; an empty one where nothing does."""
+def gap(least, most):
+    """What is told of numbers that no poll has, in a list."""
+    if least > most:
+        return []
+    return [f"poll {least} is missing" if least == most else f"polls {least} to {most} are missing"]
+
+
+def order_differences(least, most, numbers):
+    """What differs of the numbers of polls, which are to be those from one up to another."""
+    told = []
+    for it in numbers:
+        if least <= it <= most:
+            told += gap(least, it - 1)
+            least = it + 1
+        else:
+            told.append(f"poll {it} is out of order")
+    return told + gap(least, most)
+
+
+def poll_differences(books, before):
+    """What differs of polls, where so many differences were told before."""
     astray, number = "has a value that none may have", lambda row: row[0] if 1 <= row[0] <= GREATEST_PLACE else 0
     last = books.execute("SELECT max(poll) FROM polls").fetchone()[0] or 0
     if last > GREATEST_PLACE or last < 1 and books.execute("SELECT count(*) FROM polls").fetchone()[0]:
         return [f"poll 0 {astray}"]
+    told = []
     for first in range(1, last + 1, RUN):
         inside = (first if first > 1 else -(2**63), first + RUN - 1)
         polls = books.execute("SELECT poll, unit, started, tid, function, address, count FROM polls WHERE poll BETWEEN ? AND ? ORDER BY poll", inside).fetchall()
         outcomes = books.execute("SELECT poll, moment, outcome, code FROM outcomes WHERE poll BETWEEN ? AND ? ORDER BY poll", inside).fetchall()
-        if bad := [number(it) for it in polls if not is_poll(*it)]:
-            return [f"poll {bad[0]} {astray}"]
-        if bad := [number(it) for it in outcomes if not is_outcome(*it)]:
-            return [f"poll {bad[0]} outcome {astray}"]
-        started = {row[0]: row[2] for row in polls}
-        if missing := next((it for it in range(first, min(last, inside[1]) + 1) if it not in started), 0):
-            return [f"poll {missing} is missing"]
-        if early := [poll for poll, moment, *_ in outcomes if moment < started[poll]]:
-            return [f"poll {early[0]} outcome comes before the poll"]
-    return []
+        told += [f"poll {number(it)} {astray}" for it in polls if not is_poll(*it)]
+        told += [f"poll {number(it)} outcome {astray}" for it in outcomes if not is_outcome(*it)]
+        told += order_differences(first, min(last, inside[1]), [it[0] for it in polls if number(it)])
+        started = {it[0]: it[2] if is_poll(*it) else 0 for it in polls}
+        told += [f"poll {it[0]} outcome comes before the poll" for it in outcomes if is_outcome(*it) and it[1] < started.get(it[0], it[1] + 1)]
+        if not polls and before + len(told) >= 100:
+            break
+    return told
 
 
 def audit_of(books):
@@ -187,7 +205,8 @@ def audit_of(books):
     if books.execute("PRAGMA foreign_key_check").fetchone():
         return 3, []
     rows = books.execute("SELECT * FROM installations ORDER BY place").fetchall()
-    told = [f"meter {row[1]} {it}" for place, row in enumerate(rows, 1) for it in differences_of(books, place, row)] + poll_difference(books)
+    told = [f"meter {row[1]} {it}" for place, row in enumerate(rows, 1) for it in differences_of(books, place, row)]
+    told += poll_differences(books, len(told))
     if told:
         return 1, [*told[:100], *([f"and {len(told) - 100} more"] if len(told) > 100 else []), f"{len(told)} differences"]
     entries, intervals = (sum(books.execute(f"SELECT count(*) FROM {table} WHERE meter = ?", (row[1],)).fetchone()[0] for row in rows) for table in ("entries", "intervals"))

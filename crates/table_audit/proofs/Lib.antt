@@ -4,10 +4,11 @@ pub mod Looking
 pub mod SqlTexts
 pub mod Asks
 mod PollAsks
+pub mod LookedAt
+pub mod Named
+pub mod Differing
 pub mod PollFound
 pub mod PollRuns
 pub mod Rising
 pub mod Found
-pub mod LookedAt
-pub mod Named
 pub mod Lines

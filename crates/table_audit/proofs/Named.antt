@@ -1,5 +1,5 @@
 -- Differences of a meter among those of others.
-use Rattle.std.proofs.Common.{◌≡◌, ◌↔◌, ◌+◌, ◌-◌, ◌<◌, ◌≤◌, ℕ, zero, suc, min, Bool, true, false, List, [], ◌∷◌, ◌++◌, map, take, length, get_or, IsTrue, refl, sym, ap, subst, ◌∙◌, append_assoc, arith}
+use Rattle.std.proofs.Common.{◌≡◌, ◌↔◌, ◌+◌, ◌-◌, ◌<◌, ◌≤◌, ◌^◌, ℕ, zero, suc, min, Bool, true, false, List, [], ◌∷◌, ◌++◌, None, map, take, length, get_or, IsTrue, refl, sym, ap, subst, ◌∙◌, append_assoc, arith}
 use Rattle.std.proofs.lemmas.List.{take_all, take_at, take_more, length-map, length-append, length-take, length-take-le, map-append}
 use Rattle.sqlite.specs.Order.{Row}
 use Rattle.table_audit.specs.declared.differences.Difference.{Difference}
@@ -9,7 +9,7 @@ use Rattle.table_audit.specs.declared.findings.Finding.{Finding}
 use Rattle.table_audit.specs.declared.findings.Findings.{Findings}
 use Rattle.table_audit.specs.declared.rows.MeterRows.{MeterRows}
 use Rattle.table_audit.specs.Meters.{IsFineMeter, up_to_most}
-use Rattle.table_audit.specs.Named.{difference_of, IsUnder, KeepsFirst}
+use Rattle.table_audit.specs.Named.{difference_of, IsUnder, KeepsFirst, of_none, IsTold}
 use Rattle.table_audit.specs.Telling.{Tells}
 use Rattle.table_audit.proofs.LookedAt.{all_more}
 
@@ -31,7 +31,7 @@ none_taken n [] lt none = refl
 none_taken n (x ∷ xs) lt none =
     let long : min n (length (x ∷ xs)) ≡ 0 = sym (length-take n (x ∷ xs)) ∙ ap length none in absurd (omega (arith, lt, long))
 
-both_none : {X : Type 0} (xs ys : List X) → xs ++ ys ≡ [] → (xs ≡ []) × (ys ≡ [])
+pub both_none : {X : Type 0} (xs ys : List X) → xs ++ ys ≡ [] → (xs ≡ []) × (ys ≡ [])
 both_none [] ys none = (refl, none)
 both_none (x ∷ xs) ys none = absurd (let f : x ∷ (xs ++ ys) ≡ [] = none in cc)
 
@@ -41,7 +41,7 @@ none_mapped f (x ∷ xs) none = absurd (let g : f x ∷ map f xs ≡ [] = none i
 
 -- ---- one more of a meter's differences
 
-append_none : {X : Type 0} (xs : List X) → xs ++ [] ≡ xs
+pub append_none : {X : Type 0} (xs : List X) → xs ++ [] ≡ xs
 append_none [] = refl
 append_none (x ∷ xs) = ap (λ l. x ∷ l) (append_none xs)
 
@@ -123,3 +123,63 @@ told_named place row rows meter fine before found given old new last given_is la
       λ is. let two = told.0 (sym items ∙ is) in (two.0, same.0 (as_fine.1 two.1)),
       λ is. items ∙ told.1 (is.0, as_fine.0 (same.1 is.1)),
     )
+
+-- ---- differences of no meter
+
+take_twice : {X : Type 0} (n : ℕ) (xs ys : List X) → take n (take n xs ++ ys) ≡ take n (xs ++ ys)
+take_twice zero xs ys = refl
+take_twice (suc n) [] ys = refl
+take_twice (suc n) (x ∷ xs) ys = ap (λ l. x ∷ l) (take_twice n xs ys)
+
+counted_then : (old mid new long now one two : ℕ) → mid ≡ up_to_most (old + (long + one - MOST)) → now ≡ min MOST (long + one)
+    → new ≡ up_to_most (mid + (now + two - MOST)) → new ≡ up_to_most (old + (long + (one + two) - MOST))
+counted_then old mid new long now one two was have is = omega (arith, was, have, is)
+
+told_length : (ds : List Difference) (old new : Findings) → IsTold ds old new → length new.first.items ≡ min MOST (length old.first.items + length ds)
+told_length ds old new told =
+    ap (λ (fs : List Finding). length fs) told.kept ∙ length-take MOST (old.first.items ++ map of_none ds)
+    ∙ ap (min MOST) (length-append old.first.items (map of_none ds) ∙ ap (λ n. length old.first.items + n) (length-map ds of_none))
+
+pub none_told_yet : (found : Findings) → length found.first.items ≤ MOST → found.more ≤ 2 ^ 64 - 1 → IsTold [] found found
+none_told_yet found few fits = record {
+  kept = sym (take_all MOST found.first.items few) ∙ ap (λ (l : List Finding). take MOST l) (sym (append_none found.first.items));
+  more = omega (arith, few, fits);
+  counts = refl;
+}
+
+pub told_then : (ds es : List Difference) (old mid new : Findings) → IsTold ds old mid → IsTold es mid new → IsTold (ds ++ es) old new
+told_then ds es old mid new one two = record {
+  kept = two.kept ∙ ap (λ (fs : List Finding). take MOST (fs ++ map of_none es)) one.kept ∙ take_twice MOST (old.first.items ++ map of_none ds) (map of_none es)
+      ∙ ap (λ (fs : List Finding). take MOST fs) (append_assoc old.first.items (map of_none ds) (map of_none es))
+      ∙ ap (λ (fs : List Finding). take MOST (old.first.items ++ fs)) (sym (map-append of_none ds es));
+  more = counted_then old.more mid.more new.more (length old.first.items) (length mid.first.items) (length ds) (length es) one.more
+      (told_length ds old mid one) two.more
+      ∙ ap (λ n. up_to_most (old.more + (length old.first.items + n - MOST))) (sym (length-append ds es));
+  counts = two.counts ∙ one.counts;
+}
+
+pub told_more : (differences : List Difference) (i : ℕ) (x d : Difference) (old mid new : Findings) → i < length differences
+    → IsTold (take i differences) old mid → x ≡ get_or differences i d → new.first.items ≡ take MOST (mid.first.items ++ of_none x ∷ [])
+    → new.more ≡ up_to_most (mid.more + (length mid.first.items + 1 - MOST)) → new.counts ≡ mid.counts → IsTold (take (i + 1) differences) old new
+told_more differences i x d old mid new lt told is kept more counts =
+    let one : IsTold (x ∷ []) mid new = record { kept = kept; more = more; counts = counts } in
+    let added : take i differences ++ x ∷ [] ≡ take (i + 1) differences =
+    ap (λ (y : Difference). take i differences ++ y ∷ []) is ∙ sym (take_more differences i d lt) in
+    subst (λ (ds : List Difference). IsTold ds old new) added (told_then (take i differences) (x ∷ []) old mid new told one)
+
+pub told_all : (differences : List Difference) (i : ℕ) (old new : Findings) → length differences ≤ i → IsTold (take i differences) old new → IsTold differences old new
+told_all differences i old new le told = subst (λ (ds : List Difference). IsTold ds old new) (take_all i differences le) told
+
+pub told_none : (ds : List Difference) (old new : Findings) → IsTold ds old new → new.first.items ≡ [] → (old.first.items ≡ []) × (ds ≡ [])
+told_none ds old new told none =
+    let two = both_none old.first.items (map of_none ds) (none_taken MOST (old.first.items ++ map of_none ds) (omega arith) (sym told.kept ∙ none)) in
+    (two.0, none_mapped of_none ds two.1)
+
+pub none_so_told : (ds : List Difference) (old new : Findings) → IsTold ds old new → old.first.items ≡ [] → ds ≡ [] → new.first.items ≡ []
+none_so_told ds old new told none no_more =
+    told.kept ∙ ap (λ (fs : List Finding). take MOST (fs ++ map of_none ds)) none
+    ∙ ap (λ (es : List Difference). take MOST (map of_none es)) no_more ∙ take_all MOST [] (omega arith)
+
+-- a finding of no meter is its difference's
+pub with_none : (n : ℕ) (fs : List Finding) (f : Finding) → f.meter ≡ None → take n (fs ++ f ∷ []) ≡ take n (fs ++ of_none f.difference ∷ [])
+with_none n fs f none = ap (λ m. let g : Finding = record { meter = m; difference = f.difference } in take n (fs ++ g ∷ [])) none

@@ -1,13 +1,20 @@
 -- One run of polls after the other.
-use Rattle.std.proofs.Common.{◌≡◌, ◌<◌, ◌≤◌, ◌+◌, ◌*◌, ◌/◌, ◌%◌, ℕ, suc, min, Bool, true, false, List, [], ◌∷◌, ◌++◌, length, refl, sym, ap, subst, ◌∙◌, arith}
+use Rattle.std.proofs.Common.{◌≡◌, ◌⊎◌, inl, inr, ◌<◌, ◌≤◌, ◌+◌, ◌*◌, ◌/◌, ◌%◌, ◌^◌, ◌-◌, ℕ, suc, min, Bool, false, List, [], ◌∷◌, ◌++◌, length, refl, sym, ap, subst, ◌∙◌, arith}
 use Rattle.std.proofs.lemmas.Grind.{div_ceil_times}
 use Rattle.std.proofs.lemmas.List.{length-append}
 use Rattle.store_tables.specs.Content.{Content}
+use Rattle.table_audit.specs.declared.differences.Difference.{Difference}
+use Rattle.table_audit.specs.declared.differences.TheConstants.{MOST}
+use Rattle.table_audit.specs.declared.findings.Finding.{Finding}
 use Rattle.table_audit.specs.declared.findings.Findings.{Findings}
 use Rattle.table_audit.specs.declared.poll_rows.RunRows.{RunRows}
 use Rattle.table_audit.specs.declared.poll_rows.TheConstants.{RUN}
+use Rattle.table_audit.specs.Named.{IsTold}
+use Rattle.table_audit.specs.PollDifferences.{differences_of_run, differences_of_runs}
 use Rattle.table_audit.specs.PollShowing.{AreRowsOfRun}
-use Rattle.table_audit.specs.Polls.{IsFineRun, AreRuns, AreFineRuns, Says, TellsRun, TellsRuns}
+use Rattle.table_audit.specs.Polls.{AreRuns, AreFineRuns, Stops, StopsAfter, TellsRun, TellsRuns}
+use Rattle.table_audit.proofs.Differing.{none_are_fine, fine_are_none, differences_more}
+use Rattle.table_audit.proofs.Named.{none_told_yet, told_then, told_none, none_so_told}
 
 runs_more : (content : Content) (run : ℕ) (xs : List RunRows) (x : RunRows) → AreRuns content run xs → AreRowsOfRun (run + length xs) content x
     → AreRuns content run (xs ++ x ∷ [])
@@ -18,83 +25,81 @@ runs_more content run (y ∷ ys) x theirs one =
     let there : run + length (y ∷ ys) ≡ suc run + length ys = omega arith in
     (theirs.0, runs_more content (suc run) ys x theirs.1 (subst (λ (n : ℕ). AreRowsOfRun n content x) there one))
 
-fine_more : (run last : ℕ) (xs : List RunRows) (x : RunRows) → AreFineRuns run last xs → IsFineRun (run + length xs) last x
-    → AreFineRuns run last (xs ++ x ∷ [])
-fine_more run last [] x fine one =
-    let there : run + length (let none : List RunRows = [] in none) ≡ run = omega arith in
-    (subst (λ (n : ℕ). IsFineRun n last x) there one, tt)
-fine_more run last (y ∷ ys) x fine one =
-    let there : run + length (y ∷ ys) ≡ suc run + length ys = omega arith in
-    (fine.0, fine_more (suc run) last ys x fine.1 (subst (λ (n : ℕ). IsFineRun n last x) there one))
+stops_last : (xs : List RunRows) (x : RunRows) (found : Findings) → Stops x found → StopsAfter (xs ++ x ∷ []) found
+stops_last [] x found stops = stops
+stops_last (y ∷ []) x found stops = stops
+stops_last (y ∷ z ∷ zs) x found stops = stops_last (z ∷ zs) x found stops
 
-last_fine : (run last : ℕ) (xs : List RunRows) (x : RunRows) → AreFineRuns run last (xs ++ x ∷ []) → IsFineRun (run + length xs) last x
-last_fine run last [] x fine =
-    let there : run ≡ run + length (let none : List RunRows = [] in none) = omega arith in
-    subst (λ (n : ℕ). IsFineRun n last x) there fine.0
-last_fine run last (y ∷ ys) x fine =
-    let there : suc run + length ys ≡ run + length (y ∷ ys) = omega arith in
-    subst (λ (n : ℕ). IsFineRun n last x) there (last_fine (suc run) last ys x fine.1)
+stopped_full : (xs : List RunRows) (found : Findings) → StopsAfter xs found → MOST ≤ length found.first.items
+stopped_full [] found none = absurd none
+stopped_full (x ∷ []) found stops = stops.1
+stopped_full (x ∷ y ∷ ys) found stops = stopped_full (y ∷ ys) found stops
 
--- so many runs were looked at, and are fine
-pub record IsSoFar (last n : ℕ) (content : Content) : Type 0 where
+-- so many runs were looked at, and what differs of them was told
+pub record IsSoFar (last n : ℕ) (old new : Findings) (content : Content) : Type 0 where
   pub runs : List RunRows
   pub long : length runs ≡ n
   pub theirs : AreRuns content 0 runs
-  pub fine : AreFineRuns 0 last runs
+  pub told : IsTold (differences_of_runs 0 last runs) old new
 
-pub none_yet : (last : ℕ) (content : Content) → IsSoFar last 0 content
-none_yet last content = record { runs = []; long = refl; theirs = tt; fine = tt }
+pub none_yet : (last : ℕ) (found : Findings) (content : Content) → length found.first.items ≤ MOST → found.more ≤ 2 ^ 64 - 1
+    → IsSoFar last 0 found found content
+none_yet last found content few fits = record { runs = []; long = refl; theirs = tt; told = none_told_yet found few fits }
 
-module _ (last n : ℕ) (old new : Findings) (content : Content) (before : IsSoFar last n content) where
+module _ (last n : ℕ) (old mid new : Findings) (content : Content) (goes_on : Bool) (before : IsSoFar last n old mid content)
+    (one : TellsRun n last mid new content goes_on) where
   there : 0 + length before.runs ≡ n
   there = let long = before.long in omega (arith, long)
 
-  pub one_more : TellsRun n last old new content true → IsSoFar last (n + 1) content
-  one_more one = record {
+  pub more_theirs : AreRuns content 0 (before.runs ++ one.rows ∷ [])
+  more_theirs = runs_more content 0 before.runs one.rows before.theirs (subst (λ (k : ℕ). AreRowsOfRun k content one.rows) (sym there) one.theirs)
+
+  pub more_told : IsTold (differences_of_runs 0 last (before.runs ++ one.rows ∷ [])) old new
+  more_told =
+      subst (λ (ds : List Difference). IsTold ds old new) (sym (differences_more 0 last before.runs one.rows))
+      (told_then (differences_of_runs 0 last before.runs) (differences_of_run (0 + length before.runs) last one.rows) old mid new before.told
+      (subst (λ (k : ℕ). IsTold (differences_of_run k last one.rows) mid new) (sym there) one.told))
+
+  pub one_more : IsSoFar last (n + 1) old new content
+  one_more = record {
     runs = before.runs ++ one.rows ∷ [];
     long = let more = length-append before.runs (one.rows ∷ []) in let long = before.long in omega (arith, more, long);
-    theirs = runs_more content 0 before.runs one.rows before.theirs (subst (λ (k : ℕ). AreRowsOfRun k content one.rows) (sym there) one.theirs);
-    fine = fine_more 0 last before.runs one.rows before.fine (subst (λ (k : ℕ). IsFineRun k last one.rows) (sym there) (one.told.0 refl));
+    theirs = more_theirs;
+    told = more_told;
   }
 
-  pub one_unfine : TellsRun n last old new content false → TellsRuns last old new content
-  one_unfine one = record {
-    runs = before.runs ++ one.rows ∷ [];
-    theirs = runs_more content 0 before.runs one.rows before.theirs (subst (λ (k : ℕ). AreRowsOfRun k content one.rows) (sym there) one.theirs);
-    told = (
-      λ none. absurd (one.says.0 none),
-      λ are.
-          let fine = subst (λ (k : ℕ). IsFineRun k last one.rows) there (last_fine 0 last before.runs one.rows are.1) in
-          absurd (let f : false ≡ true = one.told.1 fine in cc),
-    );
-    counts = one.says.1;
-  }
+module _ (last : ℕ) (old new : Findings) (content : Content) (runs : List RunRows) (theirs : AreRuns content 0 runs)
+    (told : IsTold (differences_of_runs 0 last runs) old new) (whole : (last ≤ length runs * RUN) ⊎ StopsAfter runs new) where
+  reaches : new.first.items ≡ [] → (last ≤ length runs * RUN) ⊎ StopsAfter runs new → last ≤ length runs * RUN
+  reaches none (inl reach) = reach
+  reaches none (inr stops) =
+      let full = stopped_full runs new stops in
+      let long : length new.first.items ≡ 0 = ap (λ (fs : List Finding). length fs) none in absurd (omega (arith, full, long))
 
-  pub all_fine : last ≤ n * RUN → new ≡ old → TellsRuns last old new content
-  all_fine reached same = record {
-    runs = before.runs;
-    theirs = before.theirs;
+  tells_runs_so : TellsRuns last old new content
+  tells_runs_so = record {
+    runs = runs;
+    theirs = theirs;
+    each = told;
+    whole = whole;
     told = (
       λ none.
-          let long = before.long in
-          (sym (ap (λ (f : Findings). f.first.items) same) ∙ none, before.fine, subst (λ (k : ℕ). last ≤ k * RUN) (sym long) reached),
-      λ are. ap (λ (f : Findings). f.first.items) same ∙ are.0,
+          let two = told_none (differences_of_runs 0 last runs) old new told none in
+          (two.0, none_are_fine 0 last runs two.1, reaches none whole),
+      λ all. none_so_told (differences_of_runs 0 last runs) old new told all.0 (fine_are_none 0 last runs all.1),
     );
-    counts = ap (λ (f : Findings). f.counts) same;
   }
 
--- a run that was looked at, fine or not
-module _ (last n : ℕ) (old mid new : Findings) (content : Content) (b : Bool) (before : IsSoFar last n content) (one : TellsRun n last mid new content b) where
-  pub after_fine : b ≡ true → IsSoFar last (n + 1) content
-  after_fine fine = one_more last n mid new content before (subst (λ (x : Bool). TellsRun n last mid new content x) fine one)
+pub all_runs : (last n : ℕ) (old new : Findings) (content : Content) → IsSoFar last n old new content → last ≤ n * RUN → TellsRuns last old new content
+all_runs last n old new content before reached =
+    let long = before.long in
+    tells_runs_so last old new content before.runs before.theirs before.told (inl (subst (λ (k : ℕ). last ≤ k * RUN) (sym long) reached))
 
-  pub after_unfine : b ≡ false → mid ≡ old → TellsRuns last old new content
-  after_unfine unfine same =
-      subst (λ (f : Findings). TellsRuns last f new content) same
-      (one_unfine last n mid new content before (subst (λ (x : Bool). TellsRun n last mid new content x) unfine one))
-
-pub kept_same : (b : Bool) (old mid new : Findings) → b ≡ true → Says b mid new → mid ≡ old → new ≡ old
-kept_same b old mid new fine says same = subst (λ (x : Bool). Says x mid new) fine says ∙ same
+pub up_to_stop : (last n : ℕ) (old mid new : Findings) (content : Content) (goes_on : Bool) → IsSoFar last n old mid content
+    → TellsRun n last mid new content goes_on → goes_on ≡ false → TellsRuns last old new content
+up_to_stop last n old mid new content goes_on before one stopped =
+    tells_runs_so last old new content (before.runs ++ one.rows ∷ []) (more_theirs last n old mid new content goes_on before one)
+    (more_told last n old mid new content goes_on before one) (inr (stops_last before.runs one.rows new (one.stops stopped)))
 
 -- ---- so many runs go up to the last poll
 

@@ -7,6 +7,7 @@ pub mod Telling
 pub mod Meters
 pub mod PollReading
 pub mod PollShowing
-pub mod Polls
 pub mod Named
+pub mod PollDifferences
+pub mod Polls
 pub mod Texts

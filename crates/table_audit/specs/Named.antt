@@ -1,10 +1,11 @@
 -- Differences of a meter among those of others.
-use Rattle.std.specs.Prelude.{◌≡◌, ℕ, List, ◌++◌, map, take, Some, string_bytes}
+use Rattle.std.specs.Prelude.{◌≡◌, ◌+◌, ◌-◌, ℕ, List, ◌++◌, map, take, length, Some, None, string_bytes}
 use Rattle.std.specs.List.{AllByRecursion}
 use Rattle.table_audit.specs.declared.differences.Difference.{Difference}
 use Rattle.table_audit.specs.declared.differences.TheConstants.{MOST}
 use Rattle.table_audit.specs.declared.findings.Finding.{Finding}
 use Rattle.table_audit.specs.declared.findings.Findings.{Findings}
+use Rattle.table_audit.specs.Meters.{up_to_most}
 
 abbrev pub difference_of : Finding → Difference
 difference_of finding = finding.difference
@@ -19,3 +20,14 @@ pub record KeepsFirst (meter : List ℕ) (differences : List Difference) (old ne
   pub same : map difference_of added ≡ differences
   pub named : AllByRecursion (IsUnder meter) added
   pub kept : new.first.items ≡ take MOST (old.first.items ++ added)
+
+-- a difference of no meter
+abbrev pub of_none : Difference → Finding
+of_none difference = record { meter = None; difference = difference }
+
+-- Differences of no meter are told after others: they are kept until there are as many as are kept of all, and the rest counted.
+pub record IsTold (differences : List Difference) (old new : Findings) : Type 0 where
+  pub kept : new.first.items ≡ take MOST (old.first.items ++ map of_none differences)
+  pub more : new.more
+      ≡ up_to_most (old.more + (length old.first.items + length differences - MOST))
+  pub counts : new.counts ≡ old.counts

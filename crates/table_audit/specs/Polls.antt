@@ -1,16 +1,18 @@
 -- When the polls of the tables are fine, and what is told of them.
-use Rattle.std.specs.Prelude.{⊤, ◌≡◌, ◌≤◌, ◌↔◌, ◌+◌, ◌-◌, ◌*◌, ◌==◌, ℕ, suc, min, Bool, true, false, nat_lt, nat_le, ◌&&◌, List, [], ◌∷◌, length, Option, Ok, Result, MatchResult, IsTrue, unwrap_or}
-use Rattle.std.specs.List.{list_all, slice_get}
-use Rattle.std.specs.Option.{option_map_or}
+use Rattle.std.specs.Prelude.{⊤, ◌≡◌, ◌≤◌, ◌↔◌, ◌⊎◌, ◌+◌, ◌*◌, ◌==◌, ℕ, suc, Bool, true, false, nat_lt, nat_le, ◌&&◌, List, [], ◌∷◌, length, Option, Ok, Result, MatchResult, unwrap_or}
+use Rattle.std.specs.List.{list_all, list_any}
 use Rattle.sqlite.specs.Order.{Row}
 use Rattle.store_tables.specs.Columns.{first_in}
 use Rattle.store_tables.specs.Content.{Content}
 use Rattle.store_tables.specs.Limits.{greatest_place}
 use Rattle.store_tables.specs.declared.faults.RowFault.{RowFault}
 use Rattle.table_audit.specs.Meters.{TellsMeters}
+use Rattle.table_audit.specs.Named.{IsTold}
+use Rattle.table_audit.specs.PollDifferences.{first_number, last_number, differences_of_run, differences_of_runs}
 use Rattle.table_audit.specs.PollReading.{poll_in, outcome_in}
 use Rattle.table_audit.specs.PollShowing.{AreRowsOfRun, ShowsLast}
 use Rattle.table_audit.specs.Reading.{all_in}
+use Rattle.table_audit.specs.declared.differences.TheConstants.{MOST}
 use Rattle.table_audit.specs.declared.findings.Counts.{Counts}
 use Rattle.table_audit.specs.declared.findings.Findings.{Findings}
 use Rattle.table_audit.specs.declared.poll_rows.OutcomeRow.{OutcomeRow}
@@ -26,19 +28,12 @@ are_numbered next last [] = nat_lt last next
 are_numbered next last (poll ∷ polls) =
     (poll.number == next) && nat_le next last && are_numbered (next + 1) last polls
 
--- The poll of an outcome is one of these, which are numbered from the first on, and was started when it ended, or before.
-abbrev pub has_begun : (first : ℕ) → List PollRow → OutcomeRow → Bool
-has_begun first polls outcome =
-    nat_le first outcome.poll
-    && option_map_or (λ poll. nat_le poll.started outcome.moment)
-    (slice_get polls (outcome.poll - first)) false
+-- The poll of an outcome is one of these, and was started when it ended, or before.
+abbrev pub is_begun : OutcomeRow → PollRow → Bool
+is_begun outcome poll = (poll.number == outcome.poll) && nat_le poll.started outcome.moment
 
--- the first number of a run, and its last where this is the last of all
-abbrev pub first_number : (run : ℕ) → ℕ
-first_number run = run * RUN + 1
-
-abbrev pub last_number : (run last : ℕ) → ℕ
-last_number run last = min last ((run + 1) * RUN)
+abbrev pub has_begun : List PollRow → OutcomeRow → Bool
+has_begun polls outcome = list_any (is_begun outcome) polls
 
 -- Each row of a run has values that it may have, no number is missing, and no poll ended before it was started.
 pub record IsFineRun (run last : ℕ) (rows : RunRows) : Type 0 where
@@ -47,7 +42,7 @@ pub record IsFineRun (run last : ℕ) (rows : RunRows) : Type 0 where
   pub polls_read : all_in poll_in rows.polls.items ≡ Ok polls
   pub outcomes_read : all_in outcome_in rows.outcomes.items ≡ Ok outcomes
   pub numbered : are_numbered (first_number run) (last_number run last) polls ≡ true
-  pub begun : list_all (has_begun (first_number run) polls) outcomes ≡ true
+  pub begun : list_all (has_begun polls) outcomes ≡ true
 
 -- what the tables have for one run after the other
 abbrev pub AreRuns : Content → (run : ℕ) → List RunRows → Type 0
@@ -61,26 +56,32 @@ AreFineRuns run last (rows ∷ others) = IsFineRun run last rows × AreFineRuns 
 
 -- ---- told
 
--- Nothing more is told of what is fine, and something of what isn't.
-abbrev pub Says : (fine : Bool) → (old new : Findings) → Type 0
-Says true old new = new ≡ old
-Says false old new = (new.first.items ≡ [] → ⊥) × (new.counts ≡ old.counts)
+-- A run is the last one that is looked at where it has no poll, and as many differences are kept as may be.
+abbrev pub Stops : RunRows → Findings → Type 0
+Stops rows found = (rows.polls.items ≡ []) × (MOST ≤ length found.first.items)
 
--- it is told of a run whether it is fine
-pub record TellsRun (run last : ℕ) (old new : Findings) (content : Content) (fine : Bool) :
+-- It is told what differs of a run, and whether the next one is looked at.
+pub record TellsRun (run last : ℕ) (old new : Findings) (content : Content) (goes_on : Bool) :
     Type 0 where
   pub rows : RunRows
   pub theirs : AreRowsOfRun run content rows
-  pub told : IsTrue fine ↔ IsFineRun run last rows
-  pub says : Says fine old new
+  pub told : IsTold (differences_of_run run last rows) old new
+  pub stops : goes_on ≡ false → Stops rows new
 
--- Nothing more is told exactly if the runs are fine, from the first one up to that of the last poll.
+abbrev pub StopsAfter : List RunRows → Findings → Type 0
+StopsAfter [] found = ⊥
+StopsAfter (rows ∷ []) found = Stops rows found
+StopsAfter (rows ∷ next ∷ others) found = StopsAfter (next ∷ others) found
+
+-- What differs of the runs is told, from the first one up to that of the last poll. Where as many differences are kept as may
+-- be, the runs end at one without a poll. Nothing more is told exactly if all runs are fine.
 pub record TellsRuns (last : ℕ) (old new : Findings) (content : Content) : Type 0 where
   pub runs : List RunRows
   pub theirs : AreRuns content 0 runs
+  pub each : IsTold (differences_of_runs 0 last runs) old new
+  pub whole : (last ≤ length runs * RUN) ⊎ StopsAfter runs new
   pub told : (new.first.items ≡ [])
       ↔ ((old.first.items ≡ []) × AreFineRuns 0 last runs × (last ≤ length runs * RUN))
-  pub counts : new.counts ≡ old.counts
 
 abbrev pub with_polls : ℕ → Counts → Counts
 with_polls polls counts = record counts { polls = polls }

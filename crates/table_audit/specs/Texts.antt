@@ -68,13 +68,21 @@ with_ended text false = text ++ codes "is ended, entries don't end it"
 
 -- a poll by its number
 abbrev pub with_poll : List ℕ → (poll : ℕ) → PollFault → List ℕ
-with_poll text poll of_poll.Missing = text ++ codes "poll " ++ decimal poll ++ codes " is missing"
 with_poll text poll of_poll.OutOfRange =
     text ++ codes "poll " ++ decimal poll ++ codes " has a value that none may have"
 with_poll text poll of_poll.EndOutOfRange =
     text ++ codes "poll " ++ decimal poll ++ codes " outcome has a value that none may have"
+with_poll text poll of_poll.OutOfOrder =
+    text ++ codes "poll " ++ decimal poll ++ codes " is out of order"
 with_poll text poll of_poll.EndedBefore =
     text ++ codes "poll " ++ decimal poll ++ codes " outcome comes before the poll"
+
+-- numbers from one up to another that no poll has
+abbrev pub with_missing : List ℕ → (first last : ℕ) → List ℕ
+with_missing text first last =
+    if first == last then text ++ codes "poll " ++ decimal first ++ codes " is missing"
+    else text ++ codes "polls " ++ decimal first ++ codes " to " ++ decimal last
+    ++ codes " are missing"
 
 abbrev pub with_difference : List ℕ → Difference → List ℕ
 with_difference text (difference.OutOfRange name) =
@@ -95,6 +103,7 @@ with_difference text (difference.Last has wanted) =
 with_difference text (difference.Total has wanted) =
     text ++ codes "total has " ++ decimal has ++ codes ", entries give " ++ decimal wanted
 with_difference text (difference.Ended wanted) = with_ended text wanted
+with_difference text (difference.NoPolls first last) = with_missing text first last
 with_difference text (difference.Poll poll of_it) = with_poll text poll of_it
 
 -- ---- lines

@@ -18,12 +18,12 @@ pub enum Table {
 /// How a poll differs from those of an office.
 #[derive(Clone, Copy, Debug, PartialEq, Eq)]
 pub enum PollFault {
-    /// There is none of the number.
-    Missing,
     /// It has a value that none may have.
     OutOfRange,
     /// Its outcome has one.
     EndOutOfRange,
+    /// Its number isn't above that of the poll before it, or is past the last one.
+    OutOfOrder,
     /// Its outcome comes before it was started.
     EndedBefore,
 }
@@ -51,6 +51,8 @@ pub enum Difference {
     Total { has: u64, wanted: u64 },
     /// Whether the installation says that the meter was closed.
     Ended { wanted: bool },
+    /// No poll has a number from the first up to the last.
+    NoPolls { first: u64, last: u64 },
     /// The poll of a number; a number below 1 is told as 0.
     Poll { poll: u64, fault: PollFault },
 }

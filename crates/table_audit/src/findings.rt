@@ -34,7 +34,7 @@ pub struct Findings {
 
 impl Findings {
     ghost use Rattle.table_audit.specs.Meters.{none_counted, counted, up_to_most};
-    ghost use Rattle.table_audit.specs.Named.{KeepsFirst};
+    ghost use Rattle.table_audit.specs.Named.{KeepsFirst, IsTold};
     ghost use Rattle.table_audit.specs.Polls.{counting_polls};
 
     /// None yet.
@@ -106,6 +106,19 @@ impl Findings {
         Ok(())
     }
 
+    /// Differences of no meter.
+    pub(crate) fn tell_all(&mut self, found: &[Difference]) -> Result<(), AllocError>
+        requires few { length self.old.first.items ≤ MOST }
+        ensures told { OnOk result (IsTold found.now self.old self.new) }
+        ensures few { OnOk result (length self.new.first.items ≤ MOST) }
+    {
+        for difference in found {
+            let finding = alone(difference);
+            self.push(finding)?;
+        }
+        Ok(())
+    }
+
     /// A meter's rows were looked at.
     pub(crate) fn count(&mut self, rows: &MeterRows)
         ensures counts { self.new.counts ≡ counted (Some rows.now) self.old.counts }
@@ -147,4 +160,15 @@ fn under(alloc: Global, meter: &str, difference: &Difference) -> Result<Finding,
         meter: Some(name),
         difference: *difference,
     })
+}
+
+/// A difference of no meter.
+fn alone(difference: &Difference) -> Finding
+    ensures meter { result.meter ≡ None }
+    ensures difference { result.difference ≡ difference.now }
+{
+    Finding {
+        meter: None,
+        difference: *difference,
+    }
 }

@@ -7,6 +7,7 @@ mod findings;
 mod lawful;
 mod meters;
 mod opening;
+mod poll_differences;
 mod poll_queries;
 mod poll_reading;
 mod poll_rows;

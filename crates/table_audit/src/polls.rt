@@ -1,139 +1,44 @@
 //! Polls and their outcomes.
-ghost use Rattle.std.specs.Prelude.{◌≡◌, ◌≤◌, ◌<◌, ◌^◌, ◌↔◌, [], true, false, length, IsTrue, IsNone, IfOk, IfErr, OnOk};
-ghost use Rattle.std.specs.List.{list_all};
+ghost use Rattle.std.specs.Prelude.{◌≡◌, ◌≤◌, ◌<◌, ◌^◌, [], false, length, IfOk, IfErr, OnOk};
 ghost use Rattle.store_tables.specs.Limits.{greatest_place};
 ghost use Rattle.store_tables.specs.Failing.{want_of_memory};
 ghost use Rattle.table_audit.specs.Looking.{Finds};
+ghost use Rattle.table_audit.specs.Named.{IsTold};
+ghost use Rattle.table_audit.specs.PollDifferences.{differences_of_run};
 ghost use Rattle.table_audit.specs.Polls as said;
 
 use crate::differences::{Difference, MOST, PollFault};
 use crate::findings::{Finding, Findings};
 use crate::meters::audit_meters;
+use crate::poll_differences::run_differences;
 use crate::poll_queries::{last_poll, run_rows};
-use crate::poll_reading::{outcomes, polls, unread_outcome, unread_poll};
-use crate::poll_rows::{OutcomeRow, PollRow, RUN, RunRows};
+use crate::poll_rows::{RUN, RunRows};
 use sqlite::{Alter, Connection, Error, ErrorCode};
 use std::alloc::{AllocError, Global};
 use store_tables::{GREATEST_PLACE, RowFault, first_whole};
 
-/// The first number, from one up to another, that has no poll among these.
-fn first_missing(first: u64, last: u64, polls: &[PollRow]) -> Option<u64>
-    requires first { first ≤ 2 ^ 63 }
-    requires last { last ≤ greatest_place }
-    ensures { IsNone result ↔ (said.are_numbered first last polls.now ≡ true) }
-{
-    let mut next = first;
-    for poll in polls {
-        if poll.number != next {
-            return Some(next);
-        }
-        if last < next {
-            return Some(next);
-        }
-        next += 1;
-    }
-    if next <= last { Some(next) } else { None }
-}
-
-/// Whether the poll of an outcome is one of these, and was started by then.
-fn has_begun(first: u64, polls: &[PollRow], outcome: &OutcomeRow) -> bool
-    ensures { result ≡ said.has_begun first polls.now outcome.now }
-{
-    let number = outcome.poll;
-    if number < first {
-        return false;
-    }
-    match polls.get((number - first) as usize) {
-        Some(poll) => poll.started <= outcome.moment,
-        None => false,
-    }
-}
-
-/// The first poll that ended before it was started.
-fn first_early(first: u64, polls: &[PollRow], outcomes: &[OutcomeRow]) -> Option<u64>
-    ensures { IsNone result ↔ (list_all (said.has_begun first polls.now) outcomes.now ≡ true) }
-{
-    for outcome in outcomes {
-        if !has_begun(first, polls, outcome) {
-            return Some(outcome.poll);
-        }
-    }
-    None
-}
-
-/// Tells of the first poll that is missing, or else of the first that ended too early.
-fn tell_order(
-    first: u64,
-    last: u64,
-    polls: &[PollRow],
-    outcomes: &[OutcomeRow],
-) -> Option<Difference>
-    requires first { first ≤ 2 ^ 63 }
-    requires last { last ≤ greatest_place }
-    ensures { IsNone result ↔ ((said.are_numbered first last polls.now ≡ true)
-        × (list_all (said.has_begun first polls.now) outcomes.now ≡ true)) }
-{
-    if let Some(poll) = first_missing(first, last, polls) {
-        return Some(Difference::Poll {
-            poll,
-            fault: PollFault::Missing,
-        });
-    }
-    match first_early(first, polls, outcomes) {
-        Some(poll) => Some(Difference::Poll {
-            poll,
-            fault: PollFault::EndedBefore,
-        }),
-        None => None,
-    }
-}
-
-/// Tells of the first difference of a run, if there is one.
-fn tell_run(
+/// Tells what differs of these rows of a run, and whether the next run is to be looked at.
+fn audit_rows_of(
     alloc: Global,
     run: u64,
     last: u64,
     rows: &RunRows,
-) -> Result<Option<Difference>, AllocError>
+    findings: &mut Findings,
+) -> Result<bool, AllocError>
     requires run { run < 2 ^ 50 }
     requires last { last ≤ greatest_place }
-    ensures { IfOk result (λ found. IsNone found ↔ said.IsFineRun run last rows.now) }
-{
-    let Some(polls) = polls(alloc, &rows.polls)? else {
-        return Ok(Some(Difference::Poll {
-            poll: unread_poll(&rows.polls),
-            fault: PollFault::OutOfRange,
-        }));
-    };
-    let Some(outcomes) = outcomes(alloc, &rows.outcomes)? else {
-        return Ok(Some(Difference::Poll {
-            poll: unread_outcome(&rows.outcomes),
-            fault: PollFault::EndOutOfRange,
-        }));
-    };
-    let first = run * RUN + 1;
-    let end = last.min((run + 1) * RUN);
-    Ok(tell_order(first, end, polls.as_slice(), outcomes.as_slice()))
-}
-
-/// Puts a difference of polls after the others, if there is one.
-fn put_told(found: Option<Difference>, findings: &mut Findings) -> Result<bool, AllocError>
     requires few { length findings.old.first.items ≤ MOST }
-    ensures fine { IfOk result (λ fine. IsTrue fine ↔ IsNone found) }
-    ensures says { IfOk result (λ told. said.Says told findings.old findings.new) }
+    ensures told { OnOk result
+        (IsTold (differences_of_run run last rows.now) findings.old findings.new) }
+    ensures stops { IfOk result (λ goes_on. goes_on ≡ false → said.Stops rows.now findings.new) }
     ensures few { OnOk result (length findings.new.first.items ≤ MOST) }
 {
-    let Some(difference) = found else {
-        return Ok(true);
-    };
-    findings.push(Finding {
-        meter: None,
-        difference,
-    })?;
-    Ok(false)
+    let found = run_differences(alloc, run, last, rows)?;
+    findings.tell_all(found.as_slice())?;
+    Ok(rows.polls.len() > 0 || findings.first.len() < MOST)
 }
 
-/// Whether a run of polls is fine. It tells of its first difference.
+/// Tells what differs of a run of polls, and whether the next run is to be looked at.
 fn audit_run<S: Alter>(
     alloc: Global,
     conn: &mut Connection<S>,
@@ -147,36 +52,17 @@ fn audit_run<S: Alter>(
     requires few { length findings.old.first.items ≤ MOST }
     ensures finds { Finds S.Store conn.old conn.new result
         (said.TellsRun run last findings.old findings.new) }
-    ensures says { IfOk result (λ told. said.Says told findings.old findings.new) }
     ensures few { OnOk result (length findings.new.first.items ≤ MOST) }
 {
     let rows = run_rows(conn, run)?;
     match audit_rows_of(alloc, run, last, &rows, findings) {
-        Ok(fine) => Ok(fine),
+        Ok(goes_on) => Ok(goes_on),
         Err(_) => Err(RowFault::Sql(Error::SqliteFailure(ErrorCode::OutOfMemory))),
     }
 }
 
-/// Whether these rows of a run are fine. It tells of their first difference.
-fn audit_rows_of(
-    alloc: Global,
-    run: u64,
-    last: u64,
-    rows: &RunRows,
-    findings: &mut Findings,
-) -> Result<bool, AllocError>
-    requires run { run < 2 ^ 50 }
-    requires last { last ≤ greatest_place }
-    requires few { length findings.old.first.items ≤ MOST }
-    ensures fine { IfOk result (λ fine. IsTrue fine ↔ said.IsFineRun run last rows.now) }
-    ensures says { IfOk result (λ told. said.Says told findings.old findings.new) }
-    ensures few { OnOk result (length findings.new.first.items ≤ MOST) }
-{
-    let found = tell_run(alloc, run, last, rows)?;
-    put_told(found, findings)
-}
-
-/// The polls up to the last one. It tells of the first difference, and looks no further.
+/// Tells what differs of the polls up to the last one, by runs. Once as many differences are kept as may be, a run without a
+/// poll is the last one that is looked at: each other has rows, so this ends soon, whatever the last number is.
 fn audit_runs<S: Alter>(
     alloc: Global,
     conn: &mut Connection<S>,
@@ -192,15 +78,15 @@ fn audit_runs<S: Alter>(
 {
     let runs = last.div_ceil(RUN);
     for run in 0..runs {
-        let is_fine = audit_run(alloc, conn, run, last, findings)?;
-        if !is_fine {
+        let goes_on = audit_run(alloc, conn, run, last, findings)?;
+        if !goes_on {
             return Ok(());
         }
     }
     Ok(())
 }
 
-/// All polls. It tells of the first difference.
+/// Tells what differs of all polls.
 fn audit_polls<S: Alter>(
     alloc: Global,
     conn: &mut Connection<S>,
@@ -232,8 +118,12 @@ fn tell_last(findings: &mut Findings) -> Result<(), RowFault>
         poll: 0,
         fault: PollFault::OutOfRange,
     };
-    match put_told(Some(difference), findings) {
-        Ok(_) => Ok(()),
+    let finding = Finding {
+        meter: None,
+        difference,
+    };
+    match findings.push(finding) {
+        Ok(()) => Ok(()),
         Err(_) => Err(RowFault::Sql(Error::SqliteFailure(ErrorCode::OutOfMemory))),
     }
 }

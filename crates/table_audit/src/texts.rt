@@ -132,11 +132,23 @@ fn put_poll(text: &mut Vec<u8>, poll: u64, fault: PollFault) -> Result<(), Alloc
 {
     put_number(text, b"poll ", poll)?;
     match fault {
-        PollFault::Missing => put(text, b" is missing"),
         PollFault::OutOfRange => put(text, b" has a value that none may have"),
         PollFault::EndOutOfRange => put(text, b" outcome has a value that none may have"),
+        PollFault::OutOfOrder => put(text, b" is out of order"),
         PollFault::EndedBefore => put(text, b" outcome comes before the poll"),
     }
+}
+
+fn put_missing(text: &mut Vec<u8>, first: u64, last: u64) -> Result<(), AllocError>
+    ensures { OnOk result (text.new.items ≡ say.with_missing text.old.items first last) }
+{
+    if first == last {
+        put_number(text, b"poll ", first)?;
+        return put(text, b" is missing");
+    }
+    put_number(text, b"polls ", first)?;
+    put_number(text, b" to ", last)?;
+    put(text, b" are missing")
 }
 
 fn put_difference(text: &mut Vec<u8>, difference: Difference) -> Result<(), AllocError>
@@ -172,6 +184,7 @@ fn put_difference(text: &mut Vec<u8>, difference: Difference) -> Result<(), Allo
             put_number(text, b", entries give ", wanted)
         }
         Difference::Ended { wanted } => put_ended(text, wanted),
+        Difference::NoPolls { first, last } => put_missing(text, first, last),
         Difference::Poll { poll, fault } => put_poll(text, poll, fault),
     }
 }

@@ -5,6 +5,6 @@ use Rattle.table_audit.proofs.polls.audit_run.Goals as goal
 
 pub returns-in-Ok-clause-finds : goal.returns-in-Ok-clause-finds
 returns-in-Ok-clause-finds g c =
-    made g.S.Store c.args.conn.now c.run_rows.new.conn c.in_ok-rows.rows c.in-Ok.fine (AreRowsOfRun c.args.run)
+    made g.S.Store c.args.conn.now c.run_rows.new.conn c.in_ok-rows.rows c.in-Ok.goes_on (AreRowsOfRun c.args.run)
     (TellsRun c.args.run c.args.last c.args.findings.now c.audit_rows_of.new.findings) c.in_ok-rows.ensures
-    (λ content theirs. record { rows = c.in_ok-rows.rows; theirs = theirs; told = c.in-Ok.ensures.fine; says = c.in-Ok.ensures.says })
+    (λ content theirs. record { rows = c.in_ok-rows.rows; theirs = theirs; told = c.in-Ok.ensures.told; stops = c.in-Ok.ensures.stops })

@@ -1,15 +1,13 @@
-use Rattle.std.proofs.Common.{rules, ◌≡◌, ◌≤◌, ◌+◌, true, false, length, Ok, Err, refl, sym, subst, arith}
-use Rattle.table_audit.specs.declared.differences.TheConstants.{MOST}
-use Rattle.table_audit.specs.declared.findings.Findings.{Findings}
+use Rattle.std.proofs.Common.{rules, ◌≡◌, ◌+◌, false, Ok, Err, arith}
 use Rattle.table_audit.specs.Polls.{TellsRun, TellsRuns}
 use Rattle.table_audit.proofs.Looking.{known, finds_then, passed_on, made}
-use Rattle.table_audit.proofs.PollRuns.{IsSoFar, none_yet, after_fine, after_unfine, kept_same, all_fine, runs_reach, runs_few}
+use Rattle.table_audit.proofs.PollRuns.{IsSoFar, none_yet, one_more, up_to_stop, all_runs, runs_reach, runs_few}
 use Rattle.table_audit.proofs.polls.audit_runs.Goals as goal
 
 pub loop-run-init : goal.loop-run-init
 loop-run-init g c = record {
-  finds = known g.S.Store c.args.conn.now c.args.last _ (λ content. none_yet c.args.last content);
-  same = refl;
+  finds = known g.S.Store c.args.conn.now c.args.last _ (λ content. none_yet c.args.last c.args.findings.now content c.requires.few (omega arith));
+  few = c.requires.few;
 }
 
 pub audit_run-requires-clause-mode : goal.audit_run-requires-clause-mode
@@ -18,44 +16,40 @@ audit_run-requires-clause-mode g c = c.loop-run.invariant.finds.looks.mode c.req
 pub audit_run-requires-clause-run : goal.audit_run-requires-clause-run
 audit_run-requires-clause-run g c = let few = runs_few c.args.last c.div_ceil-runs.result c.div_ceil-runs.ensures in omega (arith, few)
 
-pub audit_run-requires-clause-few : goal.audit_run-requires-clause-few
-audit_run-requires-clause-few g c =
-    subst (λ (f : Findings). length f.first.items ≤ MOST) (sym c.loop-run.invariant.same) c.requires.few
-
 pub loop-run-preserved : goal.loop-run-preserved
-loop-run-preserved g c =
-    let fine : c.in_ok-is_fine.is_fine ≡ true = search rules in
-    record {
-      finds = made g.S.Store c.args.conn.now c.audit_run.new.conn c.in_ok-is_fine.is_fine c.args.last _
-          (λ content _. IsSoFar c.args.last (c.loop-run.run + 1) content)
-          (finds_then g.S.Store c.args.conn.now c.loop-run.conn c.audit_run.new.conn c.args.last (Ok c.in_ok-is_fine.is_fine) _ _
-          (λ content b. IsSoFar c.args.last c.loop-run.run content × TellsRun c.loop-run.run c.args.last c.loop-run.findings c.audit_run.new.findings content b)
-          c.loop-run.invariant.finds c.in_ok-is_fine.ensures.finds (λ content b before one. (before, one)))
-          (λ content h. after_fine c.args.last c.loop-run.run c.args.findings.now c.loop-run.findings c.audit_run.new.findings content c.in_ok-is_fine.is_fine h.0 h.1 fine);
-      same = kept_same c.in_ok-is_fine.is_fine c.args.findings.now c.loop-run.findings c.audit_run.new.findings fine c.in_ok-is_fine.ensures.says c.loop-run.invariant.same;
-    }
+loop-run-preserved g c = record {
+  finds = made g.S.Store c.args.conn.now c.audit_run.new.conn c.in_ok-goes_on.goes_on c.args.last _
+      (λ content _. IsSoFar c.args.last (c.loop-run.run + 1) c.args.findings.now c.audit_run.new.findings content)
+      (finds_then g.S.Store c.args.conn.now c.loop-run.conn c.audit_run.new.conn c.args.last (Ok c.in_ok-goes_on.goes_on) _ _
+      (λ content b. IsSoFar c.args.last c.loop-run.run c.args.findings.now c.loop-run.findings content
+      × TellsRun c.loop-run.run c.args.last c.loop-run.findings c.audit_run.new.findings content b)
+      c.loop-run.invariant.finds c.in_ok-goes_on.ensures.finds (λ content b before one. (before, one)))
+      (λ content h. one_more c.args.last c.loop-run.run c.args.findings.now c.loop-run.findings c.audit_run.new.findings content c.in_ok-goes_on.goes_on h.0 h.1);
+  few = c.in_ok-goes_on.ensures.few;
+}
 
-pub returns-in_err-is_fine-clause-finds : goal.returns-in_err-is_fine-clause-finds
-returns-in_err-is_fine-clause-finds g c =
-    passed_on g.S.Store c.args.conn.now c.audit_run.new.conn c.in_err-is_fine.field-0.0 c.from_residual.result _ _
-    (finds_then g.S.Store c.args.conn.now c.loop-run.conn c.audit_run.new.conn c.args.last (Err c.in_err-is_fine.field-0.0) _ _
+pub returns-in_err-goes_on-clause-finds : goal.returns-in_err-goes_on-clause-finds
+returns-in_err-goes_on-clause-finds g c =
+    passed_on g.S.Store c.args.conn.now c.audit_run.new.conn c.in_err-goes_on.field-0.0 c.from_residual.result _ _
+    (finds_then g.S.Store c.args.conn.now c.loop-run.conn c.audit_run.new.conn c.args.last (Err c.in_err-goes_on.field-0.0) _ _
     (λ content b. TellsRun c.loop-run.run c.args.last c.loop-run.findings c.audit_run.new.findings content b)
-    c.loop-run.invariant.finds c.in_err-is_fine.ensures.finds (λ content b before one. one))
+    c.loop-run.invariant.finds c.in_err-goes_on.ensures.finds (λ content b before one. one))
     c.from_residual.ensures.1
 
-pub returns-then-not-is_fine-clause-finds : goal.returns-then-not-is_fine-clause-finds
-returns-then-not-is_fine-clause-finds g c =
-    let unfine : c.in_ok-is_fine.is_fine ≡ false = search rules in
-    made g.S.Store c.args.conn.now c.audit_run.new.conn c.in_ok-is_fine.is_fine _ _
+pub returns-then-not-goes_on-clause-finds : goal.returns-then-not-goes_on-clause-finds
+returns-then-not-goes_on-clause-finds g c =
+    let stopped : c.in_ok-goes_on.goes_on ≡ false = search rules in
+    made g.S.Store c.args.conn.now c.audit_run.new.conn c.in_ok-goes_on.goes_on _ _
     (λ content _. TellsRuns c.args.last c.args.findings.now c.audit_run.new.findings content)
-    (finds_then g.S.Store c.args.conn.now c.loop-run.conn c.audit_run.new.conn c.args.last (Ok c.in_ok-is_fine.is_fine) _ _
-    (λ content b. IsSoFar c.args.last c.loop-run.run content × TellsRun c.loop-run.run c.args.last c.loop-run.findings c.audit_run.new.findings content b)
-    c.loop-run.invariant.finds c.in_ok-is_fine.ensures.finds (λ content b before one. (before, one)))
-    (λ content h. after_unfine c.args.last c.loop-run.run c.args.findings.now c.loop-run.findings c.audit_run.new.findings content c.in_ok-is_fine.is_fine h.0 h.1 unfine c.loop-run.invariant.same)
+    (finds_then g.S.Store c.args.conn.now c.loop-run.conn c.audit_run.new.conn c.args.last (Ok c.in_ok-goes_on.goes_on) _ _
+    (λ content b. IsSoFar c.args.last c.loop-run.run c.args.findings.now c.loop-run.findings content
+    × TellsRun c.loop-run.run c.args.last c.loop-run.findings c.audit_run.new.findings content b)
+    c.loop-run.invariant.finds c.in_ok-goes_on.ensures.finds (λ content b before one. (before, one)))
+    (λ content h. up_to_stop c.args.last c.loop-run.run c.args.findings.now c.loop-run.findings c.audit_run.new.findings content c.in_ok-goes_on.goes_on h.0 h.1 stopped)
 
 pub returns-clause-finds : goal.returns-clause-finds
 returns-clause-finds g c =
     let reach = runs_reach c.args.last c.div_ceil-runs.result c.div_ceil-runs.ensures in
     made g.S.Store c.args.conn.now c.loop-run.conn c.args.last _ _ (λ content _. TellsRuns c.args.last c.args.findings.now c.loop-run.findings content)
     c.loop-run.invariant.finds
-    (λ content before. all_fine c.args.last c.loop-run.run c.args.findings.now c.loop-run.findings content before (omega (arith, reach)) c.loop-run.invariant.same)
+    (λ content before. all_runs c.args.last c.loop-run.run c.args.findings.now c.loop-run.findings content before (omega (arith, reach)))
