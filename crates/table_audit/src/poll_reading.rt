@@ -1,11 +1,9 @@
 //! Polls and outcomes as the queries show them.
-ghost use Rattle.std.specs.Prelude.{◌≡◌, ◌≤◌, IfOk};
-ghost use Rattle.table_audit.specs.Reading.{AreRead};
+ghost use Rattle.std.specs.Prelude.{◌≡◌, ◌≤◌};
 ghost use Rattle.table_audit.specs.PollReading as values;
 
 use crate::poll_rows::{OutcomeRow, PollRow};
 use sqlite::Row;
-use std::alloc::{AllocError, Global};
 use store_tables::{GREATEST_PLACE, LATEST_MOMENT, RowFault, whole};
 
 /// How many registers there may be from an address on.
@@ -62,60 +60,4 @@ pub(crate) fn outcome(row: &Row) -> Result<OutcomeRow, RowFault>
     let kind = whole(row, 2, 1, 5)?;
     let _code = whole(row, 3, least_code(kind), greatest_code(kind))?;
     Ok(OutcomeRow { poll, moment })
-}
-
-/// Polls in their order, unless one can't be read.
-pub(crate) fn polls(alloc: Global, rows: &[Row]) -> Result<Option<Vec<PollRow>>, AllocError>
-    ensures { IfOk result (AreRead values.poll_in rows.now) }
-{
-    let mut found = Vec::new(alloc);
-    for row in rows {
-        match poll(row) {
-            Ok(poll) => found.push(poll)?,
-            Err(_) => return Ok(None),
-        }
-    }
-    Ok(Some(found))
-}
-
-/// Outcomes in their order, unless one can't be read.
-pub(crate) fn outcomes(alloc: Global, rows: &[Row]) -> Result<Option<Vec<OutcomeRow>>, AllocError>
-    ensures { IfOk result (AreRead values.outcome_in rows.now) }
-{
-    let mut found = Vec::new(alloc);
-    for row in rows {
-        match outcome(row) {
-            Ok(outcome) => found.push(outcome)?,
-            Err(_) => return Ok(None),
-        }
-    }
-    Ok(Some(found))
-}
-
-/// The number that a row begins with, if it is one from 1 on; else 0.
-fn number(row: &Row) -> u64 {
-    match whole(row, 0, 1, GREATEST_PLACE) {
-        Ok(number) => number,
-        Err(_) => 0,
-    }
-}
-
-/// The number of the first poll that can't be read.
-pub(crate) fn unread_poll(rows: &[Row]) -> u64 {
-    for row in rows {
-        if poll(row).is_err() {
-            return number(row);
-        }
-    }
-    0
-}
-
-/// The number of the first poll whose outcome can't be read.
-pub(crate) fn unread_outcome(rows: &[Row]) -> u64 {
-    for row in rows {
-        if outcome(row).is_err() {
-            return number(row);
-        }
-    }
-    0
 }
