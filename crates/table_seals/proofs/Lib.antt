@@ -10,3 +10,4 @@ pub mod PollRuns
 pub mod PollFound
 pub mod PollsStaying
 pub mod SealedTables
+pub mod FollowingPolls

@@ -1,5 +1,5 @@
 -- What was found of polls, sealed or held to a seal.
-use Rattle.std.proofs.Common.{◌≡◌, ◌↔◌, ℕ, ◌+◌, ◌≤◌, Bool, false, List, [], length, Option, Some, None, Result, Ok, Err, unwrap_or, IfSome, refl, sym, ap, subst, ◌∙◌, arith}
+use Rattle.std.proofs.Common.{◌≡◌, ◌↔◌, ℕ, ◌+◌, ◌≤◌, Bool, false, List, [], length, Option, Some, None, Result, Ok, Err, unwrap_or, IfOk, IfSome, refl, sym, ap, subst, ◌∙◌, arith}
 use Rattle.sha2.specs.Sha256.{sha256}
 use Rattle.store_tables.specs.Content.{Content}
 use Rattle.store_tables.specs.Limits.{greatest_place}
@@ -8,8 +8,11 @@ use Rattle.table_seals.specs.declared.seals.PollSeal.{PollSeal}
 use Rattle.table_seals.specs.PollReading.{ReadPoll, polls_of}
 use Rattle.table_seals.specs.PollSealing.{ReadsRuns, ReadsUpTo, ReadsPolls, ArePollsSealed, SealsPolls, KeepsPolls, TellsPolls, AreDigested, AreAsSealed, DigestsPolls}
 use Rattle.table_seals.specs.PollTexts.{polls_text, polls_text_then}
-use Rattle.table_seals.specs.Sealed.{SealedPolls}
+use Rattle.table_seals.specs.Sealed.{Sealed, SealedPolls, SealedTables}
+use Rattle.sqlite.specs.Store.{Ghosts}
+use Rattle.sqlite.specs.Held.{Held}
 use Rattle.store_tables.specs.Columns.{first_in}
+use Rattle.table_audit.specs.Looking.{Finds}
 use Rattle.table_seals.proofs.PollNumbers.{AreNumbered, numbered, all_then}
 
 -- ---- up to the last one
@@ -64,7 +67,7 @@ kept_if None (Some seal) sealed h = absurd h
 kept_if (Some polls) None sealed h = absurd h
 kept_if (Some polls) (Some seal) sealed h =
     let count = h.0 in (
-      λ as. let few = as.0 in record { enough = omega (arith, few, count); same = sym h.1 ∙ as.1 },
+      λ is. let few = is.0 in record { enough = omega (arith, few, count); same = sym h.1 ∙ is.1 },
       λ kept. let enough = kept.enough in (omega (arith, enough, count), h.1 ∙ kept.same),
     )
 
@@ -77,3 +80,34 @@ tells_kept content found sealed differ told h =
       reads = h.reads;
       told = (λ is. kept.0 (told.0 is), λ keeps. told.1 (kept.1 keeps));
     }
+
+-- ---- read back
+
+pub same_polls : (count : ℕ) (digest pending : List ℕ) (seal : SealedPolls) → count ≡ seal.count → digest ≡ seal.digest → pending ≡ seal.pending
+    → (let read : SealedPolls = record { count = count; digest = digest; pending = pending } in read) ≡ seal
+same_polls count digest pending seal c d p =
+    ap (λ (n : ℕ). let read : SealedPolls = record { count = n; digest = digest; pending = pending } in read) c
+    ∙ ap (λ (x : List ℕ). let read : SealedPolls = record { count = seal.count; digest = x; pending = pending } in read) d
+    ∙ ap (λ (x : List ℕ). let read : SealedPolls = record { count = seal.count; digest = seal.digest; pending = x } in read) p
+
+pub same_tables : (meters : List Sealed) (polls : SealedPolls) (seal : SealedTables) → meters ≡ seal.meters → polls ≡ seal.polls
+    → (let read : SealedTables = record { meters = meters; polls = polls } in read) ≡ seal
+same_tables meters polls seal m p =
+    ap (λ (x : List Sealed). let read : SealedTables = record { meters = x; polls = polls } in read) m
+    ∙ ap (λ (x : SealedPolls). let read : SealedTables = record { meters = seal.meters; polls = x } in read) p
+
+-- ---- found, or not
+
+pub seals_found : {S : Type 0} (g : Ghosts S) (old new : Held S) (r : Result (Option PollSeal) RowFault)
+    → IfOk r (λ found. IfSome found (λ seal. seal.count ≤ greatest_place)) → Finds g old new r (DigestsPolls greatest_place [])
+    → Finds g old new r SealsPolls
+seals_found g old new (Ok found) few h = record {
+  answer = λ content holds clean. seals_all content found few (h.answer content holds clean);
+  fault = λ content holds clean. tt;
+  looks = h.looks;
+}
+seals_found g old new (Err e) few h = record {
+  answer = λ content holds clean. tt;
+  fault = h.fault;
+  looks = h.looks;
+}

@@ -55,4 +55,4 @@ pub record ArePolls (seal : SealedPolls) (rest text : List ℕ) : Type 0 where
 pub record AreTables (seal : SealedTables) (rest text : List ℕ) : Type 0 where
   pub fit : AreTablesSealable seal
   pub ends : Begins (codes "pending ") rest → ⊥
-  pub is : text ≡ flat_map meter_text seal.meters ++ polls_part seal.polls ++ rest
+  pub is : text ≡ (flat_map meter_text seal.meters ++ polls_part seal.polls) ++ rest

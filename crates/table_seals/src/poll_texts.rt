@@ -87,10 +87,10 @@ fn keep_pending(
     ensures { OnOk result
         (pending.new.items ≡ pending.old.items ++ say.unless_ended number ending) }
 {
-    match ending {
-        Some(_) => Ok(()),
-        None => pending.push(number),
+    if ending.is_none() {
+        pending.push(number)?;
     }
+    Ok(())
 }
 
 /// Puts the text of the poll of a row, if it has this number, and its number after the pending ones, if it is pending.

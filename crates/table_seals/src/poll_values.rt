@@ -55,7 +55,7 @@ pub(crate) fn numbers(row: &Row) -> Result<PollNumbers, RowFault>
 }
 
 /// The values of an outcome's row.
-pub(crate) fn ending(row: &Row) -> Result<Ending, RowFault>
+pub(crate) fn outcome(row: &Row) -> Result<Ending, RowFault>
     ensures { result ≡ reading.ending_in row.now }
 {
     let poll = whole(row, 0, 1, GREATEST_PLACE)?;
@@ -94,7 +94,7 @@ pub(crate) fn ending_at(number: u64, rows: &[Row]) -> Option<Ending>
     let Some(row) = rows.first() else {
         return None;
     };
-    let Ok(found) = ending(row) else {
+    let Ok(found) = outcome(row) else {
         return None;
     };
     if found.poll == number {

@@ -1,0 +1,16 @@
+use Rattle.table_audit.proofs.Looking.{made, passed_on}
+use Rattle.table_seals.specs.PollSealing.{TellsPolls}
+use Rattle.table_seals.specs.Sealed.{sealed_polls_of}
+use Rattle.table_seals.proofs.PollFound.{tells_kept}
+use Rattle.table_seals.proofs.poll_sealing.check_polls.Goals as goal
+
+pub returns-in_err-found : goal.returns-in_err-found
+returns-in_err-found g c =
+    passed_on g.S.Store c.args.conn.now c.digest_polls.new.conn c.in_err-found.field-0.0 c.from_residual.result _ _
+    c.in_err-found.ensures.finds c.from_residual.ensures.1
+
+pub returns : goal.returns
+returns g c =
+    made g.S.Store c.args.conn.now c.digest_polls.new.conn c.in_ok-found.found c.differ.result _ (TellsPolls (sealed_polls_of c.args.seal.now))
+    c.in_ok-found.ensures.finds
+    (λ content h. tells_kept content c.in_ok-found.found (sealed_polls_of c.args.seal.now) c.differ.result c.differ.ensures h)
