@@ -1,5 +1,6 @@
 -- The polls that were read have the numbers from 1 on.
-use Rattle.std.proofs.Common.{◌≡◌, ℕ, suc, ◌+◌, ◌<◌, ◌≤◌, ◌==◌, ⊤, Bool, true, false, nat_le, List, [], ◌∷◌, ◌++◌, length, if◌then◌else◌, Option, Some, None, Result, Ok, Err, refl, sym, ap, subst, ◌∙◌, arith}
+use Rattle.std.proofs.Common.{◌≡◌, ℕ, suc, ◌+◌, ◌<◌, ◌≤◌, ◌==◌, Bool, true, false, nat_le, List, [], ◌∷◌, ◌++◌, length, if◌then◌else◌, Option, Some, None, Result, Ok, Err, refl, sym, ap, subst, ◌∙◌, arith}
+use Rattle.std.specs.Prelude.{⊤}
 use Rattle.std.specs.List.{flat_map, fold}
 use Rattle.std.proofs.lemmas.Bool.Decides.{nat_tests}
 use Rattle.std.proofs.lemmas.List.{length-append}
@@ -12,12 +13,15 @@ use Rattle.table_seals.specs.PollReading.{ReadPoll, ending_at, rows_after, if_nu
 use Rattle.table_seals.specs.PollTexts.{poll_text, polls_text, text_then, polls_text_then}
 use Rattle.sqlite.specs.Order.{column}
 
-pub AreNumbered : (next : ℕ) → List ReadPoll → Type 0
+abbrev pub AreNumbered : (next : ℕ) → List ReadPoll → Type 0
 AreNumbered next [] = ⊤
 AreNumbered next (poll ∷ polls) = (poll.numbers.number ≡ next) × AreNumbered (suc next) polls
 
 equal : (m n : ℕ) → m == n ≡ true → m ≡ n
 equal m n h = grind (arith, nat_tests)
+
+same : (m n : ℕ) → m ≡ n → m == n ≡ true
+same m n is = grind (arith, nat_tests)
 
 pub is_up_to : (m n : ℕ) → m ≤ n → nat_le m n ≡ true
 is_up_to m n le = grind (arith, nat_tests)
@@ -37,6 +41,16 @@ numbered_if number (Ok numbers) (Some device) ending poll h =
     let made : ReadPoll = record { numbers = numbers; device = device; ending = ending } in
     let k = if_some (numbers.number == number) made poll h in
     sym (ap (λ (p : ReadPoll). p.numbers.number) k.1) ∙ equal numbers.number number k.0
+
+pub poll_read : (number : ℕ) (row : Row) (ending : Option Ending) (numbers : PollNumbers) (device : List ℕ) → numbers_in row ≡ Ok numbers
+    → word_in (column row 7) ≡ Some device → numbers.number ≡ number
+    → poll_at number row ending ≡ Some (record { numbers = numbers; device = device; ending = ending })
+poll_read number row ending numbers device n w is =
+    let made : ReadPoll = record { numbers = numbers; device = device; ending = ending } in
+    let equal : numbers.number == number ≡ true = same numbers.number number is in
+    ap (λ (r : Result PollNumbers RowFault). if_numbered number r (word_in (column row 7)) ending) n
+    ∙ ap (λ (word : Option (List ℕ)). if_numbered number (Ok numbers) word ending) w
+    ∙ ap (λ (b : Bool). let o : Option ReadPoll = if b then Some made else None in o) equal
 
 more_is : (o : Option ReadPoll) (more : Option (List ReadPoll)) (polls : List ReadPoll) → and_more o more ≡ Some polls
     → (first : ReadPoll) × (rest : List ReadPoll) × (o ≡ Some first) × (more ≡ Some rest) × (first ∷ rest ≡ polls)

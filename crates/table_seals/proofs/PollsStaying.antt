@@ -1,5 +1,5 @@
 -- What was sealed of polls stays so.
-use Rattle.std.proofs.Common.{◌≡◌, ℕ, suc, ◌+◌, ◌<◌, ◌≤◌, ◌==◌, ◌||◌, ◌⊎◌, inl, inr, ⊤, Bool, true, false, nat_le, List, [], ◌∷◌, ◌++◌, length, if◌then◌else◌, Option, Some, None, refl, sym, ap, subst, ◌∙◌, append_assoc, arith}
+use Rattle.std.proofs.Common.{◌≡◌, ℕ, suc, ◌+◌, ◌<◌, ◌≤◌, ◌==◌, ◌||◌, ◌⊎◌, inl, inr, Bool, true, false, nat_le, List, [], ◌∷◌, ◌++◌, length, if◌then◌else◌, Option, Some, None, refl, sym, ap, subst, ◌∙◌, append_assoc, arith}
 use Rattle.std.specs.List.{flat_map, AllByRecursion}
 use Rattle.std.proofs.lemmas.Bool.Decides.{nat_tests}
 use Rattle.std.proofs.lemmas.List.{append-nil}
@@ -49,16 +49,16 @@ not_among k n (poll ∷ polls) h lt =
     first None = let is = h.0 in or_false (poll.numbers.number == n) false (other poll.numbers.number n (omega (arith, is, lt))) refl
     first (Some ending) = refl
 
-is_pending : Option Ending → Bool
+abbrev is_pending : Option Ending → Bool
 is_pending None = true
 is_pending (Some ending) = false
 
 -- exactly those that have no outcome are named
-Names : List ℕ → ReadPoll → Type 0
+abbrev Names : List ℕ → ReadPoll → Type 0
 Names pending poll = is_named pending poll.numbers.number ≡ is_pending poll.ending
 
 -- no number from one on is named
-NoneFrom : ℕ → List ℕ → Type 0
+abbrev NoneFrom : ℕ → List ℕ → Type 0
 NoneFrom k front = (n : ℕ) → k ≤ n → is_named front n ≡ false
 
 front_more : (k : ℕ) (front : List ℕ) (poll : ReadPoll) → poll.numbers.number ≡ k → NoneFrom k front → NoneFrom (suc k) (front ++ pending_of poll)

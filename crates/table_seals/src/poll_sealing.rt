@@ -1,5 +1,5 @@
 //! The seal of the polls that the tables have, and whether they still have what was sealed.
-ghost use Rattle.std.specs.Prelude.{◌≡◌, ◌↔◌, ◌<◌, ◌≤◌, ◌++◌, ◌^◌, ℕ, List, [], false, IfOk, IfErr, IfSome};
+ghost use Rattle.std.specs.Prelude.{◌≡◌, ◌↔◌, ◌<◌, ◌≤◌, ◌+◌, ◌^◌, false, IfOk, IfErr, IfSome};
 ghost use Rattle.sha2.specs.Hashers.{Holds256};
 ghost use Rattle.store_tables.specs.Failing.{want_of_memory};
 ghost use Rattle.store_tables.specs.Limits.{greatest_place};
@@ -27,10 +27,10 @@ fn add_run(
     first: u64,
     rows: &RunRows,
 ) -> Result<Option<u64>, AllocError>
-    requires { first ≤ 2 ^ 63 }
+    requires { first ≤ greatest_place + 1 }
     ensures adds { IfOk result (said.AddsRun last hidden.now first rows.now
         hasher.old hasher.new pending.old.items pending.new.items) }
-    ensures bound { IfOk result (λ found. IfSome found (λ next. (first ≤ next) × (next ≤ 2 ^ 63))) }
+    ensures bound { IfOk result (λ found. IfSome found (λ next. (first ≤ next) × (next ≤ greatest_place + 1))) }
 {
     let mut text = Vec::new(alloc);
     let found = put_rows(
@@ -59,10 +59,10 @@ fn look_run<S: Alter>(
 ) -> Result<Option<u64>, RowFault>
     requires mode { conn.old.in_transaction ≡ false }
     requires run { run < 2 ^ 50 }
-    requires first { first ≤ 2 ^ 63 }
+    requires first { first ≤ greatest_place + 1 }
     ensures finds { Finds S.Store conn.old conn.new result (said.LooksAtRun run last hidden.now
         first hasher.old hasher.new pending.old.items pending.new.items) }
-    ensures bound { IfOk result (λ found. IfSome found (λ next. (first ≤ next) × (next ≤ 2 ^ 63))) }
+    ensures bound { IfOk result (λ found. IfSome found (λ next. (first ≤ next) × (next ≤ greatest_place + 1))) }
 {
     let rows = run_rows(conn, run)?;
     match add_run(alloc, hasher, pending, last, hidden, first, &rows) {
@@ -125,10 +125,10 @@ fn digest_polls<S: Alter>(
     ensures bound { IfOk result (λ found. IfSome found (λ seal. seal.count ≤ greatest_place)) }
 {
     let rows = last_poll(conn)?;
-    let Ok(found) = first_whole(&rows, 1, GREATEST_PLACE) else {
-        return Ok(None);
-    };
-    digest_runs(alloc, conn, found.unwrap_or(0), last, hidden)
+    match first_whole(&rows, 1, GREATEST_PLACE) {
+        Ok(found) => digest_runs(alloc, conn, found.unwrap_or(0), last, hidden),
+        Err(_) => Ok(None),
+    }
 }
 
 /// The seal of the polls that the tables have, unless one of their rows can't be read.

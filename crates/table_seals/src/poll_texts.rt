@@ -1,5 +1,5 @@
 //! The text of polls of which a seal has the digest.
-ghost use Rattle.std.specs.Prelude.{◌≡◌, ◌≤◌, ◌++◌, ◌^◌, true, OnOk, IfOk, IfSome};
+ghost use Rattle.std.specs.Prelude.{◌≡◌, ◌≤◌, ◌++◌, ◌+◌, true, OnOk, IfOk, IfSome};
 ghost use Rattle.store_tables.specs.Limits.{greatest_place};
 ghost use Rattle.table_audit.specs.Reading as values;
 ghost use Rattle.table_seals.specs.PollReading.{poll_at};
@@ -145,11 +145,11 @@ pub(crate) fn put_rows(
     polls: &[Row],
     outcomes: &[Row],
 ) -> Result<Option<u64>, AllocError>
-    requires { first ≤ 2 ^ 63 }
+    requires { first ≤ greatest_place + 1 }
     ensures puts { IfOk result (PutsRows last hidden.now first polls.now outcomes.now
         text.old.items text.new.items pending.old.items pending.new.items) }
     ensures bound { IfOk result (λ found.
-        IfSome found (λ next. (first ≤ next) × (next ≤ 2 ^ 63))) }
+        IfSome found (λ next. (first ≤ next) × (next ≤ greatest_place + 1))) }
 {
     let mut next = first;
     let mut left = outcomes;

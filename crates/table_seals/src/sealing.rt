@@ -126,11 +126,13 @@ pub fn seal_tables<S: Alter>(
     requires { conn.old.in_transaction ≡ false }
     ensures { Finds S.Store conn.old conn.new result SealsTables }
 {
-    let Some(meters) = seal_meters(alloc, conn)? else {
-        return Ok(None);
+    let meters = match seal_meters(alloc, conn)? {
+        Some(meters) => meters,
+        None => return Ok(None),
     };
-    let Some(polls) = seal_polls(alloc, conn)? else {
-        return Ok(None);
+    let polls = match seal_polls(alloc, conn)? {
+        Some(polls) => polls,
+        None => return Ok(None),
     };
     Ok(Some(Seal { meters, polls }))
 }

@@ -1,10 +1,11 @@
-use Rattle.std.proofs.Common.{rules, ◌≡◌, List, map, length, Ok, Err, string_bytes, sym, subst, ◌∙◌}
+use Rattle.std.proofs.Common.{rules, ◌≡◌, List, map, length, Ok, Err, string_bytes, subst, arith}
 use Rattle.std.proofs.lemmas.List.{length-map}
 use Rattle.table_audit.proofs.Looking.{finds_then, passed_on, made}
+use Rattle.table_seals.specs.declared.checks.Checked.{Checked}
 use Rattle.table_seals.specs.declared.seals.MeterSeal.{MeterSeal}
 use Rattle.table_seals.specs.Checking.{TellsMeters, TellsTables}
 use Rattle.table_seals.specs.PollSealing.{TellsPolls}
-use Rattle.table_seals.specs.Sealed.{Sealed, sealed_of, sealed_polls_of, sealed_tables_of}
+use Rattle.table_seals.specs.Sealed.{sealed_of, sealed_polls_of, sealed_tables_of}
 use Rattle.table_seals.proofs.checking.check_seal.Goals as goal
 
 pub check_polls-requires : goal.check_polls-requires
@@ -25,8 +26,10 @@ returns-in_err-polls_differ g c =
 
 pub returns : goal.returns
 returns g c =
+    let checked : Checked = record { differing = c.in_ok-differing.differing; meters = c.len.result; polls_differ = c.in_ok-polls_differ.polls_differ } in
+    let long : length (map sealed_of c.args.seal.now.meters.items) ≡ length c.args.seal.now.meters.items = length-map c.args.seal.now.meters.items sealed_of in
     let seals : c.as_slice.result.now ≡ c.args.seal.now.meters.items = search rules in
-    made g.S.Store c.args.conn.now c.check_polls.new.conn c.in_ok-polls_differ.polls_differ _ _ (TellsTables (sealed_tables_of c.args.seal.now))
+    made g.S.Store c.args.conn.now c.check_polls.new.conn c.in_ok-polls_differ.polls_differ checked _ (TellsTables (sealed_tables_of c.args.seal.now))
     (finds_then g.S.Store c.args.conn.now c.check_meters.new.conn c.check_polls.new.conn c.in_ok-differing.differing (Ok c.in_ok-polls_differ.polls_differ) _ _
     (λ content differ. TellsMeters (map sealed_of c.args.seal.now.meters.items) content (map string_bytes c.in_ok-differing.differing.items)
     × TellsPolls (sealed_polls_of c.args.seal.now.polls) content differ)
@@ -38,5 +41,5 @@ returns g c =
     (λ content both. record {
       meters = both.0;
       polls = both.1;
-      count = sym (length-map c.args.seal.now.meters.items sealed_of);
+      count = omega (arith, long);
     })

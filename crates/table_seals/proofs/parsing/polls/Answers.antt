@@ -13,5 +13,5 @@ pub returns : goal.returns
 returns c =
     λ seal rest is.
     let one = c.in-Some.ensures.reads seal (flat_map pending_line seal.pending ++ rest) is.fit (polls_first seal rest c.args.text.now is) in
-    let two = c.in_ok-pending.ensures seal.pending rest (pending_then seal rest c.args.text.now c.in-Some.rest.now is one.1) in
-    same_polls c.in-Some.line.count c.in-Some.line.digest c.in_ok-pending.pending.items seal one.0.count one.0.digest two
+    let two = c.in_ok-pending.ensures seal.pending rest (pending_then seal rest c.args.text.now c.in-Some.found.1.now is one.1) in
+    same_polls c.in-Some.found.0.count c.in-Some.found.0.digest c.in_ok-pending.pending.items seal one.0.count one.0.digest two

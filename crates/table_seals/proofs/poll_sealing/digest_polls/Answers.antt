@@ -16,8 +16,8 @@ returns-in_err-rows-clause-finds g c =
     passed_on g.S.Store c.args.conn.now c.last_poll.new.conn c.in_err-rows.field-0.0 c.from_residual.result _ _
     c.in_err-rows.ensures c.from_residual.ensures.1
 
-pub returns-in_default-clause-finds : goal.returns-in_default-clause-finds
-returns-in_default-clause-finds g c =
+pub returns-clause-finds : goal.returns-clause-finds
+returns-clause-finds g c =
     let same : c.deref.result.now ≡ c.in_ok-rows.rows.items = search rules in
     made g.S.Store c.args.conn.now c.last_poll.new.conn c.in_ok-rows.rows None (λ content rows. ShowsLast content rows.items)
     (DigestsPolls c.args.last c.args.hidden.now) c.in_ok-rows.ensures
@@ -32,8 +32,8 @@ returns-in_default-clause-finds g c =
       digested = tt;
     })
 
-pub returns-clause-finds : goal.returns-clause-finds
-returns-clause-finds g c =
+pub returns-in-Ok-clause-finds : goal.returns-in-Ok-clause-finds
+returns-in-Ok-clause-finds g c =
     let same : c.deref.result.now ≡ c.in_ok-rows.rows.items = search rules in
     finds_then g.S.Store c.args.conn.now c.last_poll.new.conn c.digest_runs.new.conn c.in_ok-rows.rows c.digest_runs.result
     (λ content rows. ShowsLast content rows.items) (DigestsRuns c.unwrap_or.result c.args.last c.args.hidden.now)

@@ -1,15 +1,18 @@
-use Rattle.std.proofs.Common.{rules, ◌≡◌, ◌≤◌, ◌+◌, Ok, Err, Some, None, refl, sym, subst, arith}
+use Rattle.std.proofs.Common.{rules, ◌≡◌, ◌+◌, ◌-◌, [], Ok, Err, Some, None, refl, arith}
+use Rattle.table_seals.specs.declared.seals.PollSeal.{PollSeal}
 use Rattle.table_audit.proofs.Looking.{known, finds_then, passed_on, made}
 use Rattle.table_seals.specs.PollSealing.{LooksAtRun, DigestsRuns}
 use Rattle.table_seals.proofs.PollRuns.{RunsSoFar, no_runs_yet, run_unread, run_added, all_digested, runs_reach, runs_few}
 use Rattle.table_seals.proofs.poll_sealing.digest_runs.Goals as goal
 
 pub loop-run-init : goal.loop-run-init
-loop-run-init g c = record {
-  finds = known g.S.Store c.args.conn.now 1 _ (λ content. no_runs_yet c.args.last c.args.hidden.now c.new-hasher.result c.new-pending.result.items content c.new-hasher.ensures refl);
-  low = omega arith;
-  bound = omega arith;
-}
+loop-run-init g c =
+    let none : c.new-pending.result.items ≡ [] = search rules in
+    record {
+      finds = known g.S.Store c.args.conn.now 1 _ (λ content. no_runs_yet c.args.last c.args.hidden.now c.new-hasher.result c.new-pending.result.items content c.new-hasher.ensures none);
+      low = omega arith;
+      bound = omega arith;
+    }
 
 pub look_run-requires-clause-mode : goal.look_run-requires-clause-mode
 look_run-requires-clause-mode g c = c.loop-run.invariant.finds.looks.mode c.requires.mode
@@ -54,7 +57,9 @@ returns-in-None-clause-finds g c =
 pub returns-clause-finds : goal.returns-clause-finds
 returns-clause-finds g c =
     let reach = runs_reach c.args.greatest c.div_ceil-runs.result c.div_ceil-runs.ensures in
-    made g.S.Store c.args.conn.now c.loop-run.conn c.loop-run.next _ _ (DigestsRuns c.args.greatest c.args.last c.args.hidden.now)
+    let low = c.loop-run.invariant.low in
+    let found : PollSeal = record { count = c.loop-run.next - 1; digest = c.finalize.result; pending = c.loop-run.pending } in
+    made g.S.Store c.args.conn.now c.loop-run.conn c.loop-run.next (Some found) _ (DigestsRuns c.args.greatest c.args.last c.args.hidden.now)
     c.loop-run.invariant.finds
-    (λ content before. all_digested c.args.greatest c.args.last c.args.hidden.now c.loop-run.run c.loop-run.next c.loop-run.hasher c.loop-run.pending.items content _
-    (omega (arith, reach)) (omega arith) c.finalize.ensures refl before)
+    (λ content before. all_digested c.args.greatest c.args.last c.args.hidden.now c.loop-run.run c.loop-run.next c.loop-run.hasher c.loop-run.pending.items content found
+    (omega (arith, reach)) (omega (arith, low)) c.finalize.ensures refl before)
