@@ -8,7 +8,8 @@ use std::test::Fail;
 use table_seals::{check_seal, put_seal, read_seal, seal_tables};
 
 /// The seal of one meter, whose only reading was voided, and of two polls, one of which is pending.
-const SEAL: &str = "seal 2\nmeter m1 at main range 100000 ceiling 100000 entries 2 sha256 af5a77563671b51a22879dc2764012afada14ff7f7190cf809fa2e62d8652429\nvoid m1 2\npolls 2 sha256 7cbd60983a66a336f8e20c702600fc7b157672c4b1117b45c13434283f521467\npending 2\nsha256 dd6a41689d1145463c6fc78f948dd36ed06792a023b4ebf07f2198a48548740f\n";
+const SEAL: &str =
+    "seal 2\nmeter m1 at main range 100000 ceiling 100000 entries 2 sha256 af5a77563671b51a22879dc2764012afada14ff7f7190cf809fa2e62d8652429\nvoid m1 2\npolls 2 sha256 7cbd60983a66a336f8e20c702600fc7b157672c4b1117b45c13434283f521467\npending 2\nsha256 dd6a41689d1145463c6fc78f948dd36ed06792a023b4ebf07f2198a48548740f\n";
 
 fn office(alloc: Global) -> Result<Connection<MemStore>, Fail> {
     let mut conn = one_reading(alloc)?;

@@ -1,5 +1,5 @@
 //! The audit of an office in a database.
-ghost use Rattle.std.specs.Prelude.{◌≡◌, ◌↔◌, [], false, Err, IsTrue, IfOk, OnOk};
+ghost use Rattle.std.specs.Prelude.{◌≡◌, ◌↔◌, ◌⊎◌, [], false, Err, IsTrue, IfOk, IfErr, OnOk};
 ghost use Rattle.std.specs.Io.KnownBytes.{Appends};
 ghost use Rattle.sqlite.specs.Held.{state};
 ghost use Rattle.sqlite.specs.State.{HasCleanDisk};
@@ -38,6 +38,34 @@ pub enum AuditFault {
     Output,
 }
 
+/// Whether a database has the tables of an office, and no transaction is under way.
+pub(crate) fn check_ours<S: Alter>(connection: &Connection<S>) -> Result<(), AuditFault>
+    ensures foreign { ((layout : TheLayout) → ¬ IsNamedAs connection.now.schema layout)
+        → result ≡ Err AuditFault.NotOurs }
+    ensures idle { OnOk result (connection.now.in_transaction ≡ false) }
+    ensures fault { IfErr result (λ fault.
+        (fault ≡ AuditFault.NotOurs) ⊎ (fault ≡ AuditFault.Earlier)) }
+{
+    if !connection.is_autocommit() {
+        return Err(AuditFault::NotOurs);
+    }
+    match layout_of(connection.schema()) {
+        None => Err(AuditFault::NotOurs),
+        Some(Layout::First | Layout::Second) => Err(AuditFault::Earlier),
+        Some(Layout::Third) => Ok(()),
+    }
+}
+
+/// Why the store told nothing.
+pub(crate) fn fault_of(fault: RowFault) -> AuditFault
+    ensures { (result ≡ AuditFault.Memory) ⊎ (result ≡ AuditFault.Store) }
+{
+    match fault {
+        RowFault::Sql(Error::SqliteFailure(ErrorCode::OutOfMemory)) => AuditFault::Memory,
+        _ => AuditFault::Store,
+    }
+}
+
 /// Whether the tables of an office in a database have for each meter the rows of a lawful journal, and its polls one after the
 /// other. Nothing is written to it.
 pub fn audit_stored<S: Alter>(
@@ -51,20 +79,10 @@ pub fn audit_stored<S: Alter>(
     ensures tells { HasCleanDisk (state S.Store connection.new) → (content : Content)
         → HoldsTables S.Store connection.old content → IfOk result (TellsTables content) }
 {
-    if !connection.is_autocommit() {
-        return Err(AuditFault::NotOurs);
-    }
-    match layout_of(connection.schema()) {
-        None => return Err(AuditFault::NotOurs),
-        Some(Layout::First | Layout::Second) => return Err(AuditFault::Earlier),
-        Some(Layout::Third) => {}
-    }
+    check_ours(connection)?;
     match audit_tables(alloc, connection) {
         Ok(findings) => Ok(findings),
-        Err(RowFault::Sql(Error::SqliteFailure(ErrorCode::OutOfMemory))) => {
-            Err(AuditFault::Memory)
-        }
-        Err(_) => Err(AuditFault::Store),
+        Err(fault) => Err(fault_of(fault)),
     }
 }
 

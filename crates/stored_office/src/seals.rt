@@ -13,44 +13,14 @@ ghost use Rattle.table_seals.specs.Sealed.{SealedTables, sealed_tables_of};
 ghost use Rattle.table_seals.specs.Sealing.{SealsTables, CannotBeSealed};
 ghost use Rattle.table_seals.specs.Texts.{seal_text, checked_text};
 
-use crate::audits::AuditFault;
-use sqlite::{Alter, Connection, Error, ErrorCode};
+use crate::audits::{AuditFault, check_ours, fault_of};
+use sqlite::{Alter, Connection};
 use std::alloc::Global;
 use std::io::Write;
-use store_files::{Layout, layout_of};
-use store_tables::RowFault;
 use sun_points::Sink;
 use table_seals::{
     Checked, NoSeal, Seal, check_seal, put_checked, put_seal, read_seal, seal_tables,
 };
-
-/// Whether a database has the tables of an office, and no transaction is under way.
-fn check_ours<S: Alter>(connection: &Connection<S>) -> Result<(), AuditFault>
-    ensures foreign { ((layout : TheLayout) → ¬ IsNamedAs connection.now.schema layout)
-        → result ≡ Err AuditFault.NotOurs }
-    ensures idle { OnOk result (connection.now.in_transaction ≡ false) }
-    ensures fault { IfErr result (λ fault.
-        (fault ≡ AuditFault.NotOurs) ⊎ (fault ≡ AuditFault.Earlier)) }
-{
-    if !connection.is_autocommit() {
-        return Err(AuditFault::NotOurs);
-    }
-    match layout_of(connection.schema()) {
-        None => Err(AuditFault::NotOurs),
-        Some(Layout::First | Layout::Second) => Err(AuditFault::Earlier),
-        Some(Layout::Third) => Ok(()),
-    }
-}
-
-/// Why the store told nothing.
-fn fault_of(fault: RowFault) -> AuditFault
-    ensures { (result ≡ AuditFault.Memory) ⊎ (result ≡ AuditFault.Store) }
-{
-    match fault {
-        RowFault::Sql(Error::SqliteFailure(ErrorCode::OutOfMemory)) => AuditFault::Memory,
-        _ => AuditFault::Store,
-    }
-}
 
 /// The seal of what the tables of an office in a database have. Nothing is written to it.
 pub fn seal_stored<S: Alter>(
@@ -77,11 +47,7 @@ pub fn seal_stored<S: Alter>(
 }
 
 /// Writes the text of a seal.
-pub fn write_seal<W: Write>(
-    alloc: Global,
-    seal: &Seal,
-    output: &mut W,
-) -> Result<(), AuditFault>
+pub fn write_seal<W: Write>(alloc: Global, seal: &Seal, output: &mut W) -> Result<(), AuditFault>
     ensures { OnOk result (Appends (W.contents output.old) (W.contents output.new)
         (seal_text (sealed_tables_of seal.now))) }
 {
