@@ -58,6 +58,12 @@ pub const MOST_KEPT: NumberOption<'static> = NumberOption {
     most: 1_000_000,
 };
 
+pub const UNTIL: NumberOption<'static> = NumberOption {
+    name: "until",
+    value: "MOMENT",
+    most: 4_294_967_295,
+};
+
 pub const UNIT: NumberOption<'static> = NumberOption {
     name: "unit",
     value: "U",
@@ -291,6 +297,29 @@ const BACKUP: CommandText<'static> = CommandText {
     options: &[DB, COPY],
 };
 
+const CARRY: CommandText<'static> = CommandText {
+    name: "carry",
+    about: "Begins a new file where an office's meters stand",
+    after: "Example: sunreg carry --from office.db --to 2027.db",
+    options: &[
+        OptionText {
+            name: "from",
+            value: Value::Required("FILE"),
+            help: "The office's file so far; it is only read",
+        },
+        OptionText {
+            name: "to",
+            value: Value::Required("FILE"),
+            help: "File that is made; there must be none of that name yet",
+        },
+        OptionText {
+            name: "until",
+            value: Value::Optional("MOMENT"),
+            help: "Takes nothing after this moment, in seconds since 1970-01-01 UTC",
+        },
+    ],
+};
+
 const AUDIT: CommandText<'static> = CommandText {
     name: "audit",
     about: "Checks an office's rows against one another; it only reads",
@@ -445,8 +474,7 @@ pub const PROGRAM: ProgramText<'static> = ProgramText {
     name: "sunreg",
     version: "1.0",
     about: "Polls SunSpec meters by Modbus TCP; keeps their energy by quarter hours and days",
-    after: "Without a command it is replay. Help on a command: sunreg help COMMAND\n\
-            Example: sunreg replay < script.txt\n\
+    after: "Without a command it is replay. Help on a command, for example: sunreg help run\n\
             Exit status: 0 fine, 1 refused, 2 wrong words, 3 a file, stream or socket failed",
     commands: &[
         REPLAY,
@@ -459,6 +487,7 @@ pub const PROGRAM: ProgramText<'static> = ProgramText {
         ROUND,
         REPORT,
         BACKUP,
+        CARRY,
         AUDIT,
         STAND_IN,
         LOOP,
