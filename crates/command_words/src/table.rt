@@ -1,7 +1,8 @@
 //! The program's commands and options, with their help.
 ghost use Rattle.std.specs.Prelude.{◌≡◌};
-ghost use Rattle.command_words.specs.ClapTable.Table.{program_app};
-ghost use Rattle.command_words.specs.Program.{program};
+ghost use Rattle.clap.specs.Words.{App};
+ghost use Rattle.command_words.specs.ClapTable.Table.{program_app, with_apps, with_commands};
+ghost use Rattle.command_words.specs.Program.{commands, later_commands, program};
 
 use crate::clap_table::{CommandText, OptionText, ProgramText, Value};
 
@@ -469,37 +470,46 @@ const COMPLETIONS: CommandText<'static> = CommandText {
     }],
 };
 
-/// The program.
-pub const PROGRAM: ProgramText<'static> = ProgramText {
-    name: "sunreg",
-    version: "1.0",
-    about: "Polls SunSpec meters by Modbus TCP; keeps their energy by quarter hours and days",
-    after: "Without a command it is replay. Help on a command, for example: sunreg help run\n\
-            Exit status: 0 fine, 1 refused, 2 wrong words, 3 a file, stream or socket failed",
-    commands: &[
-        REPLAY,
-        PLAN,
-        CHAIN,
-        SCAN,
-        CREATE,
-        ENTER,
-        SERVE,
-        ROUND,
-        REPORT,
-        BACKUP,
-        CARRY,
-        AUDIT,
-        STAND_IN,
-        LOOP,
-        RUN,
-        EXPLAIN,
-        COMPLETIONS,
-    ],
-};
+// The commands, in the order of the help.
+const COMMANDS: &[CommandText<'static>] = &[
+    REPLAY, PLAN, CHAIN, SCAN, CREATE, ENTER, SERVE, ROUND, REPORT,
+];
+
+// Those after them.
+const LATER_COMMANDS: &[CommandText<'static>] = &[
+    BACKUP,
+    CARRY,
+    AUDIT,
+    STAND_IN,
+    LOOP,
+    RUN,
+    EXPLAIN,
+    COMPLETIONS,
+];
+
+fn commands() -> &'static [CommandText<'static>]
+    ensures { (app : App) → with_commands app result.now ≡ with_apps app commands }
+{
+    COMMANDS
+}
+
+fn later_commands() -> &'static [CommandText<'static>]
+    ensures { (app : App) → with_commands app result.now ≡ with_apps app later_commands }
+{
+    LATER_COMMANDS
+}
 
 /// The program's commands and options, as its words are read by them.
 pub fn program() -> ProgramText<'static>
     ensures { program_app result ≡ program }
 {
-    PROGRAM
+    ProgramText {
+        name: "sunreg",
+        version: "1.0",
+        about: "Polls SunSpec meters by Modbus TCP; keeps their energy by quarter hours and days",
+        after: "Without a command it is replay. Help on a command, for example: sunreg help run\n\
+                Exit status: 0 fine, 1 refused, 2 wrong words, 3 a file, stream or socket failed",
+        commands: commands(),
+        later: later_commands(),
+    }
 }
