@@ -42,6 +42,7 @@ pub data Line : Type 0 where
   Round : (db device host : Text) (port : ℕ) → Line
   Report : (db register : Text) (form : Form) → Line
   Backup : (db to : Text) → Line
+  Carry : (from to : Text) (until : Option ℕ) → Line
   Audit : (db : Text) (seal : Seal) → Line
   Scan : (host : Text) (port unit timeout : ℕ) (list : Bool) (setup : Option Text) → Line
   StandIn : (host : Text) (port connections : ℕ) → Line
@@ -78,6 +79,7 @@ seen (line.Serve db port connections hosts) =
 seen (line.Round db device host port) = Round db.now device.now host.now port
 seen (line.Report db register form) = Report db.now register.now (seen_form form)
 seen (line.Backup db to) = Backup db.now to.now
+seen (line.Carry from to until) = Carry from.now to.now until
 seen (line.Audit db seal) = Audit db.now (seen_sealing seal)
 seen (line.Scan host port unit timeout list setup) =
     Scan host.now port unit timeout list (option_map (λ text. text.now) setup)
@@ -162,6 +164,12 @@ backup_in rows =
     given (db_in rows) (λ db.
     given (text_at (codes "to") rows) (λ to. Some (Backup db to)))
 
+abbrev pub carry_in : List Row → Option Line
+carry_in rows =
+    given (text_at (codes "from") rows) (λ from.
+    given (text_at (codes "to") rows) (λ to.
+    given (number_if 4294967295 (codes "until") rows) (λ until. Some (Carry from to until))))
+
 -- who has a seal printed names no file of one
 abbrev pub sealing_of : (prints : Bool) → (against : Option Text) → Option Seal
 sealing_of prints None = Some (if prints then Print else Nothing)
@@ -245,10 +253,11 @@ command_in name rows =
     else (if bytes_eq name (codes "scan") then scan_in rows
     else (if bytes_eq name (codes "enter") then enter_in rows
     else (if bytes_eq name (codes "backup") then backup_in rows
+    else (if bytes_eq name (codes "carry") then carry_in rows
     else (if bytes_eq name (codes "audit") then audit_in rows
     else (if bytes_eq name (codes "explain") then explain_in rows
     else (if bytes_eq name (codes "completions") then completions_in rows
-    else None)))))))))))))))
+    else None))))))))))))))))
 
 -- no command is `replay` without options
 abbrev pub line_in : Option (Text × List Row) → Option Line

@@ -32,8 +32,16 @@ commands =
     ∷ optional_option (codes "from") ∷ optional_option (codes "till") ∷ optional_option (codes "by")
     ∷ optional_option (codes "unit") ∷ optional_option (codes "format")
     ∷ flag (codes "statement") ∷ [])
-    ∷ command_with (codes "backup")
+    ∷ []
+
+-- those after them
+abbrev pub later_commands : List App
+later_commands =
+    command_with (codes "backup")
     (required_option (codes "db") ∷ required_option (codes "to") ∷ [])
+    ∷ command_with (codes "carry")
+    (required_option (codes "from") ∷ required_option (codes "to")
+    ∷ optional_option (codes "until") ∷ [])
     ∷ command_with (codes "audit")
     (required_option (codes "db") ∷ flag (codes "seal") ∷ optional_option (codes "against") ∷ [])
     ∷ command_with (codes "stand-in")
@@ -50,4 +58,4 @@ commands =
     ∷ []
 
 abbrev pub program : App
-program = program_with (codes "sunreg") commands
+program = program_with (codes "sunreg") commands later_commands

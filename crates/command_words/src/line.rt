@@ -76,6 +76,12 @@ pub enum CommandLine<'a> {
         db: &'a str,
         to: &'a str,
     },
+    /// A new file in which the meters of an office's file stand as they stood there, at the end or at a moment.
+    Carry {
+        from: &'a str,
+        to: &'a str,
+        until: Option<u32>,
+    },
     /// Whether the rows of a file are those of lawful journals and polls, and whether it still has what a seal pins.
     Audit {
         db: &'a str,

@@ -1,8 +1,8 @@
 //! The command of what was found.
 ghost use Rattle.clap.specs.Words.{subcommand_rows_of};
 ghost use Rattle.command_words.specs.Values.Devices.{devices_in, places_of};
-ghost use Rattle.command_words.specs.Lines.{audit_in, backup_in, command_in, completions_in, create_in, devices_at};
-ghost use Rattle.command_words.specs.Lines.{devices_if};
+ghost use Rattle.command_words.specs.Lines.{audit_in, backup_in, carry_in, command_in, completions_in, create_in};
+ghost use Rattle.command_words.specs.Lines.{devices_at, devices_if};
 ghost use Rattle.command_words.specs.Lines.{enter_in, explain_in, form_in, line_in, report_in, round_in, run_in, scan_in, seen};
 ghost use Rattle.command_words.specs.Lines.{sealing_in, seen_form, seen_sealing, serve_in, stand_in_in};
 ghost use Rattle.command_words.specs.Options.{Reads, rows_in};
@@ -13,7 +13,7 @@ use crate::line::{CommandLine, FormWords, Sealing};
 use crate::options::{is_set, number, number_if, number_or, text, text_if, text_or, texts};
 use crate::table::{
     CONNECTIONS, EVERY, FIRST_UNIT, HOST, HOST_NAME, LASTS, LISTEN, MOST_KEPT, PATIENCE, PORT,
-    TIMEOUT, UNIT, ZONE,
+    TIMEOUT, UNIT, UNTIL, ZONE,
 };
 use crate::values::{Device, ListFault, devices_in};
 use clap::ArgMatches;
@@ -94,6 +94,19 @@ fn backup_line<'a>(found: &ArgMatches<'a>) -> Result<CommandLine<'a>, ValueFault
     let db = text(found, "db")?;
     let to = text(found, "to")?;
     Ok(CommandLine::Backup { db, to })
+}
+
+fn carry_line<'a>(found: &ArgMatches<'a>) -> Result<CommandLine<'a>, ValueFault<'a>>
+    ensures { Reads seen (carry_in (rows_in found.now)) result }
+{
+    let from = text(found, "from")?;
+    let new = text(found, "to")?;
+    let until = number_if(found, UNTIL)?;
+    Ok(CommandLine::Carry {
+        from,
+        to: new,
+        until,
+    })
 }
 
 // The seal that is printed, or held to, if any.
@@ -271,6 +284,7 @@ fn command_line<'a>(
         "scan" => scan_line(found),
         "enter" => enter_line(alloc, found),
         "backup" => backup_line(found),
+        "carry" => carry_line(found),
         "audit" => audit_line(found),
         "explain" => explain_line(found),
         "completions" => completions_line(found),

@@ -1,7 +1,8 @@
 //! The program's commands and options, with their help.
 ghost use Rattle.std.specs.Prelude.{◌≡◌};
-ghost use Rattle.command_words.specs.ClapTable.Table.{program_app};
-ghost use Rattle.command_words.specs.Program.{program};
+ghost use Rattle.clap.specs.Words.{App};
+ghost use Rattle.command_words.specs.ClapTable.Table.{program_app, with_apps, with_commands};
+ghost use Rattle.command_words.specs.Program.{commands, later_commands, program};
 
 use crate::clap_table::{CommandText, OptionText, ProgramText, Value};
 
@@ -56,6 +57,12 @@ pub const MOST_KEPT: NumberOption<'static> = NumberOption {
     name: "most-kept",
     value: "MB",
     most: 1_000_000,
+};
+
+pub const UNTIL: NumberOption<'static> = NumberOption {
+    name: "until",
+    value: "MOMENT",
+    most: 4_294_967_295,
 };
 
 pub const UNIT: NumberOption<'static> = NumberOption {
@@ -291,6 +298,29 @@ const BACKUP: CommandText<'static> = CommandText {
     options: &[DB, COPY],
 };
 
+const CARRY: CommandText<'static> = CommandText {
+    name: "carry",
+    about: "Begins a new file where an office's meters stand",
+    after: "Example: sunreg carry --from office.db --to 2027.db",
+    options: &[
+        OptionText {
+            name: "from",
+            value: Value::Required("FILE"),
+            help: "The office's file so far; it is only read",
+        },
+        OptionText {
+            name: "to",
+            value: Value::Required("FILE"),
+            help: "File that is made; there must be none of that name yet",
+        },
+        OptionText {
+            name: "until",
+            value: Value::Optional("MOMENT"),
+            help: "Takes nothing after this moment, in seconds since 1970-01-01 UTC",
+        },
+    ],
+};
+
 const AUDIT: CommandText<'static> = CommandText {
     name: "audit",
     about: "Checks an office's rows against one another; it only reads",
@@ -440,37 +470,46 @@ const COMPLETIONS: CommandText<'static> = CommandText {
     }],
 };
 
-/// The program.
-pub const PROGRAM: ProgramText<'static> = ProgramText {
-    name: "sunreg",
-    version: "1.0",
-    about: "Polls SunSpec meters by Modbus TCP; keeps their energy by quarter hours and days",
-    after: "Without a command it is replay. Help on a command: sunreg help COMMAND\n\
-            Example: sunreg replay < script.txt\n\
-            Exit status: 0 fine, 1 refused, 2 wrong words, 3 a file, stream or socket failed",
-    commands: &[
-        REPLAY,
-        PLAN,
-        CHAIN,
-        SCAN,
-        CREATE,
-        ENTER,
-        SERVE,
-        ROUND,
-        REPORT,
-        BACKUP,
-        AUDIT,
-        STAND_IN,
-        LOOP,
-        RUN,
-        EXPLAIN,
-        COMPLETIONS,
-    ],
-};
+// The commands, in the order of the help.
+const COMMANDS: &[CommandText<'static>] = &[
+    REPLAY, PLAN, CHAIN, SCAN, CREATE, ENTER, SERVE, ROUND, REPORT,
+];
+
+// Those after them.
+const LATER_COMMANDS: &[CommandText<'static>] = &[
+    BACKUP,
+    CARRY,
+    AUDIT,
+    STAND_IN,
+    LOOP,
+    RUN,
+    EXPLAIN,
+    COMPLETIONS,
+];
+
+fn commands() -> &'static [CommandText<'static>]
+    ensures { (app : App) → with_commands app result.now ≡ with_apps app commands }
+{
+    COMMANDS
+}
+
+fn later_commands() -> &'static [CommandText<'static>]
+    ensures { (app : App) → with_commands app result.now ≡ with_apps app later_commands }
+{
+    LATER_COMMANDS
+}
 
 /// The program's commands and options, as its words are read by them.
 pub fn program() -> ProgramText<'static>
     ensures { program_app result ≡ program }
 {
-    PROGRAM
+    ProgramText {
+        name: "sunreg",
+        version: "1.0",
+        about: "Polls SunSpec meters by Modbus TCP; keeps their energy by quarter hours and days",
+        after: "Without a command it is replay. Help on a command, for example: sunreg help run\n\
+                Exit status: 0 fine, 1 refused, 2 wrong words, 3 a file, stream or socket failed",
+        commands: commands(),
+        later: later_commands(),
+    }
 }

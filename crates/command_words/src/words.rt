@@ -9,7 +9,7 @@ use crate::clap_table::matches_of;
 use crate::faults::{ValueFault, WordsFault};
 use crate::line::CommandLine;
 use crate::lines::line_in;
-use crate::table::PROGRAM;
+use crate::table::program;
 use clap::error::ErrorKind;
 use clap::{ArgMatches, Error};
 use std::alloc::Global;
@@ -19,7 +19,7 @@ fn found_in<'a>(alloc: Global, words: &'a [&'a str]) -> Result<ArgMatches<'a>, E
     ensures found { IfOk result (IsFound words.entry.now) }
     ensures fails { FailsBy (errors_of (texts words.entry.now)) result }
 {
-    matches_of(alloc, PROGRAM, words)
+    matches_of(alloc, program(), words)
 }
 
 // The fault of words that `clap` refuses, with its text.

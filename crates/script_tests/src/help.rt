@@ -50,6 +50,7 @@ Commands:
   round        Polls the whole plan of one device once
   report       Prints a register's energy by days, months or years
   backup       Makes one whole file of an office
+  carry        Begins a new file where an office's meters stand
   audit        Checks an office's rows against one another; it only reads
   stand-in     Plays a Modbus device, with a bank from standard input
   loop         Runs a script whose devices are a stand-in in this process
@@ -62,8 +63,7 @@ Options:
   -h, --help     Print help
   -V, --version  Print version
 
-Without a command it is replay. Help on a command: sunreg help COMMAND
-Example: sunreg replay < script.txt
+Without a command it is replay. Help on a command, for example: sunreg help run
 Exit status: 0 fine, 1 refused, 2 wrong words, 3 a file, stream or socket failed
 ";
 

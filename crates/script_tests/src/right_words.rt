@@ -2,7 +2,7 @@
 use command_words::{CommandLine, Device, FormWords, Sealing, command_of};
 use energy_report::{EnergyUnit, Format, Period};
 
-const RIGHT: [(&[&str], CommandLine<'static>); 25] = [
+const RIGHT: [(&[&str], CommandLine<'static>); 27] = [
     // no word is replay
     (&[], CommandLine::Replay { zone: "UTC0" }),
     (&["replay"], CommandLine::Replay { zone: "UTC0" }),
@@ -209,6 +209,30 @@ const RIGHT: [(&[&str], CommandLine<'static>); 25] = [
         CommandLine::Backup {
             db: "o.db",
             to: "copy of o.db",
+        },
+    ),
+    (
+        &["carry", "--from", "o.db", "--to", "n.db"],
+        CommandLine::Carry {
+            from: "o.db",
+            to: "n.db",
+            until: None,
+        },
+    ),
+    (
+        &[
+            "carry",
+            "--until",
+            "4294967295",
+            "--to",
+            "n.db",
+            "--from",
+            "o.db",
+        ],
+        CommandLine::Carry {
+            from: "o.db",
+            to: "n.db",
+            until: Some(4_294_967_295),
         },
     ),
     (

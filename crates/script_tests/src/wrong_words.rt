@@ -1,7 +1,7 @@
 //! Words that spell no command.
 use command_words::{WordsFault, command_of};
 
-static WRONG: [&[&str]; 47] = [
+static WRONG: [&[&str]; 52] = [
     &["bogus"],
     &[""],
     &["Plan"],
@@ -60,6 +60,11 @@ static WRONG: [&[&str]; 47] = [
     &["enter", "--db", "x", "--caller", "c", "--devices", "inv=h"],
     &["enter", "--db", "x", "--caller", "c", "-m"],
     &["backup", "--db", "x"],
+    &["carry", "--from", "x"],
+    &["carry", "--to", "y"],
+    &["carry", "--db", "x", "--to", "y"],
+    &["carry", "--from", "x", "--to", "y", "--until", "0"],
+    &["carry", "--from", "x", "--to", "y", "--until", "4294967296"],
     &["audit"],
     &["audit", "--db", "x", "--against"],
     &["audit", "--db", "x", "--seal", "--against", "s"],

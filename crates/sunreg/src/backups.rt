@@ -13,8 +13,8 @@ fn is_there(rt: &HostRuntime, path: &str) -> bool {
     }
 }
 
-// What the copy is called until it is whole, where neither it nor the copy's name nor that of its log is taken.
-fn part_of<'a>(rt: &HostRuntime, to: &'a str) -> Result<Pair, Failure<'a>> {
+/// What the copy is called until it is whole, where neither it nor the copy's name nor that of its log is taken.
+pub(crate) fn part_of<'a>(rt: &HostRuntime, to: &'a str) -> Result<Pair, Failure<'a>> {
     let alloc = rt.alloc();
     let (Ok(own_log), Ok(file), Ok(log)) = (
         format!(in alloc; "{to}-wal"),
@@ -69,8 +69,8 @@ fn rename_over(rt: &HostRuntime, part: &str, to: &str) -> io::Result<()> {
     File::open(rt, folder.as_str())?.sync_all()
 }
 
-// Gives a file a name that nothing has, or leaves nothing of that name.
-fn give_name(rt: &HostRuntime, part: &str, to: &str) -> io::Result<()> {
+/// Gives a file a name that nothing has, or leaves nothing of that name.
+pub(crate) fn give_name(rt: &HostRuntime, part: &str, to: &str) -> io::Result<()> {
     drop(File::create_new(rt, to)?);
     match rename_over(rt, part, to) {
         Ok(()) => Ok(()),

@@ -1,6 +1,7 @@
 //! The commands, over the streams and sockets of the process.
 use crate::audits::audit;
 use crate::backups::backup;
+use crate::carries::carry;
 use crate::completions::completions;
 use crate::entering::enter;
 use crate::explain::explain;
@@ -103,6 +104,7 @@ pub(crate) fn carry_out<'a>(rt: &HostRuntime, line: &CommandLine<'a>) -> Ending<
             only_read,
         } => enter(rt, *db, *caller, devices, *only_read),
         CommandLine::Backup { db, to } => backup(rt, *db, *to),
+        CommandLine::Carry { from, to, until } => carry(rt, *from, *to, *until),
         CommandLine::Audit { db, seal } => audit(rt, *db, *seal),
         CommandLine::Explain { what, number } => explain(rt, *what, *number),
         CommandLine::Completions => completions(rt),

@@ -1,6 +1,6 @@
 //! What bash completes the words of a command line by, made of the table of commands.
 use command_io::Buffered;
-use command_words::{CommandText, OptionText, Value, program};
+use command_words::{CommandText, OptionText, ProgramText, Value, program};
 use std::io::{self, Write};
 use stored_office::{Ending, Failure};
 
@@ -35,6 +35,13 @@ fn write_names<W: Write>(commands: &[CommandText<'_>], output: &mut W) -> io::Re
     for command in commands {
         write!(output, "{} ", command.name)?;
     }
+    Ok(())
+}
+
+// The names of all commands, and help.
+fn write_all_names<W: Write>(program: &ProgramText<'_>, output: &mut W) -> io::Result<()> {
+    write_names(program.commands, output)?;
+    write_names(program.later, output)?;
     output.write_all(b"help")
 }
 
@@ -67,9 +74,11 @@ fn write_value<W: Write>(command: &str, option: &OptionText<'_>, output: &mut W)
     }
 }
 
-fn write_values<W: Write>(command: &CommandText<'_>, output: &mut W) -> io::Result<()> {
-    for option in command.options {
-        write_value(command.name, option, output)?;
+fn write_values<W: Write>(commands: &[CommandText<'_>], output: &mut W) -> io::Result<()> {
+    for command in commands {
+        for option in command.options {
+            write_value(command.name, option, output)?;
+        }
     }
     Ok(())
 }
@@ -93,40 +102,41 @@ fn write_option<W: Write>(option: &OptionText<'_>, output: &mut W) -> io::Result
     }
 }
 
-fn write_options<W: Write>(command: &CommandText<'_>, output: &mut W) -> io::Result<()> {
-    write!(output, "    {}) words='", command.name)?;
-    for option in command.options {
-        write_option(option, output)?;
+fn write_options<W: Write>(commands: &[CommandText<'_>], output: &mut W) -> io::Result<()> {
+    for command in commands {
+        write!(output, "    {}) words='", command.name)?;
+        for option in command.options {
+            write_option(option, output)?;
+        }
+        output.write_all(b"--help' ;;\n")?;
     }
-    output.write_all(b"--help' ;;\n")
+    Ok(())
 }
 
 // For each command, what stands after its options.
-fn write_all_values<W: Write>(commands: &[CommandText<'_>], output: &mut W) -> io::Result<()> {
+fn write_all_values<W: Write>(program: &ProgramText<'_>, output: &mut W) -> io::Result<()> {
     output.write_all(b"    *) case ${COMP_WORDS[1]}\" \"${COMP_WORDS[COMP_CWORD - 1]} in\n")?;
-    for command in commands {
-        write_values(command, output)?;
-    }
+    write_values(program.commands, output)?;
+    write_values(program.later, output)?;
     output.write_all(b"    *) case ${COMP_WORDS[1]} in\n")
 }
 
 // For each command, its options and the words that may stand after it.
-fn write_all_options<W: Write>(commands: &[CommandText<'_>], output: &mut W) -> io::Result<()> {
-    for command in commands {
-        write_options(command, output)?;
-    }
+fn write_all_options<W: Write>(program: &ProgramText<'_>, output: &mut W) -> io::Result<()> {
+    write_options(program.commands, output)?;
+    write_options(program.later, output)?;
     output.write_all(b"    help) words='")?;
-    write_names(commands, output)?;
+    write_all_names(program, output)?;
     output.write_all(b"' ;;\n    esac ;;\n    esac ;;\n")
 }
 
-fn write_script<W: Write>(commands: &[CommandText<'_>], output: &mut W) -> io::Result<()> {
+fn write_script<W: Write>(program: &ProgramText<'_>, output: &mut W) -> io::Result<()> {
     output.write_all(HEAD.as_bytes())?;
     output.write_all(b"    case $COMP_CWORD in\n    1) words='")?;
-    write_names(commands, output)?;
+    write_all_names(program, output)?;
     output.write_all(b" --help --version' ;;\n")?;
-    write_all_values(commands, output)?;
-    write_all_options(commands, output)?;
+    write_all_values(program, output)?;
+    write_all_options(program, output)?;
     output.write_all(b"    esac\n")?;
     output.write_all(TAIL.as_bytes())
 }
@@ -134,7 +144,7 @@ fn write_script<W: Write>(commands: &[CommandText<'_>], output: &mut W) -> io::R
 /// Prints it.
 pub(crate) fn completions(rt: &HostRuntime) -> Ending<'static> {
     let mut output = Buffered::new(io::writer(rt));
-    let written = write_script(program().commands, &mut output);
+    let written = write_script(&program(), &mut output);
     match (written, output.flush()) {
         (Ok(()), Ok(())) => Ending::Fine,
         _ => Ending::Failed(Failure::Streams),

@@ -7,6 +7,7 @@ ghost use Rattle.stored_office.specs.Ends.Endings.{ending_number};
 
 mod audits;
 mod backups;
+mod carries;
 mod command_output;
 mod commands;
 mod completions;

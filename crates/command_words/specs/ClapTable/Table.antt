@@ -44,10 +44,14 @@ command_with name options = fold with_rule (new_app name) options
 abbrev pub as_program : App → App
 as_program a = record a { top = record a.top { no_binary_name = true; has_version = true } }
 
--- a program with these commands
-abbrev pub program_with : Text → List App → App
-program_with name commands =
-    as_program (fold (λ a c. with_subcommand a c.top) (new_app name) commands)
+-- an app with these commands
+abbrev pub with_apps : App → List App → App
+with_apps a commands = fold (λ a c. with_subcommand a c.top) a commands
+
+-- a program with these commands, and after them with those
+abbrev pub program_with : Text → (commands later : List App) → App
+program_with name commands later =
+    as_program (with_apps (with_apps (new_app name) commands) later)
 
 -- ---- what the tables describe
 
@@ -80,7 +84,8 @@ abbrev pub with_commands : App → List CommandText → App
 with_commands a commands = fold with_command a commands
 
 abbrev pub program_app : ProgramText → App
-program_app p = as_program (with_commands (new_app p.name.now) p.commands.now)
+program_app p =
+    as_program (with_commands (with_commands (new_app p.name.now) p.commands.now) p.later.now)
 
 -- ---- what `clap` finds
 

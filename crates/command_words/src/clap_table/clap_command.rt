@@ -111,6 +111,7 @@ pub(crate) fn command<'a>(alloc: Global, text: ProgramText<'a>) -> Result<Comman
         .about(text.about)
         .after_help(text.after);
     let program = with_commands(alloc, program, text.commands)?;
+    let program = with_commands(alloc, program, text.later)?;
     let program = program.no_binary_name(true);
     let program = program.version(text.version);
     program.bin_name(text.name)

@@ -42,7 +42,8 @@ pub struct CommandText<'a> {
     pub options: &'a [OptionText<'a>],
 }
 
-/// A program with its commands. It tells its version where that is asked for.
+/// A program with its commands, in two parts, since what is proved of one long table takes too many steps. It tells its version
+/// where that is asked for.
 #[derive(Clone, Copy)]
 pub struct ProgramText<'a> {
     pub name: &'a str,
@@ -50,4 +51,6 @@ pub struct ProgramText<'a> {
     pub about: &'a str,
     pub after: &'a str,
     pub commands: &'a [CommandText<'a>],
+    /// The commands after those.
+    pub later: &'a [CommandText<'a>],
 }
