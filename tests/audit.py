@@ -279,7 +279,7 @@ def changes(seed):
 
 def seal_of(db):
     """The seal of a file's tables, by Python."""
-    books, body = sqlite3.connect(db), "seal 1\n"
+    books, body = sqlite3.connect(db), "seal 2\n"
     for meter, register, ceiling in books.execute("SELECT meter, register, ceiling FROM installations ORDER BY place").fetchall():
         (span,) = books.execute('SELECT "range" FROM ranges WHERE meter = ?', [meter]).fetchone()
         rows = books.execute('SELECT place, kind, moment, raw, "after", sf, rolls FROM entries WHERE meter = ? ORDER BY place', [meter]).fetchall()
@@ -287,6 +287,11 @@ def seal_of(db):
         lines = [f"{place} {KINDS[kind]} {moment} {raw} {after} {sf}" + f" {rolls}" * (kind != 2) + "\n" for place, kind, moment, raw, after, sf, rolls in rows]
         body += f"meter {meter} at {register} range {span} ceiling {ceiling} entries {len(rows)} sha256 {hashlib.sha256(''.join(lines).encode()).hexdigest()}\n"
         body += "".join(f"void {meter} {place}\n" for place, in books.execute("SELECT place FROM voids WHERE meter = ? ORDER BY place", [meter]))
+    polls = books.execute("SELECT poll, device, unit, started, tid, function, address, count FROM polls ORDER BY poll").fetchall()
+    outcomes = {poll: f"outcome {moment} {kind} {code}\n" for poll, moment, kind, code in books.execute("SELECT poll, moment, outcome, code FROM outcomes")}
+    lines = [f"poll {' '.join(str(it) for it in poll)}\n{outcomes.get(poll[0], '')}" for poll in polls]
+    body += f"polls {len(polls)} sha256 {hashlib.sha256(''.join(lines).encode()).hexdigest()}\n"
+    body += "".join(f"pending {poll[0]}\n" for poll in polls if poll[0] not in outcomes)
     books.close()
     return body + f"sha256 {hashlib.sha256(body.encode()).hexdigest()}\n"
 
@@ -304,7 +309,7 @@ def seals(entries):
         same(f"the seal of {db}", audit(db, "--seal"), (0, text.splitlines(), []))
         same(f"{db} is as it was sealed", held_to(db, text.encode()), (0, ["sealed: fine"], []))
     of_python, of_program = seal_of("python.db").encode(), seal_of("program.db").encode()
-    same("another office", held_to("python.db", of_program), (1, ["meter m1 differs from the seal", "meter m2 differs from the seal", "2 of 2 meters differ"], []))
+    same("another office", held_to("python.db", of_program), (1, ["meter m1 differs from the seal", "meter m2 differs from the seal", "polls differ from the seal", "2 of 2 meters differ"], []))
     enter("program.db", "12 manual main 25 0\n")
     enter("program.db", "13 void m1 2\n")
     same("what came since is no difference", held_to("program.db", of_program), (0, ["sealed: fine"], []))
@@ -322,11 +327,29 @@ def seals(entries):
     ):
         same(f"{what}: fine", changed(*commands)[0], 0)
         same(f"{what}: not as it was sealed", held_to("changed.db", of_python), (1, ["meter m1 differs from the seal", "1 of 1 meters differ"], []))
+    pending = len(entries)  # (Python's last poll, which has no outcome)
+    for what, commands in (
+        ("a poll of another unit", ("UPDATE polls SET unit = unit + 1 WHERE poll = 2",)),
+        ("a poll said to be later", (f"UPDATE polls SET started = started + 1 WHERE poll = {pending}",)),
+        ("another outcome", ("UPDATE outcomes SET outcome = 3 WHERE poll = 3",)),
+        ("a later outcome", ("UPDATE outcomes SET moment = moment + 1 WHERE poll = 3",)),
+        ("an outcome fewer", ("DELETE FROM outcomes WHERE poll = 1",)),
+        ("a poll fewer", (f"DELETE FROM polls WHERE poll = {pending}",)),
+    ):
+        same(f"{what}: fine", changed(*commands)[0], 0)
+        same(f"{what}: not as it was sealed", held_to("changed.db", of_python), (1, ["polls differ from the seal", "polls differ"], []))
+    last_poll = f"FROM polls WHERE poll = {pending}"
+    for what, commands in (
+        ("the outcome of a poll that was pending", (f"INSERT INTO outcomes SELECT poll, started, 3, 0 {last_poll}",)),
+        ("one more poll", (f"INSERT INTO polls SELECT poll + 1, device, unit, started, tid, function, address, count {last_poll}",)),
+    ):
+        same(f"{what}: fine", changed(*commands)[0], 0)
+        same(f"{what} is no difference", held_to("changed.db", of_python), (0, ["sealed: fine"], []))
     same("tables that aren't fine have no seal", (changed("UPDATE installations SET total = total + 1")[1:], audit("changed.db", "--seal")[0]), (audit("changed.db", "--seal")[1:], 1))
     same("nor are they held to one", held_to("changed.db", of_python)[1][-1], "1 differences")
     no_seal = ["error: invalid value 'seal.txt' for '--against <SEAL>': no seal, as sunreg audit --seal prints it"]
     for what, text in (("nothing", b""), ("a line fewer", of_python.split(b"\n", 1)[1]), ("the last line fewer", of_python.rsplit(b"sha256", 1)[0]), ("a line behind it", of_python + b"\n"),
-                       ("another number", of_python.replace(b" ceiling 1", b" ceiling 2")), ("no text", b"\xff" + of_python), ("ends of another kind", of_python.replace(b"\n", b"\r\n"))):
+                       ("another number", of_python.replace(b" ceiling 1", b" ceiling 2")), ("one of an earlier program", of_python.replace(b"seal 2", b"seal 1", 1)), ("a pending poll fewer", of_python.replace(b"pending ", b"", 1)), ("no text", b"\xff" + of_python), ("ends of another kind", of_python.replace(b"\n", b"\r\n"))):
         same(f"{what} is no seal", held_to("python.db", text), (2, [], no_seal))
     same("a seal that isn't there", audit("python.db", "--against", "none.txt"), (3, [], ["failed", "sunreg: none.txt: the seal can't be read: look at its name and its rights"]))
     same("both at once", audit("python.db", "--seal", "--against", "seal.txt")[:2], (2, []))

@@ -58,6 +58,8 @@ mod requests;
 #[cfg(test)]
 mod scripts;
 #[cfg(test)]
+mod seals;
+#[cfg(test)]
 mod shares;
 #[cfg(test)]
 mod stories;

@@ -1,5 +1,5 @@
 //! Seals of an office in a database.
-ghost use Rattle.std.specs.Prelude.{◌≡◌, ◌≢◌, ◌↔◌, ◌⊎◌, List, [], false, map, Err, Some, IsTrue, IfOk, IfErr, OnOk};
+ghost use Rattle.std.specs.Prelude.{◌≡◌, ◌≢◌, ◌↔◌, ◌⊎◌, false, Err, Some, IsTrue, IfOk, IfErr, OnOk};
 ghost use Rattle.std.specs.Io.KnownBytes.{Appends};
 ghost use Rattle.sqlite.specs.Held.{state};
 ghost use Rattle.sqlite.specs.State.{HasCleanDisk};
@@ -7,9 +7,9 @@ ghost use Rattle.store_tables.specs.Content.{Content};
 ghost use Rattle.store_files.specs.declared.layouts.Layout.{Layout as TheLayout};
 ghost use Rattle.store_files.specs.Layouts.{IsNamedAs};
 ghost use Rattle.table_audit.specs.Looking.{HoldsTables, OnlyLooks};
-ghost use Rattle.table_seals.specs.Checking.{TellsTables};
-ghost use Rattle.table_seals.specs.Reading.{AreSealable};
-ghost use Rattle.table_seals.specs.Sealed.{Sealed, sealed_of};
+ghost use Rattle.table_seals.specs.Checking.{IsAsSealed, TellsTables};
+ghost use Rattle.table_seals.specs.Reading.{AreTablesSealable};
+ghost use Rattle.table_seals.specs.Sealed.{SealedTables, sealed_tables_of};
 ghost use Rattle.table_seals.specs.Sealing.{SealsTables, CannotBeSealed};
 ghost use Rattle.table_seals.specs.Texts.{seal_text, checked_text};
 
@@ -21,7 +21,7 @@ use store_files::{Layout, layout_of};
 use store_tables::RowFault;
 use sun_points::Sink;
 use table_seals::{
-    Checked, MeterSeal, NoSeal, check_seal, put_checked, put_seal, read_seal, seal_tables,
+    Checked, NoSeal, Seal, check_seal, put_checked, put_seal, read_seal, seal_tables,
 };
 
 /// Whether a database has the tables of an office, and no transaction is under way.
@@ -56,36 +56,32 @@ fn fault_of(fault: RowFault) -> AuditFault
 pub fn seal_stored<S: Alter>(
     alloc: Global,
     connection: &mut Connection<S>,
-) -> Result<Vec<MeterSeal>, AuditFault>
+) -> Result<Seal, AuditFault>
     ensures foreign { ((layout : TheLayout) → ¬ IsNamedAs connection.old.schema layout)
         → result ≡ Err AuditFault.NotOurs }
     ensures looks { connection.old.in_transaction ≡ false
         → OnlyLooks S.Store connection.old connection.new }
     ensures tells { HasCleanDisk (state S.Store connection.new) → (content : Content)
         → HoldsTables S.Store connection.old content
-        → IfOk result (λ seals. SealsTables content (Some seals)) }
+        → IfOk result (λ seal. SealsTables content (Some seal)) }
     ensures unsealed { HasCleanDisk (state S.Store connection.new) → (content : Content)
         → HoldsTables S.Store connection.old content
         → result ≡ Err AuditFault.Unsealable → CannotBeSealed content }
 {
     check_ours(connection)?;
     match seal_tables(alloc, connection) {
-        Ok(Some(seals)) => Ok(seals),
+        Ok(Some(seal)) => Ok(seal),
         Ok(None) => Err(AuditFault::Unsealable),
         Err(fault) => Err(fault_of(fault)),
     }
 }
 
 /// Writes the text of a seal.
-pub fn write_seal<W: Write>(
-    alloc: Global,
-    seals: &[MeterSeal],
-    output: &mut W,
-) -> Result<(), AuditFault>
+pub fn write_seal<W: Write>(alloc: Global, seal: &Seal, output: &mut W) -> Result<(), AuditFault>
     ensures { OnOk result (Appends (W.contents output.old) (W.contents output.new)
-        (seal_text (map sealed_of seals.now))) }
+        (seal_text (sealed_tables_of seal.now))) }
 {
-    let Ok(text) = put_seal(alloc, seals) else {
+    let Ok(text) = put_seal(alloc, seal) else {
         return Err(AuditFault::Memory);
     };
     match output.take_text(text.as_slice()) {
@@ -94,7 +90,8 @@ pub fn write_seal<W: Write>(
     }
 }
 
-/// Which meters the tables of an office in a database don't have any more as the seal of this text says. Nothing is written to it.
+/// Which meters the tables of an office in a database don't have any more as the seal of this text says, and whether their polls
+/// differ. Nothing is written to it.
 pub fn check_stored_seal<S: Alter>(
     alloc: Global,
     connection: &mut Connection<S>,
@@ -106,30 +103,30 @@ pub fn check_stored_seal<S: Alter>(
         → OnlyLooks S.Store connection.old connection.new }
     ensures tells { HasCleanDisk (state S.Store connection.new) → (content : Content)
         → HoldsTables S.Store connection.old content
-        → IfOk result (λ checked. (seals : List Sealed) × (text.now ≡ seal_text seals)
-        × TellsTables seals content checked) }
-    ensures no_seal { (seals : List Sealed) → AreSealable seals → text.now ≡ seal_text seals
-        → result ≢ Err AuditFault.NoSeal }
+        → IfOk result (λ checked. (seal : SealedTables) × (text.now ≡ seal_text seal)
+        × TellsTables seal content checked) }
+    ensures no_seal { (seal : SealedTables) → AreTablesSealable seal
+        → text.now ≡ seal_text seal → result ≢ Err AuditFault.NoSeal }
 {
     check_ours(connection)?;
-    let seals = match read_seal(alloc, text) {
-        Ok(seals) => seals,
+    let seal = match read_seal(alloc, text) {
+        Ok(seal) => seal,
         Err(NoSeal::Other) => return Err(AuditFault::NoSeal),
         Err(NoSeal::Memory) => return Err(AuditFault::Memory),
     };
-    match check_seal(alloc, connection, seals.as_slice()) {
+    match check_seal(alloc, connection, &seal) {
         Ok(checked) => Ok(checked),
         Err(fault) => Err(fault_of(fault)),
     }
 }
 
-/// Writes what a check tells, and answers whether no meter differs.
+/// Writes what a check tells, and answers whether nothing differs.
 pub fn write_checked<W: Write>(
     alloc: Global,
     checked: &Checked,
     output: &mut W,
 ) -> Result<bool, AuditFault>
-    ensures fine { IfOk result (λ fine. IsTrue fine ↔ (checked.now.differing.items ≡ [])) }
+    ensures fine { IfOk result (λ fine. IsTrue fine ↔ IsAsSealed checked.now) }
     ensures told { OnOk result (Appends (W.contents output.old) (W.contents output.new)
         (checked_text checked.now)) }
 {

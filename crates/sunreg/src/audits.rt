@@ -18,9 +18,9 @@ fn print_seal<S: Alter>(
     rt: &HostRuntime,
     connection: &mut Connection<S>,
 ) -> Result<bool, AuditFault> {
-    let seals = seal_stored(rt.alloc(), connection)?;
+    let seal = seal_stored(rt.alloc(), connection)?;
     let mut output = io::writer(rt);
-    write_seal(rt.alloc(), seals.as_slice(), &mut output)?;
+    write_seal(rt.alloc(), &seal, &mut output)?;
     Ok(true)
 }
 

@@ -136,13 +136,13 @@ in_run = op2 (Compare Ge Binary) (col 1 0) (col 0 0) ∷ op2 (Compare Le Binary)
 -- ---- poll_rows
 
 abbrev pub poll_rows : List ℕ
-poll_rows = codes "SELECT poll, unit, started, tid, function, address, count FROM polls WHERE poll >= ?1 AND poll <= ?2 ORDER BY poll"
+poll_rows = codes "SELECT poll, unit, started, tid, function, address, count, device FROM polls WHERE poll >= ?1 AND poll <= ?2 ORDER BY poll"
 
 abbrev pub poll_project : List Term
-poll_project = col 1 0 ∷ col 1 3 ∷ col 1 4 ∷ col 1 5 ∷ col 1 6 ∷ col 1 7 ∷ col 1 8 ∷ []
+poll_project = col 1 0 ∷ col 1 3 ∷ col 1 4 ∷ col 1 5 ∷ col 1 6 ∷ col 1 7 ∷ col 1 8 ∷ col 1 2 ∷ []
 
 abbrev pub poll_names : List (List ℕ)
-poll_names = codes "poll" ∷ codes "unit" ∷ codes "started" ∷ codes "tid" ∷ codes "function" ∷ codes "address" ∷ codes "count" ∷ []
+poll_names = codes "poll" ∷ codes "unit" ∷ codes "started" ∷ codes "tid" ∷ codes "function" ∷ codes "address" ∷ codes "count" ∷ codes "device" ∷ []
 
 pub poll_rows_is : command_of (understood books_schema poll_rows) ≡ Select (record { lets = []; body = scan 11 in_run poll_project ((col 1 0, rising) ∷ []) no_limit }) poll_names
 unfolding understood everything

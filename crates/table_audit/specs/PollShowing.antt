@@ -58,11 +58,11 @@ FromLast row later = is_gt (value_cmp (column later 0) (column row 0)) ≡ false
 abbrev pub number_shown : Row → Row
 number_shown row = column row 0 ∷ []
 
--- its number, and the columns after the device's name
+-- its number, the columns after the device's name, and that name last
 abbrev pub poll_shown : Row → Row
 poll_shown row =
     column row 0 ∷ column row 3 ∷ column row 4 ∷ column row 5 ∷ column row 6 ∷ column row 7
-    ∷ column row 8 ∷ []
+    ∷ column row 8 ∷ column row 2 ∷ []
 
 abbrev pub outcome_shown : Row → Row
 outcome_shown row = column row 0 ∷ column row 2 ∷ column row 3 ∷ column row 4 ∷ []

@@ -20,6 +20,7 @@ pub use audit::{audit_meter, audit_rows};
 pub use differences::{Difference, Differences, MOST, PollFault, Table};
 pub use findings::{Counts, Finding, Findings};
 pub use meters::audit_meters;
+pub use poll_queries::{last_poll, run_rows};
 pub use poll_rows::{OutcomeRow, PollRow, RUN, RunRows};
 pub use polls::audit_tables;
 pub use queries::{installations, meter_rows};

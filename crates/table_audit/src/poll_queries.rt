@@ -50,7 +50,7 @@ fn ask_polls<S: Alter>(conn: &mut Connection<S>, run: u64) -> Result<Vec<Row>, E
     let from = low(run);
     let till = high(run);
     conn.query_all(
-        "SELECT poll, unit, started, tid, function, address, count FROM polls WHERE poll >= ?1 AND poll <= ?2 ORDER BY poll",
+        "SELECT poll, unit, started, tid, function, address, count, device FROM polls WHERE poll >= ?1 AND poll <= ?2 ORDER BY poll",
         params![&from, &till],
     )
 }
@@ -71,7 +71,7 @@ fn ask_outcomes<S: Alter>(conn: &mut Connection<S>, run: u64) -> Result<Vec<Row>
 }
 
 /// The greatest number of a poll, in the first column of the first row, if there is a poll.
-pub(crate) fn last_poll<S: Alter>(conn: &mut Connection<S>) -> Result<Vec<Row>, RowFault>
+pub fn last_poll<S: Alter>(conn: &mut Connection<S>) -> Result<Vec<Row>, RowFault>
     requires { conn.old.in_transaction ≡ false }
     ensures { Finds S.Store conn.old conn.new result
         (λ content rows. showing.ShowsLast content rows.items) }
@@ -106,7 +106,7 @@ fn outcomes<S: Alter>(conn: &mut Connection<S>, run: u64) -> Result<Vec<Row>, Ro
 }
 
 /// The rows that the tables have for a run of polls.
-pub(crate) fn run_rows<S: Alter>(conn: &mut Connection<S>, run: u64) -> Result<RunRows, RowFault>
+pub fn run_rows<S: Alter>(conn: &mut Connection<S>, run: u64) -> Result<RunRows, RowFault>
     requires mode { conn.old.in_transaction ≡ false }
     requires run { run < 2 ^ 50 }
     ensures { Finds S.Store conn.old conn.new result (showing.AreRowsOfRun run) }

@@ -1,5 +1,5 @@
 -- Lines of voids and of meters, one after the other.
-use Rattle.std.proofs.Common.{◌≡◌, ℕ, ◌<◌, ◌^◌, true, List, [], ◌∷◌, ◌++◌, map, refl, sym, ap, subst, ◌∙◌, append_assoc, arith}
+use Rattle.std.proofs.Common.{◌≡◌, ℕ, ◌<◌, ◌^◌, true, List, [], ◌∷◌, ◌++◌, refl, sym, ap, subst, ◌∙◌, append_assoc}
 use Rattle.std.specs.Prelude.{codes, decimal, Option, Some, None, IsSomeAnd, IfSome}
 use Rattle.std.specs.List.{flat_map, AllByRecursion}
 use Rattle.table_seals.specs.declared.parsing.MeterLine.{MeterLine}
@@ -71,8 +71,8 @@ places_so_far places next after ps all number put is so_far =
 
 pub no_more_meters : (after : List Sealed) (rest text : List ℕ)
     → ((s : Sealed) (r : List ℕ) → IsSealable s → text ≡ meter_line s ++ r → ⊥)
-    → AreMeters after rest text → after ≡ []
-no_more_meters [] rest text none h = refl
+    → AreMeters after rest text → (after ≡ []) × (text ≡ rest)
+no_more_meters [] rest text none h = (refl, h.is)
 no_more_meters (s ∷ ss) rest text none h =
     absurd (none s (flat_map (void_line s.meter) s.voids ++ (flat_map meter_text ss ++ rest)) h.fit.0
     (h.is ∙ append_assoc (meter_text s) (flat_map meter_text ss) rest

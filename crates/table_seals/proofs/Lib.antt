@@ -4,3 +4,10 @@ pub mod Words
 pub mod Opened
 pub mod Read
 pub mod Following
+pub mod PollNumbers
+pub mod PollRows
+pub mod PollRuns
+pub mod PollFound
+pub mod PollsStaying
+pub mod SealedTables
+pub mod FollowingPolls

@@ -9,7 +9,8 @@ use Rattle.table_audit.specs.declared.rows.MeterRows.{MeterRows}
 use Rattle.table_audit.specs.Reading.{is_named}
 use Rattle.table_audit.specs.Showing.{AreRowsOf, ShowsInstallations}
 use Rattle.table_seals.specs.declared.checks.Checked.{Checked}
-use Rattle.table_seals.specs.Sealed.{Sealed}
+use Rattle.table_seals.specs.PollSealing.{TellsPolls}
+use Rattle.table_seals.specs.Sealed.{Sealed, SealedTables}
 use Rattle.table_seals.specs.Tables.{HasTerms, HasRead}
 use Rattle.table_seals.specs.Texts.{entries_text}
 
@@ -70,14 +71,19 @@ pub record TellsNames (installed : List Row) (seals : List Sealed) (content : Co
   pub told : AreTold installed content seals kept
   pub names_are : names ≡ differing seals kept
 
--- and how many meters the seal has
-pub record TellsSeals (installed : List Row) (seals : List Sealed) (content : Content)
-    (checked : Checked) : Type 0 where
-  pub names : TellsNames installed seals content (map string_bytes checked.differing.items)
-  pub count : checked.meters ≡ length seals
-
 -- the same of the rows of installations that the tables have
-pub record TellsTables (seals : List Sealed) (content : Content) (checked : Checked) : Type 0 where
-  pub installed : List Row
-  pub shown : ShowsInstallations content installed
-  pub tells : TellsSeals installed seals content checked
+pub record TellsMeters (seals : List Sealed) (content : Content) (names : List (List ℕ)) : Type 0
+  where
+    pub installed : List Row
+    pub shown : ShowsInstallations content installed
+    pub tells : TellsNames installed seals content names
+
+-- The meters that differ are told, whether the polls do, and how many meters the seal has.
+pub record TellsTables (seal : SealedTables) (content : Content) (checked : Checked) : Type 0 where
+  pub meters : TellsMeters seal.meters content (map string_bytes checked.differing.items)
+  pub polls : TellsPolls seal.polls content checked.polls_differ
+  pub count : checked.meters ≡ length seal.meters
+
+-- Nothing differs.
+abbrev pub IsAsSealed : Checked → Type 0
+IsAsSealed checked = (checked.differing.items ≡ []) × (checked.polls_differ ≡ false)

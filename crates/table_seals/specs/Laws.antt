@@ -1,5 +1,5 @@
 -- What stays sealed, whatever comes after it.
-use Rattle.std.specs.Prelude.{◌≡◌, ℕ, ◌==◌, Bool, true, ◌&&◌, List, ◌++◌, take, length, reverse}
+use Rattle.std.specs.Prelude.{⊤, ◌≡◌, ◌⊎◌, [], ◌∷◌, Some, None, ℕ, ◌==◌, Bool, true, ◌&&◌, List, ◌++◌, take, length, reverse}
 use Rattle.std.specs.List.{list_any}
 use Rattle.meter_journal.specs.declared.lines.Installed.{Installed}
 use Rattle.meter_journal.specs.Books.{IsWellInstalled}
@@ -7,6 +7,9 @@ use Rattle.meter_journal.specs.Fitting.{AreFitting}
 use Rattle.meter_journal.specs.Journal.{Journal, rows_of}
 use Rattle.meter_audit.specs.declared.rows.TableRow.{TableRow}
 use Rattle.meter_audit.specs.Rows.{table_rows}
+use Rattle.table_audit.specs.declared.poll_rows.RunRows.{RunRows}
+use Rattle.table_seals.specs.PollReading.{ReadPoll, polls_of}
+use Rattle.table_seals.specs.PollTexts.{polls_text, polls_text_then, pending_among}
 use Rattle.table_seals.specs.Texts.{entries_text}
 
 -- the entries that the tables have for a meter with this journal, the opening first
@@ -31,3 +34,22 @@ VoidsStay = (meter : Installed) (more lines : Journal) → IsWellInstalled meter
     → AreFitting meter (more ++ lines) → (place : ℕ)
     → is_voided_at place (entries_by meter lines) ≡ true
     → is_voided_at place (entries_by meter (more ++ lines)) ≡ true
+
+-- the same poll, which may have an outcome by now if it had none
+pub record IsLater (poll later : ReadPoll) : Type 0 where
+  pub numbers : later.numbers ≡ poll.numbers
+  pub device : later.device ≡ poll.device
+  pub ending : (poll.ending ≡ None) ⊎ (later.ending ≡ poll.ending)
+
+-- the same polls, and more
+abbrev pub AreLater : (polls later : List ReadPoll) → Type 0
+AreLater [] more = ⊤
+AreLater (poll ∷ polls) [] = ⊥
+AreLater (poll ∷ polls) (other ∷ later) = IsLater poll other × AreLater polls later
+
+-- Whatever polls come after those that the rows tell, and outcomes of those that had none: the text that those had then is the
+-- same.
+abbrev pub PollsStay : Type 0
+PollsStay = (rows later_rows : List RunRows) (polls later : List ReadPoll)
+    → polls_of rows ≡ Some polls → polls_of later_rows ≡ Some later → AreLater polls later
+    → polls_text_then (length polls) (pending_among polls) later ≡ polls_text polls

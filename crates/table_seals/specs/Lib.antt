@@ -1,6 +1,9 @@
 pub mod Sealed
 pub mod Texts
 pub mod Tables
+pub mod PollReading
+pub mod PollTexts
+pub mod PollSealing
 pub mod Sealing
 pub mod Checking
 pub mod Reading

@@ -2,10 +2,11 @@
 use Rattle.std.specs.Prelude.{◌≡◌, ◌<◌, ◌^◌, ℕ, true, List, ◌++◌, flat_map, codes}
 use Rattle.std.specs.List.{AllByRecursion}
 use Rattle.table_seals.specs.declared.parsing.MeterLine.{MeterLine}
-use Rattle.table_seals.specs.Reading.{AreSealable}
-use Rattle.table_seals.specs.Sealed.{Sealed}
+use Rattle.table_seals.specs.declared.parsing.PollsLine.{PollsLine}
+use Rattle.table_seals.specs.Reading.{AreSealable, ArePollsSealable, AreTablesSealable}
+use Rattle.table_seals.specs.Sealed.{Sealed, SealedPolls, SealedTables}
 use Rattle.table_seals.specs.Tables.{is_word}
-use Rattle.table_seals.specs.Texts.{meter_text, void_line}
+use Rattle.table_seals.specs.Texts.{meter_text, void_line, pending_line, polls_part}
 
 -- a line tells all of a seal but its voids
 pub record IsLineOf (seal : Sealed) (line : MeterLine) : Type 0 where
@@ -32,3 +33,26 @@ pub record AreMeters (seals : List Sealed) (rest text : List ℕ) : Type 0 where
   pub no_meter : Begins (codes "meter ") rest → ⊥
   pub no_void : Begins (codes "void ") rest → ⊥
   pub is : text ≡ flat_map meter_text seals ++ rest
+
+-- a line tells all of polls but which are pending
+pub record IsPollsLineOf (seal : SealedPolls) (line : PollsLine) : Type 0 where
+  pub count : line.count ≡ seal.count
+  pub digest : line.digest ≡ seal.digest
+
+-- a text is lines of pending polls, and a rest that begins with no such line
+pub record ArePending (polls rest text : List ℕ) : Type 0 where
+  pub fit : AllByRecursion (λ poll. poll < 2 ^ 64) polls
+  pub ends : Begins (codes "pending ") rest → ⊥
+  pub is : text ≡ flat_map pending_line polls ++ rest
+
+-- a text is that of polls, and a rest that begins with no line of a pending one
+pub record ArePolls (seal : SealedPolls) (rest text : List ℕ) : Type 0 where
+  pub fit : ArePollsSealable seal
+  pub ends : Begins (codes "pending ") rest → ⊥
+  pub is : text ≡ polls_part seal ++ rest
+
+-- a text is that of meters and polls, and such a rest
+pub record AreTables (seal : SealedTables) (rest text : List ℕ) : Type 0 where
+  pub fit : AreTablesSealable seal
+  pub ends : Begins (codes "pending ") rest → ⊥
+  pub is : text ≡ (flat_map meter_text seal.meters ++ polls_part seal.polls) ++ rest

@@ -1,9 +1,8 @@
 -- Which seals have a text that can be read back.
-use Rattle.std.specs.Prelude.{◌≡◌, ◌<◌, ◌^◌, ℕ, true, List, length, map, All, Vec}
+use Rattle.std.specs.Prelude.{◌≡◌, ◌<◌, ◌^◌, true, List, length}
 use Rattle.std.specs.List.{AllByRecursion}
 use Rattle.hex.specs.Hex.{IsBytes}
-use Rattle.table_seals.specs.declared.seals.MeterSeal.{MeterSeal}
-use Rattle.table_seals.specs.Sealed.{Sealed, sealed_of}
+use Rattle.table_seals.specs.Sealed.{Sealed, SealedPolls, SealedTables}
 use Rattle.table_seals.specs.Tables.{is_word}
 
 -- its names are words, its numbers have 64 bits, and its digest 32 bytes
@@ -19,3 +18,13 @@ pub record IsSealable (seal : Sealed) : Type 0 where
 
 abbrev pub AreSealable : List Sealed → Type 0
 AreSealable seals = AllByRecursion IsSealable seals
+
+pub record ArePollsSealable (seal : SealedPolls) : Type 0 where
+  pub count_fits : seal.count < 2 ^ 64
+  pub digest_long : length seal.digest ≡ 32
+  pub digest_bytes : IsBytes seal.digest
+  pub pending_fit : AllByRecursion (λ poll. poll < 2 ^ 64) seal.pending
+
+pub record AreTablesSealable (seal : SealedTables) : Type 0 where
+  pub meters : AreSealable seal.meters
+  pub polls : ArePollsSealable seal.polls

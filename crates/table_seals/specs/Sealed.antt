@@ -1,6 +1,8 @@
--- What a seal tells of a meter.
-use Rattle.std.specs.Prelude.{ℕ, List, string_bytes}
+-- What a seal tells.
+use Rattle.std.specs.Prelude.{ℕ, List, map, string_bytes}
 use Rattle.table_seals.specs.declared.seals.MeterSeal.{MeterSeal}
+use Rattle.table_seals.specs.declared.seals.PollSeal.{PollSeal}
+use Rattle.table_seals.specs.declared.seals.Seal.{Seal}
 
 -- its name, register and terms, how many entries it had, their digest, and the places of those that voids name
 pub record Sealed : Type 0 where
@@ -21,4 +23,28 @@ sealed_of seal = record {
   entries = seal.entries;
   digest = seal.digest;
   voids = seal.voids.items;
+}
+
+-- how many polls there were, the digest of their text, and which had no outcome
+pub record SealedPolls : Type 0 where
+  pub count : ℕ
+  pub digest : List ℕ
+  pub pending : List ℕ
+
+abbrev pub sealed_polls_of : PollSeal → SealedPolls
+sealed_polls_of seal = record {
+  count = seal.count;
+  digest = seal.digest;
+  pending = seal.pending.items;
+}
+
+-- the meters in the order of their places, and the polls
+pub record SealedTables : Type 0 where
+  pub meters : List Sealed
+  pub polls : SealedPolls
+
+abbrev pub sealed_tables_of : Seal → SealedTables
+sealed_tables_of seal = record {
+  meters = map sealed_of seal.meters.items;
+  polls = sealed_polls_of seal.polls;
 }

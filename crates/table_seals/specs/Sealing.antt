@@ -1,5 +1,5 @@
 -- Which seal the tables have.
-use Rattle.std.specs.Prelude.{⊤, ◌≡◌, ℕ, true, List, [], ◌∷◌, Option, Some, None, Vec, length}
+use Rattle.std.specs.Prelude.{⊤, ◌≡◌, ◌⊎◌, ℕ, true, List, [], ◌∷◌, Option, Some, None, Vec, length}
 use Rattle.std.specs.List.{slice_get}
 use Rattle.sha2.specs.Sha256.{sha256}
 use Rattle.meter_audit.specs.declared.rows.TableRow.{TableRow}
@@ -9,6 +9,8 @@ use Rattle.table_audit.specs.declared.rows.MeterRows.{MeterRows}
 use Rattle.table_audit.specs.Meters.{AreTheirs}
 use Rattle.table_audit.specs.Showing.{ShowsInstallations}
 use Rattle.table_seals.specs.declared.seals.MeterSeal.{MeterSeal}
+use Rattle.table_seals.specs.declared.seals.Seal.{Seal}
+use Rattle.table_seals.specs.PollSealing.{SealsPolls}
 use Rattle.table_seals.specs.Sealed.{Sealed, sealed_of}
 use Rattle.table_seals.specs.Tables.{HasTerms, HasRead, is_word}
 use Rattle.table_seals.specs.Texts.{entries_text}
@@ -59,14 +61,24 @@ SealsRows rows content None = HasUnsealed rows content
 SealsRows rows content (Some seals) = AreSealed content rows seals.items
 
 -- the same of the rows of installations that the tables have
-pub record SealsTables {Z : Type 0} (content : Content) (found : Option (Vec MeterSeal Z)) :
+pub record SealsMeters {Z : Type 0} (content : Content) (found : Option (Vec MeterSeal Z)) :
     Type 0 where
   pub rows : List Row
   pub shown : ShowsInstallations content rows
   pub sealed : SealsRows rows content found
 
 -- A row of installations that the tables have can't be sealed.
-pub record CannotBeSealed (content : Content) : Type 0 where
+pub record HasUnsealedMeter (content : Content) : Type 0 where
   pub rows : List Row
   pub shown : ShowsInstallations content rows
   pub unsealed : HasUnsealed rows content
+
+-- One of their rows can't be sealed, of meters or of polls.
+abbrev pub CannotBeSealed : Content → Type 0
+CannotBeSealed content = HasUnsealedMeter content ⊎ SealsPolls content None
+
+-- The tables are sealed: each meter, and the polls. Or one of these can't be.
+abbrev pub SealsTables : Content → Option Seal → Type 0
+SealsTables content None = CannotBeSealed content
+SealsTables content (Some seal) =
+    SealsMeters content (Some seal.meters) × SealsPolls content (Some seal.polls)

@@ -1,5 +1,5 @@
 -- The text of entries of which a seal has the digest, the text of a seal, and what is said of a check.
-use Rattle.std.specs.Prelude.{ℕ, ◌==◌, List, [], ◌∷◌, ◌++◌, length, map, flat_map, if◌then◌else◌}
+use Rattle.std.specs.Prelude.{ℕ, ◌==◌, Bool, true, false, List, [], ◌++◌, length, flat_map, if◌then◌else◌}
 use Rattle.std.specs.Prelude.{codes, decimal, String, string_bytes}
 use Rattle.std.specs.Fmt.{signed_decimal}
 use Rattle.hex.specs.Hex.{encode_lower}
@@ -9,7 +9,7 @@ use Rattle.meter_audit.specs.declared.rows.RowKind.TheVariants.{Opening, Reading
 use Rattle.meter_audit.specs.declared.rows.TableRow.{TableRow}
 use Rattle.table_seals.specs.declared.checks.Checked.{Checked}
 use Rattle.table_seals.specs.declared.seals.MeterSeal.{MeterSeal}
-use Rattle.table_seals.specs.Sealed.{Sealed, sealed_of}
+use Rattle.table_seals.specs.Sealed.{Sealed, SealedPolls, SealedTables, sealed_of}
 
 -- ---- entries
 
@@ -56,15 +56,27 @@ void_line meter place = codes "void " ++ meter ++ codes " " ++ decimal place ++ 
 abbrev pub meter_text : Sealed → List ℕ
 meter_text seal = meter_line seal ++ flat_map (void_line seal.meter) seal.voids
 
-abbrev pub body_text : List Sealed → List ℕ
-body_text seals = codes "seal 1\n" ++ flat_map meter_text seals
+abbrev pub polls_line : SealedPolls → List ℕ
+polls_line seal =
+    codes "polls " ++ decimal seal.count ++ codes " sha256 " ++ encode_lower seal.digest
+    ++ codes "\n"
+
+abbrev pub pending_line : (poll : ℕ) → List ℕ
+pending_line poll = codes "pending " ++ decimal poll ++ codes "\n"
+
+-- the line of polls, and one for each that had no outcome
+abbrev pub polls_part : SealedPolls → List ℕ
+polls_part seal = polls_line seal ++ flat_map pending_line seal.pending
+
+abbrev pub body_text : SealedTables → List ℕ
+body_text seal = codes "seal 2\n" ++ flat_map meter_text seal.meters ++ polls_part seal.polls
 
 -- the digest of all before it
 abbrev pub last_line : (body : List ℕ) → List ℕ
 last_line body = codes "sha256 " ++ encode_lower (sha256 body) ++ codes "\n"
 
-abbrev pub seal_text : List Sealed → List ℕ
-seal_text seals = body_text seals ++ last_line (body_text seals)
+abbrev pub seal_text : SealedTables → List ℕ
+seal_text seal = body_text seal ++ last_line (body_text seal)
 
 -- the same of seals as they are held
 abbrev pub text_of : MeterSeal → List ℕ
@@ -75,12 +87,21 @@ text_of seal = meter_text (sealed_of seal)
 abbrev pub difference_line : {Z : Type 0} → String Z → List ℕ
 difference_line meter = codes "meter " ++ string_bytes meter ++ codes " differs from the seal\n"
 
-abbrev pub total_line : (differing meters : ℕ) → List ℕ
-total_line differing meters =
-    if differing == 0 then codes "sealed: fine\n"
+abbrev pub polls_difference : (differ : Bool) → List ℕ
+polls_difference true = codes "polls differ from the seal\n"
+polls_difference false = []
+
+-- what is said where no meter differs
+abbrev pub rest_line : (polls_differ : Bool) → List ℕ
+rest_line true = codes "polls differ\n"
+rest_line false = codes "sealed: fine\n"
+
+abbrev pub total_line : (differing meters : ℕ) → (polls_differ : Bool) → List ℕ
+total_line differing meters polls_differ =
+    if differing == 0 then rest_line polls_differ
     else decimal differing ++ codes " of " ++ decimal meters ++ codes " meters differ\n"
 
 abbrev pub checked_text : Checked → List ℕ
 checked_text checked =
-    flat_map difference_line checked.differing.items
-    ++ total_line (length checked.differing.items) checked.meters
+    flat_map difference_line checked.differing.items ++ polls_difference checked.polls_differ
+    ++ total_line (length checked.differing.items) checked.meters checked.polls_differ

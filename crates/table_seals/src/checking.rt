@@ -5,12 +5,13 @@ ghost use Rattle.table_audit.specs.Looking.{Finds};
 ghost use Rattle.table_audit.specs.Reading as values;
 ghost use Rattle.table_seals.specs.Checking.{IsInstalled, HasSealed, Keeps};
 ghost use Rattle.table_seals.specs.Checking.{TellsKept, TellsMeter, unless_kept};
-ghost use Rattle.table_seals.specs.Checking.{TellsSeals, TellsTables};
-ghost use Rattle.table_seals.specs.Sealed.{sealed_of};
+ghost use Rattle.table_seals.specs.Checking.{TellsNames, TellsMeters, TellsTables};
+ghost use Rattle.table_seals.specs.Sealed.{sealed_of, sealed_tables_of};
 
 use crate::checks::Checked;
+use crate::poll_sealing::check_polls;
 use crate::sealing::memory;
-use crate::seals::MeterSeal;
+use crate::seals::{MeterSeal, Seal};
 use crate::tables::{has_terms, read_rows};
 use crate::texts::digest_of;
 use sqlite::{Alter, Connection, Row};
@@ -138,37 +139,55 @@ fn check_told<S: Alter>(
     }
 }
 
-/// Which of these meters the tables don't keep as they were sealed.
-fn check_meters<S: Alter>(
+/// The names of those of these meters that the tables don't keep as they were sealed.
+fn check_each<S: Alter>(
     alloc: Global,
     conn: &mut Connection<S>,
     installed: &[Row],
     seals: &[MeterSeal],
-) -> Result<Checked, RowFault>
+) -> Result<Vec<String>, RowFault>
     requires { conn.old.in_transaction ≡ false }
-    ensures { Finds S.Store conn.old conn.new result
-        (TellsSeals installed.now (map sealed_of seals.now)) }
+    ensures { Finds S.Store conn.old conn.new result (λ content differing.
+        TellsNames installed.now (map sealed_of seals.now) content
+        (map string_bytes differing.items)) }
 {
     let mut differing = Vec::new(alloc);
     for seal in seals {
         check_told(alloc, conn, installed, seal, &mut differing)?;
     }
-    Ok(Checked {
-        differing,
-        meters: seals.len() as u64,
-    })
+    Ok(differing)
 }
 
-/// Which meters of a seal the tables don't have any more as they were sealed. More meters, entries and voids are no difference.
-/// The rows of one meter at a time are held in memory, with their text, and those of `installations`.
-pub fn check_seal<S: Alter>(
+/// The same by the rows of installations that the tables have.
+fn check_meters<S: Alter>(
     alloc: Global,
     conn: &mut Connection<S>,
     seals: &[MeterSeal],
-) -> Result<Checked, RowFault>
+) -> Result<Vec<String>, RowFault>
     requires { conn.old.in_transaction ≡ false }
-    ensures { Finds S.Store conn.old conn.new result (TellsTables (map sealed_of seals.now)) }
+    ensures { Finds S.Store conn.old conn.new result (λ content differing.
+        TellsMeters (map sealed_of seals.now) content (map string_bytes differing.items)) }
 {
     let installed = installations(conn)?;
-    check_meters(alloc, conn, &installed, seals)
+    check_each(alloc, conn, &installed, seals)
+}
+
+/// Which meters of a seal the tables don't have any more as they were sealed, and whether their polls differ. More meters, entries,
+/// voids and polls are no difference, nor are outcomes of polls that were pending. The rows of one meter, or of one run of polls,
+/// are held in memory at a time, with their text, and those of `installations`.
+pub fn check_seal<S: Alter>(
+    alloc: Global,
+    conn: &mut Connection<S>,
+    seal: &Seal,
+) -> Result<Checked, RowFault>
+    requires { conn.old.in_transaction ≡ false }
+    ensures { Finds S.Store conn.old conn.new result (TellsTables (sealed_tables_of seal.now)) }
+{
+    let differing = check_meters(alloc, conn, seal.meters.as_slice())?;
+    let polls_differ = check_polls(alloc, conn, &seal.polls)?;
+    Ok(Checked {
+        differing,
+        meters: seal.meters.len() as u64,
+        polls_differ,
+    })
 }

@@ -1,23 +1,25 @@
 //! What is said of a check.
-ghost use Rattle.std.specs.Prelude.{◌≡◌, ◌++◌, ◌↔◌, [], OnOk, IsTrue, flat_map};
+ghost use Rattle.std.specs.Prelude.{◌≡◌, ◌++◌, ◌↔◌, OnOk, IsTrue, flat_map};
+ghost use Rattle.table_seals.specs.Checking.{IsAsSealed};
 ghost use Rattle.table_seals.specs.Texts as say;
 
 use crate::texts::{put, put_number, put_word};
 use std::alloc::AllocError;
 
-/// The names of the meters that differ from a seal, and how many meters it has.
+/// The names of the meters that differ from a seal, how many meters it has, and whether the polls differ.
 #[derive(Debug, Drop)]
 pub struct Checked {
     pub differing: Vec<String>,
     pub meters: u64,
+    pub polls_differ: bool,
 }
 
 impl Checked {
-    /// Whether no meter differs.
+    /// Whether no meter differs, and the polls don't.
     pub fn is_fine(&self) -> bool
-        ensures { IsTrue result ↔ (self.now.differing.items ≡ []) }
+        ensures { IsTrue result ↔ IsAsSealed self.now }
     {
-        self.differing.is_empty()
+        self.differing.is_empty() && !self.polls_differ
     }
 }
 
@@ -38,22 +40,52 @@ fn put_differences(text: &mut Vec<u8>, meters: &[String]) -> Result<(), AllocErr
     Ok(())
 }
 
-fn put_total(text: &mut Vec<u8>, differing: u64, meters: u64) -> Result<(), AllocError>
-    ensures { OnOk result (text.new.items ≡ text.old.items ++ say.total_line differing meters) }
+fn put_polls(text: &mut Vec<u8>, differ: bool) -> Result<(), AllocError>
+    ensures { OnOk result (text.new.items ≡ text.old.items ++ say.polls_difference differ) }
+{
+    if differ {
+        return put(text, b"polls differ from the seal\n");
+    }
+    Ok(())
+}
+
+fn put_rest(text: &mut Vec<u8>, polls_differ: bool) -> Result<(), AllocError>
+    ensures { OnOk result (text.new.items ≡ text.old.items ++ say.rest_line polls_differ) }
+{
+    if polls_differ {
+        return put(text, b"polls differ\n");
+    }
+    put(text, b"sealed: fine\n")
+}
+
+fn put_total(
+    text: &mut Vec<u8>,
+    differing: u64,
+    meters: u64,
+    polls_differ: bool,
+) -> Result<(), AllocError>
+    ensures { OnOk result
+        (text.new.items ≡ text.old.items ++ say.total_line differing meters polls_differ) }
 {
     if differing == 0 {
-        return put(text, b"sealed: fine\n");
+        return put_rest(text, polls_differ);
     }
     put_number(text, b"", differing)?;
     put_number(text, b" of ", meters)?;
     put(text, b" meters differ\n")
 }
 
-/// Puts at the end of a text what a check says: a line for each meter that differs, and a last line. Want of memory leaves a
+/// Puts at the end of a text what a check says: a line for each meter that differs, one if the polls do, and a last line. Want of memory leaves a
 /// part of it.
 pub fn put_checked(text: &mut Vec<u8>, checked: &Checked) -> Result<(), AllocError>
     ensures { OnOk result (text.new.items ≡ text.old.items ++ say.checked_text checked.now) }
 {
     put_differences(text, checked.differing.as_slice())?;
-    put_total(text, checked.differing.len() as u64, checked.meters)
+    put_polls(text, checked.polls_differ)?;
+    put_total(
+        text,
+        checked.differing.len() as u64,
+        checked.meters,
+        checked.polls_differ,
+    )
 }

@@ -2,13 +2,15 @@
 ghost use Rattle.std.specs.Prelude.{◌≡◌, ◌≤◌, ◌<◌, ◌^◌, ◌++◌, ◌∷◌, ℕ, List, true, map, codes};
 ghost use Rattle.std.specs.Prelude.{length, decimal, IfSome, IfOk, IsSomeAnd, IsUtf8, MatchResult};
 ghost use Rattle.hex.specs.Hex.{encode_lower, IsBytes};
-ghost use Rattle.table_seals.specs.Reading.{IsSealable, AreSealable};
+ghost use Rattle.table_seals.specs.Reading.{IsSealable, ArePollsSealable, AreTablesSealable};
 ghost use Rattle.table_seals.specs.Lines.{IsLineOf, Begins, AreVoids, AreMeters};
-ghost use Rattle.table_seals.specs.Sealed.{Sealed, sealed_of};
-ghost use Rattle.table_seals.specs.Tables as tables;
+ghost use Rattle.table_seals.specs.Lines.{IsPollsLineOf, ArePending, ArePolls, AreTables};
+ghost use Rattle.table_seals.specs.Sealed.{Sealed, SealedPolls, SealedTables};
+ghost use Rattle.table_seals.specs.Sealed.{sealed_of, sealed_polls_of, sealed_tables_of};
+ghost use Rattle.table_seals.specs.Tables as values;
 ghost use Rattle.table_seals.specs.Texts as say;
 
-use crate::seals::MeterSeal;
+use crate::seals::{MeterSeal, PollSeal, Seal};
 use crate::texts::put_seal;
 use std::alloc::{AllocError, Global};
 
@@ -31,10 +33,17 @@ struct MeterLine<'a> {
     digest: [u8; 32],
 }
 
+/// What a line tells of polls.
+#[derive(Clone, Copy)]
+struct PollsLine {
+    count: u64,
+    digest: [u8; 32],
+}
+
 /// The word after a text that comes first, and what follows its end.
 fn field<'a>(text: &'a str, before: &str, end: char) -> Option<(&'a str, &'a str)>
     requires { end ≤ 32 }
-    ensures reads { (word rest : List ℕ) → tables.is_word word ≡ true
+    ensures reads { (word rest : List ℕ) → values.is_word word ≡ true
         → text.now ≡ before.now ++ word ++ end ∷ rest
         → IsSomeAnd result (λ found. (found.0.now ≡ word) × (found.1.now ≡ rest)) }
     ensures parts { IfSome result (λ found.
@@ -55,6 +64,7 @@ fn number<'a>(text: &'a str, before: &str, end: char) -> Option<(u64, &'a str)>
     ensures reads { (n : ℕ) (rest : List ℕ) → n < 2 ^ 64
         → text.now ≡ before.now ++ decimal n ++ end ∷ rest
         → IsSomeAnd result (λ found. (found.0 ≡ n) × (found.1.now ≡ rest)) }
+    ensures begins { IfSome result (λ found. Begins before.now text.now) }
     ensures shorter { IfSome result (λ found. length found.1.now < length text.now) }
     ensures utf8 { IfSome result (λ found. IsUtf8 found.1.now) }
 {
@@ -172,10 +182,12 @@ fn seal_in(alloc: Global, line: &MeterLine<'_>, voids: Vec<u64>) -> Result<Meter
     })
 }
 
-/// The seals of meters that come first.
-fn meters(alloc: Global, text: &str) -> Result<Option<Vec<MeterSeal>>, AllocError>
-    ensures { (seals : List Sealed) (rest : List ℕ) → AreMeters seals rest text.now
-        → IfOk result (λ found. IsSomeAnd found (λ read. map sealed_of read.items ≡ seals)) }
+/// The seals of meters that come first, and what follows these.
+fn meters<'a>(alloc: Global, text: &'a str) -> Result<Option<(Vec<MeterSeal>, &'a str)>, AllocError>
+    ensures reads { (seals : List Sealed) (rest : List ℕ) → AreMeters seals rest text.now
+        → IfOk result (λ found. IsSomeAnd found (λ read.
+        (map sealed_of read.0.items ≡ seals) × (read.1.now ≡ rest))) }
+    ensures utf8 { IfOk result (λ found. IfSome found (λ read. IsUtf8 read.1.now)) }
 {
     let mut seals = Vec::new(alloc);
     let mut rest = text;
@@ -188,30 +200,101 @@ fn meters(alloc: Global, text: &str) -> Result<Option<Vec<MeterSeal>>, AllocErro
         seals.push(seal)?;
         rest = after;
     }
-    Ok(Some(seals))
+    Ok(Some((seals, rest)))
+}
+
+/// What the line of polls tells that comes first, and what follows the line.
+fn polls_line<'a>(text: &'a str) -> Option<(PollsLine, &'a str)>
+    ensures reads { (seal : SealedPolls) (rest : List ℕ) → ArePollsSealable seal
+        → text.now ≡ say.polls_line seal ++ rest
+        → IsSomeAnd result (λ found. IsPollsLineOf seal found.0 × (found.1.now ≡ rest)) }
+    ensures utf8 { IfSome result (λ found. IsUtf8 found.1.now) }
+{
+    let (count, rest) = match number(text, "polls ", ' ') {
+        Some(found) => found,
+        None => return None,
+    };
+    let mut bytes = [0u8; 32];
+    let rest = match digest(rest, "sha256 ", '\n', &mut bytes) {
+        Some(rest) => rest,
+        None => return None,
+    };
+    let line = PollsLine {
+        count,
+        digest: bytes,
+    };
+    Some((line, rest))
+}
+
+/// The numbers that lines of pending polls tell which come first.
+fn pending(alloc: Global, text: &str) -> Result<Vec<u64>, AllocError>
+    ensures { (polls rest : List ℕ) → ArePending polls rest text.now
+        → IfOk result (λ read. read.items ≡ polls) }
+{
+    let mut polls = Vec::new(alloc);
+    let mut rest = text;
+    while let Some((poll, after)) = number(rest, "pending ", '\n') {
+        polls.push(poll)?;
+        rest = after;
+    }
+    Ok(polls)
+}
+
+/// The seal of polls that comes first.
+fn polls(alloc: Global, text: &str) -> Result<Option<PollSeal>, AllocError>
+    ensures { (seal : SealedPolls) (rest : List ℕ) → ArePolls seal rest text.now
+        → IfOk result (λ found. IsSomeAnd found (λ read. sealed_polls_of read ≡ seal)) }
+{
+    let (line, rest) = match polls_line(text) {
+        Some(found) => found,
+        None => return Ok(None),
+    };
+    let pending = pending(alloc, rest)?;
+    let digest = line.digest;
+    Ok(Some(PollSeal {
+        count: line.count,
+        digest,
+        pending,
+    }))
+}
+
+/// The seal that comes first.
+fn tables(alloc: Global, text: &str) -> Result<Option<Seal>, AllocError>
+    ensures { (seal : SealedTables) (rest : List ℕ) → AreTables seal rest text.now
+        → IfOk result (λ found. IsSomeAnd found (λ read. sealed_tables_of read ≡ seal)) }
+{
+    let (meters, rest) = match meters(alloc, text)? {
+        Some(found) => found,
+        None => return Ok(None),
+    };
+    let polls = match polls(alloc, rest)? {
+        Some(polls) => polls,
+        None => return Ok(None),
+    };
+    Ok(Some(Seal { meters, polls }))
 }
 
 /// The seal of a text: that of which it is the text, if there is one.
-pub fn read_seal(alloc: Global, text: &str) -> Result<Vec<MeterSeal>, NoSeal>
-    ensures is { IfOk result (λ seals.
-        text.now ≡ say.seal_text (map sealed_of seals.items)) }
-    ensures reads { (seals : List Sealed) → AreSealable seals → text.now ≡ say.seal_text seals
-        → MatchResult result (λ found. map sealed_of found.items ≡ seals)
+pub fn read_seal(alloc: Global, text: &str) -> Result<Seal, NoSeal>
+    ensures is { IfOk result (λ seal. text.now ≡ say.seal_text (sealed_tables_of seal)) }
+    ensures reads { (seal : SealedTables) → AreTablesSealable seal
+        → text.now ≡ say.seal_text seal
+        → MatchResult result (λ found. sealed_tables_of found ≡ seal)
         (λ why. why ≡ NoSeal.Memory) }
 {
-    let rest = match text.strip_prefix("seal 1\n") {
+    let rest = match text.strip_prefix("seal 2\n") {
         Some(rest) => rest,
         None => return Err(NoSeal::Other),
     };
-    let seals = match meters(alloc, rest) {
-        Ok(Some(seals)) => seals,
+    let seal = match tables(alloc, rest) {
+        Ok(Some(seal)) => seal,
         Ok(None) => return Err(NoSeal::Other),
         Err(_) => return Err(NoSeal::Memory),
     };
-    match put_seal(alloc, seals.as_slice()) {
+    match put_seal(alloc, &seal) {
         Ok(again) => {
             if again.as_slice() == text.as_bytes() {
-                Ok(seals)
+                Ok(seal)
             } else {
                 Err(NoSeal::Other)
             }

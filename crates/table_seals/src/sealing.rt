@@ -2,9 +2,10 @@
 ghost use Rattle.std.specs.Prelude.{◌≡◌, ◌++◌, ◌∷◌, [], false, IfOk, IfErr, OnOk};
 ghost use Rattle.store_tables.specs.Failing.{want_of_memory};
 ghost use Rattle.table_audit.specs.Looking.{Finds};
-ghost use Rattle.table_seals.specs.Sealing.{IsSealed, SealsRow, SealsRows, SealsTables};
+ghost use Rattle.table_seals.specs.Sealing.{IsSealed, SealsRow, SealsRows, SealsMeters, SealsTables};
 
-use crate::seals::MeterSeal;
+use crate::poll_sealing::seal_polls;
+use crate::seals::{MeterSeal, Seal};
 use crate::tables::{is_word, read_rows, terms_of, text};
 use crate::texts::digest_of;
 use sqlite::{Alter, Connection, Error, ErrorCode, Row};
@@ -103,16 +104,35 @@ fn seal_rows<S: Alter>(
     Ok(Some(seals))
 }
 
-/// The seal of what the tables have: of each meter, in the order of their places. There is none where a name is no word, or where
-/// a value can't be read, which an audit tells of. The rows of one meter at a time are held in memory, with their text, and those
-/// of `installations`.
-pub fn seal_tables<S: Alter>(
+/// The seals of the meters that the tables have, unless one can't be sealed.
+fn seal_meters<S: Alter>(
     alloc: Global,
     conn: &mut Connection<S>,
 ) -> Result<Option<Vec<MeterSeal>>, RowFault>
     requires { conn.old.in_transaction ≡ false }
-    ensures { Finds S.Store conn.old conn.new result SealsTables }
+    ensures { Finds S.Store conn.old conn.new result SealsMeters }
 {
     let rows = installations(conn)?;
     seal_rows(alloc, conn, &rows)
+}
+
+/// The seal of what the tables have: of each meter, in the order of their places, and of the polls. There is none where a name is
+/// no word, or where a value can't be read, which an audit tells of. The rows of one meter, or of one run of polls, are held in
+/// memory at a time, with their text, and those of `installations`.
+pub fn seal_tables<S: Alter>(
+    alloc: Global,
+    conn: &mut Connection<S>,
+) -> Result<Option<Seal>, RowFault>
+    requires { conn.old.in_transaction ≡ false }
+    ensures { Finds S.Store conn.old conn.new result SealsTables }
+{
+    let meters = match seal_meters(alloc, conn)? {
+        Some(meters) => meters,
+        None => return Ok(None),
+    };
+    let polls = match seal_polls(alloc, conn)? {
+        Some(polls) => polls,
+        None => return Ok(None),
+    };
+    Ok(Some(Seal { meters, polls }))
 }

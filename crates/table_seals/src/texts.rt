@@ -1,12 +1,12 @@
 //! The text of entries of which a seal has the digest, and the text of a seal.
-ghost use Rattle.std.specs.Prelude.{◌≡◌, ◌++◌, OnOk, IfOk, map, flat_map, decimal};
+ghost use Rattle.std.specs.Prelude.{◌≡◌, ◌++◌, OnOk, IfOk, flat_map, decimal};
 ghost use Rattle.std.specs.Fmt.{signed_decimal};
 ghost use Rattle.hex.specs.Hex.{encode_lower};
 ghost use Rattle.sha2.specs.Sha256.{sha256};
-ghost use Rattle.table_seals.specs.Sealed.{sealed_of};
+ghost use Rattle.table_seals.specs.Sealed.{sealed_of, sealed_polls_of, sealed_tables_of};
 ghost use Rattle.table_seals.specs.Texts as say;
 
-use crate::seals::MeterSeal;
+use crate::seals::{MeterSeal, PollSeal, Seal};
 use itoa::Buffer;
 use meter_audit::{RowKind, TableRow};
 use sha2::{Digest, Sha256};
@@ -154,21 +154,57 @@ fn put_meters(alloc: Global, text: &mut Vec<u8>, seals: &[MeterSeal]) -> Result<
     Ok(())
 }
 
+fn put_polls_line(alloc: Global, text: &mut Vec<u8>, seal: &PollSeal) -> Result<(), AllocError>
+    ensures { OnOk result
+        (text.new.items ≡ text.old.items ++ say.polls_line (sealed_polls_of seal.now)) }
+{
+    put_number(text, b"polls ", seal.count)?;
+    put(text, b" sha256 ")?;
+    put_digest(alloc, text, &seal.digest)?;
+    put(text, b"\n")
+}
+
+fn put_pending_line(text: &mut Vec<u8>, poll: u64) -> Result<(), AllocError>
+    ensures { OnOk result (text.new.items ≡ text.old.items ++ say.pending_line poll) }
+{
+    put_number(text, b"pending ", poll)?;
+    put(text, b"\n")
+}
+
+fn put_pending(text: &mut Vec<u8>, polls: &[u64]) -> Result<(), AllocError>
+    ensures { OnOk result
+        (text.new.items ≡ text.old.items ++ flat_map say.pending_line polls.now) }
+{
+    for poll in polls {
+        put_pending_line(text, *poll)?;
+    }
+    Ok(())
+}
+
+fn put_polls_part(alloc: Global, text: &mut Vec<u8>, seal: &PollSeal) -> Result<(), AllocError>
+    ensures { OnOk result
+        (text.new.items ≡ text.old.items ++ say.polls_part (sealed_polls_of seal.now)) }
+{
+    put_polls_line(alloc, text, seal)?;
+    put_pending(text, seal.pending.as_slice())
+}
+
 /// All of a seal but its last line.
-fn body(alloc: Global, seals: &[MeterSeal]) -> Result<Vec<u8>, AllocError>
-    ensures { IfOk result (λ text. text.items ≡ say.body_text (map sealed_of seals.now)) }
+fn body(alloc: Global, seal: &Seal) -> Result<Vec<u8>, AllocError>
+    ensures { IfOk result (λ text. text.items ≡ say.body_text (sealed_tables_of seal.now)) }
 {
     let mut text = Vec::new(alloc);
-    put(&mut text, b"seal 1\n")?;
-    put_meters(alloc, &mut text, seals)?;
+    put(&mut text, b"seal 2\n")?;
+    put_meters(alloc, &mut text, seal.meters.as_slice())?;
+    put_polls_part(alloc, &mut text, &seal.polls)?;
     Ok(text)
 }
 
 /// The text of a seal.
-pub fn put_seal(alloc: Global, seals: &[MeterSeal]) -> Result<Vec<u8>, AllocError>
-    ensures { IfOk result (λ text. text.items ≡ say.seal_text (map sealed_of seals.now)) }
+pub fn put_seal(alloc: Global, seal: &Seal) -> Result<Vec<u8>, AllocError>
+    ensures { IfOk result (λ text. text.items ≡ say.seal_text (sealed_tables_of seal.now)) }
 {
-    let mut text = body(alloc, seals)?;
+    let mut text = body(alloc, seal)?;
     let digest = Sha256::digest(text.as_slice());
     put(&mut text, b"sha256 ")?;
     put_digest(alloc, &mut text, &digest)?;

@@ -1,38 +1,21 @@
-use Rattle.std.proofs.Common.{◌≡◌, ◌+◌, List, map, take, length, Ok, Err, string_bytes, sym, subst, arith}
-use Rattle.std.proofs.lemmas.List.{take_all, length-map}
-use Rattle.table_audit.proofs.Looking.{finds_then, passed_on, made}
-use Rattle.table_seals.specs.declared.seals.MeterSeal.{MeterSeal}
-use Rattle.table_seals.specs.Checking.{TellsNames, TellsSeals}
+use Rattle.std.proofs.Common.{rules, ◌≡◌, List, map, subst, string_bytes}
+use Rattle.sqlite.specs.Order.{Row}
+use Rattle.table_audit.specs.Showing.{ShowsInstallations}
+use Rattle.table_audit.proofs.Looking.{finds_then}
+use Rattle.table_seals.specs.Checking.{TellsNames, TellsMeters}
 use Rattle.table_seals.specs.Sealed.{sealed_of}
-use Rattle.table_seals.proofs.Rows.{next_told}
 use Rattle.table_seals.proofs.checking.check_meters.Goals as goal
-
-pub loop-seal-preserved : goal.loop-seal-preserved
-loop-seal-preserved g c =
-    made g.S.Store c.args.conn.now c.check_told.new.conn c.in_ok-check_told.field-0 c.check_told.new.differing _ _
-    (finds_then g.S.Store c.args.conn.now c.loop-seal.conn c.check_told.new.conn c.loop-seal.differing (Ok c.in_ok-check_told.field-0) _ _
-    (λ content _. TellsNames c.args.installed.now (map sealed_of (take (c.loop-seal.seal-index + 1) c.args.seals.now)) content (map string_bytes c.check_told.new.differing.items))
-    c.loop-seal.invariant c.in_ok-check_told.ensures
-    (λ content _ before one. next_told c.args.installed.now content c.args.seals.now c.loop-seal.seal-index c.seal-item.result
-    (map string_bytes c.loop-seal.differing.items) (map string_bytes c.check_told.new.differing.items) (omega arith) c.seal-item.is before one))
-    (λ content told. told)
-
-pub returns-in_err-check_told : goal.returns-in_err-check_told
-returns-in_err-check_told g c =
-    passed_on g.S.Store c.args.conn.now c.check_told.new.conn c.in_err-check_told.field-0.0 c.from_residual.result _ _
-    (finds_then g.S.Store c.args.conn.now c.loop-seal.conn c.check_told.new.conn c.loop-seal.differing (Err c.in_err-check_told.field-0.0) _ _
-    (λ content _. Unit {0})
-    c.loop-seal.invariant c.in_err-check_told.ensures (λ content _ before one. tt))
-    c.from_residual.ensures.1
 
 pub returns : goal.returns
 returns g c =
-    made g.S.Store c.args.conn.now c.loop-seal.conn c.loop-seal.differing _ _ (TellsSeals c.args.installed.now (map sealed_of c.args.seals.now))
-    c.loop-seal.invariant
-    (λ content told.
-    let long : length (map sealed_of c.args.seals.now) ≡ length c.args.seals.now = length-map c.args.seals.now sealed_of in
-    record {
-      names = subst (λ (ss : List MeterSeal). TellsNames c.args.installed.now (map sealed_of ss) content (map string_bytes c.loop-seal.differing.items))
-          (take_all c.loop-seal.seal-index c.args.seals.now (omega arith)) told;
-      count = omega (arith, long);
+    let same : c.deref.result.now ≡ c.in_ok-installed.installed.items = search rules in
+    finds_then g.S.Store c.args.conn.now c.installations.new.conn c.check_each.new.conn c.in_ok-installed.installed c.check_each.result
+    (λ content rows. ShowsInstallations content rows.items)
+    (λ content differing. TellsNames c.deref.result.now (map sealed_of c.args.seals.now) content (map string_bytes differing.items))
+    (λ content differing. TellsMeters (map sealed_of c.args.seals.now) content (map string_bytes differing.items))
+    c.in_ok-installed.ensures c.check_each.ensures
+    (λ content differing shown tells. record {
+      installed = c.in_ok-installed.installed.items;
+      shown = shown;
+      tells = subst (λ (rows : List Row). TellsNames rows (map sealed_of c.args.seals.now) content (map string_bytes differing.items)) same tells;
     })

@@ -1,4 +1,4 @@
-use Rattle.std.proofs.Common.{◌≡◌, [], ◌∷◌, ◌++◌, List, ℕ, map, sym, ap, ◌∙◌}
+use Rattle.std.proofs.Common.{◌≡◌, [], ◌∷◌, ◌++◌, List, map, sym, ap, ◌∙◌}
 use Rattle.std.specs.List.{flat_map}
 use Rattle.std.proofs.lemmas.List.{append-nil, map-append}
 use Rattle.table_seals.specs.declared.seals.MeterSeal.{MeterSeal}
@@ -7,8 +7,8 @@ use Rattle.table_seals.specs.Texts.{meter_text}
 use Rattle.table_seals.proofs.Following.{no_more_meters, first_meter, seals_so_far, none_some, some_and, some_if}
 use Rattle.table_seals.proofs.parsing.meters.Goals as goal
 
-pub returns-in-None : goal.returns-in-None
-returns-in-None c =
+pub returns-in-None-clause-reads : goal.returns-in-None-clause-reads
+returns-in-None-clause-reads c =
     λ seals rest is.
     let so_far = c.loop-line.invariant.reads seals rest is in
     let first = first_meter so_far.0 rest c.loop-line.rest.now c.in-Some.line c.in-Some.after.now c.in-Some.ensures.reads c.in-Some.ensures.begins so_far.2 in
@@ -33,9 +33,11 @@ loop-line-preserved c = record {
   text = some_if _ c.in_ok-found.field-0 c.in-Some-2.found c.in-Some-2.is c.in_ok-found.ensures.utf8;
 }
 
-pub returns : goal.returns
-returns c =
+pub returns-clause-reads : goal.returns-clause-reads
+returns-clause-reads c =
     λ seals rest is.
     let so_far = c.loop-line.invariant.reads seals rest is in
-    let last : so_far.0 ≡ [] = no_more_meters so_far.0 rest c.loop-line.rest.now c.in_default.ensures.reads so_far.2 in
-    sym (append-nil (map sealed_of c.loop-line.seals.items)) ∙ ap (λ (xs : List Sealed). map sealed_of c.loop-line.seals.items ++ xs) (sym last) ∙ so_far.1
+    let last = no_more_meters so_far.0 rest c.loop-line.rest.now c.in_default.ensures.reads so_far.2 in (
+      sym (append-nil (map sealed_of c.loop-line.seals.items)) ∙ ap (λ (xs : List Sealed). map sealed_of c.loop-line.seals.items ++ xs) (sym last.0) ∙ so_far.1,
+      last.1,
+    )

@@ -2,7 +2,7 @@ use Rattle.std.proofs.Common.{map, take, Ok, string_bytes}
 use Rattle.table_audit.specs.Looking.{Finds}
 use Rattle.table_seals.specs.Checking.{TellsNames}
 use Rattle.table_seals.specs.Sealed.{sealed_of}
-use Rattle.table_seals.proofs.checking.check_meters.Given as goal
+use Rattle.table_seals.proofs.checking.check_each.Given as goal
 
 abbrev pub invariant-loop-seal : goal.invariant-loop-seal
 invariant-loop-seal g l =

@@ -1,0 +1,58 @@
+//! The seal of a small office, and what is held to it.
+use crate::bookings::{book_all, one_reading};
+use crate::facts::{poll, void};
+use crate::new_books::ready;
+use sqlite::{Connection, MemStore};
+use std::alloc::Global;
+use std::test::Fail;
+use table_seals::{check_seal, put_seal, read_seal, seal_tables};
+
+/// The seal of one meter, whose only reading was voided, and of two polls, one of which is pending.
+const SEAL: &str =
+    "seal 2\nmeter m1 at main range 100000 ceiling 100000 entries 2 sha256 af5a77563671b51a22879dc2764012afada14ff7f7190cf809fa2e62d8652429\nvoid m1 2\npolls 2 sha256 7cbd60983a66a336f8e20c702600fc7b157672c4b1117b45c13434283f521467\npending 2\nsha256 dd6a41689d1145463c6fc78f948dd36ed06792a023b4ebf07f2198a48548740f\n";
+
+fn office(alloc: Global) -> Result<Connection<MemStore>, Fail> {
+    let mut conn = one_reading(alloc)?;
+    book_all(alloc, &mut conn, [void(b"m1", 2), poll(2)])?;
+    Ok(conn)
+}
+
+fn sealed(alloc: Global, conn: &mut Connection<MemStore>) -> Result<Vec<u8>, Fail> {
+    ready(conn)?;
+    match seal_tables(alloc, conn)? {
+        Some(seal) => Ok(put_seal(alloc, &seal)?),
+        None => Ok(Vec::new(alloc)),
+    }
+}
+
+fn is_fine(alloc: Global, conn: &mut Connection<MemStore>) -> Result<bool, Fail> {
+    ready(conn)?;
+    let seal = read_seal(alloc, SEAL)?;
+    let checked = check_seal(alloc, conn, &seal)?;
+    Ok(checked.is_fine())
+}
+
+#[test]
+fn its_text(rt: HostRuntime) -> Result<(), Fail> {
+    let mut conn = office(rt.alloc())?;
+    let text = sealed(rt.alloc(), &mut conn)?;
+    assert!(rt; text.as_slice() == SEAL.as_bytes());
+    Ok(())
+}
+
+#[test]
+fn held_to_it(rt: HostRuntime) -> Result<(), Fail> {
+    let mut conn = office(rt.alloc())?;
+    let fine = is_fine(rt.alloc(), &mut conn)?;
+    assert!(rt; fine);
+    Ok(())
+}
+
+#[test]
+fn a_later_poll(rt: HostRuntime) -> Result<(), Fail> {
+    let mut conn = office(rt.alloc())?;
+    book_all(rt.alloc(), &mut conn, [poll(3)])?;
+    let fine = is_fine(rt.alloc(), &mut conn)?;
+    assert!(rt; fine);
+    Ok(())
+}

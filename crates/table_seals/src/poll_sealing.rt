@@ -1,0 +1,170 @@
+//! The seal of the polls that the tables have, and whether they still have what was sealed.
+ghost use Rattle.std.specs.Prelude.{◌≡◌, ◌↔◌, ◌<◌, ◌≤◌, ◌+◌, ◌^◌, false, IfOk, IfErr, IfSome};
+ghost use Rattle.sha2.specs.Hashers.{Holds256};
+ghost use Rattle.store_tables.specs.Failing.{want_of_memory};
+ghost use Rattle.store_tables.specs.Limits.{greatest_place};
+ghost use Rattle.table_audit.specs.Looking.{Finds};
+ghost use Rattle.table_seals.specs.PollSealing as said;
+ghost use Rattle.table_seals.specs.Sealed.{sealed_polls_of};
+
+use crate::poll_texts::put_rows;
+use crate::sealing::memory;
+use crate::seals::PollSeal;
+use sha2::{Digest, Sha256};
+use sqlite::{Alter, Connection};
+use std::alloc::{AllocError, Global};
+use store_tables::{GREATEST_PLACE, RowFault, first_whole};
+use table_audit::{RUN, RunRows, last_poll, run_rows};
+
+/// Adds the text that the polls of a run had then, and the numbers of those that are pending now. Answers the number after the
+/// last, unless the rows can't be read.
+fn add_run(
+    alloc: Global,
+    hasher: &mut Sha256,
+    pending: &mut Vec<u64>,
+    last: u64,
+    hidden: &[u64],
+    first: u64,
+    rows: &RunRows,
+) -> Result<Option<u64>, AllocError>
+    requires { first ≤ greatest_place + 1 }
+    ensures adds { IfOk result (said.AddsRun last hidden.now first rows.now
+        hasher.old hasher.new pending.old.items pending.new.items) }
+    ensures bound { IfOk result (λ found. IfSome found (λ next. (first ≤ next) × (next ≤ greatest_place + 1))) }
+{
+    let mut text = Vec::new(alloc);
+    let found = put_rows(
+        &mut text,
+        pending,
+        last,
+        hidden,
+        first,
+        &rows.polls,
+        &rows.outcomes,
+    )?;
+    hasher.update(text.as_slice());
+    Ok(found)
+}
+
+/// The same of the rows that the tables have for a run.
+fn look_run<S: Alter>(
+    alloc: Global,
+    conn: &mut Connection<S>,
+    run: u64,
+    hasher: &mut Sha256,
+    pending: &mut Vec<u64>,
+    last: u64,
+    hidden: &[u64],
+    first: u64,
+) -> Result<Option<u64>, RowFault>
+    requires mode { conn.old.in_transaction ≡ false }
+    requires run { run < 2 ^ 50 }
+    requires first { first ≤ greatest_place + 1 }
+    ensures finds { Finds S.Store conn.old conn.new result (said.LooksAtRun run last hidden.now
+        first hasher.old hasher.new pending.old.items pending.new.items) }
+    ensures bound { IfOk result (λ found. IfSome found (λ next. (first ≤ next) × (next ≤ greatest_place + 1))) }
+{
+    let rows = run_rows(conn, run)?;
+    match add_run(alloc, hasher, pending, last, hidden, first, &rows) {
+        Ok(found) => Ok(found),
+        Err(_) => Err(memory()),
+    }
+}
+
+/// The runs up to that of the last poll: how many polls they have, the digest of the text that these had then, and which are
+/// pending now, unless a row can't be read.
+fn digest_runs<S: Alter>(
+    alloc: Global,
+    conn: &mut Connection<S>,
+    greatest: u64,
+    last: u64,
+    hidden: &[u64],
+) -> Result<Option<PollSeal>, RowFault>
+    requires mode { conn.old.in_transaction ≡ false }
+    requires greatest { greatest ≤ greatest_place }
+    ensures finds { Finds S.Store conn.old conn.new result
+        (said.DigestsRuns greatest last hidden.now) }
+    ensures bound { IfOk result (λ found. IfSome found (λ seal. seal.count ≤ greatest_place)) }
+{
+    let mut hasher = Sha256::new();
+    let mut pending = Vec::new(alloc);
+    let mut next = 1u64;
+    let runs = greatest.div_ceil(RUN);
+    for run in 0..runs {
+        let found = look_run(
+            alloc,
+            conn,
+            run,
+            &mut hasher,
+            &mut pending,
+            last,
+            hidden,
+            next,
+        )?;
+        match found {
+            Some(number) => next = number,
+            None => return Ok(None),
+        }
+    }
+    Ok(Some(PollSeal {
+        count: next - 1,
+        digest: hasher.finalize(),
+        pending,
+    }))
+}
+
+/// The same of all polls.
+fn digest_polls<S: Alter>(
+    alloc: Global,
+    conn: &mut Connection<S>,
+    last: u64,
+    hidden: &[u64],
+) -> Result<Option<PollSeal>, RowFault>
+    requires { conn.old.in_transaction ≡ false }
+    ensures finds { Finds S.Store conn.old conn.new result (said.DigestsPolls last hidden.now) }
+    ensures bound { IfOk result (λ found. IfSome found (λ seal. seal.count ≤ greatest_place)) }
+{
+    let rows = last_poll(conn)?;
+    match first_whole(&rows, 1, GREATEST_PLACE) {
+        Ok(found) => digest_runs(alloc, conn, found.unwrap_or(0), last, hidden),
+        Err(_) => Ok(None),
+    }
+}
+
+/// The seal of the polls that the tables have, unless one of their rows can't be read.
+pub(crate) fn seal_polls<S: Alter>(
+    alloc: Global,
+    conn: &mut Connection<S>,
+) -> Result<Option<PollSeal>, RowFault>
+    requires { conn.old.in_transaction ≡ false }
+    ensures { Finds S.Store conn.old conn.new result said.SealsPolls }
+{
+    digest_polls(alloc, conn, GREATEST_PLACE, &[])
+}
+
+/// Whether polls that were read differ from a seal.
+fn differ(found: &Option<PollSeal>, seal: &PollSeal) -> bool
+    ensures { (result ≡ false) ↔ said.AreAsSealed found.now (sealed_polls_of seal.now) }
+{
+    match found {
+        Some(found) => {
+            found.count < seal.count || found.digest.as_slice() != seal.digest.as_slice()
+        }
+        None => true,
+    }
+}
+
+/// Whether the polls that the tables have differ from a seal. More polls, and outcomes of those that were pending, are no
+/// difference. The rows of one run of polls at a time are held in memory, with their text.
+pub(crate) fn check_polls<S: Alter>(
+    alloc: Global,
+    conn: &mut Connection<S>,
+    seal: &PollSeal,
+) -> Result<bool, RowFault>
+    requires { conn.old.in_transaction ≡ false }
+    ensures { Finds S.Store conn.old conn.new result
+        (said.TellsPolls (sealed_polls_of seal.now)) }
+{
+    let found = digest_polls(alloc, conn, seal.count, seal.pending.as_slice())?;
+    Ok(differ(&found, seal))
+}

@@ -1,0 +1,170 @@
+//! The text of polls of which a seal has the digest.
+ghost use Rattle.std.specs.Prelude.{◌≡◌, ◌≤◌, ◌++◌, ◌+◌, true, OnOk, IfOk, IfSome};
+ghost use Rattle.store_tables.specs.Limits.{greatest_place};
+ghost use Rattle.table_audit.specs.Reading as values;
+ghost use Rattle.table_seals.specs.PollReading.{poll_at};
+ghost use Rattle.table_seals.specs.PollReading as reading;
+ghost use Rattle.table_seals.specs.PollSealing.{PutsPoll, PutsRows};
+ghost use Rattle.table_seals.specs.PollTexts as say;
+
+use crate::poll_values::{Ending, PollNumbers, ending_at, numbers, word};
+use crate::texts::{put, put_number, put_word};
+use sqlite::Row;
+use std::alloc::AllocError;
+
+fn put_poll_line(text: &mut Vec<u8>, poll: &PollNumbers, device: &[u8]) -> Result<(), AllocError>
+    ensures { OnOk result (text.new.items ≡ text.old.items ++ say.poll_line poll.now device.now) }
+{
+    put_number(text, b"poll ", poll.number)?;
+    put_word(text, b" ", device)?;
+    put_number(text, b" ", poll.unit)?;
+    put_number(text, b" ", poll.started)?;
+    put_number(text, b" ", poll.tid)?;
+    put_number(text, b" ", poll.function)?;
+    put_number(text, b" ", poll.address)?;
+    put_number(text, b" ", poll.count)?;
+    put(text, b"\n")
+}
+
+fn put_ending_line(text: &mut Vec<u8>, ending: &Ending) -> Result<(), AllocError>
+    ensures { OnOk result (text.new.items ≡ text.old.items ++ say.ending_line ending.now) }
+{
+    put_number(text, b"outcome ", ending.moment)?;
+    put_number(text, b" ", ending.kind)?;
+    put_number(text, b" ", ending.code)?;
+    put(text, b"\n")
+}
+
+fn put_ending(
+    text: &mut Vec<u8>,
+    is_pending: bool,
+    ending: Option<Ending>,
+) -> Result<(), AllocError>
+    ensures { OnOk result (text.new.items
+        ≡ text.old.items ++ say.ending_text (say.unless_pending is_pending ending)) }
+{
+    if is_pending {
+        return Ok(());
+    }
+    match ending {
+        Some(ending) => put_ending_line(text, &ending),
+        None => Ok(()),
+    }
+}
+
+/// Whether one of these numbers is that of a poll.
+fn is_named(polls: &[u64], poll: u64) -> bool
+    ensures { result ≡ values.is_named polls.now poll }
+{
+    polls.iter().any(|number| *number == poll)
+}
+
+/// The text of a poll that was there then, with its outcome unless it was pending; of a later one nothing.
+fn put_then(
+    text: &mut Vec<u8>,
+    last: u64,
+    hidden: &[u64],
+    poll: &PollNumbers,
+    device: &[u8],
+    ending: Option<Ending>,
+) -> Result<(), AllocError>
+    ensures { OnOk result (text.new.items ≡ text.old.items ++ say.text_then last hidden.now
+        (record { numbers = poll.now; device = device.now; ending = ending })) }
+{
+    if poll.number > last {
+        return Ok(());
+    }
+    put_poll_line(text, poll, device)?;
+    put_ending(text, is_named(hidden, poll.number), ending)
+}
+
+/// The number of a poll after the others, if it has no outcome.
+fn keep_pending(
+    pending: &mut Vec<u64>,
+    number: u64,
+    ending: Option<Ending>,
+) -> Result<(), AllocError>
+    ensures { OnOk result
+        (pending.new.items ≡ pending.old.items ++ say.unless_ended number ending) }
+{
+    if ending.is_none() {
+        pending.push(number)?;
+    }
+    Ok(())
+}
+
+/// Puts the text of the poll of a row, if it has this number, and its number after the pending ones, if it is pending.
+fn put_poll(
+    text: &mut Vec<u8>,
+    pending: &mut Vec<u64>,
+    last: u64,
+    hidden: &[u64],
+    number: u64,
+    row: &Row,
+    ending: Option<Ending>,
+) -> Result<bool, AllocError>
+    ensures puts { IfOk result (PutsPoll last hidden.now (poll_at number row.now ending)
+        text.old.items text.new.items pending.old.items pending.new.items) }
+    ensures bound { IfOk result (λ put. put ≡ true → number ≤ greatest_place) }
+{
+    let Ok(poll) = numbers(row) else {
+        return Ok(false);
+    };
+    let Some(device) = word(row, 7) else {
+        return Ok(false);
+    };
+    if poll.number != number {
+        return Ok(false);
+    }
+    put_then(text, last, hidden, &poll, device, ending)?;
+    keep_pending(pending, number, ending)?;
+    Ok(true)
+}
+
+/// The rows after an outcome, if there was one.
+fn rows_after<'a>(ending: Option<Ending>, rows: &'a [Row]) -> &'a [Row]
+    ensures { result.now ≡ reading.rows_after ending rows.now }
+{
+    match ending {
+        Some(_) => match rows.split_first() {
+            Some((_, rest)) => rest,
+            None => rows,
+        },
+        None => rows,
+    }
+}
+
+/// Puts the text that the polls of a run had then, and the numbers of those that are pending now. Answers the number after the
+/// last, unless a row can't be read, or a poll hasn't the next number, or an outcome is that of none of them.
+pub(crate) fn put_rows(
+    text: &mut Vec<u8>,
+    pending: &mut Vec<u64>,
+    last: u64,
+    hidden: &[u64],
+    first: u64,
+    polls: &[Row],
+    outcomes: &[Row],
+) -> Result<Option<u64>, AllocError>
+    requires { first ≤ greatest_place + 1 }
+    ensures puts { IfOk result (PutsRows last hidden.now first polls.now outcomes.now
+        text.old.items text.new.items pending.old.items pending.new.items) }
+    ensures bound { IfOk result (λ found.
+        IfSome found (λ next. (first ≤ next) × (next ≤ greatest_place + 1))) }
+{
+    let mut next = first;
+    let mut left = outcomes;
+    for row in polls {
+        let ending = ending_at(next, left);
+        let is_put = put_poll(text, pending, last, hidden, next, row, ending)?;
+        if !is_put {
+            return Ok(None);
+        }
+        left = rows_after(ending, left);
+        next += 1;
+    }
+    if left.is_empty() {
+        Ok(Some(next))
+    } else {
+        Ok(None)
+    }
+}

@@ -1,0 +1,105 @@
+//! Polls and outcomes as the queries show them, each value that a seal speaks of.
+ghost use Rattle.std.specs.Prelude.{◌≡◌, ◌≤◌, IfOk, IfSome};
+ghost use Rattle.sqlite.specs.Order.{column};
+ghost use Rattle.store_tables.specs.Limits.{greatest_place};
+ghost use Rattle.table_seals.specs.PollReading as reading;
+ghost use Rattle.table_seals.specs.Tables as tables;
+
+use sqlite::Row;
+use sqlite::types::ValueRef;
+use store_tables::{GREATEST_PLACE, RowFault, whole};
+
+/// The numbers of a poll.
+#[derive(Clone, Copy)]
+pub(crate) struct PollNumbers {
+    pub(crate) number: u64,
+    pub(crate) unit: u64,
+    pub(crate) started: u64,
+    pub(crate) tid: u64,
+    pub(crate) function: u64,
+    pub(crate) address: u64,
+    pub(crate) count: u64,
+}
+
+/// How a poll ended.
+#[derive(Clone, Copy)]
+pub(crate) struct Ending {
+    /// The number of the poll.
+    pub(crate) poll: u64,
+    pub(crate) moment: u64,
+    pub(crate) kind: u64,
+    pub(crate) code: u64,
+}
+
+/// The numbers of a poll's row.
+pub(crate) fn numbers(row: &Row) -> Result<PollNumbers, RowFault>
+    ensures read { result ≡ reading.numbers_in row.now }
+    ensures bound { IfOk result (λ numbers. numbers.number ≤ greatest_place) }
+{
+    let number = whole(row, 0, 1, GREATEST_PLACE)?;
+    let unit = whole(row, 1, 0, GREATEST_PLACE)?;
+    let started = whole(row, 2, 0, GREATEST_PLACE)?;
+    let tid = whole(row, 3, 0, GREATEST_PLACE)?;
+    let function = whole(row, 4, 0, GREATEST_PLACE)?;
+    let address = whole(row, 5, 0, GREATEST_PLACE)?;
+    let count = whole(row, 6, 0, GREATEST_PLACE)?;
+    Ok(PollNumbers {
+        number,
+        unit,
+        started,
+        tid,
+        function,
+        address,
+        count,
+    })
+}
+
+/// The values of an outcome's row.
+pub(crate) fn outcome(row: &Row) -> Result<Ending, RowFault>
+    ensures { result ≡ reading.ending_in row.now }
+{
+    let poll = whole(row, 0, 1, GREATEST_PLACE)?;
+    let moment = whole(row, 1, 0, GREATEST_PLACE)?;
+    let kind = whole(row, 2, 0, GREATEST_PLACE)?;
+    let code = whole(row, 3, 0, GREATEST_PLACE)?;
+    Ok(Ending {
+        poll,
+        moment,
+        kind,
+        code,
+    })
+}
+
+/// Whether bytes have no space and no end of a line among them.
+fn are_word(bytes: &[u8]) -> bool
+    ensures { result ≡ tables.is_word bytes.now }
+{
+    bytes.iter().all(|&byte| byte > 32)
+}
+
+/// A column that is a word.
+pub(crate) fn word<'a>(row: &'a Row, at: usize) -> Option<&'a [u8]>
+    ensures { reading.IsWordIn (column row.now at) result }
+{
+    match row.get_ref(at) {
+        Ok(ValueRef::Text(bytes)) => { if are_word(bytes) { Some(bytes) } else { None } }
+        _ => None,
+    }
+}
+
+/// The outcome in the first of some rows, if it is that of the poll with this number.
+pub(crate) fn ending_at(number: u64, rows: &[Row]) -> Option<Ending>
+    ensures { result ≡ reading.ending_at number rows.now }
+{
+    let Some(row) = rows.first() else {
+        return None;
+    };
+    let Ok(found) = outcome(row) else {
+        return None;
+    };
+    if found.poll == number {
+        Some(found)
+    } else {
+        None
+    }
+}
