@@ -1,5 +1,5 @@
 -- Lines of voids and of meters, one after the other.
-use Rattle.std.proofs.Common.{◌≡◌, ℕ, ◌<◌, ◌^◌, true, List, [], ◌∷◌, ◌++◌, map, refl, sym, ap, subst, ◌∙◌, append_assoc, arith}
+use Rattle.std.proofs.Common.{◌≡◌, ℕ, ◌<◌, ◌^◌, true, List, [], ◌∷◌, ◌++◌, refl, sym, ap, subst, ◌∙◌, append_assoc}
 use Rattle.std.specs.Prelude.{codes, decimal, Option, Some, None, IsSomeAnd, IfSome}
 use Rattle.std.specs.List.{flat_map, AllByRecursion}
 use Rattle.table_seals.specs.declared.parsing.MeterLine.{MeterLine}

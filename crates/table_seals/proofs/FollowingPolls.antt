@@ -4,7 +4,7 @@ use Rattle.std.specs.Prelude.{codes, decimal}
 use Rattle.std.specs.List.{flat_map}
 use Rattle.hex.specs.Hex.{encode_lower}
 use Rattle.table_seals.specs.Lines.{Begins, ArePending, ArePolls, AreMeters, AreTables}
-use Rattle.table_seals.specs.Sealed.{Sealed, SealedPolls, SealedTables}
+use Rattle.table_seals.specs.Sealed.{SealedPolls, SealedTables}
 use Rattle.table_seals.specs.Texts.{meter_text, polls_line, pending_line, polls_part, last_line}
 use Rattle.table_seals.proofs.Opened.{first_byte}
 

@@ -1,13 +1,12 @@
 -- What was found of polls, sealed or held to a seal.
-use Rattle.std.proofs.Common.{◌≡◌, ◌↔◌, ℕ, ◌+◌, ◌≤◌, Bool, false, List, [], length, Option, Some, None, Result, Ok, Err, unwrap_or, IfOk, IfSome, refl, sym, ap, subst, ◌∙◌, arith}
+use Rattle.std.proofs.Common.{◌≡◌, ◌↔◌, ℕ, ◌≤◌, Bool, false, List, [], Option, Some, None, Result, Ok, Err, unwrap_or, IfOk, IfSome, refl, sym, ap, subst, ◌∙◌, arith}
 use Rattle.sha2.specs.Sha256.{sha256}
 use Rattle.store_tables.specs.Content.{Content}
 use Rattle.store_tables.specs.Limits.{greatest_place}
 use Rattle.store_tables.specs.declared.faults.RowFault.{RowFault}
 use Rattle.table_seals.specs.declared.seals.PollSeal.{PollSeal}
-use Rattle.table_seals.specs.PollReading.{ReadPoll, polls_of}
-use Rattle.table_seals.specs.PollSealing.{ReadsRuns, ReadsUpTo, ReadsPolls, ArePollsSealed, SealsPolls, KeepsPolls, TellsPolls, AreDigested, AreAsSealed, DigestsPolls}
-use Rattle.table_seals.specs.PollTexts.{polls_text, polls_text_then}
+use Rattle.table_seals.specs.PollReading.{ReadPoll}
+use Rattle.table_seals.specs.PollSealing.{ReadsRuns, ReadsUpTo, ArePollsSealed, SealsPolls, KeepsPolls, TellsPolls, AreDigested, AreAsSealed, DigestsPolls}
 use Rattle.table_seals.specs.Sealed.{Sealed, SealedPolls, SealedTables}
 use Rattle.sqlite.specs.Store.{Ghosts}
 use Rattle.sqlite.specs.Held.{Held}

@@ -1,19 +1,18 @@
 -- One run of polls after the other.
-use Rattle.std.proofs.Common.{◌≡◌, ℕ, suc, ◌+◌, ◌*◌, ◌-◌, ◌<◌, ◌≤◌, ◌/◌, ◌%◌, min, List, [], ◌∷◌, ◌++◌, length, Option, Some, None, Result, Ok, Err, unwrap_or, refl, sym, ap, subst, ◌∙◌, append_assoc, arith}
-use Rattle.std.specs.List.{flat_map, fold}
+use Rattle.std.proofs.Common.{◌≡◌, ℕ, suc, ◌+◌, ◌*◌, ◌<◌, ◌≤◌, ◌/◌, ◌%◌, min, List, [], ◌∷◌, ◌++◌, length, Option, Some, None, refl, sym, ap, subst, ◌∙◌, arith}
+use Rattle.std.specs.List.{fold}
 use Rattle.std.proofs.lemmas.Grind.{flat_map-append, div_ceil_times}
 use Rattle.std.proofs.lemmas.List.{length-append}
 use Rattle.sha2.specs.declared.Sha256.{Sha256}
 use Rattle.sha2.specs.Hashers.{Holds256}
 use Rattle.sha2.specs.Sha256.{sha256}
 use Rattle.store_tables.specs.Content.{Content}
-use Rattle.store_tables.specs.declared.faults.RowFault.{RowFault}
 use Rattle.table_audit.specs.declared.poll_rows.RunRows.{RunRows}
 use Rattle.table_audit.specs.declared.poll_rows.TheConstants.{RUN}
 use Rattle.table_audit.specs.PollShowing.{AreRowsOfRun}
 use Rattle.table_audit.specs.Polls.{AreRuns}
 use Rattle.table_seals.specs.PollReading.{ReadPoll, polls_in, after, with_run, polls_of}
-use Rattle.table_seals.specs.PollSealing.{ReadsRuns, LooksAtRun, AddsPolls, DigestsRuns, IsDigested}
+use Rattle.table_seals.specs.PollSealing.{ReadsRuns, LooksAtRun, DigestsRuns}
 use Rattle.table_seals.specs.PollTexts.{text_then, polls_text_then, pending_of, pending_among}
 use Rattle.table_seals.specs.declared.seals.PollSeal.{PollSeal}
 

@@ -1,15 +1,13 @@
 -- What was sealed of polls stays so.
-use Rattle.std.proofs.Common.{◌≡◌, ℕ, suc, ◌+◌, ◌<◌, ◌≤◌, ◌==◌, ◌||◌, ◌⊎◌, inl, inr, Bool, true, false, nat_le, List, [], ◌∷◌, ◌++◌, length, if◌then◌else◌, Option, Some, None, refl, sym, ap, subst, ◌∙◌, append_assoc, arith}
-use Rattle.std.specs.List.{flat_map, AllByRecursion}
+use Rattle.std.proofs.Common.{◌≡◌, ℕ, suc, ◌+◌, ◌<◌, ◌≤◌, ◌==◌, ◌||◌, ◌⊎◌, inl, inr, Bool, true, false, nat_le, List, [], ◌∷◌, ◌++◌, length, if◌then◌else◌, Option, Some, None, refl, ap, subst, ◌∙◌, append_assoc, arith}
+use Rattle.std.specs.List.{AllByRecursion}
 use Rattle.std.proofs.lemmas.Bool.Decides.{nat_tests}
-use Rattle.std.proofs.lemmas.List.{append-nil}
 use Rattle.std.proofs.lemmas.List.Folds.{list_any-append}
-use Rattle.table_audit.specs.declared.poll_rows.RunRows.{RunRows}
 use Rattle.table_audit.specs.Reading.{is_named}
 use Rattle.table_seals.specs.declared.poll_values.Ending.{Ending}
 use Rattle.table_seals.specs.declared.poll_values.PollNumbers.{PollNumbers}
 use Rattle.table_seals.specs.Laws.{IsLater, AreLater, PollsStay}
-use Rattle.table_seals.specs.PollReading.{ReadPoll, polls_of}
+use Rattle.table_seals.specs.PollReading.{ReadPoll}
 use Rattle.table_seals.specs.PollTexts.{poll_line, ending_text, unless_pending, poll_text, polls_text, text_then, polls_text_then, unless_ended, pending_of, pending_among}
 use Rattle.table_seals.proofs.PollNumbers.{AreNumbered, numbered, is_up_to, is_beyond}
 

@@ -3,9 +3,8 @@ use Rattle.std.proofs.Common.{◌≡◌, Option, Some, None, Vec, inl, inr, subs
 use Rattle.store_tables.specs.Content.{Content}
 use Rattle.table_seals.specs.declared.seals.MeterSeal.{MeterSeal}
 use Rattle.table_seals.specs.declared.seals.PollSeal.{PollSeal}
-use Rattle.table_seals.specs.declared.seals.Seal.{Seal}
 use Rattle.table_seals.specs.PollSealing.{SealsPolls}
-use Rattle.table_seals.specs.Sealing.{SealsMeters, SealsTables, HasUnsealedMeter, SealsRows}
+use Rattle.table_seals.specs.Sealing.{SealsMeters, SealsTables, SealsRows}
 
 pub no_meters : {Z : Type 0} (content : Content) (found : Option (Vec MeterSeal Z)) → found ≡ None → SealsMeters content found → SealsTables content None
 no_meters {Z} content found is h = inl (record {

@@ -1,9 +1,8 @@
 -- Which seals have a text that can be read back.
-use Rattle.std.specs.Prelude.{◌≡◌, ◌<◌, ◌^◌, ℕ, true, List, length, map, All, Vec}
+use Rattle.std.specs.Prelude.{◌≡◌, ◌<◌, ◌^◌, true, List, length}
 use Rattle.std.specs.List.{AllByRecursion}
 use Rattle.hex.specs.Hex.{IsBytes}
-use Rattle.table_seals.specs.declared.seals.MeterSeal.{MeterSeal}
-use Rattle.table_seals.specs.Sealed.{Sealed, SealedPolls, SealedTables, sealed_of}
+use Rattle.table_seals.specs.Sealed.{Sealed, SealedPolls, SealedTables}
 use Rattle.table_seals.specs.Tables.{is_word}
 
 -- its names are words, its numbers have 64 bits, and its digest 32 bytes

@@ -1,5 +1,5 @@
 -- What the rows of a meter tell that a seal speaks of.
-use Rattle.std.specs.Prelude.{◌≡◌, ℕ, nat_lt, Bool, List, [], ◌∷◌, Option, Some, None, Ok, String, string_bytes, IsUtf8}
+use Rattle.std.specs.Prelude.{◌≡◌, ℕ, nat_lt, Bool, List, [], ◌∷◌, Option, Some, None, Ok, string_bytes, IsUtf8}
 use Rattle.std.specs.List.{list_all}
 use Rattle.energy_core.specs.declared.limits.TheConstants.{MAX_CEILING}
 use Rattle.meter_audit.specs.declared.rows.TableRow.{TableRow}

@@ -1,5 +1,5 @@
 -- The text of entries of which a seal has the digest, the text of a seal, and what is said of a check.
-use Rattle.std.specs.Prelude.{ℕ, ◌==◌, Bool, true, false, List, [], ◌∷◌, ◌++◌, length, map, flat_map, if◌then◌else◌}
+use Rattle.std.specs.Prelude.{ℕ, ◌==◌, Bool, true, false, List, [], ◌++◌, length, flat_map, if◌then◌else◌}
 use Rattle.std.specs.Prelude.{codes, decimal, String, string_bytes}
 use Rattle.std.specs.Fmt.{signed_decimal}
 use Rattle.hex.specs.Hex.{encode_lower}

@@ -30,7 +30,8 @@ fn add_run(
     requires { first ≤ greatest_place + 1 }
     ensures adds { IfOk result (said.AddsRun last hidden.now first rows.now
         hasher.old hasher.new pending.old.items pending.new.items) }
-    ensures bound { IfOk result (λ found. IfSome found (λ next. (first ≤ next) × (next ≤ greatest_place + 1))) }
+    ensures bound { IfOk result (λ found.
+        IfSome found (λ next. (first ≤ next) × (next ≤ greatest_place + 1))) }
 {
     let mut text = Vec::new(alloc);
     let found = put_rows(
@@ -62,7 +63,8 @@ fn look_run<S: Alter>(
     requires first { first ≤ greatest_place + 1 }
     ensures finds { Finds S.Store conn.old conn.new result (said.LooksAtRun run last hidden.now
         first hasher.old hasher.new pending.old.items pending.new.items) }
-    ensures bound { IfOk result (λ found. IfSome found (λ next. (first ≤ next) × (next ≤ greatest_place + 1))) }
+    ensures bound { IfOk result (λ found.
+        IfSome found (λ next. (first ≤ next) × (next ≤ greatest_place + 1))) }
 {
     let rows = run_rows(conn, run)?;
     match add_run(alloc, hasher, pending, last, hidden, first, &rows) {

@@ -1,4 +1,4 @@
-use Rattle.std.proofs.Common.{◌≡◌, ◌+◌, List, map, take, length, Ok, Err, string_bytes, sym, subst, arith}
+use Rattle.std.proofs.Common.{◌+◌, List, map, take, Ok, Err, string_bytes, subst, arith}
 use Rattle.std.proofs.lemmas.List.{take_all}
 use Rattle.table_audit.proofs.Looking.{finds_then, passed_on, made}
 use Rattle.table_seals.specs.declared.seals.MeterSeal.{MeterSeal}

@@ -1,4 +1,4 @@
-use Rattle.std.proofs.Common.{◌≡◌, ◌++◌, ◌∙◌}
+use Rattle.std.proofs.Common.{◌++◌}
 use Rattle.std.specs.List.{flat_map}
 use Rattle.table_seals.specs.Texts.{pending_line}
 use Rattle.table_seals.proofs.FollowingPolls.{polls_first, pending_then}

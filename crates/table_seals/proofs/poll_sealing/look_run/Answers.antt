@@ -1,4 +1,3 @@
-use Rattle.std.proofs.Common.{Ok}
 use Rattle.table_audit.specs.PollShowing.{AreRowsOfRun}
 use Rattle.table_audit.proofs.Looking.{made}
 use Rattle.table_seals.specs.PollSealing.{LooksAtRun}

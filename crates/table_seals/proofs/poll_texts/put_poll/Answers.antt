@@ -1,4 +1,4 @@
-use Rattle.std.proofs.Common.{rules, ◌≡◌, ℕ, List, ◌++◌, Ok, Some, sym, ap, ◌∙◌}
+use Rattle.std.proofs.Common.{rules, ◌≡◌, ℕ, ◌++◌, Ok, Some, sym, ap, ◌∙◌}
 use Rattle.sqlite.specs.Order.{column}
 use Rattle.table_seals.specs.PollReading.{numbers_in, word_in}
 use Rattle.table_seals.specs.PollTexts.{unless_ended}

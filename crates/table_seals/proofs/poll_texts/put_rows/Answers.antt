@@ -1,5 +1,5 @@
-use Rattle.std.proofs.Common.{rules, ◌≡◌, [], List, true, false, sym, ap, subst, ◌∙◌, arith}
-use Rattle.table_seals.proofs.PollRows.{no_rows_yet, unread_row, next_row, all_put, some_left}
+use Rattle.std.proofs.Common.{rules, ◌≡◌, true, false, arith}
+use Rattle.table_seals.proofs.PollRows.{no_rows_yet, unread_row, next_row}
 use Rattle.table_seals.proofs.poll_texts.put_rows.Goals as goal
 
 pub loop-row-init : goal.loop-row-init

@@ -1,4 +1,4 @@
-use Rattle.std.proofs.Common.{◌≡◌, ◌+◌, Ok, Err, Some, None, take, refl, sym, subst, arith}
+use Rattle.std.proofs.Common.{Ok, Err, None, take, sym, subst, arith}
 use Rattle.table_audit.specs.Looking.{Finds}
 use Rattle.table_audit.proofs.Looking.{finds_then, passed_on, made, cut_off}
 use Rattle.store_tables.specs.declared.faults.RowFault.{RowFault}
