@@ -1,3 +1,4 @@
 pub mod Found
 pub mod Told
 pub mod RunsLemmas
+pub mod CarryingLemmas

@@ -4,3 +4,4 @@ pub mod Tasks
 pub mod Ends
 pub mod Files
 pub mod Backups
+pub mod Carrying

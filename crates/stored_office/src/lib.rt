@@ -3,6 +3,7 @@
 
 mod audits;
 mod backups;
+mod carrying;
 mod ends;
 mod files;
 mod new_office;
@@ -12,6 +13,9 @@ mod tasks;
 
 pub use audits::{AuditFault, audit_stored, write_audit};
 pub use backups::{CopyFault, whole_file, whole_files};
+pub use carrying::{
+    CarryFault, carry_books, commands_record_the_same, meters_go_on_where_they_stand,
+};
 pub use ends::{Ending, Failure, ending_of, say};
 pub use files::{Databases, FileConnection, FileFault, is_bare, is_office, make_file, open_file};
 pub use new_office::create_stored;
