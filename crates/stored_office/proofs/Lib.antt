@@ -2,3 +2,4 @@ pub mod Found
 pub mod Told
 pub mod RunsLemmas
 pub mod CarryingLemmas
+pub mod CarriesLemmas

@@ -5,3 +5,4 @@ pub mod Ends
 pub mod Files
 pub mod Backups
 pub mod Carrying
+pub mod Carries

@@ -3,6 +3,7 @@
 
 mod audits;
 mod backups;
+mod carries;
 mod carrying;
 mod ends;
 mod files;
@@ -13,6 +14,7 @@ mod tasks;
 
 pub use audits::{AuditFault, audit_stored, write_audit};
 pub use backups::{CopyFault, whole_file, whole_files};
+pub use carries::{CarryEnd, carry_stored};
 pub use carrying::{
     CarryFault, carry_books, commands_record_the_same, meters_go_on_where_they_stand,
 };

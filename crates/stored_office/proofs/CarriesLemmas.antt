@@ -1,0 +1,2 @@
+pub mod ZoneText
+pub mod GoingOn

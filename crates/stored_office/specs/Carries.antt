@@ -1,0 +1,2 @@
+pub mod ToldZone
+pub mod GoingOn

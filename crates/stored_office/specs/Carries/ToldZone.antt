@@ -1,0 +1,21 @@
+-- The zone of an office's file, as it is told there.
+use Rattle.std.specs.Prelude.{◌≡◌, ℕ, List, [], ◌∷◌, Vec, String, string_bytes}
+use Rattle.sqlite.specs.declared.types.Value.TheVariants.{Text}
+use Rattle.sqlite.specs.Order.{Row}
+use Rattle.sqlite.specs.State.{State, IsUnchanged}
+use Rattle.store_tables.specs.Content.{Content}
+use Rattle.store_files.specs.Meta.{Meta, IsMarked}
+
+-- what the question for it shows of the row of `meta`
+abbrev pub zone_shown : Meta → Row
+zone_shown m = Text m.zone ∷ []
+
+-- the row of `meta` alone is answered, and nothing was changed
+abbrev pub ShowsZone : {Z : Type 0} → Content → (old new : State) → Vec Row Z → Type 0
+ShowsZone content old new rows =
+    IsUnchanged old new × ((m : Meta) → IsMarked m content → rows.items ≡ zone_shown m ∷ [])
+
+-- This zone is told, and what was committed stands.
+pub record TellsZone {Z : Type 0} (zone : List ℕ) (old new : State) (told : String Z) : Type 0 where
+  pub bytes : string_bytes told ≡ zone
+  pub same : new.committed ≡ old.committed

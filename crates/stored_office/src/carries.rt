@@ -1,0 +1,6 @@
+//! A new office in a database, which begins where another one stands.
+
+mod stored;
+mod zones;
+
+pub use stored::{CarryEnd, carry_stored};
