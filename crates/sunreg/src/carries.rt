@@ -124,14 +124,21 @@ fn say_not_yet(rt: &HostRuntime, path: &str, meter: Name) -> Ending<'static> {
     Ending::Refused
 }
 
+// Why an office was not carried into a new one.
+fn say_fault<'a>(rt: &HostRuntime, from: &'a str, to: &'a str, fault: CarryFault) -> Ending<'a> {
+    match fault {
+        CarryFault::Old(why) => say_refused(rt, from, why),
+        CarryFault::New(why) => say_refused(rt, to, why),
+        CarryFault::NotYet(meter) => say_not_yet(rt, from, meter),
+    }
+}
+
 // How a carry ended that came to no new file.
 fn say_ended<'a>(rt: &HostRuntime, from: &'a str, to: &'a str, end: CarryEnd) -> Ending<'a> {
     match end {
         CarryEnd::Unopened(fault) => Ending::Failed(Failure::Unopened { path: from, fault }),
         CarryEnd::Unmade(fault) => Ending::Failed(Failure::Unmade { path: to, fault }),
-        CarryEnd::Ended(CarryFault::Old(why)) => say_refused(rt, from, why),
-        CarryEnd::Ended(CarryFault::New(why)) => say_refused(rt, to, why),
-        CarryEnd::Ended(CarryFault::NotYet(meter)) => say_not_yet(rt, from, meter),
+        CarryEnd::Ended(fault) => say_fault(rt, from, to, fault),
     }
 }
 
