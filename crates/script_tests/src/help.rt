@@ -89,7 +89,7 @@ Usage: sunreg explain <WHAT> <NUMBER>
 
 Arguments:
   <WHAT>    refused, held, lost, malformed, exception, fault or status
-  <NUMBER>  The number that stands following it
+  <NUMBER>  The number that stands behind it
 
 Options:
   -h, --help  Print help
