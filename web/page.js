@@ -265,7 +265,7 @@ async function refresh() {
 
 // ---- numbers and dates
 
-// Exact kWh with six decimals, of which those behind the third go where they are 0 and may.
+// Exact kWh with six decimals, of which those after the third go where they are 0 and may.
 function kwh(mwh, least = 6) {
   const digits = mwh.toString().padStart(7, "0");
   let part = digits.slice(-6);
