@@ -263,7 +263,7 @@ done
 run audit --db new.db
 same 'the audit of a file that went on' "$status $(head -c 5 out)" '0 fine:'
 run report --db new.db --register spare
-same 'a register without a meter' "$status $(cat out)" '1 refused 1'
+same 'a register without a meter' "$status $(cat out)" '0 end 0'
 run carry --from new.db --to third.db
 same 'it is carried too' "$status $(cat out err)" '0 carried 3 meters'
 
