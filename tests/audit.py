@@ -24,7 +24,8 @@ BEGIN, DAY, DAYS = 1703808000, 86400, 6  # 2023-12-29 00:00 UTC
 TABLES = ("entries", "intervals", "installations", "ranges", "voids", "polls", "outcomes")
 # what a change may leave fine, as docs/AUDIT.md lists it: of any file, and where a meter's entries lie in one quarter hour
 LISTED = {("installations", "ceiling"), ("installations", "register"), ("ranges", "range"), ("voids", "moment"), ("entries", "kind"), ("entries", "moment")}
-LISTED |= {("polls", it) for it in ("unit", "started", "tid", "function", "address", "count", "added")} | {("outcomes", it) for it in ("moment", "outcome", "code", "gone")}
+# (of polls the last one may be gone, where it is pending)
+LISTED |= {("polls", it) for it in ("unit", "started", "tid", "function", "address", "count", "added", "gone")} | {("outcomes", it) for it in ("moment", "outcome", "code", "gone")}
 IN_ONE_QUARTER = {("entries", "raw"), ("voids", "place"), ("voids", "gone"), ("voids", "added")}
 VOIDED = {("entries", "raw"), ("entries", "rolls")}
 KINDS = {1: "opening", 2: "reading", 3: "manual", 4: "closing", 5: "reset", 6: "rescale"}
