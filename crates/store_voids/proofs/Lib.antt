@@ -1,0 +1,4 @@
+pub mod Texts
+pub mod Withdrawing
+pub mod Asking
+pub mod Walking

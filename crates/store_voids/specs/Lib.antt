@@ -1,0 +1,2 @@
+pub mod Withdrawal
+pub mod Places
