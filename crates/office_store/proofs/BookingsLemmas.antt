@@ -5,7 +5,12 @@ pub mod Installing
 pub mod Seen
 pub mod Moves
 pub mod Booking
-pub mod Telling
 pub mod Rolling
+pub mod Finding
+pub mod Around
+pub mod Exchanging
+pub mod Later
 pub mod Left
+pub mod Told
+pub mod VoidRecorded
 pub mod Voiding

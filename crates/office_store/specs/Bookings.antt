@@ -1,3 +1,5 @@
-pub mod MeterState
 pub mod Places
+pub mod MeterState
+pub mod Surroundings
+pub mod Corrections
 pub mod Voids

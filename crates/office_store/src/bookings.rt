@@ -3,7 +3,6 @@
 mod books;
 mod corrections;
 mod devices;
-mod journals;
 mod lists;
 mod meter_entries;
 mod meter_state;
@@ -11,6 +10,7 @@ mod meters;
 mod places;
 mod polls;
 mod registers;
+mod surroundings;
 mod voids;
 
 pub use books::book_facts;

@@ -33,6 +33,61 @@ fn a_reading_between_others(rt: HostRuntime) -> Result<(), Fail> {
     Ok(())
 }
 
+/// Rows after two readings in a row were voided, the later one first: the step to the next passes both by.
+static PASSED_BY: [&str; 8] = [
+    "entries WHERE meter = 'm1' AND place = 4 AND kind = 2 AND moment = 3700 AND raw = 5400 AND rolls = 0",
+    "installations WHERE meter = 'm1' AND ended = 0 AND last_moment = 3700 AND last_raw = 5400 AND total = 400000",
+    "voids WHERE meter = 'm1' AND place = 2 AND moment = 4000",
+    "voids WHERE meter = 'm1' AND place = 3 AND moment = 4000",
+    "intervals WHERE meter = 'm1' AND start = 900 AND mwh = 118518",
+    "intervals WHERE meter = 'm1' AND start = 1800 AND mwh = 133333",
+    "intervals WHERE meter = 'm1' AND start = 2700 AND mwh = 133334",
+    "intervals WHERE meter = 'm1' AND start = 3600 AND mwh = 14815",
+];
+
+fn two_voided() -> [Option<Fact>; 4] {
+    [
+        reading(b"m1", 2800, 5300, 0),
+        reading(b"m1", 3700, 5400, 0),
+        void(b"m1", 3),
+        void(b"m1", 2),
+    ]
+}
+
+#[test]
+fn two_readings_in_a_row(rt: HostRuntime) -> Result<(), Fail> {
+    let mut conn = one_reading(rt.alloc())?;
+    book_all(rt.alloc(), &mut conn, two_voided())?;
+    stand(&rt, rt.alloc(), &mut conn, &PASSED_BY);
+    have(&rt, rt.alloc(), &mut conn, &[("intervals", 4)]);
+    Ok(())
+}
+
+/// Rows after the last two of three readings were voided, the earlier one first.
+static ENDED: [&str; 3] = [
+    "installations WHERE meter = 'm1' AND ended = 0 AND last_moment = 1900 AND last_raw = 5200 AND total = 200000",
+    "intervals WHERE meter = 'm1' AND start = 900 AND mwh = 177777",
+    "intervals WHERE meter = 'm1' AND start = 1800 AND mwh = 22223",
+];
+
+fn last_two_voided() -> [Option<Fact>; 4] {
+    [
+        reading(b"m1", 2800, 5300, 0),
+        reading(b"m1", 3700, 5400, 0),
+        void(b"m1", 3),
+        void(b"m1", 4),
+    ]
+}
+
+#[test]
+fn the_last_two_readings(rt: HostRuntime) -> Result<(), Fail> {
+    let mut conn = one_reading(rt.alloc())?;
+    book_all(rt.alloc(), &mut conn, last_two_voided())?;
+    stand(&rt, rt.alloc(), &mut conn, &ENDED);
+    have(&rt, rt.alloc(), &mut conn, &[("intervals", 2)]);
+    Ok(())
+}
+
 /// What is left after the only reading was voided: the meter stands at its opening.
 static OPENED: [(&str, i64); 3] = [
     (

@@ -1,128 +1,91 @@
 -- The tables after a void.
-use Rattle.std.proofs.Common.{◌≡◌, ◌≢◌, ℕ, ◌==◌, ◌&&◌, Bool, true, false, not, cond, inl, inr, List, [], ◌∷◌, ◌++◌, map, filter, Option, Some, None, bytes_eq, refl, sym, ap, ap₂, subst, ◌∙◌, IsPermutation, arith}
-use Rattle.std.specs.List.{AllByRecursion}
+use Rattle.std.proofs.Common.{◌≡◌, ◌≢◌, ℕ, ℤ, ◌+◌, ◌≤◌, ◌<◌, ◌==◌, ◌&&◌, Bool, true, false, not, cond, inl, inr, ◌⊎◌, List, [], ◌∷◌, ◌++◌, map, filter, length, Option, Some, None, option_map, bytes_eq, All, refl, sym, ap, ap₂, subst, ◌∙◌, IsPermutation, arith, append-nil}
+use Rattle.std.specs.Prelude.{nat_lt, sum_by, is_some, is_none}
+use Rattle.std.specs.List.{AllByRecursion, flat_map}
 use Rattle.std.proofs.lemmas.Bool.{cases_Bool, cond-true, cond-false}
 use Rattle.std.proofs.lemmas.Option.{same_Some}
-use Rattle.std.proofs.lemmas.List.{append-nil}
-use Rattle.std.proofs.lemmas.List.Elements.{filter-append}
+use Rattle.std.proofs.lemmas.List.Sums.{sum_by-cons}
+use Rattle.std.proofs.lemmas.List.Elements.{recursion_from_All}
 use Rattle.std.proofs.lemmas.List.Sorted.{IsPermutation-map}
-use Rattle.sqlite_keyed.proofs.ListLemmas.{IsPermutation-same, filter_all, filter_none, all_weaker}
+use Rattle.sqlite_keyed.proofs.ListLemmas.{all_weaker, all-append}
 use Rattle.sqlite_keyed.proofs.RuleLemmas.{first_of_both, second_of_both}
+use Rattle.energy_core.specs.declared.entries.Entry.{Entry}
+use Rattle.energy_core.specs.declared.entries.Entry.TheVariants as entry
 use Rattle.energy_core.specs.declared.entries.Last.{Last}
-use Rattle.energy_core.specs.Account.{last_of, whole_energy, steps_of}
+use Rattle.energy_core.specs.declared.entries.Step.{Step}
+use Rattle.energy_core.specs.Account.{after, last_of, moment_of, step_to}
 use Rattle.interval_core.specs.declared.shares.Share.{Share}
+use Rattle.interval_core.specs.Share.{shares_of}
+use Rattle.interval_core.specs.Account.{SharesAddUp, energy_of as energy_in_rows}
+use Rattle.meter_journal.specs.declared.lines.EntryKind.{EntryKind}
+use Rattle.meter_journal.specs.declared.lines.EntryKind.TheVariants as kind
 use Rattle.meter_journal.specs.declared.lines.EntryRow.{EntryRow}
 use Rattle.meter_journal.specs.Books as books
+use Rattle.energy_core.specs.Laws.{IsShareable}
+use Rattle.meter_journal.specs.Changes.{LiesWithin, RowsLieWithin}
 use Rattle.meter_journal.specs.Fitting as journals
-use Rattle.meter_journal.specs.Intervals.{rows_of_steps}
+use Rattle.meter_journal.specs.Intervals.{with_each, without_each, all_shares}
 use Rattle.meter_journal.specs.Journal as journal
-use Rattle.meter_journal.specs.Journal.{Around, entries_in, row_at, with_void, is_read}
+use Rattle.meter_journal.specs.Journal.{Around, entries_in, row_at, is_read, with_rolls}
 use Rattle.meter_journal.specs.Laws.{RowsStand}
-use Rattle.meter_journal.specs.Lists.{AreNumbered, latest_first}
-use Rattle.meter_journal.specs.Voids.{VoidsChangeTwoRows, changed_by, last_before}
+use Rattle.meter_journal.specs.Lists.{AreNumbered}
+use Rattle.meter_journal.specs.Voids.{IsVoided, VoidsChangeTwoRows, AreTherein, changed_by, last_before, steps_out, steps_put, step_if, energy_in, rows_until}
+use Rattle.meter_journal.proofs.Keeping.{by_read}
 use Rattle.office_events.specs.declared.facts.Opening.{Opening}
 use Rattle.office_events.specs.declared.facts.VoidedEntry.{VoidedEntry}
 use Rattle.office_events.specs.declared.facts.Fact.{Fact}
 use Rattle.office_events.specs.declared.facts.Fact.TheVariants as fact
 use Rattle.office_rules.specs.Facts.{same, devices_in, registers_in, openings_in, opening_of, holds_in, voids_in, replies_in, polls_in, ended_in}
-use Rattle.office_rules.specs.Intervals.{rows_of_installed, rows_of_meter}
+use Rattle.office_rules.specs.Intervals.{rows_of_opening, rows_of_installed, rows_of_meter}
 use Rattle.office_rules.specs.Lawful.{AreLawful}
-use Rattle.office_rules.specs.Meters.{opened, installed, journal_of, rows_of}
+use Rattle.office_rules.specs.Laws.{IsRecorded, JournalsFit, MetersAreKept}
+use Rattle.office_rules.specs.Meters.{opened, installed, journal_of, rows_of, installation_of}
+use Rattle.office_rules.specs.Ranges.{InstallationsAreInRange}
 use Rattle.office_rules.specs.Steps.{OtherMetersStay}
 use Rattle.office_rules.proofs.Journals.{installed_fits, well}
 use Rattle.office_rules.proofs.Lookups.{same_text, same_itself}
 use Rattle.office_rules.proofs.Stepping.{installation_by, named, own_line, installed_so, line_after}
-use Rattle.store_tables.specs.Content.{Content, HasRows, Edits, without_where, changed_where}
+use Rattle.store_tables.specs.Content.{Content, HasRows, Edits, changed_where}
 use Rattle.store_devices.specs.Devices.Trees as list_tree
 use Rattle.store_devices.specs.Devices.Rows.{device_columns, register_columns}
 use Rattle.store_tables.specs.Meters.Trees as meter_tree
 use Rattle.store_tables.specs.declared.meters.rows.LastRow.{LastRow}
-use Rattle.store_tables.specs.Meters.Rows.{installed_columns, ranged_columns}
+use Rattle.store_tables.specs.Meters.Rows.{Installed, installed_columns, ranged_columns, HasRange}
 use Rattle.store_tables.specs.Entries.Trees as entry_tree
 use Rattle.store_tables.specs.Entries.Rows.{Entered, entry_columns, voided_columns, is_entry, is_of as is_entry_of, rolled as with_rollovers}
-use Rattle.store_facts.specs.Intervals.Rows.{Interval, is_of as is_interval_of}
-use Rattle.store_facts.specs.Intervals.Replacement.{row_of, with_all, ReplacesShares}
+use Rattle.store_tables.specs.declared.entries.rows.EntryRow as stored
+use Rattle.store_tables.specs.declared.entries.rows.EntryKind.TheVariants as stored_kind
+use Rattle.store_facts.specs.Intervals.Trees as interval_tree
+use Rattle.store_facts.specs.Intervals.Rows.{Interval, interval_columns, is_of as is_interval_of}
+use Rattle.store_facts.specs.Intervals.StepShares.{EditsIf, AreSmall, BooksShares, with_shares}
 use Rattle.store_devices.specs.Polls.Trees as poll_tree
 use Rattle.store_devices.specs.Polls.Rows.{poll_columns, outcome_columns, hold_columns, reply_columns}
-use Rattle.store_facts.specs.Rows.{placed, added, registered, installed_as, installed_row, ranged, voided, interval_of, started, outcome_row, held_row, kept, rolls_of, entered_rows, entries_at, entries_of}
+use Rattle.store_facts.specs.Rows.{placed, added, registered, installed_as, installed_row, last_row, ranged, voided, interval_of, started, outcome_row, held_row, kept, kind_as, rolls_of, entry_row, scale_after, entered_rows, entries_at, entries_of}
 use Rattle.store_facts.specs.Tables.{meta_tree, meta_columns, AreEntries, AreIntervals, AreOf}
 use Rattle.store_facts.specs.Recording.{Records}
+use Rattle.store_facts.proofs.Booked.{AreApart, AreRowsOf}
+use Rattle.store_facts.proofs.Energy.{found_recorded, opening_apart, rows_small}
 use Rattle.store_facts.proofs.Entered.{SparesOthers, other_entries, other_intervals, installations_changed}
 use Rattle.store_facts.proofs.Passing.{filter_edited, filter_spared}
 use Rattle.store_facts.proofs.Recorded.{stay, points_stay, entries_stay, intervals_stay}
-use Rattle.store_queries.proofs.MeteringLemmas.Shapes.{FoundThere, found_there}
-use Rattle.office_store.specs.Bookings.MeterState.{stands_at, settled}
-use Rattle.office_store.specs.Bookings.Voids.{IsJournalFrom, IsJournalOf, IsSaidIn, HasRolls, Corrects, RollsNext, EntersVoid}
+use Rattle.store_facts.proofs.Standing.{stands_found, range_found}
+use Rattle.store_queries.proofs.MeteringLemmas.Shapes.{FoundThere, found_there, IsPlain, plain}
+use Rattle.store_voids.specs.Places.{names}
+use Rattle.store_voids.specs.Withdrawal.{TakesShares, DropsRows}
+use Rattle.office_store.specs.Bookings.Corrections.{counter_after, IsReadingOf, Rejoins, RejoinsNext, Corrects, energy_out, energy_put, gone_from}
+use Rattle.office_store.specs.Bookings.MeterState.{counter_of, stands_at, settled}
+use Rattle.office_store.specs.Bookings.Places.{StandsThere}
+use Rattle.office_store.specs.Bookings.Surroundings.{HasEntry, IsAround}
+use Rattle.office_store.specs.Bookings.Voids.{RollsNext, TakesNext, PutsNext, ExchangesRows, EntersVoid}
 use Rattle.office_store.specs.declared.bookings.corrections.Correction.{Correction}
+use Rattle.office_store.specs.declared.bookings.corrections.Rejoined.{Rejoined}
 use Rattle.office_store.specs.declared.bookings.corrections.Rollover.{Rollover}
-use Rattle.office_store.specs.declared.bookings.journals.MeterJournal.{MeterJournal}
+use Rattle.office_store.specs.declared.bookings.surroundings.Surroundings.{Surroundings}
+use Rattle.office_store.proofs.BookingsLemmas.Exchanging.{IsSmall, apart_without, starts_below_with, starts_below_without, none_gone, several_taken, several_therein, until_is, have_all, there_then, own_put, own_left, others_put, others_left, put_rows, left_rows, less_rows}
+use Rattle.office_store.proofs.BookingsLemmas.Later.{next_lies, shares_begin}
 use Rattle.office_store.proofs.BookingsLemmas.Rolling as rolling
 
--- ---- rows that pass a test, without those that pass another
-
-module _ {X : Type 0} where
-  none_step : (b : Bool) (x : X) (rest : List X) (p : X → Bool) → p x ≡ b → filter p rest ≡ [] → filter p (cond (not b) (x ∷ rest) rest) ≡ []
-  none_step true x rest p is more = more
-  none_step false x rest p is more = cond-false _ _ _ is ∙ more
-
-  none_left : (p : X → Bool) (rows : List X) → filter p (without_where p rows) ≡ []
-  none_left p [] = refl
-  none_left p (x ∷ rows) = none_step (p x) x (without_where p rows) p refl (none_left p rows)
-
-  other_step : (b c : Bool) (x : X) (rest rows : List X) (q : X → Bool) → q x ≡ c → (b ≡ true → c ≡ false) → filter q rest ≡ filter q rows
-      → filter q (cond (not b) (x ∷ rest) rest) ≡ cond c (x ∷ filter q rows) (filter q rows)
-  other_step true c x rest rows q is off more = more ∙ sym (cond-false _ _ _ (off refl))
-  other_step false true x rest rows q is off more = cond-true _ _ _ is ∙ ap (λ l. x ∷ l) more
-  other_step false false x rest rows q is off more = cond-false _ _ _ is ∙ more
-
-  others_left : (p q : X → Bool) → ((x : X) → p x ≡ true → q x ≡ false) → (rows : List X) → filter q (without_where p rows) ≡ filter q rows
-  others_left p q off [] = refl
-  others_left p q off (x ∷ rows) = other_step (p x) (q x) x (without_where p rows) rows q refl (off x) (others_left p q off rows)
-
-own_rows : (meter : List ℕ) (shares : List Share) → AllByRecursion (λ (i : Interval). is_interval_of meter i ≡ true) (map (row_of meter) shares)
-own_rows meter [] = tt
-own_rows meter (share ∷ shares) = (same_itself meter, own_rows meter shares)
-
-other_rows : (meter other : List ℕ) (shares : List Share) → same meter other ≡ false → AllByRecursion (λ (i : Interval). is_interval_of other i ≡ false) (map (row_of meter) shares)
-other_rows meter other [] off = tt
-other_rows meter other (share ∷ shares) off = (off, other_rows meter other shares off)
-
 module _ (f : Fact) (facts : List Fact) (meter : List ℕ) (same_found : (m : List ℕ) → opening_of (f ∷ facts) m ≡ opening_of facts m) (spares : SparesOthers f facts meter) where
-  -- ---- the interval rows
-  pub shares_replaced : (shares : List Share) (content after : Content) → rows_of_meter (f ∷ facts) meter ≡ shares → ReplacesShares meter shares content after
-      → AreIntervals facts content → AreIntervals (f ∷ facts) after
-  shares_replaced shares content after are e a = record {
-    rows = with_all meter shares a.rows;
-    there = e.rows a.rows a.there;
-    each = λ m. elim (cases_Bool (same meter m)) [
-      | inl is ↦ subst (λ t. IsPermutation (filter (is_interval_of t) (with_all meter shares a.rows)) (map (interval_of t) (rows_of_meter (f ∷ facts) t))) (same_text meter m is) own
-      | inr off ↦
-          subst (λ rs. IsPermutation (filter (is_interval_of m) (with_all meter shares a.rows)) (map (interval_of m) rs)) (sym (other_intervals f facts meter same_found spares m off))
-          (subst (λ l. IsPermutation l (map (interval_of m) (rows_of_meter facts m))) (sym (other m off)) (a.each m))
-    ];
-  }
-    where
-      rest : List Interval
-      rest = without_where (is_interval_of meter) a.rows
-
-      news : List Interval
-      news = map (row_of meter) shares
-
-      mine : filter (is_interval_of meter) (with_all meter shares a.rows) ≡ map (interval_of meter) shares
-      mine =
-          filter-append (is_interval_of meter) news rest
-          ∙ ap₂ ◌++◌ (filter_all (is_interval_of meter) news (own_rows meter shares)) (none_left (is_interval_of meter) a.rows)
-          ∙ append-nil news
-
-      own : IsPermutation (filter (is_interval_of meter) (with_all meter shares a.rows)) (map (interval_of meter) (rows_of_meter (f ∷ facts) meter))
-      own = IsPermutation-same _ _ (mine ∙ ap (map (interval_of meter)) (sym are))
-
-      other : (m : List ℕ) → same meter m ≡ false → filter (is_interval_of m) (with_all meter shares a.rows) ≡ filter (is_interval_of m) a.rows
-      other m off =
-          filter-append (is_interval_of m) news rest
-          ∙ ap₂ ◌++◌ (filter_none (is_interval_of m) news (other_rows meter m shares off))
-          (others_left (is_interval_of meter) (is_interval_of m) (λ i here. ap (λ t. same t m) (same_text i.meter meter here) ∙ off) a.rows)
-
   -- ---- the entries
   module _ (o : Opening) (there : opening_of facts meter ≡ Some o) where
     own_entries : (g : List Fact) → opening_of g meter ≡ Some o → entries_of g meter ≡ entered_rows o (rows_of g o)
@@ -186,88 +149,180 @@ module _ (f : Fact) (facts : List Fact) (meter : List ℕ) (same_found : (m : Li
               (subst (λ l. IsPermutation l (map edit (entries_of facts meter))) (sym (filter_edited (is_entry_of meter) edit (keeps meter) a.rows))
               (IsPermutation-map edit _ _ (a.each meter)))
 
--- ---- the fact
-
 map_same : {X : Type 0} (xs : List X) → map (λ x. x) xs ≡ xs
 map_same [] = refl
 map_same (x ∷ xs) = ap (λ l. x ∷ l) (map_same xs)
-
--- what is left, by where the counter began
-abbrev left_of : (place range : ℕ) → Last → List EntryRow → LastRow
-left_of place range opening rows =
-    let es = entries_in (with_void opening place rows) in stands_at (last_of opening es) (whole_energy range opening es)
-
-abbrev shares_left : (place range : ℕ) → Last → List EntryRow → List Share
-shares_left place range opening rows = rows_of_steps (steps_of range opening (entries_in (with_void opening place rows)))
 
 -- an entry with the rollovers that it has now, if it is this one
 abbrev edited : (meter : List ℕ) → (place rolls : ℕ) → Entered → Entered
 edited meter place rolls e = cond (is_entry meter place e) (with_rollovers rolls e) e
 
+-- ---- what goes out and comes in
+
+abbrev pub next_out : Option Rejoined → List Share
+next_out None = []
+next_out (Some joined) = shares_of joined.out
+
+abbrev pub next_put : Option Rejoined → List Share
+next_put None = []
+next_put (Some joined) = shares_of joined.put
+
+-- the next entry that stood, with the rollovers that its new neighbour gives it
+abbrev pub HasRolls : (opening : Last) → Around → Option Rejoined → Type 0
+HasRolls opening around None = around.next ≡ None
+HasRolls opening around (Some joined) =
+    (next : EntryRow) × (around.next ≡ Some next)
+    × (joined.rollover ≡ record { place = next.place; rolls = rolls_of (with_rolls (last_before opening around) next.entry) })
+
+-- what changes, as the facts have it
+pub record IsLeft (facts : List Fact) (o : Opening) (place : ℕ) (made : Correction) : Type 0 where
+  pub around : Around
+  pub there : row_at place (rows_of facts o) ≡ Some around
+  pub rolls : HasRolls (opened o) around made.next
+  pub out : all_shares (steps_out (installed o) around) ≡ next_out made.next ++ shares_of made.out
+  pub put : all_shares (steps_put (installed o) around) ≡ next_put made.next
+  pub gone : energy_in (steps_out (installed o) around) ≡ energy_out made.out made.next
+  pub come : energy_in (steps_put (installed o) around) ≡ energy_put made.next
+  pub total : ℕ
+  pub sum : total + energy_out made.out made.next ≡ (installation_of facts o).total + energy_put made.next
+  pub last : made.last ≡ stands_at (cond (is_none made.next) (last_before (opened o) around) (installation_of facts o).last) total
+  pub from : made.from ≡ gone_from o.at made.last.moment
+
+-- ---- the interval rows
+
+-- what may be edited so, where shares come
+abbrev pub may_put : (meter : List ℕ) → Option Rejoined → List Interval → Type 0
+may_put meter None is = Unit {0}
+may_put meter (Some joined) is = AreSmall (with_shares meter (shares_of joined.put) is)
+
+taken_next : (meter : List ℕ) (next : Option Rejoined) (x y : Content) → TakesNext meter next x y → TakesShares meter (next_out next) x y
+taken_next meter None x y same = record {
+  rows = λ is has may. subst (HasRows interval_tree.intervals interval_columns is) (sym same) has;
+  others = λ t off. ap (λ (f : Content). f t) same;
+}
+taken_next meter (Some joined) x y takes = takes
+
+puts_next : (meter : List ℕ) (next : Option Rejoined) (x y : Content) → PutsNext meter next x y → EditsIf (may_put meter next) (with_shares meter (next_put next)) x y
+puts_next meter None x y same = record {
+  rows = λ is has may. subst (HasRows interval_tree.intervals interval_columns is) (sym same) has;
+  others = λ t off. ap (λ (f : Content). f t) same;
+}
+puts_next meter (Some joined) x y puts = puts
+
+may_of : (meter : List ℕ) (opening : Last) (around : Around) (next : Option Rejoined) (less : List Interval) → HasRolls opening around next
+    → ((row : EntryRow) → around.next ≡ Some row → AreSmall (with_shares meter (next_put next) less)) → may_put meter next less
+may_of meter opening around None less rolls small = tt
+may_of meter opening around (Some joined) less rolls small = small rolls.0 rolls.1
+
+within_sum : (n : ℕ) (rows : List Share) → energy_in_rows rows ≤ n → AllByRecursion (λ (row : Share). row.mwh ≤ n) rows
+within_sum n [] h = tt
+within_sum n (row ∷ rows) h =
+    let parts = sum_by-cons (λ (row : Share). row.mwh) row rows in
+    (omega (arith, h, parts), within_sum n rows (omega (arith, h, parts)))
+
+-- the shares of several steps begin before the last ends
+abbrev IsBefore : ℕ → Step → Type 0
+IsBefore bound step = (step.from < step.till) × (step.till ≤ bound)
+
+all_begin : SharesAddUp → (bound : ℕ) (steps : List Step) → AllByRecursion (IsBefore bound) steps → AllByRecursion (λ (row : Share). row.start < bound) (all_shares steps)
+all_begin law bound [] h = tt
+all_begin law bound (step ∷ steps) h = all-append (λ (row : Share). row.start < bound) (shares_of step) (all_shares steps) (shares_begin law step bound h.0.0 h.0.1) (all_begin law bound steps h.1)
+
+moment_rolled : (last : Last) (e : Entry) → moment_of (with_rolls last e) ≡ moment_of e
+moment_rolled last (entry.Step at raw rolls) = refl
+moment_rolled last (entry.Change at before new sf) = refl
+
+moment_if : (b : Bool) (last : Last) (row : EntryRow) → (let made : EntryRow = cond b (record row { entry = with_rolls last row.entry }) row in moment_of made.entry) ≡ moment_of row.entry
+moment_if true last row = moment_rolled last row.entry
+moment_if false last row = refl
+
+put_before : (range bound : ℕ) (last : Last) (next : Option EntryRow) → ((row : EntryRow) → next ≡ Some row → moment_of row.entry ≤ bound) → AllByRecursion (λ (s : Step). s.from < s.till) (step_if range last (option_map (journal.rolled last) next))
+    → AllByRecursion (IsBefore bound) (step_if range last (option_map (journal.rolled last) next))
+put_before range bound last None low forward = tt
+put_before range bound last (Some row) low forward =
+    let le = low row refl in
+    let is = moment_if (row.stands && journal.is_reading row.kind) last row in
+    ((forward.0, omega (arith, le, is)), tt)
+
 module _ (v : VoidedEntry) (facts : List Fact) (lawful : AreLawful (fact.Void v ∷ facts)) (o : Opening) (there : opening_of facts v.meter ≡ Some o)
-    (others : OtherMetersStay) (stand : RowsStand) (change : VoidsChangeTwoRows) (told : MeterJournal) (made : Correction) (from : IsJournalFrom facts o told) (corrects : Corrects told v.place made) where
+    (others : OtherMetersStay) (stand : RowsStand) (change : VoidsChangeTwoRows) (made : Correction) (left : IsLeft facts o v.place made) where
   abbrev f : Fact
   f = fact.Void v
 
   abbrev lines : journal.Journal
   lines = journal_of facts o.meter
 
+  abbrev later : journal.Journal
+  later = journal.Voided v.place ∷ lines
+
   abbrev rows : List EntryRow
   rows = rows_of facts o
 
-  line_is : journal_of (f ∷ facts) o.meter ≡ journal.Voided v.place ∷ lines
+  abbrev around : Around
+  around = left.around
+
+  abbrev last : Last
+  last = last_before (opened o) around
+
+  line_is : journal_of (f ∷ facts) o.meter ≡ later
   line_is = line_after facts v.meter (journal.Voided v.place) o (named facts v.meter o there)
 
-  spares : SparesOthers f facts v.meter
+  pub spares : SparesOthers f facts v.meter
   spares = λ (x : Opening) (off : same v.meter x.meter ≡ false). others f facts x (cond-false _ _ _ off)
 
   same_found : (m : List ℕ) → opening_of (f ∷ facts) m ≡ opening_of facts m
   same_found m = refl
 
-  -- ---- its account
-
-  last_is : made.account.last ≡ left_of v.place o.range (opened o) rows
-  last_is =
-      corrects.account.last ∙ ap (λ n. left_of v.place n told.opening (latest_first told.rows.items)) from.range
-      ∙ ap (λ l. left_of v.place o.range l (latest_first told.rows.items)) from.opening ∙ ap (left_of v.place o.range (opened o)) from.rows
-
-  pub row_changed : (place : ℕ) → installed_row (f ∷ facts) place o ≡ settled made.account.last false (installed_row facts place o)
-  row_changed place =
-      ap (λ ls. installed_as place (installation_by o ls)) line_is
-      ∙ ap (λ (last : LastRow). settled last false (installed_row facts place o)) (sym last_is)
-
-  shares_are : made.account.shares.items ≡ shares_left v.place o.range (opened o) rows
-  shares_are =
-      corrects.account.shares ∙ ap (λ n. shares_left v.place n told.opening (latest_first told.rows.items)) from.range
-      ∙ ap (λ l. shares_left v.place o.range l (latest_first told.rows.items)) from.opening ∙ ap (shares_left v.place o.range (opened o)) from.rows
-
-  pub energy_is : rows_of_meter (f ∷ facts) v.meter ≡ made.account.shares.items
-  energy_is = ap (rows_of_installed (f ∷ facts)) there ∙ ap (books.interval_rows (installed o)) line_is ∙ sym shares_are
-
-  -- ---- its entries
-
-  abbrev around : Around
-  around = corrects.next.0
-
-  abbrev last : Last
-  last = last_before (opened o) around
-
-  at : row_at v.place rows ≡ Some around
-  at = ap (row_at v.place) (sym from.rows) ∙ corrects.next.1
-
   fits : journals.VoidFits (installed o) rows v.place
   fits = own_line facts v.meter (journal.Voided v.place) o lawful.0.0 there
 
+  begun : books.IsWellInstalled (installed o)
+  begun = well facts o lawful.1 (installed_so facts v.meter o there)
+
+  fitting : journals.AreFitting (installed o) lines
+  fitting = installed_fits facts o lawful.1 (installed_so facts v.meter o there)
+
+  recorded : IsRecorded facts o
+  recorded = found_recorded (λ (x : Opening). same x.meter v.meter) (openings_in facts) o there
+
+  voided_so : IsVoided (installed o) lines v.place around
+  voided_so = change (installed o) lines v.place around begun (fits, fitting) left.there
+
+  -- ---- its account
+
+  stands_by : (next : Option Rejoined) (l : Last) → HasRolls (opened o) around next → cond (is_none next) last l ≡ cond (is_some around.next) l last
+  stands_by None l none = sym (ap (λ (n : Option EntryRow). cond (is_some n) l last) none)
+  stands_by (Some joined) l one = sym (ap (λ (n : Option EntryRow). cond (is_some n) l last) one.1)
+
+  total_is : left.total ≡ books.total_in (installed o) later
+  total_is =
+      let was = voided_so.steps.before in
+      let now = voided_so.steps.after in
+      let out = left.gone in
+      let put = left.come in
+      let sum = left.sum in
+      omega (arith, was, now, out, put, sum)
+
+  last_is : made.last ≡ last_row (installation_by o later)
+  last_is =
+      left.last ∙ ap (λ (l : Last). stands_at l left.total) (stands_by made.next (installation_of facts o).last left.rolls ∙ sym voided_so.last)
+      ∙ ap (λ (n : ℕ). stands_at (books.last_in (installed o) later) n) total_is
+
+  pub row_changed : (place : ℕ) → installed_row (f ∷ facts) place o ≡ settled made.last false (installed_row facts place o)
+  row_changed place =
+      ap (λ ls. installed_as place (installation_by o ls)) line_is
+      ∙ ap (λ (l : LastRow). settled l false (installed_row facts place o)) (sym last_is)
+
+  -- ---- its entries
+
   numbered : AreNumbered rows
-  numbered = (stand (installed o) lines (well facts o lawful.1 (installed_so facts v.meter o there)) (installed_fits facts o lawful.1 (installed_so facts v.meter o there))).places
+  numbered = (stand (installed o) lines begun fitting).places
 
   rows_are : rows_of (f ∷ facts) o ≡ map (changed_by v.place around.next last) rows
-  rows_are =
-      let own = installed_so facts v.meter o there in
-      ap (journal.rows_of (opened o)) line_is ∙ (change (installed o) lines v.place around (well facts o lawful.1 own) (fits, installed_fits facts o lawful.1 own) at).rows
+  rows_are = ap (journal.rows_of (opened o)) line_is ∙ voided_so.rows
 
   voidable : journals.is_voidable around.row around.next ≡ true
-  voidable = subst (λ (a : Around). journals.is_voidable a.row a.next ≡ true) (same_Some fits.around around (sym fits.there ∙ at)) fits.voidable
+  voidable = subst (λ (a : Around). journals.is_voidable a.row a.next ≡ true) (same_Some fits.around around (sym fits.there ∙ left.there)) fits.voidable
 
   free : journals.is_free around.next ≡ true
   free = second_of_both (around.row.stands && is_read around.row.kind around.row.entry) (journals.is_free around.next) voidable
@@ -277,9 +332,9 @@ module _ (v : VoidedEntry) (facts : List Fact) (lawful : AreLawful (fact.Void v 
       let read : is_read around.row.kind around.row.entry ≡ true =
       second_of_both around.row.stands (is_read around.row.kind around.row.entry) (first_of_both (around.row.stands && is_read around.row.kind around.row.entry) (journals.is_free around.next) voidable) in
       all_weaker (FoundThere v.place around.row) (rolling.IsRead o v.place) (λ row found e. subst (λ (r : EntryRow). is_read r.kind r.entry ≡ true) (found e) read) rows
-      (found_there v.place rows around numbered at).0
+      (found_there v.place rows around numbered left.there).0
 
-  pub entries_after : (next : Option Rollover) → HasRolls told.opening around next → (content after : Content) → RollsNext v.meter next content after → AreEntries facts content → AreEntries (f ∷ facts) after
+  pub entries_after : (next : Option Rejoined) → HasRolls (opened o) around next → (content after : Content) → RollsNext v.meter next content after → AreEntries facts content → AreEntries (f ∷ facts) after
   entries_after None none content after e a =
       let unrolled : entered_rows o (map (changed_by v.place None last) rows) ≡ entered_rows o rows =
       rolling.all_edited o v.place None last (λ e. e) refl rows each_read
@@ -287,74 +342,139 @@ module _ (v : VoidedEntry) (facts : List Fact) (lawful : AreLawful (fact.Void v 
       ∙ map_same (entered_rows o rows) in
       entries_kept f facts v.meter same_found spares o there content after
       (ap (entered_rows o) rows_are ∙ (ap (λ (n : Option EntryRow). entered_rows o (map (changed_by v.place n last) rows)) none ∙ unrolled)) e a
-  entries_after (Some rollover) one content after e a =
+  entries_after (Some joined) one content after e a =
       let next : EntryRow = one.0 in
       let next_is : around.next ≡ Some next = one.1 in
-      let it = rolling.next_there v.place rows around next numbered at next_is in
+      let it = rolling.next_there v.place rows around next numbered left.there next_is in
       let read : is_read next.kind next.entry ≡ true = subst (λ n. journals.is_free n ≡ true) next_is free in
       let edit = rolling.edit o v.place next last it.following it.stands read in
       let rolls = rolling.rolls o v.place next last it.following it.stands read in
       let rolled_rows : entered_rows o (map (changed_by v.place (Some next) last) rows) ≡ map edit (entered_rows o rows) =
       rolling.all_edited o v.place (Some next) last edit (rolling.opening_spared o v.place next last it.following it.stands read it.late) rows each_read
       (all_weaker (FoundThere next.place next) (rolling.IsEdited o v.place (Some next) last edit) (rolling.one_next o v.place next last it.following it.stands read) rows it.each) in
-      let place_is : rollover.place ≡ next.place = ap (λ (r : Rollover). r.place) one.2 in
-      let rolls_are : rollover.rolls ≡ rolls = ap (λ (r : Rollover). r.rolls) one.2
-      ∙ ap (λ (l : Last). rolls_of (journal.with_rolls (last_before l around) next.entry)) from.opening in
-      let same_edit : map edit (entered_rows o rows) ≡ map (edited v.meter rollover.place rollover.rolls) (entered_rows o rows) =
+      let place_is : joined.rollover.place ≡ next.place = ap (λ (r : Rollover). r.place) one.2 in
+      let rolls_are : joined.rollover.rolls ≡ rolls = ap (λ (r : Rollover). r.rolls) one.2 in
+      let same_edit : map edit (entered_rows o rows) ≡ map (edited v.meter joined.rollover.place joined.rollover.rolls) (entered_rows o rows) =
       ap (λ m. map (edited m next.place rolls) (entered_rows o rows)) (named facts v.meter o there)
       ∙ ap (λ p. map (edited v.meter p rolls) (entered_rows o rows)) (sym place_is)
-      ∙ ap (λ n. map (edited v.meter rollover.place n) (entered_rows o rows)) (sym rolls_are) in
-      entry_rolled f facts v.meter same_found spares o there rollover.place rollover.rolls content after
+      ∙ ap (λ n. map (edited v.meter joined.rollover.place n) (entered_rows o rows)) (sym rolls_are) in
+      entry_rolled f facts v.meter same_found spares o there joined.rollover.place joined.rollover.rolls content after
       (ap (entered_rows o) rows_are ∙ (ap (λ (n : Option EntryRow). entered_rows o (map (changed_by v.place n last) rows)) next_is ∙ (rolled_rows ∙ same_edit))) e a
 
--- The void of an entry: its row, and what is left of its meter.
-void_recorded : OtherMetersStay → RowsStand → VoidsChangeTwoRows → (v : VoidedEntry) (told : MeterJournal) (made : Correction) → Corrects told v.place made
-    → (before mid after : Content) → IsSaidIn (λ facts. IsJournalOf v.meter facts told) before mid → EntersVoid v.meter v.place v.at made mid after → Records (fact.Void v) before after
-void_recorded others stand change v told made corrects before mid after said enters zone facts was lawful =
-    let g : Fact = fact.Void v in
-    let a : AreOf zone facts mid = subst (AreOf zone facts) (sym said.same) was in
-    let o = lawful.0.0.opening in
-    let found : opening_of facts v.meter ≡ Some o = lawful.0.0.there in
-    let from : IsJournalFrom facts o told = said.says zone facts was o found in
-    let two = enters.two in
-    let three = enters.account.one in
-    let energy = enters.account.energy in
-    let stands = enters.account.stands in
-    let late = λ (t : ℕ) (x : t ≢ 14) (y : t ≢ 7). stands.others t y ∙ energy.others t x in
-    let far = λ (t : ℕ) (x : t ≢ 9) (y : t ≢ 14) (z : t ≢ 7) (w : t ≢ 20). late t y z ∙ enters.next.others t x ∙ enters.void.others t w in
-    record {
-      lawful = lawful;
-      meta = stay meta_tree meta_columns (zone ∷ []) mid after (far 0 (λ is. omega (arith, is)) (λ is. omega (arith, is)) (λ is. omega (arith, is)) (λ is. omega (arith, is))) a.meta;
-      devices = stay list_tree.devices device_columns (placed added (devices_in facts)) mid after (far 1 (λ is. omega (arith, is)) (λ is. omega (arith, is)) (λ is. omega (arith, is)) (λ is. omega (arith, is))) a.devices;
-      points = points_stay facts (g ∷ facts) mid after (far 3 (λ is. omega (arith, is)) (λ is. omega (arith, is)) (λ is. omega (arith, is)) (λ is. omega (arith, is))) (λ device. refl) a.points;
-      registers = stay list_tree.registers register_columns (placed registered (registers_in facts)) mid after (far 5 (λ is. omega (arith, is)) (λ is. omega (arith, is)) (λ is. omega (arith, is)) (λ is. omega (arith, is))) a.registers;
-      installations =
-          subst (λ rs. HasRows meter_tree.installations installed_columns rs after)
-          (sym (installations_changed g facts v.meter (λ m. refl) (spares v facts lawful o found others stand change told made from corrects) o found
-          (settled made.account.last false) (row_changed v facts lawful o found others stand change told made from corrects) lawful.1))
-          (stands.rows (placed (installed_row facts) (openings_in facts))
-          (stay meter_tree.installations installed_columns (placed (installed_row facts) (openings_in facts)) mid three
-          (energy.others 7 (λ is. omega (arith, is)) ∙ enters.next.others 7 (λ is. omega (arith, is)) ∙ enters.void.others 7 (λ is. omega (arith, is))) a.installations));
-      ranges = stay meter_tree.ranges ranged_columns (map ranged (openings_in facts)) mid after (far 18 (λ is. omega (arith, is)) (λ is. omega (arith, is)) (λ is. omega (arith, is)) (λ is. omega (arith, is))) a.ranges;
-      entries = entries_stay (g ∷ facts) (g ∷ facts) two after (late 9 (λ is. omega (arith, is)) (λ is. omega (arith, is))) (λ meter. refl)
-          (entries_after v facts lawful o found others stand change told made from corrects made.next corrects.next.2 enters.one two enters.next
-          (entries_stay facts facts mid enters.one (enters.void.others 9 (λ is. omega (arith, is))) (λ meter. refl) a.entries));
-      voids = stay entry_tree.voids voided_columns (map voided (voids_in (g ∷ facts))) enters.one after
-          (late 20 (λ is. omega (arith, is)) (λ is. omega (arith, is)) ∙ enters.next.others 20 (λ is. omega (arith, is)))
-          (enters.void.rows (map voided (voids_in facts)) a.voids);
-      polls = stay poll_tree.polls poll_columns (map started (polls_in facts)) mid after (far 11 (λ is. omega (arith, is)) (λ is. omega (arith, is)) (λ is. omega (arith, is)) (λ is. omega (arith, is))) a.polls;
-      holds = stay poll_tree.holds hold_columns (placed held_row (holds_in facts)) mid after (far 12 (λ is. omega (arith, is)) (λ is. omega (arith, is)) (λ is. omega (arith, is)) (λ is. omega (arith, is))) a.holds;
-      outcomes = stay poll_tree.outcomes outcome_columns (map outcome_row (ended_in facts)) mid after (far 13 (λ is. omega (arith, is)) (λ is. omega (arith, is)) (λ is. omega (arith, is)) (λ is. omega (arith, is))) a.outcomes;
-      intervals = intervals_stay (g ∷ facts) (g ∷ facts) three after (stands.others 14 (λ is. omega (arith, is))) (λ meter. refl)
-          (shares_replaced g facts v.meter (λ m. refl) (spares v facts lawful o found others stand change told made from corrects) made.account.shares.items two three
-          (energy_is v facts lawful o found others stand change told made from corrects) energy
-          (intervals_stay facts facts mid two (enters.next.others 14 (λ is. omega (arith, is)) ∙ enters.void.others 14 (λ is. omega (arith, is))) (λ meter. refl) a.intervals));
-      replies = stay poll_tree.replies reply_columns (map kept (replies_in facts)) mid after (far 16 (λ is. omega (arith, is)) (λ is. omega (arith, is)) (λ is. omega (arith, is)) (λ is. omega (arith, is))) a.replies;
-    }
+  -- ---- its interval rows
+  module _ (kept : MetersAreKept) (ranges : InstallationsAreInRange) (lying : RowsLieWithin) (law : SharesAddUp) where
+    abbrev old : List Share
+    old = rows_of_opening facts o
 
--- the same by what the calls are given
-pub void_entered : OtherMetersStay → RowsStand → VoidsChangeTwoRows → (v : VoidedEntry) (meter : List ℕ) (told : MeterJournal) (made : Correction) → meter ≡ v.meter → Corrects told v.place made
-    → (before mid after : Content) → IsSaidIn (λ facts. IsJournalOf meter facts told) before mid → EntersVoid meter v.place v.at made mid after → Records (fact.Void v) before after
-void_entered others stand change v meter told made meter_is corrects before mid after said enters =
-    void_recorded others stand change v told made corrects before mid after (subst (λ (m : List ℕ). IsSaidIn (λ facts. IsJournalOf m facts told) before mid) meter_is said)
-    (subst (λ (m : List ℕ). EntersVoid m v.place v.at made mid after) meter_is enters)
+    abbrev A : List Share
+    A = next_out made.next
+
+    abbrev B : List Share
+    B = shares_of made.out
+
+    abbrev C : List Share
+    C = next_put made.next
+
+    abbrev exchanged : List Share
+    exchanged = with_each C (without_each B (without_each A old))
+
+    abbrev ended : ℕ
+    ended = (books.last_in (installed o) later).at
+
+    small : AllByRecursion IsSmall old
+    small =
+        let whole = (kept facts o lawful.1 recorded).sum in
+        let limit = ((ranges facts lawful.1).recorded o recorded).total in
+        within_sum 4000000000000000000 old (omega (arith, whole, limit))
+
+    both_therein : AreTherein A old × AreTherein B (without_each A old)
+    both_therein = several_therein A B old (subst (λ (shares : List Share). AreTherein shares old) left.out voided_so.shares.therein)
+
+    new_is : rows_of_opening (f ∷ facts) o ≡ rows_until o.at ended exchanged
+    new_is =
+        ap (books.interval_rows (installed o)) line_is ∙ voided_so.shares.intervals
+        ∙ ap₂ (λ (outs puts : List Share). rows_until o.at ended (with_each puts (without_each outs old))) left.out left.put
+        ∙ ap (λ (rest : List Share). rows_until o.at ended (with_each C rest)) (several_taken A B old)
+
+    -- where an entry comes next no row goes
+    all_stay : (next : EntryRow) → around.next ≡ Some next → rows_until o.at ended exchanged ≡ exchanged
+    all_stay next is =
+        let end : ended ≡ (books.last_in (installed o) lines).at = ap (λ (l : Last). l.at) (voided_so.last ∙ ap (λ (n : Option EntryRow). cond (is_some n) (books.last_in (installed o) lines) last) is) in
+        let account = (kept facts o lawful.1 recorded).account.account in
+        let lies = next_lies o.range (opened o) v.place rows around next left.there is account.follow in
+        let bound : ℕ = (books.last_in (installed o) lines).at in
+        let was : AllByRecursion (λ (row : Share). row.start < bound) old =
+        all_weaker (LiesWithin o.at bound) (λ (row : Share). row.start < bound) (λ row h. h.before) old (recursion_from_All (LiesWithin o.at bound) old (lying (installed o) lines begun fitting)) in
+        let forward : AllByRecursion (λ (s : Step). s.from < s.till) (steps_put (installed o) around) = all_weaker IsShareable (λ (s : Step). s.from < s.till) (λ s h. h.later) (steps_put (installed o) around) (recursion_from_All IsShareable (steps_put (installed o) around) voided_so.steps.put) in
+        let comes : AllByRecursion (λ (row : Share). row.start < bound) C =
+        subst (AllByRecursion (λ (row : Share). row.start < bound)) left.put
+        (all_begin law bound (steps_put (installed o) around) (put_before o.range bound last around.next (λ row found. subst (λ (r : EntryRow). moment_of r.entry ≤ bound) (same_Some next row (sym is ∙ found)) lies.earlier) forward)) in
+        let low : AllByRecursion (λ (row : Share). row.start < ended) exchanged =
+        subst (λ n. AllByRecursion (λ (row : Share). row.start < n) exchanged) (sym end)
+        (starts_below_with bound C (without_each B (without_each A old)) comes (starts_below_without bound B (without_each A old) (starts_below_without bound A old was))) in
+        let first = lies.later in
+        let then_ = lies.earlier in
+        none_gone o.at ended exchanged (omega (arith, first, then_, end)) low
+
+    module _ (content after : Content) (a : AreIntervals facts content) where
+      of_meter : rows_of_meter facts v.meter ≡ old
+      of_meter = ap (rows_of_installed facts) there
+
+      own : AreRowsOf v.meter a.rows old
+      own = subst (λ rs. IsPermutation (filter (is_interval_of v.meter) a.rows) (map (interval_of v.meter) rs)) of_meter (a.each v.meter)
+
+      apart : AreApart old
+      apart = opening_apart kept ranges facts o lawful.1 recorded
+
+      abbrev put : List Interval
+      put = put_rows v.meter A B C made.from a.rows
+
+      abbrev rest : List Interval
+      rest = left_rows v.meter A B C made.from a.rows
+
+      now_of : rows_of_meter (f ∷ facts) v.meter ≡ rows_of_opening (f ∷ facts) o
+      now_of = ap (rows_of_installed (f ∷ facts)) there
+
+      own_now : AreRowsOf v.meter put exchanged
+      own_now = own_put v.meter A B C made.from a.rows old own apart
+
+      each_put : (next : EntryRow) → around.next ≡ Some next → (m : List ℕ) → IsPermutation (filter (is_interval_of m) put) (map (interval_of m) (rows_of_meter (f ∷ facts) m))
+      each_put next is m = elim (cases_Bool (same v.meter m)) [
+        | inl here ↦ subst (λ t. IsPermutation (filter (is_interval_of t) put) (map (interval_of t) (rows_of_meter (f ∷ facts) t))) (same_text v.meter m here)
+            (subst (λ (rs : List Share). IsPermutation (filter (is_interval_of v.meter) put) (map (interval_of v.meter) rs)) (sym (now_of ∙ new_is ∙ all_stay next is)) own_now)
+        | inr off ↦
+            subst (λ rs. IsPermutation (filter (is_interval_of m) put) (map (interval_of m) rs)) (sym (other_intervals f facts v.meter same_found spares m off))
+            (subst (λ l. IsPermutation l (map (interval_of m) (rows_of_meter facts m))) (sym (others_put v.meter A B C made.from a.rows m off)) (a.each m))
+      ]
+
+      may : may_put v.meter made.next (less_rows v.meter A B C made.from a.rows)
+      may = may_of v.meter (opened o) around made.next (less_rows v.meter A B C made.from a.rows) left.rolls (λ next is. rows_small kept ranges (f ∷ facts) put lawful (each_put next is))
+
+      until : filter (λ (row : Share). nat_lt row.start made.from) exchanged ≡ rows_of_opening (f ∷ facts) o
+      until =
+          ap (λ n. filter (λ (row : Share). nat_lt row.start n) exchanged) (left.from ∙ ap (λ (l : LastRow). gone_from o.at l.moment) last_is)
+          ∙ until_is v.meter o.at ended exchanged ∙ sym new_is
+
+      own_rest : IsPermutation (filter (is_interval_of v.meter) rest) (map (interval_of v.meter) (rows_of_meter (f ∷ facts) v.meter))
+      own_rest =
+          subst (λ (rs : List Share). IsPermutation (filter (is_interval_of v.meter) rest) (map (interval_of v.meter) rs)) (until ∙ sym now_of)
+          (own_left v.meter A B C made.from a.rows exchanged own_now)
+
+      pub intervals_after : ExchangesRows v.meter made content after → AreIntervals (f ∷ facts) after
+      intervals_after e =
+          let has = have_all v.meter A B C made.from a.rows old own small both_therein.0 both_therein.1 in
+          record {
+            rows = rest;
+            there = there_then v.meter A B C made.from a.rows (may_put v.meter made.next) content e.taken.one e.one e.two after a.there has.0 has.1 may
+                (taken_next v.meter made.next content e.taken.one e.taken.next) e.taken.out (puts_next v.meter made.next e.one e.two e.put) e.gone;
+            each = λ m. elim (cases_Bool (same v.meter m)) [
+              | inl is ↦ subst (λ t. IsPermutation (filter (is_interval_of t) rest) (map (interval_of t) (rows_of_meter (f ∷ facts) t))) (same_text v.meter m is) own_rest
+              | inr off ↦
+                  subst (λ rs. IsPermutation (filter (is_interval_of m) rest) (map (interval_of m) rs)) (sym (other_intervals f facts v.meter same_found spares m off))
+                  (subst (λ l. IsPermutation l (map (interval_of m) (rows_of_meter facts m))) (sym (others_left v.meter A B C made.from a.rows m off)) (a.each m))
+            ];
+          }
+
+      pub energy_others : ExchangesRows v.meter made content after → (t : ℕ) → t ≢ interval_tree.intervals → after t ≡ content t
+      energy_others e t off =
+          e.gone.others t off ∙ (puts_next v.meter made.next e.one e.two e.put).others t off ∙ e.taken.out.others t off ∙ (taken_next v.meter made.next content e.taken.one e.taken.next).others t off

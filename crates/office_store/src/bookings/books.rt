@@ -35,7 +35,7 @@ fn enter_fact<S: Alter>(
         Fact::Opening(opening) => enter_opening(tx, opening),
         Fact::Entry(booked) => enter_entry(tx, booked),
         Fact::Hold(held) => enter_hold(tx, held),
-        Fact::Void(voided) => enter_void(alloc, tx, voided),
+        Fact::Void(voided) => enter_void(tx, voided),
         Fact::Poll(poll) => enter_poll(tx, poll),
         Fact::Outcome(ended) => enter_outcome(tx, ended),
         Fact::Reply(reply) => enter_reply(tx, reply),

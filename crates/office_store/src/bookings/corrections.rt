@@ -1,27 +1,20 @@
-//! What is left of a meter when one of its entries is voided.
-ghost use Rattle.std.specs.Prelude.{◌≡◌, ◌≤◌, IsTrue, All, IfOk, IfSome};
-ghost use Rattle.meter_journal.specs.Books.{IsWellInstalled, HasAccount, steps_after};
-ghost use Rattle.meter_journal.specs.Intervals.{rows_of_steps};
-ghost use Rattle.meter_journal.specs.Journal.{with_rolls, entries_in};
-ghost use Rattle.meter_journal.specs.Lists.{AreNumbered, latest_first};
-ghost use Rattle.store_tables.specs.Limits.{greatest_place};
-ghost use Rattle.store_tables.specs.Meters.Rows.{IsSoundLast};
-ghost use Rattle.store_facts.specs.Intervals.Rows.{IsSoundShare};
+//! What the void of an entry changes in the books of its meter.
+ghost use Rattle.std.specs.Prelude.{◌≡◌, ◌≤◌, ◌+◌, IfOk, IfSome};
+ghost use Rattle.energy_core.specs.Account.{step_to};
+ghost use Rattle.meter_journal.specs.Journal.{with_rolls};
+ghost use Rattle.store_tables.specs.Limits.{latest_moment};
+ghost use Rattle.store_tables.specs.Meters.Rows.{IsSoundLast, greatest_total};
 ghost use Rattle.store_facts.specs.Rows.{rolls_of};
-ghost use Rattle.office_store.specs.Bookings.Voids.{IsNextOf, IsAccountOf, Corrects};
+ghost use Rattle.office_store.specs.Bookings.Corrections.{counter_after, IsReadingOf, CanBeShared};
+ghost use Rattle.office_store.specs.Bookings.Corrections.{CanBeRejoined, CanBeBooked, Rejoins};
+ghost use Rattle.office_store.specs.Bookings.Corrections.{RejoinsNext, energy_out, energy_put};
+ghost use Rattle.office_store.specs.Bookings.Corrections.{StandsAt, gone_from, Corrects};
 
-use crate::bookings::journals::MeterJournal;
 use crate::bookings::meter_entries::is_sound;
-use energy_core::{Entry, Last, MAX_RANGE, MAX_TOTAL, MIN_RANGE};
-use interval_core::Share;
-use meter_journal::{
-    EntryRow, Installed, are_numbered, find_row, interval_rows, last_of_rows, strike,
-};
-use sqlite::Error;
-use std::alloc::Global;
+use crate::bookings::surroundings::Surroundings;
+use energy_core::{Entry, Last, MAX_TOTAL, Ranged, Step, Terms};
 use store_facts::{is_scale, last_row};
-use store_queries::tally;
-use store_tables::{GREATEST_PLACE, LATEST_MOMENT, LastRow, RowFault};
+use store_tables::{EntryKind, EntryRow, GREATEST_PLACE, LATEST_MOMENT, LastRow, RowFault};
 
 /// How many times the counter went past its range before the entry at a place.
 #[derive(Clone, Copy, Debug, PartialEq, Eq)]
@@ -30,131 +23,222 @@ pub struct Rollover {
     pub rolls: u8,
 }
 
-/// Where a meter stands, and its energy by intervals.
-#[derive(Debug, Drop)]
-pub struct Account {
-    pub last: LastRow,
-    pub shares: Vec<Share>,
+/// The next entry that stands, with its rollovers from now on: the step to it that goes out, and the one that comes in.
+#[derive(Clone, Copy, Debug, PartialEq, Eq)]
+pub struct Rejoined {
+    pub rollover: Rollover,
+    pub out: Step,
+    pub put: Step,
 }
 
-/// The next entry that stands after a voided one, if there is one, with the rollovers that it has then, and the account of
-/// all entries that are left.
-#[derive(Debug, Drop)]
+/// The step to the voided entry goes out, the next entry that stands is joined to the one before, the meter stands at
+/// `last`, and no interval row begins at `from` or later.
+#[derive(Clone, Copy, Debug, PartialEq, Eq)]
 pub struct Correction {
-    pub next: Option<Rollover>,
-    pub account: Account,
+    pub out: Step,
+    pub next: Option<Rejoined>,
+    pub last: LastRow,
+    pub from: u64,
 }
 
-/// The rollovers of an entry after where the counter stands.
-fn rolls_after(last: &Last, entry: &Entry) -> u8
-    ensures { result ≡ rolls_of (with_rolls last.now entry.now) }
+/// Where the counter stands after an entry.
+fn after_entry(entry: &EntryRow) -> Last
+    ensures { result ≡ counter_after entry.now }
+{
+    let raw = match entry.kind {
+        EntryKind::Opening | EntryKind::Reading | EntryKind::Manual | EntryKind::Closing => {
+            entry.raw
+        }
+        EntryKind::Reset | EntryKind::Rescale => entry.after,
+    };
+    Last {
+        at: entry.moment,
+        raw,
+        sf: entry.sf,
+    }
+}
+
+/// The step of a reading. No other entry is voided, nor comes after one that is.
+fn reading(entry: &EntryRow) -> Result<Entry, RowFault>
+    ensures { IfOk result (IsReadingOf entry.now) }
+{
+    match entry.kind {
+        EntryKind::Reading => Ok(Entry::Step {
+            at: entry.moment,
+            raw: entry.raw,
+            rolls: entry.rolls,
+        }),
+        EntryKind::Opening
+        | EntryKind::Manual
+        | EntryKind::Closing
+        | EntryKind::Reset
+        | EntryKind::Rescale => Err(RowFault::Damaged),
+    }
+}
+
+/// The step from where the counter stood to an entry. One that may not be entered there is damage.
+fn step_from(range: u64, last: &Last, entry: &Entry) -> Result<Step, RowFault>
+    ensures step { IfOk result (λ step. step ≡ step_to range last.now entry.now) }
+    ensures shared { IfOk result CanBeShared }
+{
+    let Some(counter) = Ranged::new(range) else {
+        return Err(RowFault::Damaged);
+    };
+    if range <= u64::from(last.raw) || !is_scale(last.sf) {
+        return Err(RowFault::Damaged);
+    }
+    let terms = Terms {
+        ceiling: 1,
+        total: 0,
+    };
+    let Ok((_, step)) = energy_core::enter(&counter, &terms, last, entry) else {
+        return Err(RowFault::Damaged);
+    };
+    if LATEST_MOMENT < step.till {
+        return Err(RowFault::Damaged);
+    }
+    Ok(step)
+}
+
+/// A reading with the rollovers that it has after where the counter stands.
+fn rolled(last: &Last, entry: &Entry) -> Entry
+    ensures { result ≡ with_rolls last.now entry.now }
 {
     match *entry {
-        Entry::Step { raw, .. } => u8::from(raw < last.raw),
+        Entry::Step { at, raw, .. } => Entry::Step {
+            at,
+            raw,
+            rolls: u8::from(raw < last.raw),
+        },
+        Entry::Change { .. } => *entry,
+    }
+}
+
+/// How many times the counter went past its range before an entry.
+fn rolls(entry: &Entry) -> u8
+    ensures { result ≡ rolls_of entry.now }
+{
+    match *entry {
+        Entry::Step { rolls, .. } => rolls,
         Entry::Change { .. } => 0,
     }
 }
 
-/// The next entry that stands after the one at a place.
-fn next_of(journal: &MeterJournal, place: u64) -> Result<Option<Rollover>, RowFault>
-    requires numbered { AreNumbered (latest_first journal.now.rows.items) }
-    ensures next { IfOk result (IsNextOf journal.now place) }
-    ensures sound { IfOk result (λ next. IfSome next (λ r. r.place ≤ greatest_place)) }
+/// The next entry, joined to where the counter stood before the voided one.
+fn rejoin(range: u64, before: &Last, voided: &Last, next: &EntryRow) -> Result<Rejoined, RowFault>
+    ensures joins { IfOk result (Rejoins range before.now voided.now next.now) }
+    ensures sound { IfOk result CanBeRejoined }
 {
-    let Some(found) = find_row(&journal.rows, place) else {
-        return Err(RowFault::Damaged);
-    };
-    let Some(next) = found.next else {
-        return Ok(None);
-    };
-    if GREATEST_PLACE < next.place || journal.rows.len() < found.index {
+    if GREATEST_PLACE < next.place {
         return Err(RowFault::Damaged);
     }
-    let last = last_of_rows(&journal.opening, &journal.rows[..found.index]);
-    Ok(Some(Rollover {
+    let entry = reading(next)?;
+    let out = step_from(range, voided, &entry)?;
+    let again = rolled(before, &entry);
+    let put = step_from(range, before, &again)?;
+    let rollover = Rollover {
         place: next.place,
-        rolls: rolls_after(&last, &next.entry),
-    }))
-}
-
-/// Whether a meter's counter shows what it can show, at a scale that the tables can have.
-fn is_well_installed(meter: &Installed) -> bool
-    ensures low { IsTrue result → MIN_RANGE ≤ meter.now.range }
-    ensures high { IsTrue result → meter.now.range ≤ MAX_RANGE }
-    ensures well { IsTrue result → IsWellInstalled meter.now }
-{
-    let opening = meter.opening;
-    let ranged = MIN_RANGE <= meter.range && meter.range <= MAX_RANGE;
-    ranged && u64::from(opening.raw) < meter.range && is_scale(opening.sf)
-}
-
-/// Whether the tables can have each of these rows.
-fn are_sound(shares: &[Share]) -> bool
-    ensures { IsTrue result → All IsSoundShare shares.now }
-{
-    for share in shares {
-        if LATEST_MOMENT < share.start || MAX_TOTAL < share.mwh {
-            return false;
-        }
-    }
-    true
-}
-
-/// The interval rows of the entries that stand. Want of memory is the database's.
-fn shares_of(alloc: Global, meter: &Installed, rows: &[EntryRow]) -> Result<Vec<Share>, Error>
-    requires range_low { MIN_RANGE ≤ meter.now.range }
-    requires range_high { meter.now.range ≤ MAX_RANGE }
-    requires installed { IsWellInstalled meter.now }
-    requires account { HasAccount meter.now (entries_in (latest_first rows.now)) }
-    ensures { let es = entries_in (latest_first rows.now) in
-        IfOk result (λ shares. shares.items ≡ rows_of_steps (steps_after meter.now es)) }
-{
-    Ok(interval_rows(alloc, meter, rows)?)
-}
-
-/// The account of these rows. Where there is none, or none that the tables can have, it is damage.
-fn account_of(alloc: Global, meter: &Installed, rows: &[EntryRow]) -> Result<Account, RowFault>
-    ensures account { let es = entries_in (latest_first rows.now) in
-        IfOk result (IsAccountOf meter.now.range meter.now.opening es) }
-    ensures last { IfOk result (λ account. IsSoundLast account.last) }
-    ensures shares { IfOk result (λ account. All IsSoundShare account.shares.items) }
-{
-    if !is_well_installed(meter) {
-        return Err(RowFault::Damaged);
-    }
-    let tally = tally(meter, rows)?;
-    if !is_sound(&tally.last) {
-        return Err(RowFault::Damaged);
-    }
-    let shares = shares_of(alloc, meter, rows)?;
-    if !are_sound(&shares) {
-        return Err(RowFault::Damaged);
-    }
-    Ok(Account {
-        last: last_row(tally.last, tally.total),
-        shares,
-    })
-}
-
-/// What is left when the entry at a place is voided. A journal without that entry, or whose entries have no account, is
-/// damage.
-pub fn correct(alloc: Global, journal: MeterJournal, place: u64) -> Result<Correction, RowFault>
-    ensures corrects { IfOk result (Corrects journal place) }
-    ensures next { IfOk result (λ made. IfSome made.next (λ r. r.place ≤ greatest_place)) }
-    ensures last { IfOk result (λ made. IsSoundLast made.account.last) }
-    ensures shares { IfOk result (λ made. All IsSoundShare made.account.shares.items) }
-{
-    if place < 2 || journal.rows.len() as u64 + 2 <= place || !are_numbered(&journal.rows) {
-        return Err(RowFault::Damaged);
-    }
-    let next = next_of(&journal, place)?;
-    let meter = Installed {
-        range: journal.range,
-        ceiling: 1,
-        opening: journal.opening,
+        rolls: rolls(&again),
     };
-    let mut rows = journal.rows;
-    strike(&meter.opening, &mut rows, place);
-    let account = account_of(alloc, &meter, &rows)?;
-    Ok(Correction { next, account })
+    Ok(Rejoined { rollover, out, put })
+}
+
+/// The same, if there is a next entry.
+fn rejoin_next(
+    range: u64,
+    before: &Last,
+    voided: &Last,
+    next: &Option<EntryRow>,
+) -> Result<Option<Rejoined>, RowFault>
+    ensures joins { IfOk result (RejoinsNext range before.now voided.now next.now) }
+    ensures sound { IfOk result (λ joined. IfSome joined CanBeRejoined) }
+{
+    match next {
+        None => Ok(None),
+        Some(next) => Ok(Some(rejoin(range, before, voided, next)?)),
+    }
+}
+
+/// The energy of a meter without the steps that go out and with the one that comes in. Less than nothing, or more than a
+/// meter can have, is damage.
+fn total_after(total: u64, out: &Step, next: &Option<Rejoined>) -> Result<u64, RowFault>
+    requires total { total ≤ greatest_total }
+    requires out { CanBeShared out.now }
+    requires next { IfSome next.now CanBeRejoined }
+    ensures sum { IfOk result
+        (λ n. n + energy_out out.now next.now ≡ total + energy_put next.now) }
+    ensures small { IfOk result (λ n. n ≤ greatest_total) }
+{
+    let (gone, come) = match next {
+        None => (out.mwh, 0),
+        Some(joined) => (joined.out.mwh + out.mwh, joined.put.mwh),
+    };
+    let whole = total + come;
+    if whole < gone || MAX_TOTAL < whole - gone {
+        return Err(RowFault::Damaged);
+    }
+    Ok(whole - gone)
+}
+
+/// Where the meter stands then: where it stood if an entry comes next, and else where it stood before.
+fn stands_then(
+    found: &Surroundings,
+    before: Last,
+    total: u64,
+    is_last: bool,
+) -> Result<LastRow, RowFault>
+    requires { total ≤ greatest_total }
+    ensures stands { IfOk result (StandsAt found.now before total is_last) }
+    ensures sound { IfOk result IsSoundLast }
+{
+    let was = found.standing.last;
+    let last = if is_last {
+        before
+    } else {
+        Last {
+            at: was.moment,
+            raw: was.raw,
+            sf: was.sf,
+        }
+    };
+    if !is_sound(&last) {
+        return Err(RowFault::Damaged);
+    }
+    Ok(last_row(last, total))
+}
+
+/// From where on no interval row is left: none where the meter stands at its opening.
+fn end_of_rows(opened: u64, last: &LastRow) -> u64
+    requires { last.now.moment ≤ latest_moment }
+    ensures end { result ≡ gone_from opened last.now.moment }
+    ensures small { result ≤ latest_moment }
+{
+    if last.moment == opened {
+        0
+    } else {
+        last.moment
+    }
+}
+
+/// What changes when the entry is voided. One that may not be, or steps that may not follow one another, are damage.
+pub fn correct(found: &Surroundings) -> Result<Correction, RowFault>
+    requires { found.now.standing.last.total ≤ greatest_total }
+    ensures corrects { IfOk result (Corrects found.now) }
+    ensures sound { IfOk result CanBeBooked }
+{
+    let range = found.standing.range;
+    let before = after_entry(&found.near.before);
+    let voided = after_entry(&found.near.entry);
+    let entry = reading(&found.near.entry)?;
+    let out = step_from(range, &before, &entry)?;
+    let next = rejoin_next(range, &before, &voided, &found.near.next)?;
+    let total = total_after(found.standing.last.total, &out, &next)?;
+    let last = stands_then(found, before, total, next.is_none())?;
+    let from = end_of_rows(found.opened, &last);
+    Ok(Correction {
+        out,
+        next,
+        last,
+        from,
+    })
 }

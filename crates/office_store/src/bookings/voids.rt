@@ -1,61 +1,137 @@
 //! Entries that are voided.
-ghost use Rattle.std.specs.Prelude.{◌≤◌, All, IfSome};
+ghost use Rattle.std.specs.Prelude.{◌≤◌, IfSome};
 ghost use Rattle.sqlite.specs.Held.{state};
 ghost use Rattle.office_events.specs.declared.facts.Fact.TheVariants as fact;
-ghost use Rattle.store_tables.specs.Limits.{IsPlace, greatest_place, latest_moment};
-ghost use Rattle.store_tables.specs.Meters.Rows.{IsSoundLast};
+ghost use Rattle.store_tables.specs.Limits.{IsPlace, latest_moment};
 ghost use Rattle.store_tables.specs.Steps.{IsSameBorrow};
-ghost use Rattle.store_facts.specs.Intervals.Rows.{IsSoundShare};
 ghost use Rattle.store_facts.specs.Going.{Goes};
 ghost use Rattle.store_facts.specs.Recording.{Records};
-ghost use Rattle.office_store.specs.Bookings.Voids.{RollsNext, EntersVoid, KeepsAccount};
+ghost use Rattle.office_store.specs.Bookings.Corrections.{CanBeRejoined, CanBeBooked, CanBeShared};
+ghost use Rattle.office_store.specs.Bookings.Voids.{RollsNext, TakesNext, PutsNext, ExchangesRows};
+ghost use Rattle.office_store.specs.Bookings.Voids.{MarksVoid, TakesSteps, EntersVoid};
 
-use crate::bookings::corrections::{Account, Correction, Rollover, correct};
-use crate::bookings::journals::journal_of;
+use crate::bookings::corrections::{Correction, Rejoined, correct};
 use crate::bookings::meter_entries::settle;
-use meter_journal::{rows_stand, voids_change_two_rows};
+use crate::bookings::surroundings::surroundings_of;
+use energy_core::Step;
+use interval_core::shares_add_up;
+use meter_journal::{rows_lie_within, rows_stand, voids_change_two_rows};
 use office_events::VoidedEntry;
-use office_rules::{journals_fit, other_meters_stay};
+use office_rules::{installations_are_in_range, journals_fit, meters_are_kept, other_meters_stay};
 use sqlite::{Alter, Transaction};
-use std::alloc::Global;
-use store_facts::{replace_shares, text};
+use store_facts::{book_step, text};
 use store_tables::{GREATEST_PLACE, LATEST_MOMENT, RowFault, insert_void, set_rolls};
+use store_voids::{drop_rows_from, take_step};
 
 /// Says how many times the counter went past its range before the next entry.
 fn roll_next<S: Alter>(
     tx: &mut Transaction<'_, S>,
     meter: &str,
-    next: Option<Rollover>,
+    next: &Option<Rejoined>,
 ) -> Result<(), RowFault>
-    requires { IfSome next (λ r. r.place ≤ greatest_place) }
+    requires { IfSome next.now CanBeRejoined }
     ensures same_reference { IsSameBorrow tx.old.conn tx.new.conn }
     ensures does { Goes (state S.Store tx.old.conn.now) (state S.Store tx.new.conn.now) result
-        (RollsNext meter.now next) }
+        (RollsNext meter.now next.now) }
 {
-    let Some(rollover) = next else {
+    let Some(joined) = next else {
         return Ok(());
     };
-    set_rolls(tx, meter, rollover.place, rollover.rolls)?;
+    set_rolls(tx, meter, joined.rollover.place, joined.rollover.rolls)?;
     Ok(())
 }
 
-/// Puts an account in the place of the one that a meter has.
-fn keep_account<S: Alter>(
+/// Takes out the step to the next entry.
+fn take_next<S: Alter>(
     tx: &mut Transaction<'_, S>,
     meter: &str,
-    account: &Account,
+    next: &Option<Rejoined>,
 ) -> Result<(), RowFault>
-    requires last { IsSoundLast account.now.last }
-    requires shares { All IsSoundShare account.now.shares.items }
+    requires { IfSome next.now CanBeRejoined }
     ensures same_reference { IsSameBorrow tx.old.conn tx.new.conn }
     ensures does { Goes (state S.Store tx.old.conn.now) (state S.Store tx.new.conn.now) result
-        (KeepsAccount meter.now account.now) }
+        (TakesNext meter.now next.now) }
 {
-    replace_shares(tx, meter, &account.shares)?;
-    settle(tx, meter, account.last, false)
+    let Some(joined) = next else {
+        return Ok(());
+    };
+    take_step(tx, meter, &joined.out)?;
+    Ok(())
 }
 
-/// Adds a void, and puts what is left of its meter in the place of what there was.
+/// Puts in the step that the next entry has from now on.
+fn put_next<S: Alter>(
+    tx: &mut Transaction<'_, S>,
+    meter: &str,
+    next: &Option<Rejoined>,
+) -> Result<(), RowFault>
+    requires { IfSome next.now CanBeRejoined }
+    ensures same_reference { IsSameBorrow tx.old.conn tx.new.conn }
+    ensures does { Goes (state S.Store tx.old.conn.now) (state S.Store tx.new.conn.now) result
+        (PutsNext meter.now next.now) }
+{
+    let Some(joined) = next else {
+        return Ok(());
+    };
+    book_step(tx, meter, &joined.put)?;
+    Ok(())
+}
+
+/// Takes out the steps to the next entry and to the voided one.
+fn take_steps<S: Alter>(
+    tx: &mut Transaction<'_, S>,
+    meter: &str,
+    out: &Step,
+    next: &Option<Rejoined>,
+) -> Result<(), RowFault>
+    requires out { CanBeShared out.now }
+    requires next { IfSome next.now CanBeRejoined }
+    ensures same_reference { IsSameBorrow tx.old.conn tx.new.conn }
+    ensures does { Goes (state S.Store tx.old.conn.now) (state S.Store tx.new.conn.now) result
+        (TakesSteps meter.now out.now next.now) }
+{
+    take_next(tx, meter, next)?;
+    take_step(tx, meter, out)?;
+    Ok(())
+}
+
+/// Takes steps out of the interval rows and puts another in.
+fn exchange_rows<S: Alter>(
+    tx: &mut Transaction<'_, S>,
+    meter: &str,
+    made: &Correction,
+) -> Result<(), RowFault>
+    requires { CanBeBooked made.now }
+    ensures same_reference { IsSameBorrow tx.old.conn tx.new.conn }
+    ensures does { Goes (state S.Store tx.old.conn.now) (state S.Store tx.new.conn.now) result
+        (ExchangesRows meter.now made.now) }
+{
+    take_steps(tx, meter, &made.out, &made.next)?;
+    put_next(tx, meter, &made.next)?;
+    drop_rows_from(tx, meter, made.from)?;
+    Ok(())
+}
+
+/// Adds a void, and the rollovers that it gives the next entry.
+fn mark_void<S: Alter>(
+    tx: &mut Transaction<'_, S>,
+    meter: &str,
+    place: u64,
+    moment: u64,
+    next: &Option<Rejoined>,
+) -> Result<(), RowFault>
+    requires place { IsPlace place }
+    requires moment { moment ≤ latest_moment }
+    requires next { IfSome next.now CanBeRejoined }
+    ensures same_reference { IsSameBorrow tx.old.conn tx.new.conn }
+    ensures does { Goes (state S.Store tx.old.conn.now) (state S.Store tx.new.conn.now) result
+        (MarksVoid meter.now place moment next.now) }
+{
+    insert_void(tx, meter, place, moment)?;
+    roll_next(tx, meter, next)
+}
+
+/// Adds a void, and changes what it changes in the books of its meter.
 fn book_void<S: Alter>(
     tx: &mut Transaction<'_, S>,
     meter: &str,
@@ -65,23 +141,20 @@ fn book_void<S: Alter>(
 ) -> Result<(), RowFault>
     requires place { IsPlace place }
     requires moment { moment ≤ latest_moment }
-    requires next { IfSome made.now.next (λ r. r.place ≤ greatest_place) }
-    requires last { IsSoundLast made.now.account.last }
-    requires shares { All IsSoundShare made.now.account.shares.items }
+    requires made { CanBeBooked made.now }
     ensures same_reference { IsSameBorrow tx.old.conn tx.new.conn }
     ensures does { Goes (state S.Store tx.old.conn.now) (state S.Store tx.new.conn.now) result
         (EntersVoid meter.now place moment made.now) }
 {
-    insert_void(tx, meter, place, moment)?;
-    roll_next(tx, meter, made.next)?;
-    keep_account(tx, meter, &made.account)
+    mark_void(tx, meter, place, moment, &made.next)?;
+    exchange_rows(tx, meter, made)?;
+    settle(tx, meter, made.last, false)
 }
 
 /// Enters the void of a meter's entry: the entry stays, with a row that says so; the next that stands has the rollovers that
 /// the entry before gives it, and the meter's energy, in whole and by intervals, is anew that of the entries that stand. This
-/// costs as much as the meter has entries and interval rows.
+/// costs as much as there are quarter hours between the entries around it.
 pub fn enter_void<S: Alter>(
-    alloc: Global,
     tx: &mut Transaction<'_, S>,
     voided: &VoidedEntry,
 ) -> Result<(), RowFault>
@@ -91,13 +164,17 @@ pub fn enter_void<S: Alter>(
 {
     journals_fit();
     other_meters_stay();
+    meters_are_kept();
+    installations_are_in_range();
     rows_stand();
+    rows_lie_within();
+    shares_add_up();
     voids_change_two_rows();
-    if voided.place < 1 || GREATEST_PLACE < voided.place || LATEST_MOMENT < voided.at {
+    if voided.place < 2 || GREATEST_PLACE < voided.place || LATEST_MOMENT < voided.at {
         return Err(RowFault::Damaged);
     }
     let meter = text(&voided.meter)?;
-    let journal = journal_of(alloc, tx, meter)?;
-    let made = correct(alloc, journal, voided.place)?;
+    let found = surroundings_of(tx, meter, voided.place)?;
+    let made = correct(&found)?;
     book_void(tx, meter, voided.place, voided.at, &made)
 }

@@ -1,0 +1,102 @@
+-- What the void of an entry changes in the books of its meter, by the entries around it.
+use Rattle.std.specs.Prelude.{◌≡◌, ℕ, ◌+◌, ◌<◌, ◌≤◌, ◌==◌, Bool, Option, Some, None, IfSome, is_none, if◌then◌else◌}
+use Rattle.energy_core.specs.declared.limits.TheConstants.{MAX_INTERVALS}
+use Rattle.energy_core.specs.declared.entries.Entry.{Entry}
+use Rattle.energy_core.specs.declared.entries.Entry.TheVariants as entry
+use Rattle.energy_core.specs.declared.entries.Last.{Last}
+use Rattle.energy_core.specs.declared.entries.Step.{Step}
+use Rattle.energy_core.specs.Account.{intervals_touched, step_to}
+use Rattle.meter_journal.specs.Journal.{with_rolls}
+use Rattle.store_tables.specs.Limits.{greatest_place, latest_moment}
+use Rattle.store_tables.specs.Meters.Rows.{IsSoundLast, greatest_total}
+use Rattle.store_tables.specs.declared.meters.rows.LastRow.{LastRow}
+use Rattle.store_tables.specs.declared.entries.rows.EntryRow.{EntryRow}
+use Rattle.store_tables.specs.declared.entries.rows.EntryKind.{EntryKind}
+use Rattle.store_tables.specs.declared.entries.rows.EntryKind.TheVariants as kind
+use Rattle.store_facts.specs.Rows.{rolls_of}
+use Rattle.office_store.specs.declared.bookings.corrections.Correction.{Correction}
+use Rattle.office_store.specs.declared.bookings.corrections.Rejoined.{Rejoined}
+use Rattle.office_store.specs.declared.bookings.corrections.Rollover.{Rollover}
+use Rattle.office_store.specs.declared.bookings.surroundings.Surroundings.{Surroundings}
+use Rattle.office_store.specs.Bookings.MeterState.{counter_of, stands_at}
+
+-- where the counter stands after an entry: at what it was set to, if it was
+abbrev pub raw_after : EntryKind → EntryRow → ℕ
+raw_after kind.Reset e = e.after
+raw_after kind.Rescale e = e.after
+raw_after _ e = e.raw
+
+abbrev pub counter_after : EntryRow → Last
+counter_after e = record { at = e.moment; raw = raw_after e.kind e; sf = e.sf }
+
+-- the entry is a reading, and this is its step
+pub record IsReadingOf (row : EntryRow) (e : Entry) : Type 0 where
+  pub kind : row.kind ≡ kind.Reading
+  pub step : e ≡ entry.Step row.moment row.raw row.rolls
+
+-- a step whose shares the table can have
+pub record CanBeShared (step : Step) : Type 0 where
+  pub forward : step.from < step.till
+  pub intervals : intervals_touched step.from step.till ≤ MAX_INTERVALS
+  pub energy : step.mwh ≤ greatest_total
+  pub till : step.till ≤ latest_moment
+
+pub record CanBeRejoined (joined : Rejoined) : Type 0 where
+  pub place : joined.rollover.place ≤ greatest_place
+  pub out : CanBeShared joined.out
+  pub put : CanBeShared joined.put
+
+pub record CanBeBooked (made : Correction) : Type 0 where
+  pub out : CanBeShared made.out
+  pub next : IfSome made.next CanBeRejoined
+  pub last : IsSoundLast made.last
+  pub from : made.from ≤ latest_moment
+
+-- the next entry after where the counter stood before a voided one
+pub record Rejoins (range : ℕ) (before voided : Last) (next : EntryRow) (joined : Rejoined) : Type 0
+  where
+    pub entry : Entry
+    pub reading : IsReadingOf next entry
+    pub rollover : joined.rollover
+        ≡ record { place = next.place; rolls = rolls_of (with_rolls before entry) }
+    pub out : joined.out ≡ step_to range voided entry
+    pub put : joined.put ≡ step_to range before (with_rolls before entry)
+
+abbrev pub RejoinsNext : (range : ℕ) → (before voided : Last) → Option EntryRow → Option Rejoined
+    → Type 0
+RejoinsNext range before voided None joined = joined ≡ None
+RejoinsNext range before voided (Some next) None = ⊥
+RejoinsNext range before voided (Some next) (Some joined) = Rejoins range before voided next joined
+
+-- the energy that goes out, and that comes in
+abbrev pub energy_out : Step → Option Rejoined → ℕ
+energy_out out None = out.mwh
+energy_out out (Some joined) = joined.out.mwh + out.mwh
+
+abbrev pub energy_put : Option Rejoined → ℕ
+energy_put None = 0
+energy_put (Some joined) = joined.put.mwh
+
+-- where the meter stands then
+abbrev pub StandsAt : Surroundings → (before : Last) → (total : ℕ) → (is_last : Bool) → LastRow
+    → Type 0
+StandsAt found before total is_last last =
+    last ≡ stands_at (if is_last then before else counter_of found.standing.last) total
+
+-- the rows that begin so late go; all where the meter stands at its opening
+abbrev pub gone_from : (opened last : ℕ) → ℕ
+gone_from opened last = if last == opened then 0 else last
+
+-- What changes when the entry is voided.
+pub record Corrects (found : Surroundings) (made : Correction) : Type 0 where
+  pub entry : Entry
+  pub reading : IsReadingOf found.near.entry entry
+  pub out : made.out
+      ≡ step_to found.standing.range (counter_after found.near.before) entry
+  pub next : RejoinsNext found.standing.range (counter_after found.near.before)
+      (counter_after found.near.entry) found.near.next made.next
+  pub total : ℕ
+  pub sum : total + energy_out made.out made.next
+      ≡ found.standing.last.total + energy_put made.next
+  pub last : StandsAt found (counter_after found.near.before) total (is_none made.next) made.last
+  pub from : made.from ≡ gone_from found.opened made.last.moment

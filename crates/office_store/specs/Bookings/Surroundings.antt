@@ -1,0 +1,66 @@
+-- What the tables tell of an entry of a meter and of those around it.
+use Rattle.std.specs.Prelude.{◌≡◌, ℕ, List, Option, Some}
+use Rattle.store_tables.specs.Answer.{IsFound}
+use Rattle.store_tables.specs.Content.{Content, HasRows}
+use Rattle.store_tables.specs.Entries.Rows.{Entered, Voided, entry_columns, voided_columns, is_entry, IsRow}
+use Rattle.store_tables.specs.Entries.Trees.{entries, voids}
+use Rattle.store_tables.specs.declared.entries.rows.EntryRow.{EntryRow}
+use Rattle.store_voids.specs.Places.{IsBefore, IsAfter}
+use Rattle.office_store.specs.declared.bookings.surroundings.Neighbours.{Neighbours}
+use Rattle.office_store.specs.declared.bookings.surroundings.Surroundings.{Surroundings}
+use Rattle.office_store.specs.Bookings.MeterState.{IsStanding}
+
+-- the entry of the meter at a place, if there is one
+abbrev pub HasEntry : (meter : List ℕ) → (place : ℕ) → Option EntryRow → Content → Type 0
+HasEntry meter place found content =
+    (rows : List Entered) → HasRows entries entry_columns rows content
+    → IsFound (is_entry meter place) IsRow rows found
+
+-- the places of the entries around one that were not voided
+abbrev pub StandsBefore : (meter : List ℕ) → (place before : ℕ) → Content → Type 0
+StandsBefore meter place before content =
+    (rows : List Voided) → HasRows voids voided_columns rows content
+    → IsBefore meter place rows before
+
+abbrev pub StandsAfter : (meter : List ℕ) → (place next : ℕ) → Content → Type 0
+StandsAfter meter place next content =
+    (rows : List Voided) → HasRows voids voided_columns rows content
+    → IsAfter meter place rows next
+
+-- ---- what is found, where nothing was changed
+
+pub record FindsEntry (meter : List ℕ) (place : ℕ) (entry : EntryRow)
+    (content after : Content) : Type 0 where
+  pub same : after ≡ content
+  pub there : HasEntry meter place (Some entry) content
+
+pub record FindsBefore (meter : List ℕ) (place : ℕ) (entry : EntryRow)
+    (content after : Content) : Type 0 where
+  pub same : after ≡ content
+  pub at : ℕ
+  pub stands : StandsBefore meter place at content
+  pub there : HasEntry meter at (Some entry) content
+
+pub record FindsAfter (meter : List ℕ) (place : ℕ) (found : Option EntryRow)
+    (content after : Content) : Type 0 where
+  pub same : after ≡ content
+  pub at : ℕ
+  pub stands : StandsAfter meter place at content
+  pub there : HasEntry meter at found content
+
+pub record AreNear (meter : List ℕ) (place : ℕ) (near : Neighbours)
+    (content after : Content) : Type 0 where
+  pub entry : FindsEntry meter place near.entry content after
+  pub before : FindsBefore meter place near.before content after
+  pub next : FindsAfter meter place near.next content after
+
+pub record OpenedAt (meter : List ℕ) (opened : ℕ) (content after : Content) : Type 0 where
+  pub opening : EntryRow
+  pub moment : opened ≡ opening.moment
+  pub finds : FindsEntry meter 1 opening content after
+
+pub record IsAround (meter : List ℕ) (place : ℕ) (found : Surroundings)
+    (content after : Content) : Type 0 where
+  pub standing : IsStanding meter found.standing content after
+  pub opened : OpenedAt meter found.opened content after
+  pub near : AreNear meter place found.near content after

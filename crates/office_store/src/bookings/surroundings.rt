@@ -1,0 +1,134 @@
+//! What the tables have around an entry of a meter.
+ghost use Rattle.std.specs.Prelude.{◌≤◌, IfOk};
+ghost use Rattle.sqlite.specs.Held.{state};
+ghost use Rattle.store_tables.specs.Limits.{greatest_place};
+ghost use Rattle.store_tables.specs.Meters.Rows.{greatest_total};
+ghost use Rattle.store_tables.specs.Steps.{IsSameBorrow};
+ghost use Rattle.store_facts.specs.Going.{Goes};
+ghost use Rattle.office_store.specs.Bookings.Places.{Answered};
+ghost use Rattle.office_store.specs.Bookings.Surroundings.{FindsEntry, FindsBefore, FindsAfter};
+ghost use Rattle.office_store.specs.Bookings.Surroundings.{AreNear, OpenedAt, IsAround};
+
+use crate::bookings::meter_state::{Standing, standing_of};
+use sqlite::{Alter, Transaction};
+use store_tables::{EntryRow, RowFault};
+use store_voids::{entry_at, place_after, place_before};
+
+/// An entry of a meter, the last that stands before it or else the opening, and the next that stands.
+#[derive(Clone, Copy, Debug, PartialEq, Eq)]
+pub struct Neighbours {
+    pub entry: EntryRow,
+    pub before: EntryRow,
+    pub next: Option<EntryRow>,
+}
+
+/// The same, with where the meter stands, and the moment of its opening.
+#[derive(Clone, Copy, Debug, PartialEq, Eq)]
+pub struct Surroundings {
+    pub standing: Standing,
+    pub opened: u64,
+    pub near: Neighbours,
+}
+
+/// The entry of a meter at a place. Where there is none, it is damage.
+fn entry_there<S: Alter>(
+    tx: &mut Transaction<'_, S>,
+    meter: &str,
+    place: u64,
+) -> Result<EntryRow, RowFault>
+    requires place { place ≤ greatest_place }
+    ensures same_reference { IsSameBorrow tx.old.conn tx.new.conn }
+    ensures does { Goes (state S.Store tx.old.conn.now) (state S.Store tx.new.conn.now) result
+        (Answered result (FindsEntry meter.now place)) }
+{
+    match entry_at(tx, meter, place)? {
+        None => Err(RowFault::Damaged),
+        Some(entry) => Ok(entry),
+    }
+}
+
+/// The last entry before a place that stands, or else the opening.
+fn entry_before<S: Alter>(
+    tx: &mut Transaction<'_, S>,
+    meter: &str,
+    place: u64,
+) -> Result<EntryRow, RowFault>
+    requires following { 2 ≤ place }
+    requires place { place ≤ greatest_place }
+    ensures same_reference { IsSameBorrow tx.old.conn tx.new.conn }
+    ensures does { Goes (state S.Store tx.old.conn.now) (state S.Store tx.new.conn.now) result
+        (Answered result (FindsBefore meter.now place)) }
+{
+    let before = place_before(tx, meter, place)?;
+    entry_there(tx, meter, before)
+}
+
+/// The next entry after a place that stands.
+fn entry_after<S: Alter>(
+    tx: &mut Transaction<'_, S>,
+    meter: &str,
+    place: u64,
+) -> Result<Option<EntryRow>, RowFault>
+    requires place { place ≤ greatest_place }
+    ensures same_reference { IsSameBorrow tx.old.conn tx.new.conn }
+    ensures does { Goes (state S.Store tx.old.conn.now) (state S.Store tx.new.conn.now) result
+        (Answered result (FindsAfter meter.now place)) }
+{
+    let next = place_after(tx, meter, place)?;
+    entry_at(tx, meter, next)
+}
+
+/// The entry of a meter at a place, and those around it.
+fn neighbours_of<S: Alter>(
+    tx: &mut Transaction<'_, S>,
+    meter: &str,
+    place: u64,
+) -> Result<Neighbours, RowFault>
+    requires following { 2 ≤ place }
+    requires place { place ≤ greatest_place }
+    ensures same_reference { IsSameBorrow tx.old.conn tx.new.conn }
+    ensures does { Goes (state S.Store tx.old.conn.now) (state S.Store tx.new.conn.now) result
+        (Answered result (AreNear meter.now place)) }
+{
+    let entry = entry_there(tx, meter, place)?;
+    let before = entry_before(tx, meter, place)?;
+    let next = entry_after(tx, meter, place)?;
+    Ok(Neighbours {
+        entry,
+        before,
+        next,
+    })
+}
+
+/// The moment of a meter's opening.
+fn opened_at<S: Alter>(tx: &mut Transaction<'_, S>, meter: &str) -> Result<u64, RowFault>
+    ensures same_reference { IsSameBorrow tx.old.conn tx.new.conn }
+    ensures does { Goes (state S.Store tx.old.conn.now) (state S.Store tx.new.conn.now) result
+        (Answered result (OpenedAt meter.now)) }
+{
+    let opening = entry_there(tx, meter, 1)?;
+    Ok(opening.moment)
+}
+
+/// All of it. This reads no other entry of the meter, and of its voids those of the entries in between.
+pub fn surroundings_of<S: Alter>(
+    tx: &mut Transaction<'_, S>,
+    meter: &str,
+    place: u64,
+) -> Result<Surroundings, RowFault>
+    requires following { 2 ≤ place }
+    requires place { place ≤ greatest_place }
+    ensures same_reference { IsSameBorrow tx.old.conn tx.new.conn }
+    ensures total { IfOk result (λ found. found.standing.last.total ≤ greatest_total) }
+    ensures does { Goes (state S.Store tx.old.conn.now) (state S.Store tx.new.conn.now) result
+        (Answered result (IsAround meter.now place)) }
+{
+    let standing = standing_of(tx, meter)?;
+    let opened = opened_at(tx, meter)?;
+    let near = neighbours_of(tx, meter, place)?;
+    Ok(Surroundings {
+        standing,
+        opened,
+        near,
+    })
+}
