@@ -1,11 +1,10 @@
 -- Facts that are booked in the tables.
-use Rattle.std.proofs.Common.{◌≡◌, ℕ, List, [], ◌∷◌, ◌++◌, true, false, refl, sym, subst, Result, Ok, Err, IsTrue}
+use Rattle.std.proofs.Common.{◌≡◌, ℕ, List, [], true, false, refl, sym, subst, Result, Ok, Err, IsTrue}
 use Rattle.sqlite.specs.Store.{Ghosts}
 use Rattle.sqlite.specs.Held.{Held, state}
 use Rattle.sqlite.specs.State.{HasCleanDisk}
 use Rattle.interval_core.specs.declared.zone.Zone.{Zone}
 use Rattle.office_events.specs.declared.facts.Fact.{Fact}
-use Rattle.office_rules.specs.Lawful.{AreLawful}
 use Rattle.office_books.specs.declared.faults.BooksFault.{BooksFault}
 use Rattle.office_books.specs.declared.failures.Failures.{Failures}
 use Rattle.office_books.specs.Faults.{faults_after}
@@ -14,8 +13,8 @@ use Rattle.office_books.specs.Same.{AreSame}
 use Rattle.store_tables.specs.declared.faults.RowFault.{RowFault}
 use Rattle.store_facts.specs.Holding.{HasFacts, HoldsFacts, BooksFacts}
 use Rattle.office_store.specs.Laws.Laws.{DatabasesTellTheirFacts}
-use Rattle.office_store.specs.Answers.{answer_of, fault_of}
-use Rattle.office_store.specs.Stored.{IsStored, MayBeLeft, ledger_of}
+use Rattle.office_store.specs.Answers.{answer_of}
+use Rattle.office_store.specs.Stored.{IsStored, ledger_of}
 
 -- all facts that a connection holds are held for the days of one zone
 pub known_in : {S : Type 0} → DatabasesTellTheirFacts → (g : Ghosts S) (zone other : List ℕ) (h : Held S) (facts others : List Fact)

@@ -17,7 +17,7 @@ use Rattle.store_facts.proofs.Committed.{kept_holds}
 use Rattle.store_queries.specs.Finding.Finding as finding
 use Rattle.store_queries.specs.Metering.Looking as metering
 use Rattle.office_store.specs.Answers.{answer_of}
-use Rattle.office_store.specs.Stored.{IsStored, MayBeLeft, ledger_of}
+use Rattle.office_store.specs.Stored.{ledger_of}
 
 still_on : {S : Type 0} (g : Ghosts S) (zone : List ℕ) (old new : Held S) (facts : List Fact)
     → OnlyLooks g zone old new → HoldsFacts g zone old facts → HoldsFacts g zone new facts

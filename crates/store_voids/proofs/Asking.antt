@@ -1,7 +1,6 @@
 -- What the questions are told of the rows of a table.
-use Rattle.std.proofs.Common.{◌≡◌, ℕ, ◌==◌, ◌||◌, not, pos, Bool, true, false, cond, inl, inr, List, [], ◌∷◌, map, filter, length, take, slice_get, Option, Some, None, Ok, Err, Result, IsErrAnd, refl, sym, ap, ◌∙◌, IsPermutation, arith}
+use Rattle.std.proofs.Common.{◌≡◌, ℕ, ◌==◌, ◌||◌, pos, Bool, true, false, cond, List, [], ◌∷◌, map, filter, take, slice_get, Option, Some, None, Ok, Err, Result, IsErrAnd, refl, sym, ap, ◌∙◌, IsPermutation, arith}
 use Rattle.std.specs.List.{list_any}
-use Rattle.std.proofs.lemmas.Bool.{cases_Bool, cond-true, cond-false}
 use Rattle.std.proofs.lemmas.List.Sorted.{length_permutation}
 use Rattle.sqlite.specs.declared.error.Error.{Error}
 use Rattle.sqlite.specs.declared.types.Value.TheVariants.{Int, Text}

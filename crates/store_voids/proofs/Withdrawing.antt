@@ -1,11 +1,10 @@
 -- Shares that are taken out, and rows that go.
-use Rattle.std.proofs.Common.{◌≡◌, ◌≤◌, ◌<◌, ◌^◌, ◌+◌, ◌-◌, ◌-ℤ◌, ◌==◌, inl, inr, ℕ, pos, true, List, [], ◌∷◌, ◌++◌, map, Bool, ◌&&◌, bytes_eq, nat_le, Some, Result, Ok, OnOk, refl, sym, ap, ap₂, subst, ◌∙◌, arith, if◌then◌else◌}
+use Rattle.std.proofs.Common.{◌≡◌, ◌≤◌, ◌<◌, ◌^◌, ◌-◌, ◌-ℤ◌, ◌==◌, inl, inr, ℕ, pos, List, [], ◌∷◌, ◌++◌, map, nat_le, Some, Result, Ok, OnOk, refl, sym, ap, ap₂, subst, ◌∙◌, arith}
 use Rattle.std.specs.List.{AllByRecursion}
 use Rattle.std.proofs.lemmas.Bool.{cases_Bool}
 use Rattle.std.proofs.lemmas.Bool.Decides.{nat_tests}
 use Rattle.std.proofs.lemmas.Int.{ints}
 use Rattle.sqlite.specs.declared.error.Error.{Error}
-use Rattle.sqlite.specs.declared.types.Value.{Value}
 use Rattle.sqlite.specs.declared.types.Value.TheVariants.{Int, Text}
 use Rattle.sqlite.specs.Order.{Row}
 use Rattle.sqlite.specs.Ops.{binary, if_fits}
@@ -16,7 +15,7 @@ use Rattle.sqlite_sql.specs.declared.ops.BinaryOp.TheVariants.{Arith}
 use Rattle.sqlite_sql.specs.declared.ops.ArithOp.TheVariants.{Sub}
 use Rattle.interval_core.specs.declared.shares.Share.{Share}
 use Rattle.store_tables.specs.Schema.{intervals_table}
-use Rattle.store_tables.specs.Content.{Content, HasRows, Edits, changed_where, without_where}
+use Rattle.store_tables.specs.Content.{Content, HasRows, Edits, changed_where}
 use Rattle.store_tables.specs.Steps.{Steps, Turns}
 use Rattle.store_tables.specs.Meters.Rows.{greatest_total}
 use Rattle.store_tables.proofs.Scans.{text_is, number_is, and_true}
@@ -24,7 +23,7 @@ use Rattle.store_tables.proofs.StepLemmas.{on_ok, no_steps, weaker}
 use Rattle.store_tables.proofs.Tables.{cast_int, rowid_stays}
 use Rattle.store_tables.proofs.Updates.{updates, deletes}
 use Rattle.store_facts.specs.Intervals.Trees.{intervals}
-use Rattle.store_facts.specs.Intervals.Rows.{Interval, interval_columns, is_of, is_at, start_of}
+use Rattle.store_facts.specs.Intervals.Rows.{Interval, interval_columns, is_at}
 use Rattle.store_facts.specs.Intervals.StepShares.{EditsIf}
 use Rattle.store_facts.proofs.IntervalsLemmas.Kept.{Kept, kept_columns, kept_of, is_kept, of_intervals, turns_weaker}
 use Rattle.store_facts.proofs.StreamsLemmas.Compared.{at_least_is}

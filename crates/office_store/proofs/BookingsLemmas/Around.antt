@@ -21,18 +21,18 @@ use Rattle.meter_journal.specs.Standing.{is_voided}
 use Rattle.meter_journal.proofs.Keeping.{entries_standing, entries_struck}
 use Rattle.office_events.specs.declared.facts.Opening.{Opening}
 use Rattle.office_events.specs.declared.facts.Fact.{Fact}
-use Rattle.office_rules.specs.Facts.{opening_of, voids_in}
-use Rattle.office_rules.specs.Meters.{opened, journal_of, rows_of}
+use Rattle.office_rules.specs.Facts.{voids_in}
+use Rattle.office_rules.specs.Meters.{opened, journal_of}
 use Rattle.store_tables.specs.Answer.{IsFound}
 use Rattle.store_tables.specs.declared.entries.rows.EntryRow as stored
 use Rattle.store_tables.specs.Entries.Rows.{Entered, Voided, is_entry, is_of, is_void_of, IsRow}
-use Rattle.store_facts.specs.Rows.{entered, entry_row, opening_row, scale_after, entered_rows, voided}
+use Rattle.store_facts.specs.Rows.{entry_row, scale_after, entered_rows, voided}
 use Rattle.store_facts.proofs.Passing.{all_passing}
 use Rattle.store_facts.proofs.Standing.{found_has}
 use Rattle.store_queries.proofs.MeteringLemmas.Journals.{voids_are}
 use Rattle.store_queries.proofs.MeteringLemmas.Picked.{none_passes}
-use Rattle.store_queries.proofs.MeteringLemmas.Shapes.{HasShape, IsPlain, IsBelow, below, found_there}
-use Rattle.store_voids.specs.Places.{is_void, names, IsBefore, IsAfter}
+use Rattle.store_queries.proofs.MeteringLemmas.Shapes.{HasShape, IsPlain, found_there}
+use Rattle.store_voids.specs.Places.{names}
 use Rattle.office_store.specs.Bookings.Corrections.{counter_after}
 
 -- ---- the voids of a meter, by their places

@@ -1,5 +1,5 @@
 -- Interval rows of a meter from which shares are taken, and to which others come.
-use Rattle.std.proofs.Common.{◌≡◌, ℕ, ◌-◌, ◌≤◌, ◌<◌, ◌==◌, ◌&&◌, ◌||◌, not, Bool, true, false, cond, inl, inr, List, [], ◌∷◌, ◌++◌, map, filter, bytes_eq, nat_le, nat_lt, All, refl, sym, ap, ap₂, subst, ◌∙◌, arith, eqb-true, IsPermutation, if◌then◌else◌}
+use Rattle.std.proofs.Common.{◌≡◌, ℕ, ◌-◌, ◌≤◌, ◌<◌, ◌==◌, ◌&&◌, not, Bool, true, false, cond, inl, inr, List, [], ◌∷◌, ◌++◌, map, filter, bytes_eq, nat_le, nat_lt, refl, sym, ap, subst, ◌∙◌, arith, eqb-true, IsPermutation}
 use Rattle.std.specs.List.{list_any, AllByRecursion}
 use Rattle.std.proofs.lemmas.Bool.{cases_Bool, cond-true, cond-false, and_parts}
 use Rattle.std.proofs.lemmas.Bool.Decides.{nat_tests}
@@ -10,14 +10,14 @@ use Rattle.std.proofs.lemmas.Slice.Eq.{bytes_eq-Decides}
 use Rattle.interval_core.specs.declared.shares.Share.{Share}
 use Rattle.meter_journal.specs.Intervals as journal
 use Rattle.meter_journal.specs.Voids.{AreTherein, rows_until}
-use Rattle.store_tables.specs.Content.{Content, HasRows, changed_where, without_where}
+use Rattle.store_tables.specs.Content.{Content, HasRows, without_where}
 use Rattle.store_tables.specs.Meters.Rows.{greatest_total}
 use Rattle.store_facts.specs.Intervals.Trees.{intervals}
 use Rattle.store_facts.specs.Intervals.Rows.{Interval, interval_columns, is_of, is_at, start_of}
 use Rattle.store_facts.specs.Intervals.StepShares.{EditsIf, with_shares}
 use Rattle.store_facts.specs.Rows.{interval_of}
 use Rattle.store_facts.proofs.Booked.{AreApart, AreRowsOf, has_start, itself, booked, others_booked}
-use Rattle.store_facts.proofs.Passing.{map_agree, any_agree, any_map, filter_agree, filter_edited, filter_spared, all_passing}
+use Rattle.store_facts.proofs.Passing.{map_agree, any_agree, any_map, filter_edited, filter_spared, all_passing}
 use Rattle.store_voids.specs.Withdrawal.{lowered, without_share, without_shares, HasShare, HaveShares, TakesShares, starts_from, DropsRows}
 use Rattle.office_store.specs.Bookings.Corrections.{gone_from}
 

@@ -1,14 +1,14 @@
 -- Entries around one, told by one question after the other.
-use Rattle.std.proofs.Common.{◌≡◌, ℕ, List, Option, Some, None, Ok, Err, Result, IsErrAnd, refl, sym, subst, ◌∙◌}
+use Rattle.std.proofs.Common.{◌≡◌, ℕ, List, Option, Some, Ok, Err, Result, subst, ◌∙◌}
 use Rattle.sqlite.specs.State.{State}
 use Rattle.store_tables.specs.declared.faults.RowFault.{RowFault}
 use Rattle.store_tables.specs.Answer.{IsFound}
 use Rattle.store_tables.specs.Content.{Content}
-use Rattle.store_tables.specs.Entries.Rows.{Entered, Voided, entry_columns, voided_columns, is_entry, IsRow}
+use Rattle.store_tables.specs.Entries.Rows.{Entered, entry_columns, voided_columns, is_entry, IsRow}
 use Rattle.store_tables.specs.Entries.Trees.{entries, voids}
 use Rattle.store_tables.specs.declared.entries.rows.EntryRow.{EntryRow}
 use Rattle.store_facts.specs.Going.{Goes, Told}
-use Rattle.store_facts.proofs.GoingLemmas.{goes_then, then_failed, told_less, failed}
+use Rattle.store_facts.proofs.GoingLemmas.{goes_then, then_failed, told_less}
 use Rattle.store_voids.specs.Places.{TellsOf, IsBefore, IsAfter}
 use Rattle.office_store.specs.declared.bookings.meter_state.Standing.{Standing}
 use Rattle.office_store.specs.declared.bookings.surroundings.Neighbours.{Neighbours}

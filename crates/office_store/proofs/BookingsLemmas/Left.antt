@@ -1,8 +1,8 @@
 -- The tables after a void.
-use Rattle.std.proofs.Common.{◌≡◌, ◌≢◌, ℕ, ℤ, ◌+◌, ◌≤◌, ◌<◌, ◌==◌, ◌&&◌, Bool, true, false, not, cond, inl, inr, ◌⊎◌, List, [], ◌∷◌, ◌++◌, map, filter, length, Option, Some, None, option_map, bytes_eq, All, refl, sym, ap, ap₂, subst, ◌∙◌, IsPermutation, arith, append-nil}
-use Rattle.std.specs.Prelude.{nat_lt, sum_by, is_some, is_none}
-use Rattle.std.specs.List.{AllByRecursion, flat_map}
-use Rattle.std.proofs.lemmas.Bool.{cases_Bool, cond-true, cond-false}
+use Rattle.std.proofs.Common.{◌≡◌, ◌≢◌, ℕ, ◌+◌, ◌≤◌, ◌<◌, ◌==◌, ◌&&◌, Bool, true, false, cond, inl, inr, List, [], ◌∷◌, ◌++◌, map, filter, Option, Some, None, option_map, bytes_eq, refl, sym, ap, ap₂, subst, ◌∙◌, IsPermutation, arith}
+use Rattle.std.specs.Prelude.{nat_lt, is_some, is_none}
+use Rattle.std.specs.List.{AllByRecursion}
+use Rattle.std.proofs.lemmas.Bool.{cases_Bool, cond-false}
 use Rattle.std.proofs.lemmas.Option.{same_Some}
 use Rattle.std.proofs.lemmas.List.Sums.{sum_by-cons}
 use Rattle.std.proofs.lemmas.List.Elements.{recursion_from_All}
@@ -13,12 +13,10 @@ use Rattle.energy_core.specs.declared.entries.Entry.{Entry}
 use Rattle.energy_core.specs.declared.entries.Entry.TheVariants as entry
 use Rattle.energy_core.specs.declared.entries.Last.{Last}
 use Rattle.energy_core.specs.declared.entries.Step.{Step}
-use Rattle.energy_core.specs.Account.{after, last_of, moment_of, step_to}
+use Rattle.energy_core.specs.Account.{after, moment_of}
 use Rattle.interval_core.specs.declared.shares.Share.{Share}
 use Rattle.interval_core.specs.Share.{shares_of}
 use Rattle.interval_core.specs.Account.{SharesAddUp, energy_of as energy_in_rows}
-use Rattle.meter_journal.specs.declared.lines.EntryKind.{EntryKind}
-use Rattle.meter_journal.specs.declared.lines.EntryKind.TheVariants as kind
 use Rattle.meter_journal.specs.declared.lines.EntryRow.{EntryRow}
 use Rattle.meter_journal.specs.Books as books
 use Rattle.energy_core.specs.Laws.{IsShareable}
@@ -30,58 +28,42 @@ use Rattle.meter_journal.specs.Journal.{Around, entries_in, row_at, is_read, wit
 use Rattle.meter_journal.specs.Laws.{RowsStand}
 use Rattle.meter_journal.specs.Lists.{AreNumbered}
 use Rattle.meter_journal.specs.Voids.{IsVoided, VoidsChangeTwoRows, AreTherein, changed_by, last_before, steps_out, steps_put, step_if, energy_in, rows_until}
-use Rattle.meter_journal.proofs.Keeping.{by_read}
 use Rattle.office_events.specs.declared.facts.Opening.{Opening}
 use Rattle.office_events.specs.declared.facts.VoidedEntry.{VoidedEntry}
 use Rattle.office_events.specs.declared.facts.Fact.{Fact}
 use Rattle.office_events.specs.declared.facts.Fact.TheVariants as fact
-use Rattle.office_rules.specs.Facts.{same, devices_in, registers_in, openings_in, opening_of, holds_in, voids_in, replies_in, polls_in, ended_in}
+use Rattle.office_rules.specs.Facts.{same, openings_in, opening_of}
 use Rattle.office_rules.specs.Intervals.{rows_of_opening, rows_of_installed, rows_of_meter}
 use Rattle.office_rules.specs.Lawful.{AreLawful}
-use Rattle.office_rules.specs.Laws.{IsRecorded, JournalsFit, MetersAreKept}
+use Rattle.office_rules.specs.Laws.{IsRecorded, MetersAreKept}
 use Rattle.office_rules.specs.Meters.{opened, installed, journal_of, rows_of, installation_of}
 use Rattle.office_rules.specs.Ranges.{InstallationsAreInRange}
 use Rattle.office_rules.specs.Steps.{OtherMetersStay}
 use Rattle.office_rules.proofs.Journals.{installed_fits, well}
-use Rattle.office_rules.proofs.Lookups.{same_text, same_itself}
+use Rattle.office_rules.proofs.Lookups.{same_text}
 use Rattle.office_rules.proofs.Stepping.{installation_by, named, own_line, installed_so, line_after}
 use Rattle.store_tables.specs.Content.{Content, HasRows, Edits, changed_where}
-use Rattle.store_devices.specs.Devices.Trees as list_tree
-use Rattle.store_devices.specs.Devices.Rows.{device_columns, register_columns}
-use Rattle.store_tables.specs.Meters.Trees as meter_tree
 use Rattle.store_tables.specs.declared.meters.rows.LastRow.{LastRow}
-use Rattle.store_tables.specs.Meters.Rows.{Installed, installed_columns, ranged_columns, HasRange}
 use Rattle.store_tables.specs.Entries.Trees as entry_tree
-use Rattle.store_tables.specs.Entries.Rows.{Entered, entry_columns, voided_columns, is_entry, is_of as is_entry_of, rolled as with_rollovers}
-use Rattle.store_tables.specs.declared.entries.rows.EntryRow as stored
-use Rattle.store_tables.specs.declared.entries.rows.EntryKind.TheVariants as stored_kind
+use Rattle.store_tables.specs.Entries.Rows.{Entered, entry_columns, is_entry, is_of as is_entry_of, rolled as with_rollovers}
 use Rattle.store_facts.specs.Intervals.Trees as interval_tree
 use Rattle.store_facts.specs.Intervals.Rows.{Interval, interval_columns, is_of as is_interval_of}
-use Rattle.store_facts.specs.Intervals.StepShares.{EditsIf, AreSmall, BooksShares, with_shares}
-use Rattle.store_devices.specs.Polls.Trees as poll_tree
-use Rattle.store_devices.specs.Polls.Rows.{poll_columns, outcome_columns, hold_columns, reply_columns}
-use Rattle.store_facts.specs.Rows.{placed, added, registered, installed_as, installed_row, last_row, ranged, voided, interval_of, started, outcome_row, held_row, kept, kind_as, rolls_of, entry_row, scale_after, entered_rows, entries_at, entries_of}
-use Rattle.store_facts.specs.Tables.{meta_tree, meta_columns, AreEntries, AreIntervals, AreOf}
-use Rattle.store_facts.specs.Recording.{Records}
+use Rattle.store_facts.specs.Intervals.StepShares.{EditsIf, AreSmall, with_shares}
+use Rattle.store_facts.specs.Rows.{installed_as, installed_row, last_row, interval_of, rolls_of, entered_rows, entries_at, entries_of}
+use Rattle.store_facts.specs.Tables.{AreEntries, AreIntervals}
 use Rattle.store_facts.proofs.Booked.{AreApart, AreRowsOf}
 use Rattle.store_facts.proofs.Energy.{found_recorded, opening_apart, rows_small}
-use Rattle.store_facts.proofs.Entered.{SparesOthers, other_entries, other_intervals, installations_changed}
+use Rattle.store_facts.proofs.Entered.{SparesOthers, other_entries, other_intervals}
 use Rattle.store_facts.proofs.Passing.{filter_edited, filter_spared}
-use Rattle.store_facts.proofs.Recorded.{stay, points_stay, entries_stay, intervals_stay}
-use Rattle.store_facts.proofs.Standing.{stands_found, range_found}
-use Rattle.store_queries.proofs.MeteringLemmas.Shapes.{FoundThere, found_there, IsPlain, plain}
-use Rattle.store_voids.specs.Places.{names}
-use Rattle.store_voids.specs.Withdrawal.{TakesShares, DropsRows}
-use Rattle.office_store.specs.Bookings.Corrections.{counter_after, IsReadingOf, Rejoins, RejoinsNext, Corrects, energy_out, energy_put, gone_from}
-use Rattle.office_store.specs.Bookings.MeterState.{counter_of, stands_at, settled}
-use Rattle.office_store.specs.Bookings.Places.{StandsThere}
-use Rattle.office_store.specs.Bookings.Surroundings.{HasEntry, IsAround}
-use Rattle.office_store.specs.Bookings.Voids.{RollsNext, TakesNext, PutsNext, ExchangesRows, EntersVoid}
+use Rattle.store_queries.proofs.MeteringLemmas.Shapes.{FoundThere, found_there}
+use Rattle.store_voids.specs.Withdrawal.{TakesShares}
+use Rattle.office_store.specs.Bookings.Corrections.{energy_out, energy_put, gone_from}
+use Rattle.office_store.specs.Bookings.MeterState.{stands_at, settled}
+use Rattle.office_store.specs.Bookings.Voids.{RollsNext, TakesNext, PutsNext, ExchangesRows}
 use Rattle.office_store.specs.declared.bookings.corrections.Correction.{Correction}
 use Rattle.office_store.specs.declared.bookings.corrections.Rejoined.{Rejoined}
 use Rattle.office_store.specs.declared.bookings.corrections.Rollover.{Rollover}
-use Rattle.office_store.specs.declared.bookings.surroundings.Surroundings.{Surroundings}
-use Rattle.office_store.proofs.BookingsLemmas.Exchanging.{IsSmall, apart_without, starts_below_with, starts_below_without, none_gone, several_taken, several_therein, until_is, have_all, there_then, own_put, own_left, others_put, others_left, put_rows, left_rows, less_rows}
+use Rattle.office_store.proofs.BookingsLemmas.Exchanging.{IsSmall, starts_below_with, starts_below_without, none_gone, several_taken, several_therein, until_is, have_all, there_then, own_put, own_left, others_put, others_left, put_rows, left_rows, less_rows}
 use Rattle.office_store.proofs.BookingsLemmas.Later.{next_lies, shares_begin}
 use Rattle.office_store.proofs.BookingsLemmas.Rolling as rolling
 

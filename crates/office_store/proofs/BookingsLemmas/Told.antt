@@ -1,5 +1,5 @@
 -- What a void changes, as the tables told it, is what it changes in the facts.
-use Rattle.std.proofs.Common.{◌≡◌, ℕ, ℤ, ◌+◌, ◌≤◌, ◌<◌, ◌&&◌, Bool, true, false, cond, inl, inr, ◌⊎◌, List, [], ◌∷◌, ◌++◌, map, filter, length, Option, Some, None, option_map, refl, sym, ap, ap₂, subst, ◌∙◌, IsPermutation, arith, append-nil}
+use Rattle.std.proofs.Common.{◌≡◌, ℕ, ℤ, ◌+◌, ◌≤◌, ◌&&◌, true, false, cond, inl, inr, ◌⊎◌, List, [], ◌∷◌, ◌++◌, map, filter, Option, Some, None, option_map, refl, sym, ap, ap₂, subst, ◌∙◌, IsPermutation, arith, append-nil}
 use Rattle.std.specs.Prelude.{is_none}
 use Rattle.std.specs.List.{AllByRecursion}
 use Rattle.std.proofs.lemmas.Bool.{cond-true}
@@ -14,7 +14,6 @@ use Rattle.energy_core.specs.Account.{after, moment_of, step_to}
 use Rattle.interval_core.specs.declared.shares.Share.{Share}
 use Rattle.interval_core.specs.Share.{shares_of}
 use Rattle.meter_journal.specs.declared.lines.EntryKind.{EntryKind}
-use Rattle.meter_journal.specs.declared.lines.EntryKind.TheVariants as kind
 use Rattle.meter_journal.specs.declared.lines.EntryRow.{EntryRow}
 use Rattle.meter_journal.specs.Books as books
 use Rattle.meter_journal.specs.Fitting as journals
@@ -46,7 +45,7 @@ use Rattle.store_facts.specs.Tables.{AreOf}
 use Rattle.store_facts.proofs.Standing.{stands_found, range_found}
 use Rattle.store_queries.proofs.MeteringLemmas.Shapes.{HasShape, IsPlain, plain}
 use Rattle.store_voids.specs.Places.{AreVoided, names}
-use Rattle.office_store.specs.Bookings.Corrections.{counter_after, IsReadingOf, Rejoins, RejoinsNext, Corrects, energy_out, energy_put, gone_from}
+use Rattle.office_store.specs.Bookings.Corrections.{counter_after, IsReadingOf, RejoinsNext, Corrects, energy_out, energy_put, gone_from}
 use Rattle.office_store.specs.Bookings.MeterState.{counter_of, stands_at}
 use Rattle.office_store.specs.Bookings.Places.{StandsThere}
 use Rattle.office_store.specs.Bookings.Surroundings.{HasEntry, IsAround}

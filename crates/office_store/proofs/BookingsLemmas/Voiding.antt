@@ -4,7 +4,7 @@ use Rattle.sqlite.specs.declared.error.Error.{Error}
 use Rattle.sqlite.specs.State.{State}
 use Rattle.interval_core.specs.Share.{shares_of}
 use Rattle.store_tables.specs.declared.faults.RowFault.{RowFault}
-use Rattle.store_tables.specs.Content.{Content, Edits, changed_where}
+use Rattle.store_tables.specs.Content.{Edits, changed_where}
 use Rattle.store_tables.specs.Steps.{Steps}
 use Rattle.store_tables.specs.Entries.Trees.{entries}
 use Rattle.store_tables.specs.Entries.Rows.{entry_columns, is_entry, rolled}

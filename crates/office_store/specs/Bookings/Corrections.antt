@@ -16,7 +16,6 @@ use Rattle.store_tables.specs.declared.entries.rows.EntryKind.TheVariants as kin
 use Rattle.store_facts.specs.Rows.{rolls_of}
 use Rattle.office_store.specs.declared.bookings.corrections.Correction.{Correction}
 use Rattle.office_store.specs.declared.bookings.corrections.Rejoined.{Rejoined}
-use Rattle.office_store.specs.declared.bookings.corrections.Rollover.{Rollover}
 use Rattle.office_store.specs.declared.bookings.surroundings.Surroundings.{Surroundings}
 use Rattle.office_store.specs.Bookings.MeterState.{counter_of, stands_at}
 
