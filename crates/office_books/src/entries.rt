@@ -68,8 +68,8 @@ pub fn list_entries(
     from: u64,
     most: u32,
 ) -> Result<Vec<MeterEntry>, AllocError>
-    ensures { IfOk result (λ v.
-        v.items ≡ first_from from most (reverse (listed_rows opening.now (latest_first rows.now)))) }
+    ensures { IfOk result (λ v. v.items
+        ≡ first_from from most (reverse (listed_rows opening.now (latest_first rows.now)))) }
 {
     let mut listed = Vec::new(alloc);
     list(

@@ -69,8 +69,8 @@ fn append_with_zeros(text: &mut NumberText, magnitude: u64, zeros: u8)
 fn append_with_decimals(text: &mut NumberText, magnitude: u64, places: u8)
     requires room { array_vec_len text.old ≤ 1 }
     requires few { places ≤ 10 }
-    ensures { text.new.items ≡
-        text.old.items ++ (decimal (magnitude / 10 ^ places) ++ codes "." ++ low_digits 10 places magnitude) }
+    ensures { text.new.items ≡ text.old.items ++ (decimal (magnitude / 10 ^ places)
+        ++ codes "." ++ low_digits 10 places magnitude) }
 {
     append_decimal(text, magnitude / 10u64.pow(u32::from(places)));
     text.push(b'.');
