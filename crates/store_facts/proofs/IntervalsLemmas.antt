@@ -5,4 +5,3 @@ pub mod Writes
 pub mod Loops
 pub mod Reading
 pub mod Joins
-pub mod Replaced

@@ -17,3 +17,4 @@ pub mod Committed
 pub mod StreamsLemmas
 pub mod IntervalsLemmas
 pub mod HoldsLemmas
+pub mod VoidsLemmas

@@ -2,4 +2,3 @@ pub mod Trees
 pub mod Rows
 pub mod StepShares
 pub mod Handing
-pub mod Replacement

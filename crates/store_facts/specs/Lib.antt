@@ -6,3 +6,4 @@ pub mod Recording
 pub mod Handing
 pub mod Intervals
 pub mod Holds
+pub mod Voids

@@ -1,11 +1,9 @@
 //! The energy of meters by intervals, in the tables of the books.
 
 mod columns;
-mod replacement;
 mod step_shares;
 mod streams;
 
-pub use replacement::replace_shares;
 pub use step_shares::book_step;
 pub use streams::{
     meter_intervals, meter_intervals_between, register_intervals, register_intervals_between,

@@ -13,9 +13,7 @@ mod streams;
 
 pub use entries::entry;
 pub use held_readings::holds;
-pub use journal::journal_rows;
 pub use listing::meter_entries;
 pub use meters::{installation, installation_count, meter};
-pub use places::tally;
 pub use register_meters::meters_at;
 pub use streams::{intervals, register_intervals};

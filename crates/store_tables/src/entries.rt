@@ -2,14 +2,12 @@
 
 mod columns;
 mod entries;
-mod inside;
 mod latest;
 mod rows;
 mod voids;
 
 pub use columns::{read_entry, read_void};
 pub use entries::{entry_at, entry_rows, insert_entry, last_entry_rows, set_rolls};
-pub use inside::{entry_rows_inside, void_rows_inside};
 pub use latest::{latest_entry, latest_void};
 pub use rows::{EntryKind, EntryRow};
 pub use voids::{insert_void, void_rows};

@@ -11,9 +11,8 @@ mod probe;
 
 pub use columns::{first_whole, function, scale, text, whole};
 pub use entries::{
-    EntryKind, EntryRow, entry_at, entry_rows, entry_rows_inside, insert_entry, insert_void,
-    last_entry_rows, latest_entry, latest_void, read_entry, read_void, set_rolls, void_rows,
-    void_rows_inside,
+    EntryKind, EntryRow, entry_at, entry_rows, insert_entry, insert_void, last_entry_rows,
+    latest_entry, latest_void, read_entry, read_void, set_rolls, void_rows,
 };
 pub use faults::RowFault;
 pub use limits::{GREATEST_PLACE, LATEST_MOMENT};

@@ -32,7 +32,7 @@ use Rattle.store_facts.proofs.Standing.{found_has}
 use Rattle.store_queries.proofs.MeteringLemmas.Journals.{voids_are}
 use Rattle.store_queries.proofs.MeteringLemmas.Picked.{none_passes}
 use Rattle.store_queries.proofs.MeteringLemmas.Shapes.{HasShape, IsPlain, found_there}
-use Rattle.store_voids.specs.Places.{names}
+use Rattle.store_facts.specs.Voids.Places.{names}
 use Rattle.office_store.specs.Bookings.Corrections.{counter_after}
 
 -- ---- the voids of a meter, by their places

@@ -18,7 +18,7 @@ use Rattle.store_facts.specs.Intervals.StepShares.{EditsIf, with_shares}
 use Rattle.store_facts.specs.Rows.{interval_of}
 use Rattle.store_facts.proofs.Booked.{AreApart, AreRowsOf, has_start, itself, booked, others_booked}
 use Rattle.store_facts.proofs.Passing.{map_agree, any_agree, any_map, filter_edited, filter_spared, all_passing}
-use Rattle.store_voids.specs.Withdrawal.{lowered, without_share, without_shares, HasShare, HaveShares, TakesShares, starts_from, DropsRows}
+use Rattle.store_facts.specs.Voids.Withdrawal.{lowered, without_share, without_shares, HasShare, HaveShares, TakesShares, starts_from, DropsRows}
 use Rattle.office_store.specs.Bookings.Corrections.{gone_from}
 
 -- ---- shares that are taken from the rows of a journal

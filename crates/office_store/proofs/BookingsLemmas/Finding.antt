@@ -9,7 +9,7 @@ use Rattle.store_tables.specs.Entries.Trees.{entries, voids}
 use Rattle.store_tables.specs.declared.entries.rows.EntryRow.{EntryRow}
 use Rattle.store_facts.specs.Going.{Goes, Told}
 use Rattle.store_facts.proofs.GoingLemmas.{goes_then, then_failed, told_less}
-use Rattle.store_voids.specs.Places.{TellsOf, IsBefore, IsAfter}
+use Rattle.store_facts.specs.Voids.Places.{TellsOf, IsBefore, IsAfter}
 use Rattle.office_store.specs.declared.bookings.meter_state.Standing.{Standing}
 use Rattle.office_store.specs.declared.bookings.surroundings.Neighbours.{Neighbours}
 use Rattle.office_store.specs.declared.bookings.surroundings.Surroundings.{Surroundings}

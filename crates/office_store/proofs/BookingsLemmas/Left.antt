@@ -56,7 +56,7 @@ use Rattle.store_facts.proofs.Energy.{found_recorded, opening_apart, rows_small}
 use Rattle.store_facts.proofs.Entered.{SparesOthers, other_entries, other_intervals}
 use Rattle.store_facts.proofs.Passing.{filter_edited, filter_spared}
 use Rattle.store_queries.proofs.MeteringLemmas.Shapes.{FoundThere, found_there}
-use Rattle.store_voids.specs.Withdrawal.{TakesShares}
+use Rattle.store_facts.specs.Voids.Withdrawal.{TakesShares}
 use Rattle.office_store.specs.Bookings.Corrections.{energy_out, energy_put, gone_from}
 use Rattle.office_store.specs.Bookings.MeterState.{stands_at, settled}
 use Rattle.office_store.specs.Bookings.Voids.{RollsNext, TakesNext, PutsNext, ExchangesRows}

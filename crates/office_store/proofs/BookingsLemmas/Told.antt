@@ -44,7 +44,7 @@ use Rattle.store_facts.specs.Rows.{placed, installed_row, last_row, ranged, void
 use Rattle.store_facts.specs.Tables.{AreOf}
 use Rattle.store_facts.proofs.Standing.{stands_found, range_found}
 use Rattle.store_queries.proofs.MeteringLemmas.Shapes.{HasShape, IsPlain, plain}
-use Rattle.store_voids.specs.Places.{AreVoided, names}
+use Rattle.store_facts.specs.Voids.Places.{AreVoided, names}
 use Rattle.office_store.specs.Bookings.Corrections.{counter_after, IsReadingOf, RejoinsNext, Corrects, energy_out, energy_put, gone_from}
 use Rattle.office_store.specs.Bookings.MeterState.{counter_of, stands_at}
 use Rattle.office_store.specs.Bookings.Places.{StandsThere}

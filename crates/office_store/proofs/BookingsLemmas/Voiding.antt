@@ -11,7 +11,7 @@ use Rattle.store_tables.specs.Entries.Rows.{entry_columns, is_entry, rolled}
 use Rattle.store_facts.specs.Going.{Goes}
 use Rattle.store_facts.specs.Intervals.StepShares.{BooksShares}
 use Rattle.store_facts.proofs.GoingLemmas.{nothing_done}
-use Rattle.store_voids.specs.Withdrawal.{TakesShares}
+use Rattle.store_facts.specs.Voids.Withdrawal.{TakesShares}
 use Rattle.office_store.specs.Bookings.Voids.{RollsNext, TakesNext, PutsNext}
 use Rattle.office_store.specs.declared.bookings.corrections.Rejoined.{Rejoined}
 use Rattle.office_store.proofs.BookingsLemmas.Leaving.{completed_alone}

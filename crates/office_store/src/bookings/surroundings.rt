@@ -11,8 +11,8 @@ ghost use Rattle.office_store.specs.Bookings.Surroundings.{AreNear, OpenedAt, Is
 
 use crate::bookings::meter_state::{Standing, standing_of};
 use sqlite::{Alter, Transaction};
+use store_facts::{entry_at, place_after, place_before};
 use store_tables::{EntryRow, RowFault};
-use store_voids::{entry_at, place_after, place_before};
 
 /// An entry of a meter, the last that stands before it or else the opening, and the next that stands.
 #[derive(Clone, Copy, Debug, PartialEq, Eq)]

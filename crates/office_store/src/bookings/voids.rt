@@ -19,9 +19,8 @@ use meter_journal::{rows_lie_within, rows_stand, voids_change_two_rows};
 use office_events::VoidedEntry;
 use office_rules::{installations_are_in_range, journals_fit, meters_are_kept, other_meters_stay};
 use sqlite::{Alter, Transaction};
-use store_facts::{book_step, text};
+use store_facts::{book_step, drop_rows_from, take_step, text};
 use store_tables::{GREATEST_PLACE, LATEST_MOMENT, RowFault, insert_void, set_rolls};
-use store_voids::{drop_rows_from, take_step};
 
 /// Says how many times the counter went past its range before the next entry.
 fn roll_next<S: Alter>(

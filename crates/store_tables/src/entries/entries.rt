@@ -18,7 +18,7 @@ use crate::{RowFault, number, signed};
 use sqlite::{Alter, Connection, Error, Row, Transaction, params};
 
 /// The entries of a meter, by their places.
-pub(crate) const OF_METER: &str =
+const OF_METER: &str =
     "SELECT place, kind, moment, raw, rolls, \"after\", sf FROM entries WHERE meter = ?1 ORDER BY place";
 
 /// Adds an entry of a meter.

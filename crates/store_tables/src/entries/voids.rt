@@ -14,7 +14,7 @@ use crate::number;
 use sqlite::{Alter, Connection, Error, Row, Transaction, params};
 
 /// The places of the voided entries of a meter.
-pub(crate) const OF_METER: &str = "SELECT place FROM voids WHERE meter = ?1 ORDER BY place";
+const OF_METER: &str = "SELECT place FROM voids WHERE meter = ?1 ORDER BY place";
 
 /// Says that the entry of a meter at a place was voided at a moment.
 pub fn insert_void<S: Alter>(

@@ -1,2 +1,0 @@
-pub mod Withdrawal
-pub mod Places
