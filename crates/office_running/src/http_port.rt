@@ -22,7 +22,7 @@ use run_http::{
     begin_intervals, end_rows, has_more, may_void, reply_energy, reply_entries, reply_intervals,
     reply_meters, reply_metrics, reply_site, reply_status, reply_voids, run_route, tell_rows,
 };
-use run_schedule::{MOST_PEERS, PEER_SECONDS, Peers, TurnShare, place_at, place_for};
+use run_schedule::{MOST_PEERS, PEER_SECONDS, Peers, TurnShare, may_reply, place_at, place_for};
 use std::alloc::{AllocError, Global};
 use std::io::ErrorKind;
 use std::mem;
@@ -49,10 +49,10 @@ pub(crate) struct Serving {
     is_full: bool,
 }
 
-// Whether the connection of a place has something that was not looked at.
-fn is_ready(connection: &Option<Peer>) -> bool {
+// Whether the connection of a place has something that was not looked at, and needn't wait for what is held of replies.
+fn is_ready(connection: &Option<Peer>, may_reply: bool) -> bool {
     match connection {
-        Some(peer) => peer.ready,
+        Some(peer) => peer.ready && (may_reply || peer.has_reply()),
         None => false,
     }
 }
@@ -63,9 +63,17 @@ fn is_attended(connection: &Option<Peer>, share: TurnShare) -> bool {
     match connection {
         Some(peer) => {
             let is_written_on = peer.has_reply() && !peer.wants_rows();
-            peer.ready && (is_written_on || !share.is_over())
+            is_written_on || !share.is_over()
         }
         None => false,
+    }
+}
+
+// How many bytes are held of the reply of the connection of a place.
+fn held_by(connection: &Option<Peer>) -> usize {
+    match connection {
+        Some(peer) => peer.held(),
+        None => 0,
     }
 }
 
@@ -207,9 +215,19 @@ impl Serving {
         }
     }
 
-    /// Whether something may have come that was not looked at.
+    // Whether a request may be replied to, by what is held of replies that were not taken.
+    fn may_reply(&self) -> bool {
+        let mut held = 0usize;
+        for connection in &self.connections {
+            held = held.saturating_add(held_by(connection));
+        }
+        may_reply(held)
+    }
+
+    /// Whether something may have come that was not looked at, and needn't wait.
     pub(crate) fn is_ready(&self) -> bool {
-        self.connections.iter().any(|it| is_ready(it))
+        let may_reply = self.may_reply();
+        self.connections.iter().any(|it| is_ready(it, may_reply))
     }
 
     /// Whether a connection may wait that was not accepted.
@@ -514,9 +532,19 @@ impl Serving {
         }
     }
 
+    // Whether the connection of a place is attended now.
+    fn has_turn(&self, place: usize) -> bool {
+        match self.connections.get(place) {
+            Some(connection) => {
+                is_attended(connection, self.share) && is_ready(connection, self.may_reply())
+            }
+            None => false,
+        }
+    }
+
     // Takes the connection of a place whose turn it is.
     fn take_ready(&mut self, place: usize) -> Option<Peer> {
-        if place < self.connections.len() && is_attended(&self.connections[place], self.share) {
+        if self.has_turn(place) && place < self.connections.len() {
             return self.connections[place].take();
         }
         None
@@ -572,7 +600,7 @@ impl Serving {
         let asked = self.reply(names, &peer.asked, office, voice, now, &mut rows);
         let took = even_milliseconds(rt).saturating_sub(begun);
         self.count(place, &peer.asked, &asked, took);
-        peer.take(self.alloc, asked, rows);
+        peer.take(asked, rows);
     }
 
     // Tells a peer the next rows of its reply.

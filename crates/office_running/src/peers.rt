@@ -11,6 +11,7 @@ use std::net::Shutdown;
 /// A connection of a peer.
 #[derive(Drop)]
 pub(crate) struct Peer {
+    alloc: Global,
     pub(crate) stream: TcpStream,
     /// What it has asked so far.
     pub(crate) asked: Vec<u8>,
@@ -34,6 +35,7 @@ fn fitting<'p>(asked: &[u8], piece: &'p [u8]) -> &'p [u8] {
 impl Peer {
     pub(crate) fn new(alloc: Global, stream: TcpStream) -> Peer {
         Peer {
+            alloc,
             stream,
             asked: Vec::new(alloc),
             ready: true,
@@ -52,12 +54,17 @@ impl Peer {
 
     /// Whether it has been replied to.
     pub(crate) fn has_reply(&self) -> bool {
-        !self.reply.is_empty() || self.rows.is_some()
+        !self.reply.is_empty() || self.rows.is_some() || self.lingers.is_some()
     }
 
     /// Whether rows are to be told after all that was written of its reply.
     pub(crate) fn wants_rows(&self) -> bool {
         self.rows.is_some() && self.reply.is_written()
+    }
+
+    /// How many bytes are held of its reply.
+    pub(crate) fn held(&self) -> usize {
+        self.reply.len()
     }
 
     // Keeps a piece of what came.
@@ -119,14 +126,14 @@ impl Peer {
 
     /// Takes what came of what was asked, and the rows that are told after that. What was asked isn't needed any more once it is
     /// replied to.
-    pub(crate) fn take(&mut self, alloc: Global, asked: PeerReply, rows: Option<RowsLeft>) {
+    pub(crate) fn take(&mut self, asked: PeerReply, rows: Option<RowsLeft>) {
         match asked {
             PeerReply::Open => self.over = self.ended,
             PeerReply::Replied(reply) => {
                 self.over = reply.is_empty();
                 self.reply = Outbox::of(reply);
                 self.rows = rows;
-                self.asked = Vec::new(alloc);
+                self.asked = Vec::new(self.alloc);
             }
             PeerReply::Failed => self.over = true,
         }
@@ -165,6 +172,7 @@ impl Peer {
         if self.reply.is_written() && self.rows.is_none() {
             self.over = self.stream.shutdown(Shutdown::Write).is_err();
             self.lingers = Some(time.saturating_add(2));
+            self.reply = Outbox::empty(self.alloc);
         }
     }
 
