@@ -88,10 +88,9 @@ pub record IsBegun (facts : List Fact) (meter : List ℕ) (from till : ℕ)
   pub settled : IsSettled facts left
 
 -- So it is where the meter stands so; or the books failed, or there was no memory.
-abbrev pub AreBegun : {B : Type 0} → (B → Ledger) → (old new : Office B) → Installation
+abbrev pub AreBegun : {B E : Type 0} → (B → Ledger) → (old new : Office B) → Installation
     → (from till : ℕ) → (reply : List Share → List ℕ) → (put : List ℕ)
-    → (answer : Result (Unit {0}) Refusal) → {E : Type 0} → Result (Result RowsLeft Refusal) E
-    → Type 0
+    → (answer : Result (Unit {0}) Refusal) → Result (Result RowsLeft Refusal) E → Type 0
 AreBegun ledger old new it from till reply put answer (Ok (Ok left)) =
     (answer ≡ Ok tt) × (left.meter ≡ Some it.opening.meter)
     × After ledger old new (λ past. meter_of (facts_of past) it.opening.meter ≡ Some it
@@ -131,14 +130,15 @@ SizesRow old row new = new.is_whole ≡ true
     → (old.is_whole ≡ true) × (new.sizes.bytes ≡ old.sizes.bytes + length (share_line row))
     × (new.sizes.count ≡ old.sizes.count + 1)
 
-abbrev pub AreSized : {B : Type 0} → (B → Ledger) → (old new : Office B) → RowsLeft
-    → (answer : Result (Unit {0}) Refusal) → {E : Type 0} → Result (Result Sizes Refusal) E → Type 0
+abbrev pub AreSized : {B E : Type 0} → (B → Ledger) → (old new : Office B) → RowsLeft
+    → (answer : Result (Unit {0}) Refusal) → Result (Result Sizes Refusal) E → Type 0
 AreSized ledger old new left answer (Ok (Ok sizes)) =
     (answer ≡ Ok tt) × After ledger old new (λ past.
     AreSizes sizes (rows_between (facts_of past) left.meter left.from left.till))
 AreSized ledger old new left answer (Ok (Err why)) =
     (answer ≡ Err why) × After ledger old new (λ past.
-    IsRowFound (is_there (intervals_within (facts_of past) left.meter (Between left.from left.till)))
+    let span = Between left.from left.till in
+    IsRowFound (is_there (intervals_within (facts_of past) left.meter span))
     (failures_of ledger old) (failures_of ledger new) answer)
 AreSized ledger old new left answer (Err fault) = Unit {0}
 
@@ -170,9 +170,9 @@ pub record MovesOn (left later : RowsLeft) (seconds : ℕ) : Type 0 where
   pub few : later.from ≤ left.from + seconds
 
 -- What was told, and what is still to be told, are together what they were; or the books failed, or memory was wanting.
-abbrev pub HasTold : {B : Type 0} → (B → Ledger) → (old new : Office B)
+abbrev pub HasTold : {B E : Type 0} → (B → Ledger) → (old new : Office B)
     → (answer : Result (Vec Share Global) Refusal) → (left later : RowsLeft) → (seconds : ℕ)
-    → (from to : List ℕ) → {E : Type 0} → Result (Result (Unit {0}) Refusal) E → Type 0
+    → (from to : List ℕ) → Result (Result (Unit {0}) Refusal) E → Type 0
 HasTold ledger old new answer left later seconds from to (Ok (Ok done)) =
     MovesOn left later seconds
     × After ledger old new (λ past.
