@@ -3,3 +3,4 @@ pub mod Rows
 pub mod Voids
 pub mod Spelled
 pub mod Energy
+pub mod Pieces

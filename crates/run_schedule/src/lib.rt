@@ -5,7 +5,8 @@ mod http_peers;
 mod timing;
 
 pub use http_peers::{
-    Admission, MOST_PEERS, Peers, TurnShare, place_at, place_for, replies_are_few, turns_go_round,
+    Admission, MOST_PEERS, Peers, TurnShare, little_is_held, may_reply, place_at, place_for,
+    replies_are_few, turns_go_round,
 };
 pub use timing::{
     MOST_EVERY, PEER_SECONDS, Phase, RunTime, SteadyClock, Timing, next_due, next_pause, retry_at,

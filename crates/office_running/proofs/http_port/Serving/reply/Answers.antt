@@ -14,7 +14,7 @@ pub returns-in-Some-Site : goal.returns-in-Some-Site
 returns-in-Some-Site g c = c.reply_site.ensures (texts c.args.names.now)
 
 pub returns-in-Some-Intervals : goal.returns-in-Some-Intervals
-returns-in-Some-Intervals g c = c.reply_intervals.ensures (texts c.args.names.now) c.args.now.moment
+returns-in-Some-Intervals g c = c.reply_span.ensures (texts c.args.names.now) c.args.now.moment
 
 pub returns-in-Some-Entries : goal.returns-in-Some-Entries
 returns-in-Some-Entries g c = c.reply_entries.ensures (texts c.args.names.now) c.args.now.moment
