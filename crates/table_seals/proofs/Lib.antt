@@ -11,3 +11,5 @@ pub mod PollFound
 pub mod PollsStaying
 pub mod SealedTables
 pub mod FollowingPolls
+pub mod Filed
+pub mod Joined

@@ -1,8 +1,14 @@
-//! Seals of what the tables of a file record, and whether another file, or the same one years later, still has that.
+//! Seals of what the tables of a file record, whether another file, or the same one years later, still has that, and whether the
+//! next file goes on where one ends.
 #![tactic(auto)]
 
 mod checking;
 mod checks;
+mod filed;
+mod filing;
+mod join_laws;
+mod join_lines;
+mod joins;
 mod laws;
 mod parsing;
 mod poll_sealing;
@@ -15,6 +21,11 @@ mod texts;
 
 pub use checking::check_seal;
 pub use checks::{Checked, put_checked};
+pub use filed::{FiledMeter, FiledOffice, with_next};
+pub use filing::filed_meters;
+pub use join_laws::joined_meters_go_on;
+pub use join_lines::put_joins;
+pub use joins::{JoinFault, tell_joins};
 pub use laws::{first_entries_stay, polls_stay, voids_stay};
 pub use parsing::{NoSeal, read_seal};
 pub use sealing::seal_tables;
