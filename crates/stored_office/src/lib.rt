@@ -12,9 +12,9 @@ mod runs;
 mod seals;
 mod tasks;
 
-pub use audits::{AuditFault, audit_stored, write_audit};
+pub use audits::{AuditFault, audit_stored, meters_stored, write_audit, write_joins};
 pub use backups::{CopyFault, whole_file, whole_files};
-pub use carries::{CarryEnd, carry_stored};
+pub use carries::{CarryEnd, carry_stored, told_zone};
 pub use carrying::{
     CarryFault, carry_books, commands_record_the_same, meters_go_on_where_they_stand,
 };

@@ -72,6 +72,12 @@ abbrev pub FilesRows : {Z : Type 0} → (file : List ℕ) → List Row → Conte
 FilesRows file rows content None = HasUnfiled file rows content
 FilesRows file rows content (Some filed) = AreFiled file content rows filed.items
 
+-- A row of installations that the tables have can't be read.
+pub record HasUnfiledMeter (file : List ℕ) (content : Content) : Type 0 where
+  pub rows : List Row
+  pub shown : ShowsInstallations content rows
+  pub unfiled : HasUnfiled file rows content
+
 -- the same of the rows of installations that the tables have
 pub record FilesMeters {Z : Type 0} (file : List ℕ) (content : Content)
     (found : Option (Vec FiledMeter Z)) : Type 0 where
