@@ -8,7 +8,7 @@ use meter_journal::Installed;
 use sqlite::{Connection, MemStore};
 use std::alloc::Global;
 use std::test::Fail;
-use table_seals::{FiledMeter, FiledOffice, filed_meters, put_joins, tell_joins, with_next};
+use table_seals::{FiledMeter, FiledOffice, Joining, filed_meters, put_joins};
 
 fn office<'a>(
     alloc: Global,
@@ -63,28 +63,29 @@ fn new_file(
     filed(alloc, &mut conn, "new.db")
 }
 
-/// What is said of a file after what is kept of those before.
-fn said(
-    alloc: Global,
-    known: &FiledOffice<'_>,
-    next: &FiledOffice<'_>,
-) -> Result<Vec<u8>, Fail> {
-    let mut lines = Vec::new(alloc);
-    tell_joins(alloc, &mut lines, known, next)?;
+/// What is said of files so far.
+fn said(alloc: Global, joining: &Joining<'_>) -> Result<Vec<u8>, Fail> {
     let mut text = Vec::new(alloc);
-    put_joins(&mut text, lines.as_slice())?;
+    put_joins(&mut text, joining.lines.as_slice())?;
     Ok(text)
 }
 
-fn said_of(alloc: Global, next: &FiledOffice<'_>) -> Result<Vec<u8>, Fail> {
-    let known = old_file(alloc)?;
-    said(alloc, &known, next)
+/// What is said of two files.
+fn said_of_both(
+    alloc: Global,
+    old: FiledOffice<'static>,
+    next: FiledOffice<'static>,
+) -> Result<Vec<u8>, Fail> {
+    let mut joining = Joining::new(alloc);
+    joining.join(alloc, old)?;
+    joining.join(alloc, next)?;
+    said(alloc, &joining)
 }
 
 #[test]
 fn a_meter_goes_on_where_it_stands(rt: HostRuntime) -> Result<(), Fail> {
     let next = new_file(rt.alloc(), b"m1", 1900, 5200)?;
-    let text = said_of(rt.alloc(), &next)?;
+    let text = said_of_both(rt.alloc(), old_file(rt.alloc())?, next)?;
     assert!(rt; text.as_slice() == b"joined: fine\n");
     Ok(())
 }
@@ -92,7 +93,7 @@ fn a_meter_goes_on_where_it_stands(rt: HostRuntime) -> Result<(), Fail> {
 #[test]
 fn one_that_begins_elsewhere_is_told(rt: HostRuntime) -> Result<(), Fail> {
     let next = new_file(rt.alloc(), b"m1", 1901, 5201)?;
-    let text = said_of(rt.alloc(), &next)?;
+    let text = said_of_both(rt.alloc(), old_file(rt.alloc())?, next)?;
     assert!(rt; text.as_slice()
         == b"meter m1 begins in new.db at 1901 5201 0, stands in old.db at 1900 5200 0\n1 differences between files\n");
     Ok(())
@@ -101,7 +102,7 @@ fn one_that_begins_elsewhere_is_told(rt: HostRuntime) -> Result<(), Fail> {
 #[test]
 fn one_that_is_missing_is_told(rt: HostRuntime) -> Result<(), Fail> {
     let next = new_file(rt.alloc(), b"m2", 1899, 0)?;
-    let text = said_of(rt.alloc(), &next)?;
+    let text = said_of_both(rt.alloc(), old_file(rt.alloc())?, next)?;
     assert!(rt; text.as_slice()
         == b"meter m2 begins in new.db at 1899 0 0, meter m1 stands at its register in old.db at 1900 5200 0
 meter m1 is not in new.db, and is open in old.db
@@ -110,27 +111,32 @@ meter m1 is not in new.db, and is open in old.db
     Ok(())
 }
 
-/// What is kept of the old file and of the next one, in which the meter is read once more.
-fn two_files(alloc: Global) -> Result<FiledOffice<'static>, Fail> {
+/// A file in which the meter is read once more.
+fn next_file(alloc: Global) -> Result<FiledOffice<'static>, Fail> {
     let mut conn = installed(alloc, b"m1", 1900, 5200)?;
     book_all(alloc, &mut conn, [reading(b"m1", 2800, 5300, 0)])?;
-    let next = filed(alloc, &mut conn, "next.db")?;
-    Ok(with_next(old_file(alloc)?, next)?)
+    filed(alloc, &mut conn, "next.db")
+}
+
+fn two_files(alloc: Global) -> Result<Joining<'static>, Fail> {
+    let mut joining = Joining::new(alloc);
+    joining.join(alloc, old_file(alloc)?)?;
+    joining.join(alloc, next_file(alloc)?)?;
+    Ok(joining)
 }
 
 #[test]
 fn a_third_file_goes_on_from_the_second(rt: HostRuntime) -> Result<(), Fail> {
-    let known = two_files(rt.alloc())?;
-    let next = new_file(rt.alloc(), b"m1", 2800, 5300)?;
-    let text = said(rt.alloc(), &known, &next)?;
-    assert!(rt; text.as_slice() == b"joined: fine\n");
+    let mut joining = two_files(rt.alloc())?;
+    joining.join(rt.alloc(), new_file(rt.alloc(), b"m1", 2800, 5300)?)?;
+    assert!(rt; said(rt.alloc(), &joining)?.as_slice() == b"joined: fine\n");
     Ok(())
 }
 
 #[test]
 fn a_file_that_is_left_out_is_told(rt: HostRuntime) -> Result<(), Fail> {
     let next = new_file(rt.alloc(), b"m1", 2800, 5300)?;
-    let text = said_of(rt.alloc(), &next)?;
+    let text = said_of_both(rt.alloc(), old_file(rt.alloc())?, next)?;
     assert!(rt; text.as_slice()
         == b"meter m1 begins in new.db at 2800 5300 0, stands in old.db at 1900 5200 0\n1 differences between files\n");
     Ok(())
@@ -239,7 +245,7 @@ static CHANGES: [Change; 6] = [
 fn is_said(alloc: Global, old: Had, new: Had, told: &[u8]) -> Result<bool, Fail> {
     let known = file_of(alloc, "old.db", "UTC0", old)?;
     let next = file_of(alloc, "new.db", "UTC0", new)?;
-    let text = said(alloc, &known, &next)?;
+    let text = said_of_both(alloc, known, next)?;
     Ok(text.as_slice() == told)
 }
 
@@ -256,7 +262,7 @@ fn what_changed_is_told(rt: HostRuntime) -> Result<(), Fail> {
 fn another_zone_is_told(rt: HostRuntime) -> Result<(), Fail> {
     let known = file_of(rt.alloc(), "old.db", "UTC0", HAD)?;
     let next = file_of(rt.alloc(), "new.db", "CET-1", HAD)?;
-    let text = said(rt.alloc(), &known, &next)?;
+    let text = said_of_both(rt.alloc(), known, next)?;
     assert!(rt; text.as_slice()
         == b"zone is CET-1 in new.db, and UTC0 in old.db\n1 differences between files\n");
     Ok(())

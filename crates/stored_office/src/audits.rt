@@ -1,5 +1,5 @@
 //! The audit of an office in a database.
-ghost use Rattle.std.specs.Prelude.{◌≡◌, ◌↔◌, ◌⊎◌, [], false, Err, Some, IsTrue, IfOk, IfErr, OnOk};
+ghost use Rattle.std.specs.Prelude.{◌≡◌, ◌↔◌, ◌⊎◌, ◌++◌, [], false, Err, Some, IsTrue, IfOk, IfErr, OnOk, map, option_map, string_bytes};
 ghost use Rattle.std.specs.Io.KnownBytes.{Appends};
 ghost use Rattle.sqlite.specs.Held.{state};
 ghost use Rattle.sqlite.specs.State.{HasCleanDisk};
@@ -10,7 +10,8 @@ ghost use Rattle.table_audit.specs.Looking.{HoldsTables, OnlyLooks};
 ghost use Rattle.table_audit.specs.Polls.{TellsTables};
 ghost use Rattle.table_audit.specs.Texts.{with_findings};
 ghost use Rattle.table_seals.specs.Filing.{FilesMeters, HasUnfiledMeter};
-ghost use Rattle.table_seals.specs.JoinTexts.{joined_text};
+ghost use Rattle.table_seals.specs.Joins.{after_next, joins_after, known_as, known_of};
+ghost use Rattle.table_seals.specs.JoinTexts.{join_line, joined_text, texts_of};
 
 use sqlite::{Alter, Connection, Error, ErrorCode};
 use std::alloc::Global;
@@ -19,7 +20,7 @@ use store_files::{Layout, layout_of};
 use store_tables::RowFault;
 use sun_points::Sink;
 use table_audit::{Findings, audit_tables, put_findings};
-use table_seals::{FiledMeter, filed_meters, put_joins};
+use table_seals::{FiledMeter, FiledOffice, Joining, filed_meters, put_joins};
 
 /// Why there is no audit.
 #[derive(Clone, Copy, Debug, PartialEq, Eq)]
@@ -134,6 +135,37 @@ pub fn meters_stored<'a, S: Alter>(
         Ok(Some(meters)) => Ok(meters),
         Ok(None) => Err(AuditFault::NoText),
         Err(fault) => Err(fault_of(fault)),
+    }
+}
+
+/// Holds a file to those before it, by its zone and its meters: after the lines so far one for each way in which it doesn't go on from
+/// them. Where memory is wanting, some lines may lack, and what was kept is gone.
+pub fn join_stored<'a>(
+    alloc: Global,
+    joining: &mut Joining<'a>,
+    file: &'a str,
+    zone: String,
+    meters: Vec<FiledMeter<'a>>,
+) -> Result<(), AuditFault>
+    ensures lines { OnOk result (texts_of joining.new.lines.items
+        ≡ texts_of joining.old.lines.items
+        ++ map join_line (joins_after (option_map known_of joining.old.known)
+        (known_as file.now (string_bytes zone) meters.items))) }
+    ensures known { OnOk result (option_map known_of joining.new.known
+        ≡ Some (after_next (option_map known_of joining.old.known)
+        (known_as file.now (string_bytes zone) meters.items))) }
+    ensures fault { IfErr result (λ fault. fault ≡ AuditFault.Memory) }
+{
+    let latest = meters.len();
+    let next = FiledOffice {
+        file,
+        zone,
+        meters,
+        latest,
+    };
+    match joining.join(alloc, next) {
+        Ok(()) => Ok(()),
+        Err(_) => Err(AuditFault::Memory),
     }
 }
 

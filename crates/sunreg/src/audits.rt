@@ -7,10 +7,9 @@ use std::fs::File;
 use std::io::{self, Read, Write};
 use std::str::from_utf8;
 use stored_office::{
-    AuditFault, Databases, Ending, Failure, audit_stored, check_stored_seal, meters_stored,
-    seal_stored, told_zone, write_audit, write_checked, write_joins, write_seal,
+    AuditFault, Databases, Ending, Failure, Joining, audit_stored, check_stored_seal, join_stored,
+    meters_stored, seal_stored, told_zone, write_audit, write_checked, write_joins, write_seal,
 };
-use table_seals::{FiledOffice, tell_joins, with_next};
 
 /// The most bytes that are read of a seal. One of 4,096 meters, each with a thousand voids, has fewer.
 const MOST_SEAL: u64 = 300_000_000;
@@ -123,13 +122,6 @@ pub(crate) fn audit<'a>(rt: &HostRuntime, path: &'a str, seal: Sealing<'a>) -> E
 
 // ---- several files
 
-// What is kept of the files so far, if there was one, and what differs between them.
-#[derive(Drop)]
-struct Joining<'a> {
-    known: Option<FiledOffice<'a>>,
-    lines: Vec<Vec<u8>>,
-}
-
 // Why a file's zone wasn't told.
 fn zone_fault(fault: OpenFault) -> AuditFault {
     match fault {
@@ -140,45 +132,18 @@ fn zone_fault(fault: OpenFault) -> AuditFault {
     }
 }
 
-// What is kept of a file for the next.
-fn office_in<'a, S: Alter>(
+// Holds a file to those before it.
+fn join_next<'a, S: Alter>(
     rt: &HostRuntime,
     connection: &mut Connection<S>,
     file: &'a str,
-) -> Result<FiledOffice<'a>, AuditFault> {
+    joining: &mut Joining<'a>,
+) -> Result<(), AuditFault> {
     let meters = meters_stored(rt.alloc(), connection, file)?;
-    let latest = meters.len();
     match told_zone(connection) {
-        Ok(zone) => Ok(FiledOffice {
-            file,
-            zone,
-            meters,
-            latest,
-        }),
+        Ok(zone) => join_stored(rt.alloc(), joining, file, zone, meters),
         Err(fault) => Err(zone_fault(fault)),
     }
-}
-
-// Holds a file to those before it.
-fn join<'a>(
-    rt: &HostRuntime,
-    joining: &mut Joining<'a>,
-    next: FiledOffice<'a>,
-) -> Result<(), AuditFault> {
-    let all = match joining.known.take() {
-        None => next,
-        Some(known) => {
-            if tell_joins(rt.alloc(), &mut joining.lines, &known, &next).is_err() {
-                return Err(AuditFault::Memory);
-            }
-            match with_next(known, next) {
-                Ok(all) => all,
-                Err(_) => return Err(AuditFault::Memory),
-            }
-        }
-    };
-    joining.known = Some(all);
-    Ok(())
 }
 
 // Audits the tables of one of several files, and tells whether they are fine. Only where they are, and those before were, it is held
@@ -192,8 +157,7 @@ fn audit_next<'a, S: Alter>(
 ) -> Result<bool, AuditFault> {
     let fine = audit_over(rt, connection, Sealing::Nothing)?;
     if fine && so_far {
-        let next = office_in(rt, connection, file)?;
-        join(rt, joining, next)?;
+        join_next(rt, connection, file, joining)?;
     }
     Ok(fine && so_far)
 }
@@ -223,10 +187,7 @@ fn audit_files<'a, D: Databases>(
     databases: &D,
     paths: &[&'a str],
 ) -> Result<bool, Failure<'a>> {
-    let mut joining = Joining {
-        known: None,
-        lines: Vec::new(rt.alloc()),
-    };
+    let mut joining = Joining::new(rt.alloc());
     let mut fine = true;
     for path in paths {
         fine = audit_file(rt, databases, *path, fine, &mut joining)?;

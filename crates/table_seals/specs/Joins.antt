@@ -26,6 +26,11 @@ known_of office = record {
   latest = office.latest;
 }
 
+-- of one file
+abbrev pub known_as : (file zone : List ℕ) → List FiledMeter → Known
+known_as file zone meters =
+    record { file = file; zone = zone; meters = meters; latest = length meters }
+
 -- of these files and of the next one
 abbrev pub known_with : (known next : Known) → Known
 known_with known next = record {
@@ -123,7 +128,16 @@ joins_between known next =
     zone_of known next ++ flat_map (joins_of known.meters) next.meters
     ++ flat_map (missing_of next) (take known.latest known.meters)
 
--- the same of several, the oldest first, after what is kept of those before
+-- what is told of the next file where there may be none before it, and what is kept then
+abbrev pub joins_after : Option Known → (next : Known) → List Join
+joins_after None next = []
+joins_after (Some known) next = joins_between known next
+
+abbrev pub after_next : Option Known → (next : Known) → Known
+after_next None next = next
+after_next (Some known) next = known_with known next
+
+-- what is told of these files after those, the oldest first
 abbrev pub joins_of_all : Known → (later : List Known) → List Join
 joins_of_all known [] = []
 joins_of_all known (next ∷ later) =

@@ -272,9 +272,8 @@ fn tell_zone(
     keep(lines, line)
 }
 
-/// Tells how the next file doesn't go on from those before it: a line for each difference, after those that were told. They go on
-/// from each other exactly if there is none.
-pub fn tell_joins(
+/// Tells how the next file doesn't go on from those before it: a line for each difference, after those that were told.
+pub(crate) fn tell_joins(
     alloc: Global,
     lines: &mut Vec<Vec<u8>>,
     known: &FiledOffice<'_>,
