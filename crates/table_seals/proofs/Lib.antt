@@ -13,3 +13,4 @@ pub mod SealedTables
 pub mod FollowingPolls
 pub mod Filed
 pub mod Joined
+pub mod JoinedFiles
