@@ -14,3 +14,4 @@ pub mod FollowingPolls
 pub mod Filed
 pub mod Joined
 pub mod JoinedFiles
+pub mod JoinedTables

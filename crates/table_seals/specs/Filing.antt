@@ -3,7 +3,8 @@ use Rattle.std.specs.Prelude.{⊤, ◌≡◌, ℕ, List, [], ◌∷◌, Option, 
 use Rattle.std.specs.List.{slice_get}
 use Rattle.meter_audit.specs.declared.rows.TableRow.{TableRow}
 use Rattle.meter_audit.specs.declared.standing.Standing.{Standing}
-use Rattle.sqlite.specs.Order.{Row}
+use Rattle.sqlite.specs.declared.types.Value.TheVariants.{Text}
+use Rattle.sqlite.specs.Order.{Row, column}
 use Rattle.store_tables.specs.Content.{Content}
 use Rattle.store_tables.specs.Meters.Rows.{installation_in}
 use Rattle.store_tables.specs.declared.meters.rows.InstallationRow.{InstallationRow}
@@ -12,7 +13,7 @@ use Rattle.table_audit.specs.Lawful.{last_in, last_shown}
 use Rattle.table_audit.specs.Meters.{AreTheirs}
 use Rattle.table_audit.specs.Showing.{ShowsInstallations}
 use Rattle.table_seals.specs.declared.filed.FiledMeter.{FiledMeter}
-use Rattle.table_seals.specs.Tables.{HasTerms, HasRead}
+use Rattle.table_seals.specs.Tables.{HasRead}
 
 -- where a row of installations says that its meter stands
 abbrev pub standing_in : InstallationRow → Standing
@@ -22,12 +23,14 @@ standing_in row = record {
   is_ended = row.is_ended;
 }
 
--- A meter is that of a row of installations, which tells its terms and where it stands, and its first entry opens it.
+-- A meter is that of a row of installations, which tells its names, its ceiling and where it stands, and its first entry opens
+-- it.
 pub record IsFiledAs (row : Row) (rows : MeterRows) (filed : FiledMeter) : Type 0 where
-  pub terms : HasTerms row (string_bytes filed.meter) (string_bytes filed.register)
-      filed.installed.ceiling
+  pub meter_is : column row 1 ≡ Text (string_bytes filed.meter)
+  pub register_is : column row 2 ≡ Text (string_bytes filed.register)
   pub installation : InstallationRow
   pub installation_read : installation_in row ≡ Ok installation
+  pub ceiling_is : filed.installed.ceiling ≡ installation.ceiling
   pub stands : filed.standing ≡ standing_in installation
   pub voids : List ℕ
   pub opening : TableRow

@@ -7,7 +7,7 @@ ghost use Rattle.table_seals.specs.Filing.{IsFiled, FilesRow, FilesRows, FilesMe
 
 use crate::filed::FiledMeter;
 use crate::sealing::memory;
-use crate::tables::{read_rows, terms_of, text};
+use crate::tables::{read_rows, text};
 use energy_core::Last;
 use meter_audit::{Standing, TableRow};
 use meter_journal::Installed;
@@ -51,9 +51,11 @@ fn filed_of<'a>(
 ) -> Result<Option<FiledMeter<'a>>, AllocError>
     ensures { IfOk result (IsFiled file.now row.now rows.now) }
 {
-    let terms = match terms_of(row)? {
-        Some(terms) => terms,
-        None => return Ok(None),
+    let Some(meter) = text(row, 1)? else {
+        return Ok(None);
+    };
+    let Some(register) = text(row, 2)? else {
+        return Ok(None);
     };
     let Ok(installed) = installation(row) else {
         return Ok(None);
@@ -68,11 +70,11 @@ fn filed_of<'a>(
     let opening = read.entries[0];
     Ok(Some(FiledMeter {
         file,
-        meter: terms.meter,
-        register: terms.register,
+        meter,
+        register,
         installed: Installed {
             range: read.range,
-            ceiling: terms.ceiling,
+            ceiling: installed.ceiling,
             opening: shown_by(&opening),
         },
         standing: standing_of(&installed),

@@ -23,7 +23,9 @@ pub use checking::check_seal;
 pub use checks::{Checked, put_checked};
 pub use filed::{FiledMeter, FiledOffice, Joining};
 pub use filing::filed_meters;
-pub use join_laws::{joined_files_are_one, joined_meters_go_on};
+pub use join_laws::{
+    filed_meters_are_told, joined_files_are_lawful, joined_files_are_one, joined_meters_go_on,
+};
 pub use join_lines::put_joins;
 pub use joins::JoinFault;
 pub use laws::{first_entries_stay, polls_stay, voids_stay};

@@ -108,3 +108,17 @@ void_of_both_fits = carried_journals_fit house old (Voided 2 ∷ new) well_insta
 void_intervals : interval_rows house (joined_journal old (Voided 2 ∷ new)) ≡ share 900 177777 ∷ share 1800 140404 ∷ share 2700 81819 ∷ []
 unfolding unit_of
 void_intervals = refl
+
+-- ---- three files
+
+file : Installed → List EntryRow → InFile
+file meter rows = record { meter = meter; tables = tables_of meter rows }
+
+abbrev first : InFile
+first = file house (row 3 2500 5300 ∷ row 2 1900 5200 ∷ [])
+
+abbrev second : InFile
+second = file (installed 2500 5300) (row 3 3600 5400 ∷ row 2 2600 5310 ∷ [])
+
+abbrev third : InFile
+third = file (installed 3600 5400) (row 2 4500 5500 ∷ [])
