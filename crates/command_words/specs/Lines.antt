@@ -1,5 +1,5 @@
 -- The command that the words spell.
-use Rattle.std.specs.Prelude.{ℕ, Bool, ◌&&◌, is_some, List, [], Option, Some, None, codes, map, option_map, if◌then◌else◌}
+use Rattle.std.specs.Prelude.{ℕ, Bool, true, false, ◌&&◌, is_some, length, nat_lt, List, [], Option, Some, None, codes, map, option_map, if◌then◌else◌}
 use Rattle.std.specs.Str.{bytes_eq}
 use Rattle.clap.specs.Words.{Row, Text}
 use Rattle.energy_report.specs.Words.{format_of, period_of, unit_of}
@@ -9,7 +9,7 @@ use Rattle.energy_report.specs.declared.form.Period.{Period}
 use Rattle.command_words.specs.Values.Devices.{Place, devices_in, place_of}
 use Rattle.command_words.specs.Values.Given.{given}
 use Rattle.command_words.specs.ClapTable.Table.{texts}
-use Rattle.command_words.specs.Options.{if_some, is_set, number_at, number_if, number_or, or_else, text_at, text_or, texts_at}
+use Rattle.command_words.specs.Options.{if_some, is_set, number_at, number_if, number_or, or_else, several_at, text_at, text_or, texts_at}
 use Rattle.command_words.specs.declared.line.CommandLine.{CommandLine}
 use Rattle.command_words.specs.declared.line.CommandLine.TheVariants as line
 use Rattle.command_words.specs.declared.line.FormWords.{FormWords}
@@ -43,7 +43,7 @@ pub data Line : Type 0 where
   Report : (db register : Text) (form : Form) → Line
   Backup : (db to : Text) → Line
   Carry : (from to : Text) (until : Option ℕ) → Line
-  Audit : (db : Text) (seal : Seal) → Line
+  Audit : (dbs : List Text) (seal : Seal) → Line
   Scan : (host : Text) (port unit timeout : ℕ) (list : Bool) (setup : Option Text) → Line
   StandIn : (host : Text) (port connections : ℕ) → Line
   Loop : (zone : Text) → Line
@@ -80,7 +80,7 @@ seen (line.Round db device host port) = Round db.now device.now host.now port
 seen (line.Report db register form) = Report db.now register.now (seen_form form)
 seen (line.Backup db to) = Backup db.now to.now
 seen (line.Carry from to until) = Carry from.now to.now until
-seen (line.Audit db seal) = Audit db.now (seen_sealing seal)
+seen (line.Audit dbs seal) = Audit (texts dbs.items) (seen_sealing seal)
 seen (line.Scan host port unit timeout list setup) =
     Scan host.now port unit timeout list (option_map (λ text. text.now) setup)
 seen (line.StandIn host port connections) = StandIn host.now port connections
@@ -178,10 +178,21 @@ sealing_of prints (Some file) = if prints then None else Some (Against file)
 abbrev pub sealing_in : List Row → Option Seal
 sealing_in rows = sealing_of (is_set (codes "seal") rows) (text_at (codes "against") rows)
 
+-- something is asked of a seal
+abbrev pub asks_seal : Seal → Bool
+asks_seal Nothing = false
+asks_seal Print = true
+asks_seal (Against file) = true
+
+-- a seal is of one file
+abbrev pub one_sealed : (dbs : List Text) → Seal → Option Line
+one_sealed dbs seal =
+    if asks_seal seal && nat_lt 1 (length dbs) then None else Some (Audit dbs seal)
+
 abbrev pub audit_in : List Row → Option Line
 audit_in rows =
-    given (db_in rows) (λ db.
-    given (sealing_in rows) (λ seal. Some (Audit db seal)))
+    given (several_at (codes "db") rows) (λ dbs.
+    given (sealing_in rows) (λ seal. one_sealed dbs seal))
 
 -- of a list and lines to set a device up only one is printed
 abbrev pub one_of : (list : Bool) (setup : Option Text) → Line → Option Line

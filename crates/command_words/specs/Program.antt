@@ -1,7 +1,7 @@
 -- The program's commands and options.
 use Rattle.std.specs.Prelude.{ℕ, List, [], ◌∷◌, codes}
 use Rattle.clap.specs.Words.{App}
-use Rattle.command_words.specs.ClapTable.Table.{command_with, flag, lettered_flag, optional_option, program_with, repeated_option, required_option, word}
+use Rattle.command_words.specs.ClapTable.Table.{command_with, flag, lettered_flag, optional_option, program_with, repeated_option, required_option, several_option, word}
 
 -- the code of `n`
 abbrev pub letter_n : ℕ
@@ -43,7 +43,7 @@ later_commands =
     (required_option (codes "from") ∷ required_option (codes "to")
     ∷ optional_option (codes "until") ∷ [])
     ∷ command_with (codes "audit")
-    (required_option (codes "db") ∷ flag (codes "seal") ∷ optional_option (codes "against") ∷ [])
+    (several_option (codes "db") ∷ flag (codes "seal") ∷ optional_option (codes "against") ∷ [])
     ∷ command_with (codes "stand-in")
     (optional_option (codes "host") ∷ required_option (codes "port")
     ∷ required_option (codes "connections") ∷ [])

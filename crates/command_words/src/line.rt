@@ -82,9 +82,10 @@ pub enum CommandLine<'a> {
         to: &'a str,
         until: Option<u32>,
     },
-    /// Whether the rows of a file are those of lawful journals and polls, and whether it still has what a seal pins.
+    /// Whether the rows of a file are those of lawful journals and polls, and whether it still has what a seal pins. Of several
+    /// files, the oldest first, whether they also go on from each other; a seal is of one.
     Audit {
-        db: &'a str,
+        dbs: Vec<&'a str>,
         seal: Sealing<'a>,
     },
     /// The SunSpec models of a live device: listed, as a point list, or as the lines that set the device up under a name.

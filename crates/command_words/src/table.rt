@@ -96,6 +96,12 @@ const DB: OptionText<'static> = OptionText {
     help: "The office's file",
 };
 
+const AUDITED_DB: OptionText<'static> = OptionText {
+    name: "db",
+    value: Value::Several("FILE"),
+    help: "The office's file; may stand several times, oldest first, but for seals",
+};
+
 const NEW_DB: OptionText<'static> = OptionText {
     name: "db",
     value: Value::Required("FILE"),
@@ -326,7 +332,7 @@ const AUDIT: CommandText<'static> = CommandText {
     about: "Checks an office's rows against one another; it only reads",
     after: "Example: sunreg audit --db office.db --seal > seal.txt",
     options: &[
-        DB,
+        AUDITED_DB,
         OptionText {
             name: "seal",
             value: Value::Absent,

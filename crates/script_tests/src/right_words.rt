@@ -2,7 +2,7 @@
 use command_words::{CommandLine, Device, FormWords, Sealing, command_of};
 use energy_report::{EnergyUnit, Format, Period};
 
-const RIGHT: [(&[&str], CommandLine<'static>); 27] = [
+const RIGHT: [(&[&str], CommandLine<'static>); 24] = [
     // no word is replay
     (&[], CommandLine::Replay { zone: "UTC0" }),
     (&["replay"], CommandLine::Replay { zone: "UTC0" }),
@@ -235,27 +235,6 @@ const RIGHT: [(&[&str], CommandLine<'static>); 27] = [
             until: Some(4_294_967_295),
         },
     ),
-    (
-        &["audit", "--db", "o.db"],
-        CommandLine::Audit {
-            db: "o.db",
-            seal: Sealing::Nothing,
-        },
-    ),
-    (
-        &["audit", "--db", "o.db", "--seal"],
-        CommandLine::Audit {
-            db: "o.db",
-            seal: Sealing::Print,
-        },
-    ),
-    (
-        &["audit", "--against", "seal.txt", "--db", "o.db"],
-        CommandLine::Audit {
-            db: "o.db",
-            seal: Sealing::Against("seal.txt"),
-        },
-    ),
     // what is no number is told by the table of meanings, and not here
     (
         &["explain", "refused", "12"],
@@ -293,6 +272,38 @@ fn a_stand_in_is_at_this_host_where_none_is_given(rt: HostRuntime) {
         connections: 10,
     };
     assert!(rt; command_of(rt.alloc(), &words) == Ok(expected));
+}
+
+/// The words of audits, their files, and what they have to do with a seal.
+static AUDITS: [(&[&str], &[&str], Sealing<'static>); 4] = [
+    (&["audit", "--db", "o.db"], &["o.db"], Sealing::Nothing),
+    (
+        &["audit", "--db", "o.db", "--seal"],
+        &["o.db"],
+        Sealing::Print,
+    ),
+    (
+        &["audit", "--against", "seal.txt", "--db", "o.db"],
+        &["o.db"],
+        Sealing::Against("seal.txt"),
+    ),
+    (
+        &["audit", "--db=old.db", "--db", "o.db"],
+        &["old.db", "o.db"],
+        Sealing::Nothing,
+    ),
+];
+
+#[test]
+fn an_audit_takes_its_files_and_its_seal(rt: HostRuntime) {
+    for (words, files, asked) in &AUDITS {
+        match command_of(rt.alloc(), words) {
+            Ok(CommandLine::Audit { dbs, seal }) => {
+                assert!(rt; dbs.as_slice() == *files && seal == *asked, "{words:?}");
+            }
+            _ => panic!(rt; "no audit"),
+        }
+    }
 }
 
 static RUN: [&str; 9] = [

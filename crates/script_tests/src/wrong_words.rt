@@ -1,7 +1,7 @@
 //! Words that spell no command.
 use command_words::{WordsFault, command_of};
 
-static WRONG: [&[&str]; 52] = [
+static WRONG: [&[&str]; 54] = [
     &["bogus"],
     &[""],
     &["Plan"],
@@ -68,6 +68,8 @@ static WRONG: [&[&str]; 52] = [
     &["audit"],
     &["audit", "--db", "x", "--against"],
     &["audit", "--db", "x", "--seal", "--against", "s"],
+    &["audit", "--db", "x", "--db", "y", "--seal"],
+    &["audit", "--against", "s", "--db", "x", "--db", "y"],
     &["explain", "refused"],
     &["explain", "refused", "1", "2"],
     &["completions"],
@@ -114,6 +116,21 @@ fn another_shell_is_named(rt: HostRuntime) {
         panic!(rt; "not wrong");
     };
     assert!(rt; text.as_str() == SHELL_TEXT);
+}
+
+static TWO_SEALED: [&str; 6] = ["audit", "--db", "x", "--db", "y", "--seal"];
+
+static TWO_SEALED_TEXT: &str = "error: the argument '--seal' cannot be used with several '--db'
+
+For more information, try '--help'.
+";
+
+#[test]
+fn two_files_have_no_seal(rt: HostRuntime) {
+    let Err(WordsFault::Wrong(text)) = command_of(rt.alloc(), &TWO_SEALED) else {
+        panic!(rt; "not wrong");
+    };
+    assert!(rt; text.as_str() == TWO_SEALED_TEXT);
 }
 
 static WEEK: [&str; 7] = ["report", "--db", "x", "--register", "r", "--by", "week"];

@@ -1,5 +1,5 @@
 //! The commands, over the streams and sockets of the process.
-use crate::audits::audit;
+use crate::audits::{audit, audit_several};
 use crate::backups::backup;
 use crate::carries::carry;
 use crate::completions::completions;
@@ -105,7 +105,10 @@ pub(crate) fn carry_out<'a>(rt: &HostRuntime, line: &CommandLine<'a>) -> Ending<
         } => enter(rt, *db, *caller, devices, *only_read),
         CommandLine::Backup { db, to } => backup(rt, *db, *to),
         CommandLine::Carry { from, to, until } => carry(rt, *from, *to, *until),
-        CommandLine::Audit { db, seal } => audit(rt, *db, *seal),
+        CommandLine::Audit { dbs, seal } => match dbs.as_slice() {
+            [db] => audit(rt, *db, *seal),
+            several => audit_several(rt, several),
+        },
         CommandLine::Explain { what, number } => explain(rt, *what, *number),
         CommandLine::Completions => completions(rt),
     }
