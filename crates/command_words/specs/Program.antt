@@ -1,7 +1,7 @@
 -- The program's commands and options.
 use Rattle.std.specs.Prelude.{ℕ, List, [], ◌∷◌, codes}
 use Rattle.clap.specs.Words.{App}
-use Rattle.command_words.specs.ClapTable.Table.{command_with, flag, lettered_flag, optional_option, program_with, repeated_option, required_option, word}
+use Rattle.command_words.specs.ClapTable.Table.{command_with, flag, lettered_flag, optional_option, program_with, repeated_option, required_option, several_option, word}
 
 -- the code of `n`
 abbrev pub letter_n : ℕ
@@ -28,7 +28,7 @@ commands =
     (required_option (codes "db") ∷ required_option (codes "device")
     ∷ optional_option (codes "host") ∷ required_option (codes "port") ∷ [])
     ∷ command_with (codes "report")
-    (required_option (codes "db") ∷ required_option (codes "register")
+    (several_option (codes "db") ∷ required_option (codes "register")
     ∷ optional_option (codes "from") ∷ optional_option (codes "till") ∷ optional_option (codes "by")
     ∷ optional_option (codes "unit") ∷ optional_option (codes "format")
     ∷ flag (codes "statement") ∷ [])

@@ -96,6 +96,12 @@ const DB: OptionText<'static> = OptionText {
     help: "The office's file",
 };
 
+const DBS: OptionText<'static> = OptionText {
+    name: "db",
+    value: Value::Several("FILE"),
+    help: "The office's file; of an office that was carried several, oldest first",
+};
+
 const NEW_DB: OptionText<'static> = OptionText {
     name: "db",
     value: Value::Required("FILE"),
@@ -247,7 +253,7 @@ const REPORT: CommandText<'static> = CommandText {
     about: "Prints a register's energy by days, months or years",
     after: "Example:\n  sunreg report --db office.db --register main --by month --unit kwh --format csv",
     options: &[
-        DB,
+        DBS,
         REGISTER,
         OptionText {
             name: "from",
