@@ -26,8 +26,8 @@ fn argument<'a>(alloc: Global, option: OptionText<'a>) -> Arg<'a>
         Value::Several(shown) => argument
             .long(option.name)
             .value_name(shown)
-            .required(true)
-            .action(ArgAction::Append),
+            .action(ArgAction::Append)
+            .required(true),
         Value::Absent => argument.long(option.name).action(ArgAction::SetTrue),
         Value::Letter(letter) => argument
             .long(option.name)
