@@ -141,6 +141,25 @@ fn print_joined(rt: &HostRuntime, joined: JoinedOffice, form: &ReportForm) -> En
     }
 }
 
+// The same of a register that is recorded.
+fn print_recorded(
+    rt: &HostRuntime,
+    path: &str,
+    joined: Option<JoinedOffice>,
+    form: &ReportForm,
+) -> Ending<'static> {
+    match joined {
+        Some(joined) => {
+            if joined.files.is_recorded {
+                print_joined(rt, joined, form)
+            } else {
+                say_refused(rt, path, Refusal::NotFound)
+            }
+        }
+        None => say_refused(rt, path, Refusal::NotFound),
+    }
+}
+
 // The last of the files.
 fn last_of<'a>(paths: &[&'a str]) -> &'a str {
     match paths.last() {
@@ -149,7 +168,7 @@ fn last_of<'a>(paths: &[&'a str]) -> &'a str {
     }
 }
 
-// Prints the energy of a register that is recorded in one of the files.
+// Prints the energy of a register, where it is recorded in one of the files.
 fn report_register<'a>(
     rt: &HostRuntime,
     paths: &[&'a str],
@@ -158,14 +177,7 @@ fn report_register<'a>(
 ) -> Ending<'a> {
     match join_all(rt, paths, register, form.range) {
         Err(ending) => ending,
-        Ok(Some(joined)) => {
-            if joined.files.is_recorded {
-                print_joined(rt, joined, form)
-            } else {
-                say_refused(rt, last_of(paths), Refusal::NotFound)
-            }
-        }
-        Ok(None) => say_refused(rt, last_of(paths), Refusal::NotFound),
+        Ok(joined) => print_recorded(rt, last_of(paths), joined, form),
     }
 }
 
