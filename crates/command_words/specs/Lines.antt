@@ -41,6 +41,7 @@ pub data Line : Type 0 where
   Serve : (db : Text) (port connections : ℕ) (hosts : List Text) → Line
   Round : (db device host : Text) (port : ℕ) → Line
   Report : (db register : Text) (form : Form) → Line
+  ReportFiles : (files : List Text) (register : Text) (form : Form) → Line
   Backup : (db to : Text) → Line
   Carry : (from to : Text) (until : Option ℕ) → Line
   Audit : (dbs : List Text) (seal : Seal) → Line
@@ -78,6 +79,8 @@ seen (line.Serve db port connections hosts) =
     Serve db.now port connections (texts hosts.items)
 seen (line.Round db device host port) = Round db.now device.now host.now port
 seen (line.Report db register form) = Report db.now register.now (seen_form form)
+seen (line.ReportFiles files register form) =
+    ReportFiles (texts files.items) register.now (seen_form form)
 seen (line.Backup db to) = Backup db.now to.now
 seen (line.Carry from to until) = Carry from.now to.now until
 seen (line.Audit dbs seal) = Audit (texts dbs.items) (seen_sealing seal)
@@ -153,11 +156,17 @@ form_in rows =
       statement = statement;
     }))))
 
+-- several files are reported as one
+abbrev pub report_of : (db : Text) → (files : List Text) → (register : Text) → Form → Line
+report_of db files register form =
+    if nat_lt 1 (length files) then ReportFiles files register form else Report db register form
+
 abbrev pub report_in : List Row → Option Line
 report_in rows =
     given (db_in rows) (λ db.
     given (text_at (codes "register") rows) (λ register.
-    given (form_in rows) (λ form. Some (Report db register form))))
+    given (form_in rows) (λ form.
+    Some (report_of db (texts_at (codes "db") rows) register form))))
 
 abbrev pub backup_in : List Row → Option Line
 backup_in rows =

@@ -28,7 +28,7 @@ commands =
     (required_option (codes "db") ∷ required_option (codes "device")
     ∷ optional_option (codes "host") ∷ required_option (codes "port") ∷ [])
     ∷ command_with (codes "report")
-    (required_option (codes "db") ∷ required_option (codes "register")
+    (several_option (codes "db") ∷ required_option (codes "register")
     ∷ optional_option (codes "from") ∷ optional_option (codes "till") ∷ optional_option (codes "by")
     ∷ optional_option (codes "unit") ∷ optional_option (codes "format")
     ∷ flag (codes "statement") ∷ [])

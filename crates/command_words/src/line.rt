@@ -71,6 +71,12 @@ pub enum CommandLine<'a> {
         register: &'a str,
         form: FormWords<'a>,
     },
+    /// The same over several files, the oldest first.
+    ReportFiles {
+        files: Vec<&'a str>,
+        register: &'a str,
+        form: FormWords<'a>,
+    },
     /// A whole copy of an office's file.
     Backup {
         db: &'a str,

@@ -83,12 +83,20 @@ fn form<'a>(found: &ArgMatches<'a>) -> Result<FormWords<'a>, ValueFault<'a>>
     })
 }
 
-fn report_line<'a>(found: &ArgMatches<'a>) -> Result<CommandLine<'a>, ValueFault<'a>>
+fn report_line<'a>(alloc: Global, found: &ArgMatches<'a>) -> Result<CommandLine<'a>, ValueFault<'a>>
     ensures { Reads seen (report_in (rows_in found.now)) result }
 {
     let db = text(found, "db")?;
     let register = text(found, "register")?;
     let form = form(found)?;
+    let files = texts(alloc, found, "db")?;
+    if files.len() > 1 {
+        return Ok(CommandLine::ReportFiles {
+            files,
+            register,
+            form,
+        });
+    }
     Ok(CommandLine::Report { db, register, form })
 }
 
@@ -306,7 +314,7 @@ fn command_line<'a>(
         "create" => create_line(found),
         "serve" => serve_line(alloc, found),
         "round" => round_line(found),
-        "report" => report_line(found),
+        "report" => report_line(alloc, found),
         "stand-in" => stand_in_line(found),
         "loop" => Ok(CommandLine::Loop {
             zone: text_or(found, "zone", ZONE),

@@ -96,10 +96,10 @@ const DB: OptionText<'static> = OptionText {
     help: "The office's file",
 };
 
-const AUDITED_DB: OptionText<'static> = OptionText {
+const DBS: OptionText<'static> = OptionText {
     name: "db",
     value: Value::Several("FILE"),
-    help: "The office's file; may stand several times, oldest first, but for seals",
+    help: "The office's file; of an office that was carried several, oldest first",
 };
 
 const NEW_DB: OptionText<'static> = OptionText {
@@ -253,7 +253,7 @@ const REPORT: CommandText<'static> = CommandText {
     about: "Prints a register's energy by days, months or years",
     after: "Example:\n  sunreg report --db office.db --register main --by month --unit kwh --format csv",
     options: &[
-        DB,
+        DBS,
         REGISTER,
         OptionText {
             name: "from",
@@ -332,7 +332,7 @@ const AUDIT: CommandText<'static> = CommandText {
     about: "Checks an office's rows against one another; it only reads",
     after: "Example: sunreg audit --db office.db --seal > seal.txt",
     options: &[
-        AUDITED_DB,
+        DBS,
         OptionText {
             name: "seal",
             value: Value::Absent,

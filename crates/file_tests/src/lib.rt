@@ -17,6 +17,8 @@ mod failures;
 #[cfg(test)]
 mod files;
 #[cfg(test)]
+mod joined_files;
+#[cfg(test)]
 mod made_files;
 #[cfg(test)]
 mod said;

@@ -3,3 +3,4 @@ pub mod Told
 pub mod RunsLemmas
 pub mod CarryingLemmas
 pub mod CarriesLemmas
+pub mod JoiningLemmas

@@ -6,3 +6,4 @@ pub mod Files
 pub mod Backups
 pub mod Carrying
 pub mod Carries
+pub mod Joining

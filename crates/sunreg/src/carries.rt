@@ -96,8 +96,8 @@ fn say_carried(rt: &HostRuntime, count: u64) -> Ending<'static> {
     }
 }
 
-// Prints a refusal, and says what it means and of which file.
-fn say_refused(rt: &HostRuntime, path: &str, why: Refusal) -> Ending<'static> {
+/// Prints a refusal, and says what it means and of which file.
+pub(crate) fn say_refused(rt: &HostRuntime, path: &str, why: Refusal) -> Ending<'static> {
     let number = why.number();
     if write!(io::writer(rt), "refused {number}\n").is_err() {
         return Ending::Failed(Failure::Streams);

@@ -5,6 +5,7 @@ use crate::carries::carry;
 use crate::completions::completions;
 use crate::entering::enter;
 use crate::explain::explain;
+use crate::joined_reports::report_files;
 use crate::offices::{Files, OWN_HOST, create, over_office, run};
 use crate::reports::report;
 use crate::run_words::settings_of;
@@ -77,6 +78,11 @@ pub(crate) fn carry_out<'a>(rt: &HostRuntime, line: &CommandLine<'a>) -> Ending<
             ending_of_done(over_office(rt, &Files::of(rt), *db, task), *host, *port)
         }
         CommandLine::Report { db, register, form } => report(rt, *db, *register, form),
+        CommandLine::ReportFiles {
+            files,
+            register,
+            form,
+        } => report_files(rt, files.as_slice(), *register, form),
         CommandLine::Run {
             db,
             listen,

@@ -16,6 +16,7 @@ mod counters;
 mod entering;
 mod escaped;
 mod explain;
+mod joined_reports;
 mod offices;
 mod reports;
 mod run_words;

@@ -26,6 +26,7 @@ optional_option name = record (long_rule name) { value_names = 1 }
 abbrev pub repeated_option : Text → Rule
 repeated_option name = record (long_rule name) { value_names = 1; action = Some Append }
 
+-- one that must stand, and may stand several times
 abbrev pub several_option : Text → Rule
 several_option name =
     record (long_rule name) { value_names = 1; required = true; action = Some Append }

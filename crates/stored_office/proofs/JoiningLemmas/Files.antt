@@ -1,0 +1,67 @@
+-- Files that join, with one more.
+use Rattle.std.proofs.Common.{◌≡◌, ℕ, Bool, true, false, ◌||◌, Option, List, [], ◌∷◌, ◌++◌, Some, None, inl, inr, refl, sym, ap, subst, ◌∙◌}
+use Rattle.std.specs.List.{list_any}
+use Rattle.std.proofs.lemmas.Bool.{cases_Bool}
+use Rattle.interval_core.specs.Fold.{HasTaken}
+use Rattle.interval_core.specs.declared.shares.Share.{Share}
+use Rattle.interval_core.specs.declared.zone.Zone.{Zone}
+use Rattle.office_events.specs.declared.facts.Fact.{Fact}
+use Rattle.office_events.specs.declared.questions.Installation.{Installation}
+use Rattle.office_rules.specs.Intervals.{rows_of_register}
+use Rattle.office_books.specs.declared.spans.Span.{Span}
+use Rattle.office_books.specs.Entries.{installations_of}
+use Rattle.office_books.specs.Spans.{rows_within}
+use Rattle.office_books.proofs.Handing.{takes_both}
+use Rattle.stored_office.specs.Joining.Days.{AddUp, HasNumber}
+use Rattle.stored_office.specs.Joining.Files.{AddDays, AllJoin, HasJoined, Joins, JoinsFile, is_recorded, is_recorded_in, meters_over, rows_over_within}
+use Rattle.stored_office.specs.Joining.Meters.{AddsMeter}
+use Rattle.stored_office.specs.declared.joining.files.JoinedFiles.{JoinedFiles}
+use Rattle.stored_office.specs.declared.joining.files.Unjoined.{Unjoined}
+use Rattle.stored_office.proofs.JoiningLemmas.Days.{add_all, first_has, same_zone}
+
+-- ---- a register that is in a file is in each later one
+
+is_in_both : (here before : Bool) → (before ≡ true → here ≡ true) → here ≡ (here || before)
+is_in_both true before stays = refl
+is_in_both false true stays = stays refl
+is_in_both false false stays = refl
+
+-- ---- one file more
+
+module _ (zone : Zone) (span : Span) (register : List ℕ) (facts : List Fact) (files : List (List Fact)) (old new : JoinedFiles) where
+  abbrev before : List Share
+  before = rows_over_within span register files
+
+  abbrev more : List Share
+  more = rows_within span (rows_of_register facts register)
+
+  stays_so : HasJoined zone span register files old → JoinsFile span register facts old new
+      → is_recorded_in register files ≡ true → is_recorded register facts ≡ true
+  stays_so has joins is = joins.stays (has.recorded ∙ is)
+
+  days_so : HasJoined zone span register files old → JoinsFile span register facts old new → HasNumber (before ++ more)
+      → (new.days.zone ≡ zone) × HasTaken zone (before ++ more) new.days.fold
+  days_so has joins fits =
+      let taken = has.days (first_has before more fits) in
+      let had = subst (λ f. AddUp f zone before old.days.fold) (sym has.works) taken in
+      let all = add_all zone before more old.days new.days has.zone_is fits had joins.days.0 in
+      (all.0, subst (λ f. AddUp f zone (before ++ more) new.days.fold) joins.days.1 all.1)
+
+  join_one_more : HasJoined zone span register files old → JoinsFile span register facts old new
+      → HasJoined zone span register (facts ∷ files) new
+  join_one_more has joins = record {
+    recorded = joins.recorded ∙ is_in_both (is_recorded register facts) (is_recorded_in register files) (stays_so has joins);
+    meters = record {
+      recorded = (stays_so has joins, has.meters.recorded);
+      joined = takes_both AddsMeter [] old.meters.items new.meters.items (meters_over register files) (installations_of facts register)
+          has.meters.joined joins.meters;
+    };
+    zone_is = same_zone more old.days new.days joins.days.0 ∙ has.zone_is;
+    works = joins.days.1;
+    days = λ fits. (days_so has joins fits).1;
+  }
+
+pub all_join : (span : Span) (register : List ℕ) (facts : List Fact) (old new : JoinedFiles) (why : Option Unjoined)
+    → Joins span register facts old new why → AllJoin span register facts old new why
+all_join span register facts old new None joins = λ zone files has. join_one_more zone span register facts files old new has joins
+all_join span register facts old new (Some why) joins = tt

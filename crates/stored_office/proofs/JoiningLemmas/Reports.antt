@@ -1,0 +1,105 @@
+-- Days that are reported of files that join.
+use Rattle.std.proofs.Common.{◌≡◌, ℕ, ◌<◌, ◌^◌, Bool, true, false, not, List, [], ◌∷◌, ◌++◌, length, Option, inl, inr, refl, sym, ap, subst, ◌∙◌, arith}
+use Rattle.std.specs.Prelude.{filter, map, if◌then◌else◌}
+use Rattle.std.proofs.lemmas.Bool.{cases_Bool, cond-true, cond-false}
+use Rattle.std.proofs.lemmas.List.Elements.{filter-append}
+use Rattle.std.proofs.lemmas.List.Filters.{sum_by-filter_both}
+use Rattle.command_io.specs.declared.status.ExitStatus.{ExitStatus}
+use Rattle.command_io.specs.declared.status.ExitStatus.TheVariants.{Fine, Failed}
+use Rattle.energy_report.specs.Rows.{rows_by, shown}
+use Rattle.energy_report.specs.Texts.{report_text, rows_text}
+use Rattle.energy_report.specs.Writing.{GotUnless, IsFresh, TakesDay}
+use Rattle.energy_report.specs.declared.form.ReportForm.{ReportForm}
+use Rattle.energy_report.specs.declared.report_rows.ReportRows.{ReportRows}
+use Rattle.interval_core.specs.Account.{energy_of}
+use Rattle.interval_core.specs.Days.{AreAccounts, DayAccount, account_of}
+use Rattle.interval_core.specs.Ranges.{days_in, is_in}
+use Rattle.interval_core.specs.declared.shares.Share.{Share}
+use Rattle.interval_core.specs.declared.totals.DayTotal.{DayTotal}
+use Rattle.interval_core.specs.declared.zone.Zone.{Zone}
+use Rattle.interval_core.proofs.OneLemmas.{exists_for, one_for}
+use Rattle.office_books.specs.declared.spans.Span.{Span}
+use Rattle.office_books.specs.declared.spans.Span.TheVariants.{All, Between}
+use Rattle.office_books.specs.Rows.{TakesAll}
+use Rattle.office_books.specs.Spans.{is_within, rows_within}
+use Rattle.office_core.specs.DayRange.{span_of}
+use Rattle.office_core.proofs.Around.{has_each}
+use Rattle.office_core.proofs.Ranged.{days_within}
+use Rattle.office_events.specs.declared.facts.Fact.{Fact}
+use Rattle.office_program.specs.Texts.EndTexts.{IsTold}
+use Rattle.office_program.specs.Texts.RangedReports.{PrintsLast}
+use Rattle.office_program.proofs.TextsLemmas.Ranged.{taken_all}
+use Rattle.office_rules.specs.Intervals.{rows_of_register}
+use Rattle.stored_office.specs.Joining.Days.{HasNumber}
+use Rattle.stored_office.specs.Joining.Files.{HasJoined, rows_over, rows_over_within}
+use Rattle.stored_office.specs.Joining.Reports.{IsReportOver}
+use Rattle.stored_office.specs.declared.joining.files.JoinedFiles.{JoinedFiles}
+
+-- ---- the rows that are asked for
+
+both_within : (span : Span) (rows more : List Share) → rows_within span (rows ++ more) ≡ rows_within span rows ++ rows_within span more
+both_within All rows more = refl
+both_within (Between from till) rows more = filter-append (λ (row : Share). is_within (Between from till) row.start) rows more
+
+none_within : (span : Span) → rows_within span [] ≡ []
+none_within All = refl
+none_within (Between from till) = refl
+
+over_within : (span : Span) (register : List ℕ) (files : List (List Fact)) → rows_over_within span register files ≡ rows_within span (rows_over register files)
+over_within span register [] = sym (none_within span)
+over_within span register (facts ∷ files) =
+    ap (λ (rows : List Share). rows ++ rows_within span (rows_of_register facts register)) (over_within span register files)
+    ∙ sym (both_within span (rows_over register files) (rows_of_register facts register))
+
+has_number : (span : Span) (rows : List Share) → HasNumber rows → HasNumber (rows_within span rows)
+has_number All rows fits = fits
+has_number (Between from till) rows fits =
+    let asked : Share → Bool = λ row. is_within (Between from till) row.start in
+    let both = sum_by-filter_both asked (λ row. not (asked row)) (λ row. refl) (λ (row : Share). row.mwh) rows in
+    omega (arith, fits, both)
+
+-- ---- days out of the range are not shown
+
+twice : {X : Type 0} (p : X → Bool) (xs : List X) → filter p (filter p xs) ≡ filter p xs
+twice p [] = refl
+twice p (x ∷ xs) = elim (cases_Bool (p x)) [
+  | inl is ↦ ap (filter p) (cond-true _ _ _ is) ∙ cond-true _ _ _ is ∙ ap (λ l. x ∷ l) (twice p xs) ∙ sym (cond-true _ _ _ is)
+  | inr isnt ↦ ap (filter p) (cond-false _ _ _ isnt) ∙ twice p xs ∙ sym (cond-false _ _ _ isnt)
+]
+
+same_text : (form : ReportForm) (days : List DayTotal) → report_text form (days_in form.range days) ≡ report_text form days
+same_text form days =
+    ap (λ (those : List DayTotal). rows_text form (map shown (rows_by form.period those))) (twice (λ total. is_in form.range total.day) days)
+
+-- ---- the report
+
+pub is_over : (zone : Zone) (register : List ℕ) (files : List (List Fact)) (form : ReportForm) (joined : JoinedFiles) (days : List DayTotal)
+    → HasJoined zone (span_of form.range) register files joined → HasNumber (rows_over register files)
+    → map account_of days ≡ joined.days.fold.accounts → IsReportOver zone register files form (report_text form days)
+is_over zone register files form joined days has fits are =
+    let span = span_of form.range in
+    let rows = rows_over register files in
+    let same = over_within span register files in
+    let taken = has.days (subst HasNumber (sym same) (has_number span rows fits)) in
+    let totals = subst (λ (accounts : List DayAccount). AreAccounts zone (rows_over_within span register files) accounts) (sym are) taken.accounts in
+    let asked = days_within zone form.range span (λ start is. has_each form.range.from form.range.till zone start is)
+    (λ zone rows. let one = exists_for zone rows in (one.0, one.1, λ others are. one_for zone rows others one.0 are one.1))
+    rows days (days_in form.range days) (subst (λ (those : List Share). AreAccounts zone those (map account_of days)) same totals) refl in (
+      days_in form.range days,
+      record { all = asked.0; are = asked.1; asked = asked.2 },
+      sym (same_text form days),
+    )
+
+told_by : (failed : Bool) (status : ExitStatus) (text : List ℕ) (old new : Option (List ℕ)) → status ≡ (if failed then Failed else Fine)
+    → GotUnless failed text old new → IsTold text Fine status old new
+told_by false status text old new is got = inl (is, got)
+told_by true status text old new is got = inr (is, got)
+
+pub told_over : {W : Type 0} (contents : W → Option (List ℕ)) (form : ReportForm) (days : List DayTotal) (from to left : ReportRows W) (output : W) (status : ExitStatus)
+    → IsFresh contents form output from → TakesAll (TakesDay contents) from days to → length days < 2 ^ 64 → PrintsLast contents status to left
+    → IsTold (report_text form days) Fine status (contents output) (contents left.output.now)
+told_over contents form days from to left output status fresh took few last =
+    let taken = taken_all contents [] days from from to fresh.taken took in
+    let got = last.finishes.finished from days taken few in
+    let told = told_by left.failed status (report_text from.form days) (contents from.output.now) (contents left.output.now) last.means got in
+    rw (sym fresh.form, sym fresh.output) told

@@ -1,0 +1,16 @@
+//! What several files of one office tell of a register, one file after the other: the meters at it, each of which goes on where it
+//! stands in the file before, and its energy by days.
+
+mod days;
+mod files;
+mod laws;
+mod meters;
+mod reports;
+mod stored;
+
+pub use days::JoinedDays;
+pub use files::{JoinedFiles, Unjoined, add_books, no_files};
+pub use laws::one_file_tells_its_days;
+pub use meters::Apart;
+pub use reports::report_joined;
+pub use stored::{JoinFault, JoinedOffice, join_stored};
