@@ -7,7 +7,7 @@ ghost use Rattle.command_words.specs.Lines.{enter_in, explain_in, form_in, line_
 ghost use Rattle.command_words.specs.Lines.{sealing_in, seen_form, seen_sealing, serve_in, stand_in_in};
 ghost use Rattle.command_words.specs.Options.{Reads, rows_in};
 
-use crate::choices::{format_if, period_if, unit_if};
+use crate::choices::{carry_if, format_if, period_if, unit_if};
 use crate::faults::ValueFault;
 use crate::line::{CommandLine, FormWords, Sealing};
 use crate::options::{is_set, number, number_if, number_or, text, text_if, text_or, texts};
@@ -225,6 +225,7 @@ fn run_line<'a>(alloc: Global, found: &ArgMatches<'a>) -> Result<CommandLine<'a>
     let every = number(found, EVERY)?;
     let lasts = number_if(found, LASTS)?;
     let devices = devices(alloc, found)?;
+    let carry = carry_if(found)?;
     let host_names = texts(alloc, found, HOST_NAME)?;
     let most_kept = number_if(found, MOST_KEPT)?;
     Ok(CommandLine::Run {
@@ -233,6 +234,7 @@ fn run_line<'a>(alloc: Global, found: &ArgMatches<'a>) -> Result<CommandLine<'a>
         every,
         devices,
         lasts,
+        carry,
         host_names,
         most_kept,
         verbose: is_set(found, "verbose"),

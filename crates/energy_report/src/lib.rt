@@ -27,6 +27,7 @@ pub use meter_statement::{MeterStatement, was_there};
 pub use report_rows::ReportRows;
 pub use row::Row;
 pub use row_lines::RowLines;
+pub use row_text::period_name;
 pub use spelled_day::read_day;
 pub use spelled_range::{RangeFault, read_range};
 pub use statement_text::write_statement;

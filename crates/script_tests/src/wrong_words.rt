@@ -1,7 +1,7 @@
 //! Words that spell no command.
 use command_words::{WordsFault, command_of};
 
-static WRONG: [&[&str]; 52] = [
+static WRONG: [&[&str]; 53] = [
     &["bogus"],
     &[""],
     &["Plan"],
@@ -73,6 +73,19 @@ static WRONG: [&[&str]; 52] = [
     &["completions"],
     &["completions", "zsh"],
     &["run", "--db", "x", "--listen", "1", "--every", "1"],
+    &[
+        "run",
+        "--db",
+        "x",
+        "--listen",
+        "1",
+        "--every",
+        "1",
+        "--devices",
+        "a=h:1",
+        "--carry",
+        "day",
+    ],
 ];
 
 #[test]
