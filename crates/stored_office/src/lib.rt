@@ -14,7 +14,7 @@ mod tasks;
 
 pub use audits::{AuditFault, audit_stored, write_audit};
 pub use backups::{CopyFault, whole_file, whole_files};
-pub use carries::{CarryEnd, carry_stored};
+pub use carries::{CarryEnd, carry_stored, told_zone};
 pub use carrying::{
     CarryFault, carry_books, commands_record_the_same, meters_go_on_where_they_stand,
 };
