@@ -72,11 +72,11 @@ class Clock:
 class Process:
     """A process of the program, whose lines are kept with the time at which they came."""
 
-    def __init__(self, *words, clock, stderr=subprocess.PIPE, user=None):
+    def __init__(self, *words, clock, stderr=subprocess.PIPE, user=None, folder=None):
         self.lines, self.said = [], []
         self.begun = time.monotonic()
         self.child = subprocess.Popen(
-            [PROGRAM, *words], stdin=subprocess.DEVNULL, stdout=subprocess.PIPE, stderr=stderr, text=True, env={**os.environ, **clock.surroundings()}, user=user,
+            [PROGRAM, *words], stdin=subprocess.DEVNULL, stdout=subprocess.PIPE, stderr=stderr, text=True, env={**os.environ, **clock.surroundings()}, user=user, cwd=folder,
         )
         CHILDREN.append(self.child)
         for stream, lines in ((self.child.stdout, self.lines), (self.child.stderr, self.said)):
@@ -174,10 +174,10 @@ def office(name, file, zone, clock, user=None):
     return path
 
 
-def begin(path, period, device, clock, *words, **more):
+def begin(path, period, device, clock, *words, named=None, **more):
     port = free_port()
     run = Process(
-        "run", "--db", path, "--carry", period, "--listen", str(port), "--every", str(EVERY), "--devices", f"inv=127.0.0.1:{device.port}", *words, clock=clock, **more,
+        "run", "--db", named or path, "--carry", period, "--listen", str(port), "--every", str(EVERY), "--devices", f"inv=127.0.0.1:{device.port}", *words, clock=clock, **more,
     )
     run.port = port
     return run
@@ -304,9 +304,11 @@ def with_an_end():
     clock = Clock("ended", end - 7200)
     path = office("ended", "office.db", "UTC0", clock)
     clock.set(end - 4)
-    run = begin(path, "month", Device(), clock, "--for", "9")
+    run = begin(path, "month", Device(), clock, "--for", "9", named="office.db", folder=os.path.dirname(path))
     status = run.child.wait(30)
     took = time.monotonic() - run.begun
+    for wanted in ("sunreg: office.db: carried 1 meters into office-2026-11.db", "sunreg: office-2026-11.db: carried 1 meters into office-2026-12.db"):
+        same(f"with an end: {wanted}", run.count(wanted), 1)
     same("with an end: status", status, 0)
     holds("with an end: it ends in time", 8.5 <= took <= 12, took)
     same("with an end: files", files_of(path), ["office.db", "office-2026-11.db", "office-2026-12.db"])

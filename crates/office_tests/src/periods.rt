@@ -1,5 +1,5 @@
 //! When periods of the calendar are over, and how their files are called.
-use energy_report::{Period, period_name};
+use energy_report::{Period, period_name, periods_end_with_their_last_day};
 use interval_core::{Day, LAST_MOMENT, Zone, day_of};
 use run_schedule::{file_of_period, last_round, period_end, period_of_file};
 use std::alloc::Global;
@@ -74,6 +74,41 @@ fn months_end_at_local_midnight(rt: HostRuntime) {
 fn years_and_days_end_so_too(rt: HostRuntime) {
     for case in &OTHERS {
         assert!(rt; end_of(&rt, case).unwrap_or(0) == case.end, "{}", case.moment);
+    }
+}
+
+/// A day, and the last one of its month.
+static LAST_DAYS: [[i16; 4]; 6] = [
+    [2026, 11, 27, 30],
+    [2026, 12, 1, 31],
+    [2026, 2, 28, 28],
+    [2028, 2, 10, 29],
+    [2000, 2, 1, 29],
+    [2100, 2, 1, 28],
+];
+
+fn ends_on_its_last_day(year: i16, month: i8, day: i8, last: i8) -> bool {
+    match Day::new(year, month, day) {
+        Ok(day) => {
+            let end = Period::Month.last_day(day);
+            let year_end = Period::Year.last_day(day);
+            end.year() == year
+                && end.month() == month
+                && end.day() == last
+                && year_end.year() == year
+                && year_end.month() == 12
+                && year_end.day() == 31
+                && Period::Day.last_day(day) == day
+        }
+        Err(_) => false,
+    }
+}
+
+#[test]
+fn periods_have_a_last_day(rt: HostRuntime) {
+    periods_end_with_their_last_day();
+    for [year, month, day, last] in LAST_DAYS {
+        assert!(rt; ends_on_its_last_day(year, month as i8, day as i8, last as i8), "{year} {month}");
     }
 }
 

@@ -1,27 +1,20 @@
--- Clocks of zones, and the last days of periods.
-use Rattle.std.proofs.Common.{◌≡◌, ℕ, ◌+◌, ◌<◌, ◌≤◌, arith}
+-- Clocks of zones.
+use Rattle.std.proofs.Common.{◌≡◌, ℕ, true, false, arith}
 use Rattle.std.specs.Prelude.{ℤ, pos, ◌+ℤ◌, ◌*ℤ◌, ◌≤ℤ◌, ◌<ℤ◌}
+use Rattle.std.specs.Cmp.{int_ranks}
 use Rattle.std.specs.Int.{int_div_euclid}
-use Rattle.jiff_core.specs.Calendar.{days_from_civil}
-use Rattle.jiff_core.specs.Date.{IsYmd}
+use Rattle.std.specs.Ordering.{MatchOrdering, int_cmp, is_lt}
+use Rattle.std.specs.declared.cmp.Ordering.TheVariants.{Less, Equal, Greater}
 use Rattle.jiff_core.specs.Timestamp.{IsOffsetSeconds}
-use Rattle.jiff_core.specs.declared.civil.date.Date.{Date}
 use Rattle.jiff_core.proofs.SignedLemmas.{signed_arith}
 use Rattle.jiff_tz.specs.PosixRule as PosixRule
 use Rattle.jiff_tz.specs.Tzif as Table
 use Rattle.jiff_tz.specs.Zone.{offset_at, zero_in_range}
 use Rattle.jiff_tz.specs.declared.timezone.TimeZone.{TimeZone}
 use Rattle.jiff_tz.specs.declared.timezone.TimeZone.TheVariants.{UTC, Unknown, Fixed, Posix, Tzif}
-use Rattle.jiff.specs.Words.{epoch_day, plain_zone}
+use Rattle.jiff.specs.Words.{plain_zone}
 use Rattle.interval_core.specs.Zone.{day_at, offset_of, rule_of}
 use Rattle.interval_core.specs.declared.zone.Zone.{Zone}
-
--- a date with these parts has their day
-pub day_of_parts : (d : Date) (y : ℤ) (m n : ℕ) → IsYmd y (pos m) (pos n) d → epoch_day d ≡ days_from_civil y m n
-day_of_parts d y m n (year, month, day) =
-    let m_is : d.month ≡ m = omega (arith, month) in
-    let n_is : d.day ≡ n = omega (arith, day) in
-    rw (year, m_is, n_is)
 
 -- no clock is further from UTC than 25:59:59
 in_range : (zone : TimeZone) (n : ℤ) → IsOffsetSeconds (offset_at zone n)
@@ -40,3 +33,21 @@ pub not_past : (zone : Zone) (last : ℤ) (at : ℕ) → (pos at +ℤ pos 93_599
 not_past zone last at early =
     let bound = offset_range zone at in
     omega (arith, signed_arith, bound.1, early)
+
+-- ---- comparisons
+
+pub earlier : (x y : ℤ) → is_lt (int_cmp x y) ≡ true → x <ℤ y
+earlier x y test =
+    elim (int_cmp x y) as (λ r. MatchOrdering r (x <ℤ y) (x ≡ y) (y <ℤ x) → is_lt r ≡ true → x <ℤ y) [
+      | Less ↦ λ lt _. lt
+      | Equal ↦ λ eq no. cc
+      | Greater ↦ λ gt no. cc
+    ] (int_ranks x y) test
+
+pub not_earlier : (x y : ℤ) → is_lt (int_cmp x y) ≡ false → y ≤ℤ x
+not_earlier x y test =
+    elim (int_cmp x y) as (λ r. MatchOrdering r (x <ℤ y) (x ≡ y) (y <ℤ x) → is_lt r ≡ false → y ≤ℤ x) [
+      | Less ↦ λ lt no. cc
+      | Equal ↦ λ eq _. omega (arith, signed_arith, eq)
+      | Greater ↦ λ gt _. omega (arith, signed_arith, gt)
+    ] (int_ranks x y) test

@@ -1,19 +1,11 @@
 -- When a period of the calendar is over, by the clocks of a zone.
 use Rattle.std.specs.Prelude.{ℕ, ℤ, ◌<◌, ◌≤◌, ◌<ℤ◌, ◌≤ℤ◌, Option, Some, None}
 use Rattle.jiff_core.specs.declared.civil.date.Date.{Date}
-use Rattle.jiff.specs.Words.{epoch_day, month_length}
-use Rattle.jiff_core.specs.Calendar.{days_from_civil}
 use Rattle.interval_core.specs.Zone.{day_at}
 use Rattle.interval_core.specs.declared.limits.TheConstants.{LAST_MOMENT}
 use Rattle.interval_core.specs.declared.zone.Zone.{Zone}
 use Rattle.energy_report.specs.declared.form.Period.{Period}
-use Rattle.energy_report.specs.declared.form.Period.TheVariants as period
-
--- the last day of the period in which a day falls, counted from 1970-01-01
-abbrev pub last_day : Period → Date → ℤ
-last_day period.Day day = epoch_day day
-last_day period.Month day = days_from_civil day.year day.month (month_length day)
-last_day period.Year day = days_from_civil day.year 12 31
+use Rattle.energy_report.specs.Periods.{last_day}
 
 -- The first moment after this one at which a later day has begun.
 pub record IsFirstPast (zone : Zone) (last : ℤ) (moment next : ℕ) : Type 0 where

@@ -1,9 +1,9 @@
 //! When a period of the calendar is over.
-ghost use Rattle.std.specs.Prelude.{◌≡◌, ◌≤◌, ◌<◌, ◌/◌, ◌≤ℤ◌, ◌<ℤ◌, ℕ, min};
-ghost use Rattle.std.specs.Ordering.{int_cmp, is_lt};
+ghost use Rattle.std.specs.Prelude.{◌≡◌, ◌≤◌, ◌<◌, ◌/◌, ◌≤ℤ◌, ◌<ℤ◌, ℕ, min, true, false};
 ghost use Rattle.jiff.specs.Words.{epoch_day};
 ghost use Rattle.interval_core.specs.Zone.{day_at};
-ghost use Rattle.run_schedule.specs.Periods.Ends.{IsPastFrom, IsPeriodEnd, last_day};
+ghost use Rattle.interval_core.specs.declared.zone.Zone.{Zone as TheZone};
+ghost use Rattle.run_schedule.specs.Periods.Ends.{IsPastFrom, IsPeriodEnd};
 
 use energy_report::Period;
 use interval_core::{Day, LAST_MOMENT, Zone, day_of};
@@ -17,22 +17,11 @@ const MOST_OFFSET: i64 = 93_599;
 /// The most seconds for a round that is due as a period begins.
 const MOST_LAST_ROUND: u64 = 30;
 
-// The last day of the period in which a day falls.
-fn last_of(period: Period, day: Day) -> Day
-    ensures { epoch_day result ≡ last_day period day }
-{
-    match period {
-        Period::Day => day,
-        Period::Month => day.last_of_month(),
-        Period::Year => day.last_of_year(),
-    }
-}
-
 // A moment after this one, before which no later day begins anywhere.
 fn search_from(last: Day, moment: u64) -> u64
     requires { moment ≤ LAST_MOMENT }
     ensures later { moment < result }
-    ensures early { (zone : Zone) (at : ℕ) → moment < at → at < result
+    ensures early { (zone : TheZone) (at : ℕ) → moment < at → at < result
         → day_at zone at ≤ℤ epoch_day last }
 {
     let day = i64::from(last.to_plain().to_unix_epoch_day());
@@ -46,7 +35,8 @@ fn search_from(last: Day, moment: u64) -> u64
 // Whether a later day than this has begun at a moment.
 fn is_past(zone: &Zone, last: Day, at: u64) -> bool
     requires { at ≤ LAST_MOMENT }
-    ensures { result ≡ is_lt (int_cmp (epoch_day last) (day_at zone.now at)) }
+    ensures later { result ≡ true → epoch_day last <ℤ day_at zone.now at }
+    ensures not_later { result ≡ false → day_at zone.now at ≤ℤ epoch_day last }
 {
     match day_of(zone, at) {
         Ok(day) => last < day,
@@ -75,7 +65,7 @@ pub fn period_end(zone: &Zone, period: Period, day: Day, moment: u64) -> Option<
     if LAST_MOMENT < moment {
         return None;
     }
-    first_past(zone, last_of(period, day), moment)
+    first_past(zone, period.last_day(day), moment)
 }
 
 /// How many seconds a round has that is due as a period begins, before the file is changed: half of those from one round to the

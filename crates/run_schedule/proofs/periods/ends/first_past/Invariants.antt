@@ -7,5 +7,5 @@ use Rattle.run_schedule.proofs.periods.ends.first_past.Given as goal
 abbrev pub invariant-loop-at : goal.invariant-loop-at
 invariant-loop-at l = record {
   later : l.moment < l.at;
-  none : (at : ℕ) → l.moment < at → at < l.at → day_at l.zone at ≤ℤ epoch_day l.last;
+  none : (at : ℕ) → at < l.at → l.moment < at → day_at l.zone at ≤ℤ epoch_day l.last;
 }
