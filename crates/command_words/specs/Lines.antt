@@ -6,6 +6,7 @@ use Rattle.energy_report.specs.Words.{format_of, period_of, unit_of}
 use Rattle.energy_report.specs.declared.form.EnergyUnit.{EnergyUnit}
 use Rattle.energy_report.specs.declared.form.Format.{Format}
 use Rattle.energy_report.specs.declared.form.Period.{Period}
+use Rattle.energy_report.specs.declared.form.Period.TheVariants.{Month, Year}
 use Rattle.command_words.specs.Values.Devices.{Place, devices_in, place_of}
 use Rattle.command_words.specs.Values.Given.{given}
 use Rattle.command_words.specs.ClapTable.Table.{texts}
@@ -49,7 +50,7 @@ pub data Line : Type 0 where
   StandIn : (host : Text) (port connections : ℕ) → Line
   Loop : (zone : Text) → Line
   Run : (db : Text) (listen every : ℕ) (devices : List Place) (lasts : Option ℕ)
-      (hosts : List Text) (most_kept : Option ℕ) (verbose : Bool) → Line
+      (carry : Option Period) (hosts : List Text) (most_kept : Option ℕ) (verbose : Bool) → Line
   Explain : (what number : Text) → Line
   Completions : Line
 
@@ -88,9 +89,9 @@ seen (line.Scan host port unit timeout list setup) =
     Scan host.now port unit timeout list (option_map (λ text. text.now) setup)
 seen (line.StandIn host port connections) = StandIn host.now port connections
 seen (line.Loop zone) = Loop zone.now
-seen (line.Run db listen every devices lasts hosts most_kept verbose) =
-    Run db.now listen every (map place_of devices.items) lasts (texts hosts.items) most_kept
-    verbose
+seen (line.Run db listen every devices lasts carry hosts most_kept verbose) =
+    Run db.now listen every (map place_of devices.items) lasts carry (texts hosts.items)
+    most_kept verbose
 seen (line.Explain what number) = Explain what.now number.now
 seen line.Completions = Completions
 
@@ -235,6 +236,12 @@ enter_in rows =
     given (devices_if rows) (λ devices.
     Some (Enter db caller devices (is_set (codes "only-read") rows)))))
 
+-- by which periods a run begins a new file
+abbrev pub carried_by : Text → Option Period
+carried_by word =
+    if bytes_eq word (codes "month") then Some Month
+    else (if bytes_eq word (codes "year") then Some Year else None)
+
 abbrev pub run_in : List Row → Option Line
 run_in rows =
     given (db_in rows) (λ db.
@@ -242,9 +249,10 @@ run_in rows =
     given (number_at 86400 (codes "every") rows) (λ every.
     given (number_if 4000000000 (codes "for") rows) (λ lasts.
     given (devices_at rows) (λ devices.
+    given (if_some carried_by (text_at (codes "carry") rows)) (λ carry.
     given (number_if 1000000 (codes "most-kept") rows) (λ most_kept.
-    Some (Run db listen every devices lasts (hosts_in rows) most_kept
-    (is_set (codes "verbose") rows))))))))
+    Some (Run db listen every devices lasts carry (hosts_in rows) most_kept
+    (is_set (codes "verbose") rows)))))))))
 
 abbrev pub explain_in : List Row → Option Line
 explain_in rows =

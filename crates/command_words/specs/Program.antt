@@ -51,8 +51,9 @@ later_commands =
     ∷ command_with (codes "run")
     (required_option (codes "db") ∷ required_option (codes "listen")
     ∷ required_option (codes "every") ∷ required_option (codes "devices")
-    ∷ optional_option (codes "for") ∷ repeated_option (codes "host-name")
-    ∷ optional_option (codes "most-kept") ∷ flag (codes "verbose") ∷ [])
+    ∷ optional_option (codes "for") ∷ optional_option (codes "carry")
+    ∷ repeated_option (codes "host-name") ∷ optional_option (codes "most-kept")
+    ∷ flag (codes "verbose") ∷ [])
     ∷ command_with (codes "explain") (word (codes "what") ∷ word (codes "number") ∷ [])
     ∷ command_with (codes "completions") (word (codes "shell") ∷ [])
     ∷ []

@@ -120,6 +120,8 @@ pub enum CommandLine<'a> {
         every: u32,
         devices: Vec<Device<'a>>,
         lasts: Option<u32>,
+        /// By which periods it begins a new file.
+        carry: Option<Period>,
         host_names: Vec<&'a str>,
         /// How many megabytes of requests may be kept.
         most_kept: Option<u32>,

@@ -9,7 +9,7 @@ ghost use Rattle.command_words.specs.Lines.{enter_in, explain_in, form_in, line_
 ghost use Rattle.command_words.specs.Lines.{sealing_in, seen_form, seen_sealing, serve_in, stand_in_in};
 ghost use Rattle.command_words.specs.Options.{Reads, rows_in};
 
-use crate::choices::{format_if, period_if, unit_if};
+use crate::choices::{carry_if, format_if, period_if, unit_if};
 use crate::faults::ValueFault;
 use crate::line::{CommandLine, FormWords, Sealing};
 use crate::options::{
@@ -264,6 +264,7 @@ fn run_line<'a>(alloc: Global, found: &ArgMatches<'a>) -> Result<CommandLine<'a>
     let every = number(found, EVERY)?;
     let lasts = number_if(found, LASTS)?;
     let devices = devices(alloc, found)?;
+    let carry = carry_if(found)?;
     let host_names = texts(alloc, found, HOST_NAME)?;
     let most_kept = number_if(found, MOST_KEPT)?;
     Ok(CommandLine::Run {
@@ -272,6 +273,7 @@ fn run_line<'a>(alloc: Global, found: &ArgMatches<'a>) -> Result<CommandLine<'a>
         every,
         devices,
         lasts,
+        carry,
         host_names,
         most_kept,
         verbose: is_set(found, "verbose"),

@@ -82,6 +82,9 @@ pub const PERIODS: &[&str] = &["day", "month", "year"];
 
 pub const UNITS: &[&str] = &["mwh", "kwh"];
 
+/// By which periods a run begins a new file.
+pub const CARRIES: &[&str] = &["month", "year"];
+
 pub const FORMATS: &[&str] = &["text", "csv", "json"];
 
 /// The unit where none is given.
@@ -415,6 +418,14 @@ const RUN: CommandText<'static> = CommandText {
             name: "for",
             value: Value::Optional("SECONDS"),
             help: "Ends after this long, 1 to 4000000000",
+        },
+        OptionText {
+            name: "carry",
+            value: Value::Chosen {
+                shown: "PERIOD",
+                choices: CARRIES,
+            },
+            help: "Begins a new file each month or year: month or year",
         },
         ASKED_NAME,
         OptionText {

@@ -28,3 +28,5 @@ mod statuses;
 mod stored;
 #[cfg(test)]
 mod task_ends;
+#[cfg(test)]
+mod unwaited_lines;

@@ -1,1 +1,2 @@
 pub mod HttpPeersLemmas
+pub mod PeriodLemmas

@@ -318,7 +318,7 @@ static RUN: [&str; 9] = [
     "inv=192.0.2.7:502",
 ];
 
-static RUN_ALL: [&str; 13] = [
+static RUN_ALL: [&str; 15] = [
     "run",
     "--verbose",
     "--db=o.db",
@@ -328,6 +328,8 @@ static RUN_ALL: [&str; 13] = [
     "inv=meter.lan:502,b=[::1]:1",
     "--for",
     "3600",
+    "--carry",
+    "month",
     "--host-name=a.example",
     "--most-kept",
     "100",
@@ -462,11 +464,13 @@ fn run_goes_on_where_no_end_is_given(rt: HostRuntime) {
                 every,
                 devices,
                 lasts,
+                carry,
                 host_names,
                 most_kept,
                 verbose,
             },
         ) => {
+            assert!(rt; carry == None);
             assert!(rt; host_names.is_empty() && most_kept == None);
             assert!(rt; db == "o.db" && listen == 8080 && every == 60);
             assert!(rt; lasts == None && !verbose);
@@ -483,6 +487,7 @@ fn run_takes_an_end_and_verbose(rt: HostRuntime) {
             CommandLine::Run {
                 devices,
                 lasts,
+                carry,
                 host_names,
                 most_kept,
                 verbose,
@@ -490,10 +495,33 @@ fn run_takes_an_end_and_verbose(rt: HostRuntime) {
             },
         ) => {
             assert!(rt; most_kept == Some(100));
+            assert!(rt; carry == Some(Period::Month));
             assert!(rt; host_names.as_slice() == ["a.example"].as_slice());
             assert!(rt; lasts == Some(3600) && verbose);
             assert!(rt; devices.as_slice() == ALL_DEVICES.as_slice());
         }
+        _ => panic!(rt; "no run"),
+    }
+}
+
+static RUN_BY_YEARS: [&str; 11] = [
+    "run",
+    "--db",
+    "o.db",
+    "--listen",
+    "8080",
+    "--every",
+    "60",
+    "--devices",
+    "inv=192.0.2.7:502",
+    "--carry",
+    "year",
+];
+
+#[test]
+fn run_takes_a_file_each_year(rt: HostRuntime) {
+    match command_of(rt.alloc(), &RUN_BY_YEARS) {
+        Ok(CommandLine::Run { carry, .. }) => assert!(rt; carry == Some(Period::Year)),
         _ => panic!(rt; "no run"),
     }
 }

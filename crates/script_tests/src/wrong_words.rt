@@ -1,7 +1,7 @@
 //! Words that spell no command.
 use command_words::{WordsFault, command_of};
 
-static WRONG: [&[&str]; 54] = [
+static WRONG: [&[&str]; 55] = [
     &["bogus"],
     &[""],
     &["Plan"],
@@ -75,6 +75,19 @@ static WRONG: [&[&str]; 54] = [
     &["completions"],
     &["completions", "zsh"],
     &["run", "--db", "x", "--listen", "1", "--every", "1"],
+    &[
+        "run",
+        "--db",
+        "x",
+        "--listen",
+        "1",
+        "--every",
+        "1",
+        "--devices",
+        "a=h:1",
+        "--carry",
+        "day",
+    ],
 ];
 
 #[test]
