@@ -140,7 +140,7 @@ pub fn meters_stored<'a, S: Alter>(
 
 /// Holds a file to those before it, by its zone and its meters: after the lines so far one for each way in which it doesn't go on from
 /// them. Where memory is wanting, some lines may lack, and what was kept is gone.
-pub fn join_stored<'a>(
+pub fn hold_to_earlier<'a>(
     alloc: Global,
     joining: &mut Joining<'a>,
     file: &'a str,

@@ -14,7 +14,7 @@ mod seals;
 mod tasks;
 
 pub use audits::{
-    AuditFault, audit_stored, join_stored, meters_stored, write_audit, write_joins,
+    AuditFault, audit_stored, hold_to_earlier, meters_stored, write_audit, write_joins,
 };
 pub use backups::{CopyFault, whole_file, whole_files};
 pub use carries::{CarryEnd, carry_stored, told_zone};

@@ -7,7 +7,7 @@ use std::fs::File;
 use std::io::{self, Read, Write};
 use std::str::from_utf8;
 use stored_office::{
-    AuditFault, Databases, Ending, Failure, Joining, audit_stored, check_stored_seal, join_stored,
+    AuditFault, Databases, Ending, Failure, Joining, audit_stored, check_stored_seal, hold_to_earlier,
     meters_stored, seal_stored, told_zone, write_audit, write_checked, write_joins, write_seal,
 };
 
@@ -141,7 +141,7 @@ fn join_next<'a, S: Alter>(
 ) -> Result<(), AuditFault> {
     let meters = meters_stored(rt.alloc(), connection, file)?;
     match told_zone(connection) {
-        Ok(zone) => join_stored(rt.alloc(), joining, file, zone, meters),
+        Ok(zone) => hold_to_earlier(rt.alloc(), joining, file, zone, meters),
         Err(fault) => Err(zone_fault(fault)),
     }
 }
