@@ -37,7 +37,9 @@ first. `bench/gate.sh --page --log FILE` makes this page of what `bench/watch.py
 - **A crate of tests pays for the whole program that it is built of** besides: one test that asks an empty database a question takes 171 s of a busy
   processor. So the tests of one level stand in one crate.
 - **A function costs** 1.4 s low down and 3 s high up; a line of a test 0.65 s. Dear is a test's body with more than three `?` beside values that must be
-  dropped: 30 to 50 s. Comparisons of tuples are dear, long literals are not: a static of 59 tuples of four texts costs 2.5 s.
+  dropped: 30 to 50 s. Comparisons of tuples are dear, long literals are not: a static of 59 tuples of four texts costs 2.5 s. In a small crate, as the
+  second and third of three copies, an `assert_eq!` of two options cost 2 s and `assert!` of the same by `==` 1 s; a match on a tuple of an answer and an option
+  4 to 5 s, nested matches 1.7 s, and one with a closure 2.6 s.
 - **An edit** in `must-fail/` costs 20 to 50 s, and the first one of a crate the crate's proof again; in `tests/edits/` it costs the gate nothing, and
   `tests/edits.sh` 9 s.
 - **A crate should have** under 90 functions and 1,500 lines, no `#[test]` that a crate of tests can hold, and at most 8 edits in `must-fail/`.
@@ -48,8 +50,9 @@ first. `bench/gate.sh --page --log FILE` makes this page of what `bench/watch.py
 
 ## By crate
 
-{machine}. Processor seconds of each part, which a processor that others share counts up to twice, and the most memory that one process of it held, in GB.
-A blank was not measured. The number of edits stands in brackets; their seconds hold the crate's proof, with which they begin.
+{machine}, {wall} minutes by the clock from the first process to the last. Processor seconds of each part, which a processor that others share counts up to twice,
+and the most memory that one process of it held, in GB. A blank was not measured. The number of edits stands in brackets; their seconds hold the crate's proof, with
+which they begin.
 
 {table}
 """
@@ -210,7 +213,8 @@ def main(asked):
     names = [it.name for it in kit.load_rt().rtlib.crates_below(root)]
     seconds, memory = parts_of(log, names)
     rows = "\n".join(table(root, names, seconds, memory))
-    print(PAGE.format(machine=machine(log), table=rows).rstrip("\n") if asked.page else rows)
+    wall = round((max(it["t1"] for it in log) - min(it["t0"] for it in log)) / 60) if log else 0
+    print(PAGE.format(machine=machine(log), wall=wall, table=rows).rstrip("\n") if asked.page else rows)
     if not asked.page:
         print(f"\n{machine(log)}: {sum(seconds.values()) / 60:.0f} processor minutes")
     return status
