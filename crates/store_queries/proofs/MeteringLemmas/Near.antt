@@ -1,6 +1,6 @@
 -- What the rows around an entry tell of it is what the facts have.
 use Rattle.std.proofs.Common.{◌≡◌, ℕ, ◌+◌, ◌<◌, ◌≤◌, ◌==◌, not, Bool, true, false, inl, inr, ◌⊎◌, List, [], ◌∷◌, map, filter, length, Option, Some, None, option_map, refl, sym, ap, ap₂, subst, ◌∙◌, arith, IsPermutation}
-use Rattle.std.specs.Prelude.{nat_lt}
+use Rattle.std.specs.Prelude.{IfSome, nat_lt}
 use Rattle.std.specs.List.{AllByRecursion, list_any}
 use Rattle.std.specs.Option.{option_and_then}
 use Rattle.std.proofs.lemmas.Bool.{cases_Bool, cond-true, cond-false}
@@ -17,6 +17,7 @@ use Rattle.meter_journal.specs.Lists.{AreNumbered}
 use Rattle.meter_journal.specs.Standing.{is_voided}
 use Rattle.meter_journal.specs.Voids.{VoidsChangeTwoRows}
 use Rattle.meter_journal.proofs.Keeping.{entries_standing, mapped_some}
+use Rattle.sqlite.specs.Order.{Row}
 use Rattle.office_events.specs.declared.facts.Fact.{Fact}
 use Rattle.office_events.specs.declared.facts.Opening.{Opening}
 use Rattle.office_events.specs.declared.questions.EntryPlace.{EntryPlace}
@@ -37,8 +38,8 @@ use Rattle.store_facts.proofs.Energy.{found_recorded}
 use Rattle.store_facts.proofs.Passing.{any_permutation}
 use Rattle.store_queries.specs.declared.metering.around.Around as stored_around
 use Rattle.store_queries.specs.declared.metering.around.Sides.{Sides}
-use Rattle.store_queries.specs.Metering.Around.{AreVoided, AreSides, FindsAt, FindsAround, IsSeen, next_from, stood}
-use Rattle.store_queries.specs.Metering.Entries.{row_from, names}
+use Rattle.store_queries.specs.Metering.Around.{AreVoided, AreSides, ByVoids, FindsAt, FindsAround, IsSeen, next_from, TellsRightly}
+use Rattle.store_queries.specs.Metering.Entries.{row_from, names, ShowsVoids}
 use Rattle.store_queries.proofs.MeteringLemmas.Around.{AtRow, AreStruck, IsNextRow, Stands, all_of_meter, all_places, entries_at_rows, next_around, none_next, none_told, stood_around, told_of}
 use Rattle.store_queries.proofs.MeteringLemmas.Journals.{IsTold, back_by, numbered, one_back, voids_are}
 use Rattle.store_queries.proofs.MeteringLemmas.Shapes.{HasShape, IsPlain, found_rest, found_there, plain}
@@ -171,3 +172,17 @@ pub seen_rightly : JournalsFit → RowsStand → VoidsChangeTwoRows → Journals
 seen_rightly journals stand change kept places facts meter place late vs all sides are seen finds whole p whole_is h =
     let o = mapped_some (installation_of facts) (opening_of facts meter) whole (sym whole_is) in
     seen_near journals stand change kept places facts meter o.0 o.1 finds.entry.lawful vs all place late sides are seen finds whole p whole_is h
+
+if_seen : (facts : List Fact) (meter : List ℕ) (place : ℕ) (whole : Installation) (seen : stored_around.Around) (stands : Bool) (r : Option EntryPlace) → IfSome r (IsSeen whole seen stands)
+    → ((p : EntryPlace) → Some whole ≡ meter_of facts meter → IsSeen whole seen stands p → TellsNear facts meter place (Some p)) → TellsRightly meter place whole facts r
+if_seen facts meter place whole seen stands None h tells = tt
+if_seen facts meter place whole seen stands (Some p) h tells = λ whole_is. tells p whole_is h
+
+-- what is told by the rows around an entry, by the voids that were shown
+pub told_rightly : JournalsFit → RowsStand → VoidsChangeTwoRows → JournalsAreKept → PlacesWereKept → (facts : List Fact) (meter : List ℕ) (place : ℕ) → 2 ≤ place → (shown told : List Row) (sides : Sides) (found : Option stored_around.Around) (seen : stored_around.Around)
+    (whole : Installation) (r : Option EntryPlace) → ShowsVoids meter facts shown → told ≡ shown → ByVoids (λ (vs : List Voided). AreSides vs place sides) told → IfSome found (FindsAround meter place sides.before sides.after facts) → found ≡ Some seen
+    → IfSome r (IsSeen whole seen sides.stands) → TellsRightly meter place whole facts r
+told_rightly journals stand change kept places facts meter place late shown told sides found seen whole r shows same by finds is h =
+    let are : AreSides shows.voids place sides = by shows.voids (same ∙ shows.shown) in
+    let here : FindsAround meter place sides.before sides.after facts seen = subst (λ (f : Option stored_around.Around). IfSome f (FindsAround meter place sides.before sides.after facts)) is finds in
+    if_seen facts meter place whole seen sides.stands r h (λ p whole_is seen_is. seen_rightly journals stand change kept places facts meter place late shows.voids shows.all sides are seen here whole p whole_is seen_is)
