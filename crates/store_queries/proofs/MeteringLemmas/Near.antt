@@ -38,7 +38,7 @@ use Rattle.store_facts.proofs.Energy.{found_recorded}
 use Rattle.store_facts.proofs.Passing.{any_permutation}
 use Rattle.store_queries.specs.declared.metering.around.Around as stored_around
 use Rattle.store_queries.specs.declared.metering.around.Sides.{Sides}
-use Rattle.store_queries.specs.Metering.Around.{AreVoided, AreSides, ByVoids, FindsAt, FindsAround, IsSeen, next_from, TellsRightly}
+use Rattle.store_queries.specs.Metering.Around.{AreVoided, AreSides, ByVoids, FindsAt, FindsAround, IsSeen, next_from, TellsOf, TellsRightly}
 use Rattle.store_queries.specs.Metering.Entries.{row_from, names, ShowsVoids}
 use Rattle.store_queries.proofs.MeteringLemmas.Around.{AtRow, AreStruck, IsNextRow, Stands, all_of_meter, all_places, entries_at_rows, next_around, none_next, none_told, stood_around, told_of}
 use Rattle.store_queries.proofs.MeteringLemmas.Journals.{IsTold, back_by, numbered, one_back, voids_are}
@@ -174,7 +174,7 @@ seen_rightly journals stand change kept places facts meter place late vs all sid
     seen_near journals stand change kept places facts meter o.0 o.1 finds.entry.lawful vs all place late sides are seen finds whole p whole_is h
 
 if_seen : (facts : List Fact) (meter : List ℕ) (place : ℕ) (whole : Installation) (seen : stored_around.Around) (stands : Bool) (r : Option EntryPlace) → IfSome r (IsSeen whole seen stands)
-    → ((p : EntryPlace) → Some whole ≡ meter_of facts meter → IsSeen whole seen stands p → TellsNear facts meter place (Some p)) → TellsRightly meter place whole facts r
+    → ((p : EntryPlace) → Some whole ≡ meter_of facts meter → IsSeen whole seen stands p → TellsNear facts meter place (Some p)) → IfSome r (λ p. TellsOf meter place whole facts (Some p))
 if_seen facts meter place whole seen stands None h tells = tt
 if_seen facts meter place whole seen stands (Some p) h tells = λ whole_is. tells p whole_is h
 
@@ -185,4 +185,7 @@ pub told_rightly : JournalsFit → RowsStand → VoidsChangeTwoRows → Journals
 told_rightly journals stand change kept places facts meter place late shown told sides found seen whole r shows same by finds is h =
     let are : AreSides shows.voids place sides = by shows.voids (same ∙ shows.shown) in
     let here : FindsAround meter place sides.before sides.after facts seen = subst (λ (f : Option stored_around.Around). IfSome f (FindsAround meter place sides.before sides.after facts)) is finds in
-    if_seen facts meter place whole seen sides.stands r h (λ p whole_is seen_is. seen_rightly journals stand change kept places facts meter place late shows.voids shows.all sides are seen here whole p whole_is seen_is)
+    record {
+      lawful = shows.lawful;
+      right = if_seen facts meter place whole seen sides.stands r h (λ p whole_is seen_is. seen_rightly journals stand change kept places facts meter place late shows.voids shows.all sides are seen here whole p whole_is seen_is);
+    }

@@ -1,5 +1,5 @@
 -- The rows around an entry of a meter, and what they tell of it.
-use Rattle.std.specs.Prelude.{◌≡◌, ◌⊎◌, ℕ, ◌<◌, ◌≤◌, Bool, true, false, not, List, map, Option, Some, None}
+use Rattle.std.specs.Prelude.{◌≡◌, ◌⊎◌, ℕ, ◌<◌, ◌≤◌, Bool, true, false, not, List, map, Option, Some, None, IfSome}
 use Rattle.std.specs.List.{list_any}
 use Rattle.std.specs.List.Sorted.{IsPermutation}
 use Rattle.std.specs.Prelude.{filter}
@@ -84,13 +84,14 @@ pub record IsSeen (whole : Installation) (around : Around) (stands : Bool) (seen
   pub row : Some seen.row ≡ row_from around.entry stands
   pub next : seen.next ≡ next_from around.next
 
--- What is told of the entry of this meter is right; and so it is if anything is told.
+-- what is told of the entry of this meter is right
 abbrev pub TellsOf : (meter : List ℕ) → (place : ℕ) → Installation → List Fact
     → Option EntryPlace → Type 0
 TellsOf meter place whole facts found =
     Some whole ≡ meter_of facts meter → TellsNear facts meter place found
 
-abbrev pub TellsRightly : (meter : List ℕ) → (place : ℕ) → Installation → List Fact
-    → Option EntryPlace → Type 0
-TellsRightly meter place whole facts None = Unit {0}
-TellsRightly meter place whole facts (Some found) = TellsOf meter place whole facts (Some found)
+-- it is right if anything is told
+pub record TellsRightly (meter : List ℕ) (place : ℕ) (whole : Installation) (facts : List Fact)
+    (found : Option EntryPlace) : Type 0 where
+  pub lawful : AreLawful facts
+  pub right : IfSome found (λ p. TellsOf meter place whole facts (Some p))

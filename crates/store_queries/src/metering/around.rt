@@ -1,5 +1,6 @@
 //! An entry of a meter, by the rows around it.
 ghost use Rattle.std.specs.Prelude.{◌≡◌, ◌≤◌, false, IfOk, IfSome, IsUtf8};
+ghost use Rattle.office_rules.specs.Lawful.{AreLawful};
 ghost use Rattle.office_rules.specs.Ranges.{IsSound};
 ghost use Rattle.office_books.specs.Near.{TellsNear};
 ghost use Rattle.store_tables.specs.Limits.{greatest_place};
@@ -78,14 +79,17 @@ fn place_after(voids: &[Row], place: u64) -> Option<u64>
     None
 }
 
-/// Both, and whether the entry stands.
+/// Both, and whether the entry stands. None also at a place that no entry has.
 fn sides_of(voids: &[Row], place: u64) -> Option<Sides>
-    requires following { 2 ≤ place }
-    requires place { place ≤ greatest_place }
+    ensures following { IfSome result (λ sides. 2 ≤ place) }
+    ensures place { IfSome result (λ sides. place ≤ greatest_place) }
     ensures sides { IfSome result (λ sides. ByVoids (λ vs. AreSides vs place sides) voids.now) }
     ensures before { IfSome result (λ sides. sides.before ≤ greatest_place) }
     ensures after { IfSome result (λ sides. sides.after ≤ greatest_place) }
 {
+    if place < 2 || GREATEST_PLACE < place {
+        return None;
+    }
     let before = place_before(voids, place)?;
     let after = place_after(voids, place)?;
     let stands = !is_named(voids, place)?;
@@ -193,9 +197,6 @@ fn told_around<S: Alter>(
     voids_change_two_rows();
     journals_are_kept();
     places_were_kept();
-    if place < 2 || GREATEST_PLACE < place {
-        return Ok(None);
-    }
     let voids = voids(conn, meter)?;
     let Some(sides) = sides_of(&voids, place) else {
         return Ok(None);
@@ -217,7 +218,7 @@ fn told_by_all<S: Alter>(
     requires idle { conn.old.in_transaction ≡ false }
     requires sound { IsSound whole.now }
     ensures finds { Finds S.Store conn.old conn.new result
-        (TellsOf name.now place whole.now)
+        (λ facts found. AreLawful facts → TellsOf name.now place whole.now facts found)
         (λ facts. IsUtf8 name.now × HasReadableJournals facts) }
     ensures sound { IfOk result (λ found. IfSome found (λ p. IsSound p.before)) }
 {
