@@ -11,6 +11,6 @@ returns-then-is_full-clause-found g c known holds clean =
     IfOk-weaker c.entry.result (λ (row : Option EntryPlace). row ≡ entry_at known c.args.meter.now c.args.place) (IsJudgedAs (entry_at known c.args.meter.now c.args.place))
     (judged_itself (entry_at known c.args.meter.now c.args.place)) (c.entry.ensures.found known (c.in_ok-near.ensures.reads.reads.keeps.facts known holds) clean)
 
-pub returns-else-is_full-clause-found : goal.returns-else-is_full-clause-found
-returns-else-is_full-clause-found g c known holds clean =
+pub returns-clause-found : goal.returns-clause-found
+returns-clause-found g c known holds clean =
     judged_near known c.args.meter.now c.args.place c.in_ok-near.near (c.in_ok-near.ensures.found known holds clean) (sym c.is_full.ensures ∙ c.if-is_full.false)
