@@ -10,8 +10,8 @@ use sqlite::{Connection, MemStore};
 use std::alloc::Global;
 use std::test::Fail;
 use store_queries::{
-    entry, entry_near, installation, installation_count, intervals, meter, meter_entries, meters_at,
-    register_intervals,
+    entry, entry_near, installation, installation_count, intervals, meter, meter_entries,
+    meters_at, register_intervals,
 };
 use store_tables::RowFault;
 

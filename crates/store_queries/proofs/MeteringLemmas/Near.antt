@@ -143,9 +143,9 @@ module _ (journals : JournalsFit) (stand : RowsStand) (change : VoidsChangeTwoRo
         sym (none_next o lines place rows around places_are plains row.there (λ q above under. struck_is place sides.after are.after.between q above (omega (arith, under, beyond))))
     next_told (Some e) h =
         let it = told_of meter o rows h.table (mine h.table h.each) (IsNextRow o lines around) sides.after e
-            (next_around o lines place sides.after rows around places_are plains row.there are.after.higher (struck_is place sides.after are.after.between) (sym (named_is sides.after) ∙ are.after.stands)) h.is in
+        (next_around o lines place sides.after rows around places_are plains row.there are.after.higher (struck_is place sides.after are.after.between) (sym (named_is sides.after) ∙ are.after.stands)) h.is in
         let scale : it.row.stands ≡ true → e.sf ≡ (after (last_of (opened o) (entries_in it.before)) it.row.entry).sf =
-            λ on. it.scale ∙ ap (λ es. (last_of (opened o) es).sf) (entries_standing it.row it.before on) in
+        λ on. it.scale ∙ ap (λ es. (last_of (opened o) es).sf) (entries_standing it.row it.before on) in
         ap (λ (x : stored.EntryRow). row_from x true) it.is ∙ ap (row_from (entry_row e.sf it.row)) (sym it.stands)
         ∙ back_by e.sf (last_of (opened o) (entries_in it.before)) it.row.place it.row.kind it.row.entry it.row.stands it.shape (λ off. absurd (let f : true ≡ false = sym it.stands ∙ off in cc)) scale ∙ sym it.next
 
@@ -153,15 +153,15 @@ module _ (journals : JournalsFit) (stand : RowsStand) (change : VoidsChangeTwoRo
     seen_near whole p whole_is h =
         let whole_of : whole ≡ installation_of facts o = same_Some _ _ (whole_is ∙ ap (option_map (installation_of facts)) there) in
         let found_at : Some (place_in facts o around) ≡ entry_at facts meter place =
-            sym (ap (option_and_then (λ (x : Opening). option_map (place_in facts x) (row_at place (rows_of facts x)))) there ∙ ap (option_map (place_in facts o)) row.there) in
+        sym (ap (option_and_then (λ (x : Opening). option_map (place_in facts x) (row_at place (rows_of facts x)))) there ∙ ap (option_map (place_in facts o)) row.there) in
         let row_same : p.row ≡ around.row = same_Some _ _ (h.row ∙ row_is) in
         let next_same : p.next ≡ around.next = h.next ∙ next_told seen.next finds.next in
         let before_same : p.before ≡ (with_energy whole.total (place_in facts o around)).before =
-            h.before ∙ ap (λ (l : Last). let i : Installation = record whole { last = l } in i) before_is
-            ∙ ap (λ (w : Installation). let i : Installation = record { opening = w.opening; last = last_of (opened o) (entries_in around.before); total = whole.total; ended = w.ended } in i) whole_of in
+        h.before ∙ ap (λ (l : Last). let i : Installation = record whole { last = l } in i) before_is
+        ∙ ap (λ (w : Installation). let i : Installation = record { opening = w.opening; last = last_of (opened o) (entries_in around.before); total = whole.total; ended = w.ended } in i) whole_of in
         let all_same : p ≡ with_energy whole.total (place_in facts o around) =
-            ap (λ (b : Installation). let q : EntryPlace = record { before = b; row = p.row; next = p.next } in q) before_same
-            ∙ ap₂ (λ (r : EntryRow) (n : Option EntryRow). let q : EntryPlace = record { before = (with_energy whole.total (place_in facts o around)).before; row = r; next = n } in q) row_same next_same in
+        ap (λ (b : Installation). let q : EntryPlace = record { before = b; row = p.row; next = p.next } in q) before_same
+        ∙ ap₂ (λ (r : EntryRow) (n : Option EntryRow). let q : EntryPlace = record { before = (with_energy whole.total (place_in facts o around)).before; row = r; next = n } in q) row_same next_same in
         subst (λ (q : EntryPlace). TellsNear facts meter place (Some q)) (sym all_same)
         (tells_near facts meter place whole (Some (place_in facts o around)) whole_is found_at (within_whole kept places facts lawful meter place))
 
