@@ -10,7 +10,6 @@ use Rattle.energy_core.specs.declared.entries.Last.{Last}
 use Rattle.energy_core.specs.declared.verdicts.Cause.{Cause}
 use Rattle.energy_core.specs.declared.verdicts.Cause.TheVariants as cause
 use Rattle.energy_core.specs.declared.verdicts.Reading.{Reading}
-use Rattle.energy_core.specs.declared.verdicts.Terms.{Terms}
 use Rattle.energy_core.specs.Value.{unit_of}
 use Rattle.energy_core.specs.Verdict.{applies, causes, distance, judged}
 use Rattle.meter_journal.specs.declared.lines.EntryRow.{EntryRow}
@@ -21,7 +20,6 @@ use Rattle.office_events.specs.declared.questions.EntryPlace.{EntryPlace}
 use Rattle.office_events.specs.declared.questions.Installation.{Installation}
 use Rattle.office_rules.specs.Facts.{opening_of}
 use Rattle.office_rules.specs.Meters.{rows_of, installation_of, place_in, entry_at}
-use Rattle.office_rules.specs.Readings.{judgement}
 use Rattle.office_rules.specs.Refusals.{verdict_between, verdict_at, is_held_for, is_not_voidable}
 use Rattle.office_books.specs.Near.{with_energy, TellsNear}
 use Rattle.office_core.specs.Refusing.Spots.{is_full, IsJudgedAs}

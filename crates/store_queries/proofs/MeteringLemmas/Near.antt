@@ -1,5 +1,5 @@
 -- What the rows around an entry tell of it is what the facts have.
-use Rattle.std.proofs.Common.{◌≡◌, ℕ, ◌+◌, ◌<◌, ◌≤◌, ◌==◌, not, Bool, true, false, inl, inr, ◌⊎◌, List, [], ◌∷◌, map, filter, length, Option, Some, None, option_map, refl, sym, ap, ap₂, subst, ◌∙◌, arith, IsPermutation}
+use Rattle.std.proofs.Common.{◌≡◌, ℕ, ◌+◌, ◌<◌, ◌≤◌, ◌==◌, not, Bool, true, false, inl, inr, ◌⊎◌, List, [], ◌∷◌, map, filter, Option, Some, None, option_map, refl, sym, ap, ap₂, subst, ◌∙◌, arith, IsPermutation}
 use Rattle.std.specs.Prelude.{IfSome, nat_lt}
 use Rattle.std.specs.List.{AllByRecursion, list_any}
 use Rattle.std.specs.Option.{option_and_then}
@@ -25,24 +25,23 @@ use Rattle.office_events.specs.declared.questions.Installation.{Installation}
 use Rattle.office_rules.specs.Facts.{same, openings_in, opening_of, voids_in}
 use Rattle.office_rules.specs.Laws.{IsRecorded, JournalsFit}
 use Rattle.office_rules.specs.Lawful.{AreLawful}
-use Rattle.office_rules.specs.Meters.{opened, installed, journal_of, rows_of, is_ended, installation_of, meter_of, place_in, entry_at}
+use Rattle.office_rules.specs.Meters.{opened, installed, journal_of, rows_of, installation_of, meter_of, place_in, entry_at}
 use Rattle.office_rules.proofs.Journals.{found, well}
 use Rattle.office_rules.proofs.Lookups.{same_text, same_itself, find_passes}
 use Rattle.office_books.specs.Near.{with_energy, TellsNear}
 use Rattle.office_books.proofs.Within.{within_whole, tells_near}
-use Rattle.store_tables.specs.Answer.{IsFound}
 use Rattle.store_tables.specs.declared.entries.rows.EntryRow as stored
-use Rattle.store_tables.specs.Entries.Rows.{Entered, Voided, is_entry, is_of, is_void_of, IsRow}
-use Rattle.store_facts.specs.Rows.{counter_after, entered, entered_rows, entries_at, entries_of, entry_row, scale_after, voided}
+use Rattle.store_tables.specs.Entries.Rows.{Entered, Voided, is_of, is_void_of}
+use Rattle.store_facts.specs.Rows.{counter_after, entered_rows, entries_at, entries_of, entry_row, voided}
 use Rattle.store_facts.proofs.Energy.{found_recorded}
 use Rattle.store_facts.proofs.Passing.{any_permutation}
 use Rattle.store_queries.specs.declared.metering.around.Around as stored_around
 use Rattle.store_queries.specs.declared.metering.around.Sides.{Sides}
 use Rattle.store_queries.specs.Metering.Around.{AreVoided, AreSides, ByVoids, FindsAt, FindsAround, IsSeen, next_from, TellsOf, TellsRightly}
 use Rattle.store_queries.specs.Metering.Entries.{row_from, names, ShowsVoids}
-use Rattle.store_queries.proofs.MeteringLemmas.Around.{AtRow, AreStruck, IsNextRow, Stands, all_of_meter, all_places, entries_at_rows, next_around, none_next, none_told, stood_around, told_of}
+use Rattle.store_queries.proofs.MeteringLemmas.Around.{AtRow, AreStruck, IsNextRow, all_of_meter, all_places, entries_at_rows, next_around, none_next, none_told, stood_around, told_of}
 use Rattle.store_queries.proofs.MeteringLemmas.Journals.{IsTold, back_by, numbered, one_back, voids_are}
-use Rattle.store_queries.proofs.MeteringLemmas.Shapes.{HasShape, IsPlain, found_rest, found_there, plain}
+use Rattle.store_queries.proofs.MeteringLemmas.Shapes.{IsPlain, found_rest, found_there, plain}
 
 -- ---- one place further
 

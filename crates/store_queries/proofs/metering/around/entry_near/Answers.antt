@@ -4,7 +4,7 @@ use Rattle.office_rules.specs.Lawful.{AreLawful}
 use Rattle.office_rules.specs.Meters.{meter_of}
 use Rattle.office_books.specs.Near.{TellsNear}
 use Rattle.store_queries.specs.Metering.Around.{TellsOf, TellsRightly}
-use Rattle.store_queries.specs.Metering.Sound.{HasReadableMeters, HasReadableJournals}
+use Rattle.store_queries.specs.Metering.Sound.{HasReadableJournals}
 use Rattle.store_queries.proofs.FindingLemmas.Found.{answered, passed_on, finds_then, found_then}
 use Rattle.store_queries.proofs.metering.around.entry_near.Goals as goal
 

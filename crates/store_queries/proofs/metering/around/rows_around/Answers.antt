@@ -1,7 +1,6 @@
 use Rattle.std.proofs.Common.{List, ℕ, Option, Ok, Err, Some, None, [], subst}
 use Rattle.std.specs.Prelude.{IfSome}
 use Rattle.office_events.specs.declared.facts.Fact.{Fact}
-use Rattle.store_tables.specs.declared.entries.rows.EntryRow.{EntryRow}
 use Rattle.store_queries.specs.declared.metering.around.Around.{Around}
 use Rattle.store_queries.specs.Metering.Around.{FindsAt, FindsAround}
 use Rattle.store_queries.specs.Metering.Sound.{HasReadableMeters}

@@ -1,8 +1,6 @@
 use Rattle.std.proofs.Common.{Some, None, sym, subst, ◌∙◌}
 use Rattle.office_events.specs.declared.questions.EntryPlace.{EntryPlace}
-use Rattle.office_events.specs.declared.questions.Installation.{Installation}
-use Rattle.office_rules.specs.Meters.{meter_of, entry_at}
-use Rattle.std.specs.Prelude.{◌≡◌, Option}
+use Rattle.std.specs.Prelude.{◌≡◌}
 use Rattle.office_books.specs.Near.{TellsNear}
 use Rattle.office_books.proofs.Within.{within_whole, tells_near, tells_none}
 use Rattle.memory_books.proofs.tables.meters.Meters.entry_near.Goals as goal
