@@ -26,14 +26,13 @@ use Rattle.office_rules.specs.Meters.{opened, journal_of}
 use Rattle.store_tables.specs.Answer.{IsFound}
 use Rattle.store_tables.specs.declared.entries.rows.EntryRow as stored
 use Rattle.store_tables.specs.Entries.Rows.{Entered, Voided, is_entry, is_of, is_void_of, IsRow}
-use Rattle.store_facts.specs.Rows.{entry_row, scale_after, entered_rows, voided}
+use Rattle.store_facts.specs.Rows.{counter_after, entry_row, scale_after, entered_rows, voided}
 use Rattle.store_facts.proofs.Passing.{all_passing}
 use Rattle.store_facts.proofs.Standing.{found_has}
 use Rattle.store_queries.proofs.MeteringLemmas.Journals.{voids_are}
 use Rattle.store_queries.proofs.MeteringLemmas.Picked.{none_passes}
 use Rattle.store_queries.proofs.MeteringLemmas.Shapes.{HasShape, IsPlain, found_there}
 use Rattle.store_facts.specs.Voids.Places.{names}
-use Rattle.office_store.specs.Bookings.Corrections.{counter_after}
 
 -- ---- the voids of a meter, by their places
 
@@ -234,6 +233,10 @@ module _ (o : Opening) where
       pub row : EntryRow
       pub next : around.next ≡ Some row
       pub is : e ≡ entry_row e.sf row
+      pub before : List EntryRow
+      pub scale : e.sf ≡ scale_after o (row ∷ before)
+      pub shape : HasShape row.kind row.entry
+      pub stands : row.stands ≡ true
 
     pub next_around : (place high : ℕ) (rows : List EntryRow) (around : Around) → AreNumbered rows → AllByRecursion (IsPlain lines) rows → row_at place rows ≡ Some around → place < high → AreStruck lines place high → Stands lines high
         → AllByRecursion (λ (e : Entered). e.entry.place ≡ high → IsNextRow around e.entry) (entered_rows o rows)
@@ -255,9 +258,13 @@ module _ (o : Opening) where
                   row = row;
                   next = it.2 ∙ ap₂ option_or (none_next place rows it.0 numbered.1 plain.1 it.1 (λ q above under. struck q above (omega (arith, under, at, same)))) (if_it_stands row on);
                   is = refl;
+                  before = rows;
+                  scale = refl;
+                  shape = plain.0.shape;
+                  stands = on;
                 }),
             all_weaker (λ (e : Entered). e.entry.place ≡ high → IsNextRow it.0 e.entry) (λ (e : Entered). e.entry.place ≡ high → IsNextRow around e.entry)
-                (λ e more same. let m = more same in record { row = m.row; next = it.2 ∙ ap (λ (n : Option EntryRow). option_or n (if_standing row)) m.next; is = m.is })
+                (λ e more same. let m = more same in record { row = m.row; next = it.2 ∙ ap (λ (n : Option EntryRow). option_or n (if_standing row)) m.next; is = m.is; before = m.before; scale = m.scale; shape = m.shape; stands = m.stands })
                 (entered_rows o rows) (next_around place high rows it.0 numbered.1 plain.1 it.1 higher struck stands),
           )
     ]
