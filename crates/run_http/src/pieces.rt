@@ -4,7 +4,8 @@ ghost use Rattle.http_answer.specs.Sending.Replies.{text_head};
 ghost use Rattle.interval_core.specs.Lines.{intervals_text, share_line};
 ghost use Rattle.run_http.specs.Copies as copies;
 ghost use Rattle.run_http.specs.Pieces as pieces;
-ghost use Rattle.run_http.specs.Pieces.{BeginsReply, SizesRows, TellsOn, TellsRest, TextStays};
+ghost use Rattle.run_http.specs.Pieces.{BeginsReply, PiecesAreWhole, SizesRows, TellsOn, TellsRest};
+ghost use Rattle.run_http.specs.Pieces.{TextStays};
 
 use crate::meter_replies::ask_intervals;
 use crate::route::put_start_of;
@@ -277,6 +278,13 @@ pub fn end_rows(text: &mut Vec<u8>, left: &RowsLeft) -> Result<(), AllocError>
 /// the meter had then.
 pub fn text_stays()
     ensures { TextStays }
+{
+    shares_add_up();
+}
+
+/// So the pieces of a reply, one after the other, are the reply of the moment at which it was begun.
+pub fn pieces_are_whole()
+    ensures { PiecesAreWhole }
 {
     shares_add_up();
 }

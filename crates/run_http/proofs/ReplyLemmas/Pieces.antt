@@ -4,6 +4,7 @@ use Rattle.std.specs.Prelude.{All, IsErr, flat_map}
 use Rattle.std.specs.Option.{option_map, option_and_then}
 use Rattle.std.specs.declared.alloc.Global.{Global}
 use Rattle.std.specs.declared.vec.Vec.{Vec}
+use Rattle.std.proofs.lemmas.Bool.{cases_lt}
 use Rattle.std.proofs.lemmas.List.Concat.{flat_map-append}
 use Rattle.http_answer.specs.Sending.Replies.{text_head}
 use Rattle.interval_core.specs.Account.{SharesAddUp}
@@ -32,7 +33,7 @@ use Rattle.office_rules.specs.Lawfulness.{FactsAreLawful}
 use Rattle.office_rules.specs.Meters.{installation_of, meter_of}
 use Rattle.run_http.specs.Copies.{VoidsFrom, next_place, quarter_of}
 use Rattle.run_http.specs.MeterReplies.{AsksRows}
-use Rattle.run_http.specs.Pieces.{AreSizes, BeginsReply, IsBegun, IsSettled, SizesRow, SizesRows, MovesOn, TellsOn, TellsRest, TextStays, body_size, last_quarter, rows_between, rows_left, text_left, with_all_rows, with_head, with_rows}
+use Rattle.run_http.specs.Pieces.{ArePieces, AreSizes, BeginsReply, IsBegun, IsSettled, Piece, PiecesAreWhole, SizesRow, SizesRows, MovesOn, TellsOn, TellsRest, TextStays, body_size, last_quarter, left_after, rows_between, rows_left, text_after, text_left, with_all_rows, with_head, with_rows}
 use Rattle.run_http.specs.declared.pieces.RowsLeft.{RowsLeft}
 use Rattle.run_http.specs.declared.row_sizes.RowSizes.{RowSizes}
 use Rattle.run_http.specs.declared.row_sizes.Sizes.{Sizes}
@@ -179,6 +180,9 @@ module _ {B : Type 0} (ledger : B → Ledger) (old new : Office B) where
         meter = ap (λ (l : RowsLeft). l.meter) is;
         till = ap (λ (l : RowsLeft). l.till) is;
         some = λ lt pos. let at : later.from ≡ till = ap (λ (l : RowsLeft). l.from) is in omega (arith, some lt pos, at);
+        none = λ ge.
+            let at : later.from ≡ till = ap (λ (l : RowsLeft). l.from) is in
+            let upto : later.till ≡ left.till = ap (λ (l : RowsLeft). l.till) is in omega (arith, none ge, at, upto);
         few = let at : later.from ≡ till = ap (λ (l : RowsLeft). l.from) is in omega (arith, few, at);
       },
       λ past stands clean.
@@ -394,3 +398,45 @@ text_stays law further facts meter o left h there named settled void =
     (λ lt. subst (λ (i : Option Installation). left.till ≤ last_quarter i) known (settled lt)) void
     ∙ ap (λ m. rows_between facts m left.from left.till) (sym named) in
     ap (λ rs. text_of left.told (rs ++ left.last.items)) same
+
+-- what stays at one piece stays settled, and of the same meter
+settled_on : (facts : List Fact) (left later : RowsLeft) (seconds : ℕ) → MovesOn left later seconds → IsSettled facts left → IsSettled facts later
+settled_on facts left later seconds moves settled = λ lt.
+    let last : ℕ = last_quarter (option_and_then (meter_of facts) left.meter) in
+    let same : last_quarter (option_and_then (meter_of facts) later.meter) ≡ last = ap (λ m. last_quarter (option_and_then (meter_of facts) m)) moves.meter in
+    let upto : left.till ≤ last =
+    elim (cases_lt left.from left.till) [
+      | inl low ↦ settled low
+      | inr ge ↦ absurd (omega (arith, moves.none ge, lt))
+    ] in
+    omega (arith, upto, same, moves.till)
+
+-- after some pieces
+record Goes (facts : List Fact) (meter : List ℕ) (left later : RowsLeft) (before after : List ℕ) : Type 0 where
+  named : later.meter ≡ Some meter
+  settled : IsSettled facts later
+  told : after ++ text_left facts later ≡ before ++ text_left facts left
+
+goes : SharesAddUp → (facts : List Fact) (meter : List ℕ) (o : Opening) (left : RowsLeft) (text : List ℕ) (pieces : List Piece)
+    → opening_of facts meter ≡ Some o → left.meter ≡ Some meter → IsSettled facts left → ArePieces facts meter o left text pieces
+    → Goes facts meter left (left_after left pieces) text (text_after text pieces)
+goes law facts meter o left text [] there named settled are = record { named = named; settled = settled; told = refl }
+goes law facts meter o left text (piece ∷ earlier) there named settled are =
+    let before = goes law facts meter o left text earlier there named settled are.1 in
+    let one = are.0 in
+    let at : RowsLeft = left_after left earlier in
+    let same : piece.later.meter ≡ Some meter = one.moves.meter ∙ before.named in
+    let on : IsSettled facts piece.later = settled_on facts at piece.later one.seconds one.moves before.settled in
+    let now : text_left (piece.further ++ facts) at ≡ text_left facts at =
+    text_stays law piece.further facts meter o at one.lawful there before.named before.settled one.voids in
+    let later : text_left (piece.further ++ facts) piece.later ≡ text_left facts piece.later =
+    text_stays law piece.further facts meter o piece.later one.lawful there same on one.voids in
+    record {
+      named = same;
+      settled = on;
+      told =
+          ap (λ t. piece.text ++ t) (sym later) ∙ one.tells ∙ ap (λ t. text_after text earlier ++ t) now ∙ before.told;
+    }
+
+pub pieces_are_whole : SharesAddUp → PiecesAreWhole
+pieces_are_whole law facts meter o left text pieces there named settled are = (goes law facts meter o left text pieces there named settled are).told
