@@ -113,7 +113,7 @@ pub record BeginsReply {B : Type 0} (ledger : B → Ledger) (old new : Office B)
 abbrev pub with_rows : List ℕ → List Share → List ℕ
 with_rows text rows = with_reply Fine (codes "text/plain") (intervals_text rows) text
 
--- one of the office's own, which ends with how many rows there are
+-- One of the office's own, which ends with how many rows there are. All start at 0 or later, and before 2^64 - 1 (`RowsBeforeStay`).
 abbrev pub with_all_rows : List ℕ → List Share → List ℕ
 with_all_rows text rows = text ++ reply_bytes (lines_reply intervals_text (Ok rows))
 

@@ -187,8 +187,14 @@ pub fn begin_all_intervals<B: Books>(
     ensures { BeginsReply B.ledger office.old office.new it.now 0 18446744073709551615
         (pieces.with_all_rows text.old.items) text.new.items result }
 {
-    put_text_head(text)?;
-    begin_rows(alloc, office, it, 0, u64::MAX)
+    let begun = begin_rows(alloc, office, it, 0, u64::MAX)?;
+    match begun {
+        Ok(left) => {
+            put_text_head(text)?;
+            Ok(Ok(left))
+        }
+        Err(why) => Ok(Err(why)),
+    }
 }
 
 // Where a piece of so many seconds ends.
@@ -262,12 +268,19 @@ pub fn tell_rows<B: Books>(
     }
 }
 
+// How many rows a reply has whose last rows are told now.
+fn count_of(left: &RowsLeft) -> Option<usize>
+    ensures { IfSome result (λ count. count ≡ left.now.told + length left.now.last.items) }
+{
+    left.told.checked_add(left.last.len())
+}
+
 /// Puts the last rows of a reply, of which no others are still to be asked for, and how many it has, at the end of a text. Want of
 /// memory leaves a part of them.
 pub fn end_rows(text: &mut Vec<u8>, left: &RowsLeft) -> Result<(), AllocError>
     ensures { OnOk result (TellsRest left.now text.old.items text.new.items) }
 {
-    let Some(count) = left.told.checked_add(left.last.len()) else {
+    let Some(count) = count_of(left) else {
         return Err(AllocError);
     };
     put_share_lines(text, &left.last)?;

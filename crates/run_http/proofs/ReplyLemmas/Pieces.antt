@@ -1,6 +1,6 @@
 -- Replies that are told piece by piece.
 use Rattle.std.proofs.Common.{◌≡◌, ◌⊎◌, inl, inr, ℕ, ◌+◌, ◌<◌, ◌≤◌, max, min, List, [], ◌∷◌, ◌++◌, length, Option, Some, None, Result, Ok, Err, true, refl, sym, ap, subst, ◌∙◌, append_assoc, length-append, zero-add, arith}
-use Rattle.std.specs.Prelude.{All, IsErr, flat_map}
+use Rattle.std.specs.Prelude.{All, IsErr, OnOk, flat_map}
 use Rattle.std.specs.Option.{option_map, option_and_then}
 use Rattle.std.specs.declared.alloc.Global.{Global}
 use Rattle.std.specs.declared.vec.Vec.{Vec}
@@ -71,7 +71,7 @@ without_rows (Err why) = Err why
 module _ {B : Type 0} (ledger : B → Ledger) (old new : Office B) where
   asks_without : (answer : Result (Vec Share Global) Refusal) → OnlyAsks ledger old new answer → OnlyAsks ledger old new (without_rows answer)
   asks_without (Ok rows) asks = now_as ledger old new rows tt asks
-  asks_without (Err why) asks = refused_as {T = Vec Share Global} ledger old new why asks
+  asks_without (Err why) asks = refused_as ledger old new why asks
 
   -- the meter was installed, and stands so
   found : (facts : List Fact) (it : Installation) (meter : List ℕ) → meter_of facts meter ≡ Some it
@@ -151,7 +151,7 @@ module _ {B : Type 0} (ledger : B → Ledger) (old new : Office B) where
       → BeginsReply ledger old new it from till intervals_text [] {E = E} (Ok (Err why))
   begins_refused it from till end why asked = record {
     answer = Err why;
-    asks = refused_as {T = Vec Share Global} ledger old new why (asks_as (λ facts. intervals_within facts (Some it.opening.meter) (Between end till)) (Err why) asked);
+    asks = refused_as ledger old new why (asks_as (λ facts. intervals_within facts (Some it.opening.meter) (Between end till)) (Err why) asked);
     begins = (refl, λ past stands clean there.
         failed (facts_of past) it end till (failures_of ledger old) (failures_of ledger new) why there
         (listed_as (λ facts. intervals_within facts (Some it.opening.meter) (Between end till)) (Err why) asked past stands clean));
@@ -289,6 +289,12 @@ module _ {B : Type 0} (ledger : B → Ledger) (old mid new : Office B) where
     sizes = (refl, λ past stands clean. (tells past stands clean).answer);
   }
 
+  -- there was no memory for a line
+  pub sizes_none : {E : Type 0} (left : RowsLeft) (answer : Result (Unit {0}) Refusal) (result : Result (Result Sizes Refusal) E)
+      → OnlyAsks ledger mid new answer → IsErr result → SizesRows ledger mid new left result
+  sizes_none left answer (Ok told) asks is = cc is
+  sizes_none left answer (Err why) asks is = record { answer = answer; asks = asks; sizes = tt }
+
   -- ---- a reply that tells its size
 
   first_asks : {E : Type 0} (it : Installation) (from till : ℕ) (reply : List Share → List ℕ) (put : List ℕ) (left : RowsLeft)
@@ -379,12 +385,18 @@ module _ {B : Type 0} (ledger : B → Ledger) (old new : Office B) where
   }
 
 -- what is kept is told last
-pub rest_told : (left : RowsLeft) (from between to : List ℕ) (count : ℕ) → between ≡ from ++ flat_map share_line left.last.items → count ≡ left.told + length left.last.items
+rest_told : (left : RowsLeft) (from between to : List ℕ) (count : ℕ) → between ≡ from ++ flat_map share_line left.last.items → count ≡ left.told + length left.last.items
     → to ≡ between ++ end_line count → TellsRest left from to
 rest_told left from between to count lines counted put = λ facts le.
     put ∙ ap (λ t. t ++ end_line count) lines ∙ append_assoc from (flat_map share_line left.last.items) (end_line count)
     ∙ ap (λ n. from ++ (flat_map share_line left.last.items ++ end_line n)) counted
     ∙ ap (λ rs. from ++ text_of left.told (rs ++ left.last.items)) (sym (none_between facts left.meter left.from left.till le))
+
+pub rest_on : {E : Type 0} (left : RowsLeft) (from between to : List ℕ) (count : ℕ) (result : Result (Unit {0}) E)
+    → between ≡ from ++ flat_map share_line left.last.items → count ≡ left.told + length left.last.items
+    → OnOk result (to ≡ between ++ end_line count) → OnOk result (TellsRest left from to)
+rest_on left from between to count (Ok x) lines counted put = rest_told left from between to count lines counted put
+rest_on left from between to count (Err why) lines counted put = tt
 
 -- ---- whatever comes
 
