@@ -19,4 +19,4 @@ returns-in-Err g c =
 pub returns-in_err-answer : goal.returns-in_err-answer
 returns-in_err-answer g c =
     begins_lacked g.B.Books.ledger c.args.office.now c.ask_intervals.new.office c.args.it.now c.args.from c.args.till c.asked_till-end.result
-    c.in_err-answer.field-0 c.from_residual.result c.in_err-answer.ensures c.from_residual.ensures.0
+    c.in_err-answer.field-0.0 c.from_residual.result c.in_err-answer.ensures c.from_residual.ensures.0
