@@ -91,7 +91,10 @@ fn pieces_are_the_reply(rt: HostRuntime) -> Result<(), Fail> {
             let mut text = Vec::new(rt.alloc());
             let mut left = begun(rt.alloc(), &mut text, &mut office, from, till)?;
             tell_all(rt.alloc(), &mut text, &mut office, &mut left, seconds)?;
-            assert!(rt; text.as_slice() == whole.as_slice(), "{from} {till} {seconds}");
+            assert!(rt;
+                text.as_slice() == whole.as_slice(),
+                "{from} {till} {seconds}"
+            );
         }
     }
     Ok(())

@@ -174,7 +174,10 @@ fn put_text_head(text: &mut Vec<u8>) -> Result<(), AllocError>
 {
     put_number(text, b"HTTP/1.1 ", u64::from(Status::Fine.number()))?;
     put_word(text, b" ", Status::Fine.reason())?;
-    put(text, b"\r\nContent-Type: text/plain\r\nConnection: close\r\n\r\n")
+    put(
+        text,
+        b"\r\nContent-Type: text/plain\r\nConnection: close\r\n\r\n",
+    )
 }
 
 /// The same of all quarter hours of a meter, for the office's own reply, which doesn't tell its size.

@@ -90,7 +90,7 @@ module _ {B : Type 0} (ledger : B → Ledger) (old new : Office B) where
       let own : o ≡ it.opening = ap (λ (i : Installation). i.opening) meter_is.2 in
       let begins : first ≡ max from (quarter_of o.at) = first_is ∙ ap (λ (p : Opening). max from (quarter_of p.at)) (sym own) in
       let all : rows_between facts (Some it.opening.meter) from till
-          ≡ rows_between facts (Some it.opening.meter) first end ++ last =
+      ≡ rows_between facts (Some it.opening.meter) first end ++ last =
       all_parts law facts it.opening.meter o from first (quarter_of it.last.at) end till lawful meter_is.1 begins end_is
       ∙ ap (λ rs. rows_between facts (Some it.opening.meter) first end ++ rs) kept in
       let rows : rows_between facts left.meter left.from left.till ++ left.last.items ≡ rows_between facts (Some it.opening.meter) from till =
@@ -140,10 +140,14 @@ module _ {B : Type 0} (ledger : B → Ledger) (old new : Office B) where
   begins_rows it from till first end last left law lawful first_is end_is asked meter low high same none = record {
     answer = Ok tt;
     asks = now_as ledger old new last tt (asks_as (λ facts. intervals_within facts (Some it.opening.meter) (Between end till)) (Ok last) asked);
-    begins = (refl, meter, λ past stands clean there.
-        let rows = listed_as (λ facts. intervals_within facts (Some it.opening.meter) (Between end till)) (Ok last) asked past stands clean in
-        begun (facts_of past) it from till first end last.items left law (lawful_after past lawful stands) there first_is end_is (ap rows_in rows.0) meter low high
-        (ap (λ (v : Vec Share Global). v.items) same) none);
+    begins = (
+      refl,
+      meter,
+      λ past stands clean there.
+          let rows = listed_as (λ facts. intervals_within facts (Some it.opening.meter) (Between end till)) (Ok last) asked past stands clean in
+          begun (facts_of past) it from till first end last.items left law (lawful_after past lawful stands) there first_is end_is (ap rows_in rows.0) meter low high
+          (ap (λ (v : Vec Share Global). v.items) same) none,
+    );
   }
 
   pub begins_refused : {E F : Type 0} (it : Installation) (from till end : ℕ) (why : Refusal)
@@ -152,9 +156,12 @@ module _ {B : Type 0} (ledger : B → Ledger) (old new : Office B) where
   begins_refused it from till end why asked = record {
     answer = Err why;
     asks = refused_as ledger old new why (asks_as (λ facts. intervals_within facts (Some it.opening.meter) (Between end till)) (Err why) asked);
-    begins = (refl, λ past stands clean there.
-        failed (facts_of past) it end till (failures_of ledger old) (failures_of ledger new) why there
-        (listed_as (λ facts. intervals_within facts (Some it.opening.meter) (Between end till)) (Err why) asked past stands clean));
+    begins = (
+      refl,
+      λ past stands clean there.
+          failed (facts_of past) it end till (failures_of ledger old) (failures_of ledger new) why there
+          (listed_as (λ facts. intervals_within facts (Some it.opening.meter) (Between end till)) (Err why) asked past stands clean),
+    );
   }
 
   -- there was no memory for the rows
@@ -186,19 +193,19 @@ module _ {B : Type 0} (ledger : B → Ledger) (old new : Office B) where
         few = let at : later.from ≡ till = ap (λ (l : RowsLeft). l.from) is in omega (arith, few, at);
       },
       λ past stands clean.
-      let facts : List Fact = facts_of past in
-      let told = listed_as (λ facts. intervals_within facts left.meter (Between left.from till)) (Ok rows) asked past stands clean in
-      let piece : rows_between facts left.meter left.from till ≡ shown = ap rows_in told.0 ∙ sym same in
-      let parts : rows_between facts left.meter left.from left.till ≡ shown ++ rows_between facts left.meter till left.till =
-      a_piece law facts left.meter left.from till left.till (lawful_after past lawful stands) low high none
-      ∙ ap (λ rs. rs ++ rows_between facts left.meter till left.till) piece in
-      let others : List Share = rows_between facts left.meter till left.till ++ left.last.items in
-      let all : rows_left facts left ≡ shown ++ others =
-      ap (λ rs. rs ++ left.last.items) parts ∙ append_assoc shown (rows_between facts left.meter till left.till) left.last.items in
-      let after : rows_left facts later ≡ others = ap (λ (l : RowsLeft). rows_left facts l) is in
-      ap (λ rs. to ++ text_of later.told rs) after
-      ∙ told_on from to shown others left.told later.told put (ap (λ (l : RowsLeft). l.told) is)
-      ∙ ap (λ rs. from ++ text_of left.told rs) (sym all),
+          let facts : List Fact = facts_of past in
+          let told = listed_as (λ facts. intervals_within facts left.meter (Between left.from till)) (Ok rows) asked past stands clean in
+          let piece : rows_between facts left.meter left.from till ≡ shown = ap rows_in told.0 ∙ sym same in
+          let parts : rows_between facts left.meter left.from left.till ≡ shown ++ rows_between facts left.meter till left.till =
+          a_piece law facts left.meter left.from till left.till (lawful_after past lawful stands) low high none
+          ∙ ap (λ rs. rs ++ rows_between facts left.meter till left.till) piece in
+          let others : List Share = rows_between facts left.meter till left.till ++ left.last.items in
+          let all : rows_left facts left ≡ shown ++ others =
+          ap (λ rs. rs ++ left.last.items) parts ∙ append_assoc shown (rows_between facts left.meter till left.till) left.last.items in
+          let after : rows_left facts later ≡ others = ap (λ (l : RowsLeft). rows_left facts l) is in
+          ap (λ rs. to ++ text_of later.told rs) after
+          ∙ told_on from to shown others left.told later.told put (ap (λ (l : RowsLeft). l.told) is)
+          ∙ ap (λ rs. from ++ text_of left.told rs) (sym all),
     );
   }
 
@@ -269,15 +276,17 @@ module _ {B : Type 0} (ledger : B → Ledger) (old mid new : Office B) where
   sized left from to told none whole is tells asks = record {
     answer = Ok tt;
     asks = asks;
-    sizes = (refl, λ past stands clean.
-        let rows : List Share = rows_between (facts_of past) left.meter left.from left.till in
-        let all = all_sized from to rows (tells past stands clean).whole whole in
-        let bytes : from.sizes.bytes ≡ 0 = ap (λ (s : Sizes). s.bytes) none in
-        let count : from.sizes.count ≡ 0 = ap (λ (s : Sizes). s.count) none in
-        (
-          ap (λ (s : Sizes). s.bytes) is ∙ all.1 ∙ ap (λ n. n + length (flat_map share_line rows)) bytes ∙ zero-add (length (flat_map share_line rows)),
-          ap (λ (s : Sizes). s.count) is ∙ all.2 ∙ ap (λ n. n + length rows) count ∙ zero-add (length rows),
-        ));
+    sizes = (
+      refl,
+      λ past stands clean.
+          let rows : List Share = rows_between (facts_of past) left.meter left.from left.till in
+          let all = all_sized from to rows (tells past stands clean).whole whole in
+          let bytes : from.sizes.bytes ≡ 0 = ap (λ (s : Sizes). s.bytes) none in
+          let count : from.sizes.count ≡ 0 = ap (λ (s : Sizes). s.count) none in (
+            ap (λ (s : Sizes). s.bytes) is ∙ all.1 ∙ ap (λ n. n + length (flat_map share_line rows)) bytes ∙ zero-add (length (flat_map share_line rows)),
+            ap (λ (s : Sizes). s.count) is ∙ all.2 ∙ ap (λ n. n + length rows) count ∙ zero-add (length rows),
+          ),
+    );
   }
 
   pub sized_refused : {E : Type 0} (left : RowsLeft) (from to : RowSizes) (why : Refusal)
@@ -318,17 +327,21 @@ module _ {B : Type 0} (ledger : B → Ledger) (old mid new : Office B) where
       record {
         answer = Ok tt;
         asks = then_asks it from till intervals_text [] left (Ok tt) begins asks;
-        begins = (refl, begins.begins.1, λ past stands clean there.
-            let facts : List Fact = facts_of past in
-            let begun = begins.begins.2 past stands (asks.clean clean) there in
-            let are = sized.sizes.1 past (begins.asks.stands past stands) clean in
-            let bytes : size ≡ length (text_left facts left) = size_is ∙ body_is facts left sizes are in
-            record {
-              tells =
-                  ap (λ t. t ++ text_left facts left) (put_is ∙ ap (λ n. with_head n text) bytes)
-                  ∙ ap (λ t. with_head (length t) text ++ t) begun.tells;
-              settled = begun.settled;
-            });
+        begins = (
+          refl,
+          begins.begins.1,
+          λ past stands clean there.
+              let facts : List Fact = facts_of past in
+              let begun = begins.begins.2 past stands (asks.clean clean) there in
+              let are = sized.sizes.1 past (begins.asks.stands past stands) clean in
+              let bytes : size ≡ length (text_left facts left) = size_is ∙ body_is facts left sizes are in
+              record {
+                tells =
+                    ap (λ t. t ++ text_left facts left) (put_is ∙ ap (λ n. with_head n text) bytes)
+                    ∙ ap (λ t. with_head (length t) text ++ t) begun.tells;
+                settled = begun.settled;
+              },
+        );
       }
 
   pub sized_not : {E F G : Type 0} (it : Installation) (from till : ℕ) (text put : List ℕ) (left : RowsLeft) (why : Refusal)
@@ -339,11 +352,14 @@ module _ {B : Type 0} (ledger : B → Ledger) (old mid new : Office B) where
       record {
         answer = sized.answer;
         asks = then_asks it from till intervals_text [] left sized.answer begins sized.asks;
-        begins = (sized.sizes.0, λ past stands clean there.
-            let facts : List Fact = facts_of past in
-            outside (is_there (intervals_within facts left.meter (Between left.from left.till))) (failures_of ledger old) (failures_of ledger mid)
-            (failures_of ledger new) sized.answer why (there_is facts it left.meter left.from left.till begins.begins.1 there) kept.failures sized.sizes.0
-            (sized.sizes.1 past (begins.asks.stands past stands) clean));
+        begins = (
+          sized.sizes.0,
+          λ past stands clean there.
+              let facts : List Fact = facts_of past in
+              outside (is_there (intervals_within facts left.meter (Between left.from left.till))) (failures_of ledger old) (failures_of ledger mid)
+              (failures_of ledger new) sized.answer why (there_is facts it left.meter left.from left.till begins.begins.1 there) kept.failures sized.sizes.0
+              (sized.sizes.1 past (begins.asks.stands past stands) clean),
+        );
       }
 
   -- there was no memory
@@ -373,15 +389,19 @@ module _ {B : Type 0} (ledger : B → Ledger) (old new : Office B) where
   with_text_head it from till text put left begins put_is = record {
     answer = begins.answer;
     asks = begins.asks;
-    begins = (begins.begins.0, begins.begins.1, λ past stands clean there.
-        let facts : List Fact = facts_of past in
-        let begun = begins.begins.2 past stands clean there in
-        record {
-          tells =
-              ap (λ t. t ++ text_left facts left) put_is ∙ append_assoc text text_head (text_left facts left)
-              ∙ ap (λ t. text ++ (text_head ++ t)) begun.tells;
-          settled = begun.settled;
-        });
+    begins = (
+      begins.begins.0,
+      begins.begins.1,
+      λ past stands clean there.
+          let facts : List Fact = facts_of past in
+          let begun = begins.begins.2 past stands clean there in
+          record {
+            tells =
+                ap (λ t. t ++ text_left facts left) put_is ∙ append_assoc text text_head (text_left facts left)
+                ∙ ap (λ t. text ++ (text_head ++ t)) begun.tells;
+            settled = begun.settled;
+          },
+    );
   }
 
 -- what is kept is told last
