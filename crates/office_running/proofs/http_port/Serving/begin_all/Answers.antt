@@ -1,5 +1,5 @@
-use Rattle.std.proofs.Common.{Ok, Err}
-use Rattle.office_running.proofs.Going.{goes_begun, goes_both, goes_met, goes_none}
+use Rattle.std.proofs.Common.{Ok}
+use Rattle.office_running.proofs.Going.{goes_begun, goes_both, goes_met}
 use Rattle.office_running.proofs.http_port.Serving.begin_all.Goals as goal
 
 pub returns : goal.returns

@@ -2,11 +2,8 @@ use Rattle.http_request.specs.Hosts.{texts}
 use Rattle.office_running.proofs.Going.{goes_asked, goes_both, may_ask_of}
 use Rattle.office_running.proofs.http_port.Serving.reply.Goals as goal
 
-pub returns-else-lacks-in-Some : goal.returns-else-lacks-in-Some
-returns-else-lacks-in-Some g c = c.begin_all.ensures (texts c.args.names.now) c.args.now.moment
-
-pub returns-else-lacks-in-None : goal.returns-else-lacks-in-None
-returns-else-lacks-in-None g c =
+pub returns-in-None-begin_all : goal.returns-in-None-begin_all
+returns-in-None-begin_all g c =
     goes_both (texts c.args.names.now) c.args.now.moment g.B.Books.ledger c.args.office.now c.begin_all.new.office c.ask.new.office
     (c.begin_all.ensures (texts c.args.names.now) c.args.now.moment)
     (goes_asked (texts c.args.names.now) g.B.Books.ledger c.args.now.moment c.begin_all.new.office c.ask.new.office c.args.request.now c.ask.result
