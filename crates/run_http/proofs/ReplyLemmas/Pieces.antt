@@ -1,6 +1,6 @@
 -- Replies that are told piece by piece.
-use Rattle.std.proofs.Common.{◌≡◌, ◌⊎◌, inl, inr, ℕ, ◌+◌, ◌<◌, ◌≤◌, max, min, List, [], ◌∷◌, ◌++◌, length, Option, Some, None, Result, Ok, Err, true, refl, sym, ap, subst, ◌∙◌, append_assoc, length-append, zero-add, arith}
-use Rattle.std.specs.Prelude.{All, IsErr, OnOk, flat_map}
+use Rattle.std.proofs.Common.{◌≡◌, inl, inr, ℕ, ◌+◌, ◌<◌, ◌≤◌, max, min, List, [], ◌∷◌, ◌++◌, length, Option, Some, Result, Ok, Err, true, refl, sym, ap, subst, ◌∙◌, append_assoc, length-append, zero-add, arith}
+use Rattle.std.specs.Prelude.{IsErr, OnOk, flat_map}
 use Rattle.std.specs.Option.{option_map, option_and_then}
 use Rattle.std.specs.declared.alloc.Global.{Global}
 use Rattle.std.specs.declared.vec.Vec.{Vec}
@@ -31,7 +31,7 @@ use Rattle.office_rules.specs.Intervals.{rows_of_opening}
 use Rattle.office_rules.specs.Lawful.{AreLawful}
 use Rattle.office_rules.specs.Lawfulness.{FactsAreLawful}
 use Rattle.office_rules.specs.Meters.{installation_of, meter_of}
-use Rattle.run_http.specs.Copies.{VoidsFrom, next_place, quarter_of}
+use Rattle.run_http.specs.Copies.{quarter_of}
 use Rattle.run_http.specs.MeterReplies.{AsksRows}
 use Rattle.run_http.specs.Pieces.{ArePieces, AreSizes, BeginsReply, IsBegun, IsSettled, Piece, PiecesAreWhole, SizesRow, SizesRows, MovesOn, TellsOn, TellsRest, TextStays, body_size, last_quarter, left_after, rows_between, rows_left, text_after, text_left, with_all_rows, with_head, with_rows}
 use Rattle.run_http.specs.declared.pieces.RowsLeft.{RowsLeft}
