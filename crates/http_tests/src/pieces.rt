@@ -9,7 +9,7 @@ use office_core::Office;
 use office_events::{Installation, Name};
 use run_http::{
     PeerReply, RowsLeft, all_rows_asked, are_many, ask, begin_all_intervals, begin_intervals,
-    end_rows, has_more, may_void, reply_intervals, tell_rows, text_stays,
+    end_rows, has_more, may_void, pieces_are_whole, reply_intervals, tell_rows, text_stays,
 };
 use std::alloc::Global;
 use std::test::Fail;
@@ -91,7 +91,10 @@ fn pieces_are_the_reply(rt: HostRuntime) -> Result<(), Fail> {
             let mut text = Vec::new(rt.alloc());
             let mut left = begun(rt.alloc(), &mut text, &mut office, from, till)?;
             tell_all(rt.alloc(), &mut text, &mut office, &mut left, seconds)?;
-            assert!(rt; text.as_slice() == whole.as_slice(), "{from} {till} {seconds}");
+            assert!(rt;
+                text.as_slice() == whole.as_slice(),
+                "{from} {till} {seconds}"
+            );
         }
     }
     Ok(())
@@ -174,5 +177,11 @@ fn a_request_may_void(rt: HostRuntime) {
     assert!(rt; !may_void(b"POST /registers/main/manual HTTP/1.1\r\n\r\n"));
     assert!(rt; !may_void(b"GET /meters/m1/void HTTP/1.1\r\n\r\n"));
     assert!(rt; !may_void(b"POST /meters/m1/void HTTP/1.1\r\n"));
+}
+
+#[test]
+fn laws_of_pieces_are_called(rt: HostRuntime) {
     text_stays();
+    pieces_are_whole();
+    assert!(rt; !may_void(b""));
 }

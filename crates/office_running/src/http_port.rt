@@ -31,6 +31,9 @@ use std::net::Net;
 /// Quarter hours of more seconds are told in pieces of so many: a thousand lines, of 32 bytes each at most.
 const PIECE_SECONDS: u64 = 900_000;
 
+/// How many pieces a peer is told in a row at most: more than a turn replies.
+const MOST_PIECES: u32 = 64;
+
 /// The port and its connections. The token of a connection is its place, and that of the port is the number of places.
 #[derive(Drop)]
 pub(crate) struct Serving {
@@ -373,6 +376,7 @@ impl Serving {
     }
 
     // Begins the reply with those of a span, where they are many.
+    #[tactic(auto, using(crate::proofs::Going::goes_none, crate::proofs::Going::goes_met))]
     fn begin_span<B: Books>(
         &self,
         office: &mut Office<B>,
@@ -413,6 +417,7 @@ impl Serving {
     }
 
     // Begins the office's own reply with all quarter hours of a meter, where a request asks for them, and they are many.
+    #[tactic(auto, using(crate::proofs::Going::goes_none, crate::proofs::Going::goes_met))]
     fn begin_all<B: Books>(
         &self,
         request: &[u8],
@@ -572,6 +577,13 @@ impl Serving {
         }
     }
 
+    // A reply goes on: its place stays the first, so that one after the other is told to its end, and none is late for all.
+    fn stay_at(&mut self, place: usize, goes_on: bool) {
+        if goes_on {
+            self.first = place;
+        }
+    }
+
     // Takes note of what a peer was replied, which took so long.
     fn count(&mut self, place: usize, request: &[u8], asked: &PeerReply, milliseconds: u64) {
         self.note_reply(place, size_of(asked), milliseconds);
@@ -600,6 +612,7 @@ impl Serving {
         let asked = self.reply(names, &peer.asked, office, voice, now, &mut rows);
         let took = even_milliseconds(rt).saturating_sub(begun);
         self.count(place, &peer.asked, &asked, took);
+        self.stay_at(place, rows.is_some());
         peer.take(asked, rows);
     }
 
@@ -622,14 +635,34 @@ impl Serving {
         let put = put_next(self.alloc, &mut text, rows, office);
         let took = even_milliseconds(rt).saturating_sub(begun);
         self.note_reply(place, text.len(), took);
+        self.stay_at(place, put == Some(false));
         match put {
             Some(is_last) => peer.take_more(text, is_last),
             None => peer.cut(),
         }
     }
 
-    // Hears a peer, replies to what it has asked, or goes on with its reply.
-    #[tactic(auto, using(crate::proofs::Going::goes_none))]
+    // Tells a peer rows of its reply, as long as its socket takes them, and something is left of the turn.
+    fn tell_on<R: std::rt::Clock, B: Books>(
+        &mut self,
+        rt: &R,
+        place: usize,
+        peer: &mut Peer,
+        office: &mut Office<B>,
+        now: Now,
+    )
+        ensures { (names : List (List ℕ)) (at : ℕ) → Goes names at B.ledger office.old office.new }
+    {
+        for _piece in 0..MOST_PIECES {
+            if !peer.wants_rows() || self.share.is_over() {
+                return;
+            }
+            self.tell_next(rt, place, peer, office);
+            peer.give(now.time);
+        }
+    }
+
+    // Hears a peer, and replies to what it has asked, or goes on with its reply.
     fn go_on<R: std::rt::Clock, B: Books>(
         &mut self,
         rt: &R,
@@ -646,9 +679,7 @@ impl Serving {
             self.answer(rt, place, peer, names, office, voice, now);
             return;
         }
-        if peer.wants_rows() {
-            self.tell_next(rt, place, peer, office);
-        }
+        self.tell_on(rt, place, peer, office, now);
     }
 
     /// Goes on with the connection of a place, where something may have come.

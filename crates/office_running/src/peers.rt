@@ -59,7 +59,7 @@ impl Peer {
 
     /// Whether rows are to be told after all that was written of its reply.
     pub(crate) fn wants_rows(&self) -> bool {
-        self.rows.is_some() && self.reply.is_written()
+        !self.over && self.rows.is_some() && self.reply.is_written()
     }
 
     /// How many bytes are held of its reply.

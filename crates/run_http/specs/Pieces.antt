@@ -1,6 +1,6 @@
 -- Replies with quarter hours of a meter that are told piece by piece, so that none is in memory whole: what is still to be
 -- told of one, and why that stays what it was when the reply was begun.
-use Rattle.std.specs.Prelude.{◌≡◌, ℕ, ◌+◌, ◌-◌, ◌<◌, ◌≤◌, min, max, List, ◌++◌, length, All, flat_map, codes, nat_lt, Bool, true, Option, Some, None, Result, Ok, Err}
+use Rattle.std.specs.Prelude.{◌≡◌, ℕ, ◌+◌, ◌-◌, ◌<◌, ◌≤◌, min, max, List, [], ◌∷◌, ◌++◌, length, All, flat_map, codes, nat_lt, Bool, true, Option, Some, None, Result, Ok, Err}
 use Rattle.std.specs.Option.{option_and_then}
 use Rattle.std.specs.declared.alloc.Global.{Global}
 use Rattle.std.specs.declared.vec.Vec.{Vec}
@@ -113,7 +113,7 @@ pub record BeginsReply {B : Type 0} (ledger : B → Ledger) (old new : Office B)
 abbrev pub with_rows : List ℕ → List Share → List ℕ
 with_rows text rows = with_reply Fine (codes "text/plain") (intervals_text rows) text
 
--- one of the office's own, which ends with how many rows there are
+-- One of the office's own, which ends with how many rows there are. All start at 0 or later, and before 2^64 - 1 (`RowsBeforeStay`).
 abbrev pub with_all_rows : List ℕ → List Share → List ℕ
 with_all_rows text rows = text ++ reply_bytes (lines_reply intervals_text (Ok rows))
 
@@ -167,6 +167,7 @@ pub record MovesOn (left later : RowsLeft) (seconds : ℕ) : Type 0 where
   pub meter : later.meter ≡ left.meter
   pub till : later.till ≡ left.till
   pub some : left.from < left.till → 0 < seconds → left.from < later.from
+  pub none : left.till ≤ left.from → later.till ≤ later.from
   pub few : later.from ≤ left.from + seconds
 
 -- What was told, and what is still to be told, are together what they were; or the books failed, or memory was wanting.
@@ -192,3 +193,47 @@ pub record TellsOn {B : Type 0} (ledger : B → Ledger) (old new : Office B) (le
 abbrev pub TellsRest : RowsLeft → (from to : List ℕ) → Type 0
 TellsRest left from to =
     (facts : List Fact) → left.till ≤ left.from → to ≡ from ++ text_left facts left
+
+-- ---- all of it
+
+-- a piece that was told when these further facts had come, what is still to be told after it, and what was told up to its end
+pub record Piece : Type 0 where
+  pub further : List Fact
+  pub later : RowsLeft
+  pub text : List ℕ
+
+-- what is still to be told after some pieces, the latest first, and what was told up to then
+abbrev pub left_after : RowsLeft → List Piece → RowsLeft
+left_after left [] = left
+left_after left (piece ∷ earlier) = piece.later
+
+abbrev pub text_after : List ℕ → List Piece → List ℕ
+text_after text [] = text
+text_after text (piece ∷ earlier) = piece.text
+
+-- It is told as above, after further facts, of which none voids an entry that the meter had at the beginning.
+pub record IsPiece (facts : List Fact) (meter : List ℕ) (opening : Opening) (left : RowsLeft)
+    (text : List ℕ) (piece : Piece) : Type 0 where
+  pub lawful : AreLawful (piece.further ++ facts)
+  pub voids : All (VoidsFrom meter (next_place facts opening)) piece.further
+  pub seconds : ℕ
+  pub moves : MovesOn left piece.later seconds
+  pub tells : piece.text ++ text_left (piece.further ++ facts) piece.later
+      ≡ text ++ text_left (piece.further ++ facts) left
+
+abbrev pub ArePieces : List Fact → (meter : List ℕ) → Opening → RowsLeft → (text : List ℕ)
+    → List Piece → Type 0
+ArePieces facts meter opening left text [] = Unit {0}
+ArePieces facts meter opening left text (piece ∷ earlier) =
+    IsPiece facts meter opening (left_after left earlier) (text_after text earlier) piece
+    × ArePieces facts meter opening left text earlier
+
+-- Let a reply be begun by these facts, and be told on by pieces, whatever else comes between them. What was told then, and what is
+-- still to be told by the facts of the beginning, are together what they were: the reply of that moment.
+abbrev pub PiecesAreWhole : Type 0
+PiecesAreWhole = (facts : List Fact) (meter : List ℕ) (opening : Opening) (left : RowsLeft)
+    (text : List ℕ) (pieces : List Piece) → opening_of facts meter ≡ Some opening
+    → left.meter ≡ Some meter → IsSettled facts left
+    → ArePieces facts meter opening left text pieces
+    → text_after text pieces ++ text_left facts (left_after left pieces)
+    ≡ text ++ text_left facts left

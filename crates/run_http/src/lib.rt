@@ -26,8 +26,8 @@ pub use meter_replies::{MOST_ENTRIES, reply_entries, reply_intervals};
 pub use metrics::reply_metrics;
 pub use office_requests::{all_rows_asked, may_void};
 pub use pieces::{
-    RowsLeft, are_many, begin_all_intervals, begin_intervals, end_rows, has_more, tell_rows,
-    text_stays,
+    RowsLeft, are_many, begin_all_intervals, begin_intervals, end_rows, has_more, pieces_are_whole,
+    tell_rows, text_stays,
 };
 pub use register_meters::reply_meters;
 pub use register_replies::reply_energy;

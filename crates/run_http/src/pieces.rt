@@ -4,7 +4,8 @@ ghost use Rattle.http_answer.specs.Sending.Replies.{text_head};
 ghost use Rattle.interval_core.specs.Lines.{intervals_text, share_line};
 ghost use Rattle.run_http.specs.Copies as copies;
 ghost use Rattle.run_http.specs.Pieces as pieces;
-ghost use Rattle.run_http.specs.Pieces.{BeginsReply, SizesRows, TellsOn, TellsRest, TextStays};
+ghost use Rattle.run_http.specs.Pieces.{BeginsReply, PiecesAreWhole, SizesRows, TellsOn, TellsRest};
+ghost use Rattle.run_http.specs.Pieces.{TextStays};
 
 use crate::meter_replies::ask_intervals;
 use crate::route::put_start_of;
@@ -173,7 +174,10 @@ fn put_text_head(text: &mut Vec<u8>) -> Result<(), AllocError>
 {
     put_number(text, b"HTTP/1.1 ", u64::from(Status::Fine.number()))?;
     put_word(text, b" ", Status::Fine.reason())?;
-    put(text, b"\r\nContent-Type: text/plain\r\nConnection: close\r\n\r\n")
+    put(
+        text,
+        b"\r\nContent-Type: text/plain\r\nConnection: close\r\n\r\n",
+    )
 }
 
 /// The same of all quarter hours of a meter, for the office's own reply, which doesn't tell its size.
@@ -186,8 +190,14 @@ pub fn begin_all_intervals<B: Books>(
     ensures { BeginsReply B.ledger office.old office.new it.now 0 18446744073709551615
         (pieces.with_all_rows text.old.items) text.new.items result }
 {
-    put_text_head(text)?;
-    begin_rows(alloc, office, it, 0, u64::MAX)
+    let begun = begin_rows(alloc, office, it, 0, u64::MAX)?;
+    match begun {
+        Ok(left) => {
+            put_text_head(text)?;
+            Ok(Ok(left))
+        }
+        Err(why) => Ok(Err(why)),
+    }
 }
 
 // Where a piece of so many seconds ends.
@@ -261,12 +271,19 @@ pub fn tell_rows<B: Books>(
     }
 }
 
+// How many rows a reply has whose last rows are told now.
+fn count_of(left: &RowsLeft) -> Option<usize>
+    ensures { IfSome result (λ count. count ≡ left.now.told + length left.now.last.items) }
+{
+    left.told.checked_add(left.last.len())
+}
+
 /// Puts the last rows of a reply, of which no others are still to be asked for, and how many it has, at the end of a text. Want of
 /// memory leaves a part of them.
 pub fn end_rows(text: &mut Vec<u8>, left: &RowsLeft) -> Result<(), AllocError>
     ensures { OnOk result (TellsRest left.now text.old.items text.new.items) }
 {
-    let Some(count) = left.told.checked_add(left.last.len()) else {
+    let Some(count) = count_of(left) else {
         return Err(AllocError);
     };
     put_share_lines(text, &left.last)?;
@@ -277,6 +294,13 @@ pub fn end_rows(text: &mut Vec<u8>, left: &RowsLeft) -> Result<(), AllocError>
 /// the meter had then.
 pub fn text_stays()
     ensures { TextStays }
+{
+    shares_add_up();
+}
+
+/// So the pieces of a reply, one after the other, are the reply of the moment at which it was begun.
+pub fn pieces_are_whole()
+    ensures { PiecesAreWhole }
 {
     shares_add_up();
 }

@@ -1,9 +1,10 @@
 -- Replies that are told piece by piece.
-use Rattle.std.proofs.Common.{◌≡◌, ◌⊎◌, inl, inr, ℕ, ◌+◌, ◌<◌, ◌≤◌, max, min, List, [], ◌∷◌, ◌++◌, length, Option, Some, None, Result, Ok, Err, true, refl, sym, ap, subst, ◌∙◌, append_assoc, length-append, zero-add, arith}
-use Rattle.std.specs.Prelude.{All, IsErr, flat_map}
+use Rattle.std.proofs.Common.{◌≡◌, inl, inr, ℕ, ◌+◌, ◌<◌, ◌≤◌, max, min, List, [], ◌∷◌, ◌++◌, length, Option, Some, Result, Ok, Err, true, refl, sym, ap, subst, ◌∙◌, append_assoc, length-append, zero-add, arith}
+use Rattle.std.specs.Prelude.{IsErr, OnOk, flat_map}
 use Rattle.std.specs.Option.{option_map, option_and_then}
 use Rattle.std.specs.declared.alloc.Global.{Global}
 use Rattle.std.specs.declared.vec.Vec.{Vec}
+use Rattle.std.proofs.lemmas.Bool.{cases_lt}
 use Rattle.std.proofs.lemmas.List.Concat.{flat_map-append}
 use Rattle.http_answer.specs.Sending.Replies.{text_head}
 use Rattle.interval_core.specs.Account.{SharesAddUp}
@@ -30,9 +31,9 @@ use Rattle.office_rules.specs.Intervals.{rows_of_opening}
 use Rattle.office_rules.specs.Lawful.{AreLawful}
 use Rattle.office_rules.specs.Lawfulness.{FactsAreLawful}
 use Rattle.office_rules.specs.Meters.{installation_of, meter_of}
-use Rattle.run_http.specs.Copies.{VoidsFrom, next_place, quarter_of}
+use Rattle.run_http.specs.Copies.{quarter_of}
 use Rattle.run_http.specs.MeterReplies.{AsksRows}
-use Rattle.run_http.specs.Pieces.{AreSizes, BeginsReply, IsBegun, IsSettled, SizesRow, SizesRows, MovesOn, TellsOn, TellsRest, TextStays, body_size, last_quarter, rows_between, rows_left, text_left, with_all_rows, with_head, with_rows}
+use Rattle.run_http.specs.Pieces.{ArePieces, AreSizes, BeginsReply, IsBegun, IsSettled, Piece, PiecesAreWhole, SizesRow, SizesRows, MovesOn, TellsOn, TellsRest, TextStays, body_size, last_quarter, left_after, rows_between, rows_left, text_after, text_left, with_all_rows, with_head, with_rows}
 use Rattle.run_http.specs.declared.pieces.RowsLeft.{RowsLeft}
 use Rattle.run_http.specs.declared.row_sizes.RowSizes.{RowSizes}
 use Rattle.run_http.specs.declared.row_sizes.Sizes.{Sizes}
@@ -70,7 +71,7 @@ without_rows (Err why) = Err why
 module _ {B : Type 0} (ledger : B → Ledger) (old new : Office B) where
   asks_without : (answer : Result (Vec Share Global) Refusal) → OnlyAsks ledger old new answer → OnlyAsks ledger old new (without_rows answer)
   asks_without (Ok rows) asks = now_as ledger old new rows tt asks
-  asks_without (Err why) asks = refused_as {T = Vec Share Global} ledger old new why asks
+  asks_without (Err why) asks = refused_as ledger old new why asks
 
   -- the meter was installed, and stands so
   found : (facts : List Fact) (it : Installation) (meter : List ℕ) → meter_of facts meter ≡ Some it
@@ -89,7 +90,7 @@ module _ {B : Type 0} (ledger : B → Ledger) (old new : Office B) where
       let own : o ≡ it.opening = ap (λ (i : Installation). i.opening) meter_is.2 in
       let begins : first ≡ max from (quarter_of o.at) = first_is ∙ ap (λ (p : Opening). max from (quarter_of p.at)) (sym own) in
       let all : rows_between facts (Some it.opening.meter) from till
-          ≡ rows_between facts (Some it.opening.meter) first end ++ last =
+      ≡ rows_between facts (Some it.opening.meter) first end ++ last =
       all_parts law facts it.opening.meter o from first (quarter_of it.last.at) end till lawful meter_is.1 begins end_is
       ∙ ap (λ rs. rows_between facts (Some it.opening.meter) first end ++ rs) kept in
       let rows : rows_between facts left.meter left.from left.till ++ left.last.items ≡ rows_between facts (Some it.opening.meter) from till =
@@ -139,10 +140,14 @@ module _ {B : Type 0} (ledger : B → Ledger) (old new : Office B) where
   begins_rows it from till first end last left law lawful first_is end_is asked meter low high same none = record {
     answer = Ok tt;
     asks = now_as ledger old new last tt (asks_as (λ facts. intervals_within facts (Some it.opening.meter) (Between end till)) (Ok last) asked);
-    begins = (refl, meter, λ past stands clean there.
-        let rows = listed_as (λ facts. intervals_within facts (Some it.opening.meter) (Between end till)) (Ok last) asked past stands clean in
-        begun (facts_of past) it from till first end last.items left law (lawful_after past lawful stands) there first_is end_is (ap rows_in rows.0) meter low high
-        (ap (λ (v : Vec Share Global). v.items) same) none);
+    begins = (
+      refl,
+      meter,
+      λ past stands clean there.
+          let rows = listed_as (λ facts. intervals_within facts (Some it.opening.meter) (Between end till)) (Ok last) asked past stands clean in
+          begun (facts_of past) it from till first end last.items left law (lawful_after past lawful stands) there first_is end_is (ap rows_in rows.0) meter low high
+          (ap (λ (v : Vec Share Global). v.items) same) none,
+    );
   }
 
   pub begins_refused : {E F : Type 0} (it : Installation) (from till end : ℕ) (why : Refusal)
@@ -150,10 +155,13 @@ module _ {B : Type 0} (ledger : B → Ledger) (old new : Office B) where
       → BeginsReply ledger old new it from till intervals_text [] {E = E} (Ok (Err why))
   begins_refused it from till end why asked = record {
     answer = Err why;
-    asks = refused_as {T = Vec Share Global} ledger old new why (asks_as (λ facts. intervals_within facts (Some it.opening.meter) (Between end till)) (Err why) asked);
-    begins = (refl, λ past stands clean there.
-        failed (facts_of past) it end till (failures_of ledger old) (failures_of ledger new) why there
-        (listed_as (λ facts. intervals_within facts (Some it.opening.meter) (Between end till)) (Err why) asked past stands clean));
+    asks = refused_as ledger old new why (asks_as (λ facts. intervals_within facts (Some it.opening.meter) (Between end till)) (Err why) asked);
+    begins = (
+      refl,
+      λ past stands clean there.
+          failed (facts_of past) it end till (failures_of ledger old) (failures_of ledger new) why there
+          (listed_as (λ facts. intervals_within facts (Some it.opening.meter) (Between end till)) (Err why) asked past stands clean),
+    );
   }
 
   -- there was no memory for the rows
@@ -179,22 +187,25 @@ module _ {B : Type 0} (ledger : B → Ledger) (old new : Office B) where
         meter = ap (λ (l : RowsLeft). l.meter) is;
         till = ap (λ (l : RowsLeft). l.till) is;
         some = λ lt pos. let at : later.from ≡ till = ap (λ (l : RowsLeft). l.from) is in omega (arith, some lt pos, at);
+        none = λ ge.
+            let at : later.from ≡ till = ap (λ (l : RowsLeft). l.from) is in
+            let upto : later.till ≡ left.till = ap (λ (l : RowsLeft). l.till) is in omega (arith, none ge, at, upto);
         few = let at : later.from ≡ till = ap (λ (l : RowsLeft). l.from) is in omega (arith, few, at);
       },
       λ past stands clean.
-      let facts : List Fact = facts_of past in
-      let told = listed_as (λ facts. intervals_within facts left.meter (Between left.from till)) (Ok rows) asked past stands clean in
-      let piece : rows_between facts left.meter left.from till ≡ shown = ap rows_in told.0 ∙ sym same in
-      let parts : rows_between facts left.meter left.from left.till ≡ shown ++ rows_between facts left.meter till left.till =
-      a_piece law facts left.meter left.from till left.till (lawful_after past lawful stands) low high none
-      ∙ ap (λ rs. rs ++ rows_between facts left.meter till left.till) piece in
-      let others : List Share = rows_between facts left.meter till left.till ++ left.last.items in
-      let all : rows_left facts left ≡ shown ++ others =
-      ap (λ rs. rs ++ left.last.items) parts ∙ append_assoc shown (rows_between facts left.meter till left.till) left.last.items in
-      let after : rows_left facts later ≡ others = ap (λ (l : RowsLeft). rows_left facts l) is in
-      ap (λ rs. to ++ text_of later.told rs) after
-      ∙ told_on from to shown others left.told later.told put (ap (λ (l : RowsLeft). l.told) is)
-      ∙ ap (λ rs. from ++ text_of left.told rs) (sym all),
+          let facts : List Fact = facts_of past in
+          let told = listed_as (λ facts. intervals_within facts left.meter (Between left.from till)) (Ok rows) asked past stands clean in
+          let piece : rows_between facts left.meter left.from till ≡ shown = ap rows_in told.0 ∙ sym same in
+          let parts : rows_between facts left.meter left.from left.till ≡ shown ++ rows_between facts left.meter till left.till =
+          a_piece law facts left.meter left.from till left.till (lawful_after past lawful stands) low high none
+          ∙ ap (λ rs. rs ++ rows_between facts left.meter till left.till) piece in
+          let others : List Share = rows_between facts left.meter till left.till ++ left.last.items in
+          let all : rows_left facts left ≡ shown ++ others =
+          ap (λ rs. rs ++ left.last.items) parts ∙ append_assoc shown (rows_between facts left.meter till left.till) left.last.items in
+          let after : rows_left facts later ≡ others = ap (λ (l : RowsLeft). rows_left facts l) is in
+          ap (λ rs. to ++ text_of later.told rs) after
+          ∙ told_on from to shown others left.told later.told put (ap (λ (l : RowsLeft). l.told) is)
+          ∙ ap (λ rs. from ++ text_of left.told rs) (sym all),
     );
   }
 
@@ -265,15 +276,17 @@ module _ {B : Type 0} (ledger : B → Ledger) (old mid new : Office B) where
   sized left from to told none whole is tells asks = record {
     answer = Ok tt;
     asks = asks;
-    sizes = (refl, λ past stands clean.
-        let rows : List Share = rows_between (facts_of past) left.meter left.from left.till in
-        let all = all_sized from to rows (tells past stands clean).whole whole in
-        let bytes : from.sizes.bytes ≡ 0 = ap (λ (s : Sizes). s.bytes) none in
-        let count : from.sizes.count ≡ 0 = ap (λ (s : Sizes). s.count) none in
-        (
-          ap (λ (s : Sizes). s.bytes) is ∙ all.1 ∙ ap (λ n. n + length (flat_map share_line rows)) bytes ∙ zero-add (length (flat_map share_line rows)),
-          ap (λ (s : Sizes). s.count) is ∙ all.2 ∙ ap (λ n. n + length rows) count ∙ zero-add (length rows),
-        ));
+    sizes = (
+      refl,
+      λ past stands clean.
+          let rows : List Share = rows_between (facts_of past) left.meter left.from left.till in
+          let all = all_sized from to rows (tells past stands clean).whole whole in
+          let bytes : from.sizes.bytes ≡ 0 = ap (λ (s : Sizes). s.bytes) none in
+          let count : from.sizes.count ≡ 0 = ap (λ (s : Sizes). s.count) none in (
+            ap (λ (s : Sizes). s.bytes) is ∙ all.1 ∙ ap (λ n. n + length (flat_map share_line rows)) bytes ∙ zero-add (length (flat_map share_line rows)),
+            ap (λ (s : Sizes). s.count) is ∙ all.2 ∙ ap (λ n. n + length rows) count ∙ zero-add (length rows),
+          ),
+    );
   }
 
   pub sized_refused : {E : Type 0} (left : RowsLeft) (from to : RowSizes) (why : Refusal)
@@ -284,6 +297,12 @@ module _ {B : Type 0} (ledger : B → Ledger) (old mid new : Office B) where
     asks = asks;
     sizes = (refl, λ past stands clean. (tells past stands clean).answer);
   }
+
+  -- there was no memory for a line
+  pub sizes_none : {E : Type 0} (left : RowsLeft) (answer : Result (Unit {0}) Refusal) (result : Result (Result Sizes Refusal) E)
+      → OnlyAsks ledger mid new answer → IsErr result → SizesRows ledger mid new left result
+  sizes_none left answer (Ok told) asks is = cc is
+  sizes_none left answer (Err why) asks is = record { answer = answer; asks = asks; sizes = tt }
 
   -- ---- a reply that tells its size
 
@@ -308,17 +327,21 @@ module _ {B : Type 0} (ledger : B → Ledger) (old mid new : Office B) where
       record {
         answer = Ok tt;
         asks = then_asks it from till intervals_text [] left (Ok tt) begins asks;
-        begins = (refl, begins.begins.1, λ past stands clean there.
-            let facts : List Fact = facts_of past in
-            let begun = begins.begins.2 past stands (asks.clean clean) there in
-            let are = sized.sizes.1 past (begins.asks.stands past stands) clean in
-            let bytes : size ≡ length (text_left facts left) = size_is ∙ body_is facts left sizes are in
-            record {
-              tells =
-                  ap (λ t. t ++ text_left facts left) (put_is ∙ ap (λ n. with_head n text) bytes)
-                  ∙ ap (λ t. with_head (length t) text ++ t) begun.tells;
-              settled = begun.settled;
-            });
+        begins = (
+          refl,
+          begins.begins.1,
+          λ past stands clean there.
+              let facts : List Fact = facts_of past in
+              let begun = begins.begins.2 past stands (asks.clean clean) there in
+              let are = sized.sizes.1 past (begins.asks.stands past stands) clean in
+              let bytes : size ≡ length (text_left facts left) = size_is ∙ body_is facts left sizes are in
+              record {
+                tells =
+                    ap (λ t. t ++ text_left facts left) (put_is ∙ ap (λ n. with_head n text) bytes)
+                    ∙ ap (λ t. with_head (length t) text ++ t) begun.tells;
+                settled = begun.settled;
+              },
+        );
       }
 
   pub sized_not : {E F G : Type 0} (it : Installation) (from till : ℕ) (text put : List ℕ) (left : RowsLeft) (why : Refusal)
@@ -329,11 +352,14 @@ module _ {B : Type 0} (ledger : B → Ledger) (old mid new : Office B) where
       record {
         answer = sized.answer;
         asks = then_asks it from till intervals_text [] left sized.answer begins sized.asks;
-        begins = (sized.sizes.0, λ past stands clean there.
-            let facts : List Fact = facts_of past in
-            outside (is_there (intervals_within facts left.meter (Between left.from left.till))) (failures_of ledger old) (failures_of ledger mid)
-            (failures_of ledger new) sized.answer why (there_is facts it left.meter left.from left.till begins.begins.1 there) kept.failures sized.sizes.0
-            (sized.sizes.1 past (begins.asks.stands past stands) clean));
+        begins = (
+          sized.sizes.0,
+          λ past stands clean there.
+              let facts : List Fact = facts_of past in
+              outside (is_there (intervals_within facts left.meter (Between left.from left.till))) (failures_of ledger old) (failures_of ledger mid)
+              (failures_of ledger new) sized.answer why (there_is facts it left.meter left.from left.till begins.begins.1 there) kept.failures sized.sizes.0
+              (sized.sizes.1 past (begins.asks.stands past stands) clean),
+        );
       }
 
   -- there was no memory
@@ -363,24 +389,34 @@ module _ {B : Type 0} (ledger : B → Ledger) (old new : Office B) where
   with_text_head it from till text put left begins put_is = record {
     answer = begins.answer;
     asks = begins.asks;
-    begins = (begins.begins.0, begins.begins.1, λ past stands clean there.
-        let facts : List Fact = facts_of past in
-        let begun = begins.begins.2 past stands clean there in
-        record {
-          tells =
-              ap (λ t. t ++ text_left facts left) put_is ∙ append_assoc text text_head (text_left facts left)
-              ∙ ap (λ t. text ++ (text_head ++ t)) begun.tells;
-          settled = begun.settled;
-        });
+    begins = (
+      begins.begins.0,
+      begins.begins.1,
+      λ past stands clean there.
+          let facts : List Fact = facts_of past in
+          let begun = begins.begins.2 past stands clean there in
+          record {
+            tells =
+                ap (λ t. t ++ text_left facts left) put_is ∙ append_assoc text text_head (text_left facts left)
+                ∙ ap (λ t. text ++ (text_head ++ t)) begun.tells;
+            settled = begun.settled;
+          },
+    );
   }
 
 -- what is kept is told last
-pub rest_told : (left : RowsLeft) (from between to : List ℕ) (count : ℕ) → between ≡ from ++ flat_map share_line left.last.items → count ≡ left.told + length left.last.items
+rest_told : (left : RowsLeft) (from between to : List ℕ) (count : ℕ) → between ≡ from ++ flat_map share_line left.last.items → count ≡ left.told + length left.last.items
     → to ≡ between ++ end_line count → TellsRest left from to
 rest_told left from between to count lines counted put = λ facts le.
     put ∙ ap (λ t. t ++ end_line count) lines ∙ append_assoc from (flat_map share_line left.last.items) (end_line count)
     ∙ ap (λ n. from ++ (flat_map share_line left.last.items ++ end_line n)) counted
     ∙ ap (λ rs. from ++ text_of left.told (rs ++ left.last.items)) (sym (none_between facts left.meter left.from left.till le))
+
+pub rest_on : {E : Type 0} (left : RowsLeft) (from between to : List ℕ) (count : ℕ) (result : Result (Unit {0}) E)
+    → between ≡ from ++ flat_map share_line left.last.items → count ≡ left.told + length left.last.items
+    → OnOk result (to ≡ between ++ end_line count) → OnOk result (TellsRest left from to)
+rest_on left from between to count (Ok x) lines counted put = rest_told left from between to count lines counted put
+rest_on left from between to count (Err why) lines counted put = tt
 
 -- ---- whatever comes
 
@@ -394,3 +430,45 @@ text_stays law further facts meter o left h there named settled void =
     (λ lt. subst (λ (i : Option Installation). left.till ≤ last_quarter i) known (settled lt)) void
     ∙ ap (λ m. rows_between facts m left.from left.till) (sym named) in
     ap (λ rs. text_of left.told (rs ++ left.last.items)) same
+
+-- what stays at one piece stays settled, and of the same meter
+settled_on : (facts : List Fact) (left later : RowsLeft) (seconds : ℕ) → MovesOn left later seconds → IsSettled facts left → IsSettled facts later
+settled_on facts left later seconds moves settled = λ lt.
+    let last : ℕ = last_quarter (option_and_then (meter_of facts) left.meter) in
+    let same : last_quarter (option_and_then (meter_of facts) later.meter) ≡ last = ap (λ m. last_quarter (option_and_then (meter_of facts) m)) moves.meter in
+    let upto : left.till ≤ last =
+    elim (cases_lt left.from left.till) [
+      | inl low ↦ settled low
+      | inr ge ↦ absurd (omega (arith, moves.none ge, lt))
+    ] in
+    omega (arith, upto, same, moves.till)
+
+-- after some pieces
+record Goes (facts : List Fact) (meter : List ℕ) (left later : RowsLeft) (before after : List ℕ) : Type 0 where
+  named : later.meter ≡ Some meter
+  settled : IsSettled facts later
+  told : after ++ text_left facts later ≡ before ++ text_left facts left
+
+goes : SharesAddUp → (facts : List Fact) (meter : List ℕ) (o : Opening) (left : RowsLeft) (text : List ℕ) (pieces : List Piece)
+    → opening_of facts meter ≡ Some o → left.meter ≡ Some meter → IsSettled facts left → ArePieces facts meter o left text pieces
+    → Goes facts meter left (left_after left pieces) text (text_after text pieces)
+goes law facts meter o left text [] there named settled are = record { named = named; settled = settled; told = refl }
+goes law facts meter o left text (piece ∷ earlier) there named settled are =
+    let before = goes law facts meter o left text earlier there named settled are.1 in
+    let one = are.0 in
+    let at : RowsLeft = left_after left earlier in
+    let same : piece.later.meter ≡ Some meter = one.moves.meter ∙ before.named in
+    let on : IsSettled facts piece.later = settled_on facts at piece.later one.seconds one.moves before.settled in
+    let now : text_left (piece.further ++ facts) at ≡ text_left facts at =
+    text_stays law piece.further facts meter o at one.lawful there before.named before.settled one.voids in
+    let later : text_left (piece.further ++ facts) piece.later ≡ text_left facts piece.later =
+    text_stays law piece.further facts meter o piece.later one.lawful there same on one.voids in
+    record {
+      named = same;
+      settled = on;
+      told =
+          ap (λ t. piece.text ++ t) (sym later) ∙ one.tells ∙ ap (λ t. text_after text earlier ++ t) now ∙ before.told;
+    }
+
+pub pieces_are_whole : SharesAddUp → PiecesAreWhole
+pieces_are_whole law facts meter o left text pieces there named settled are = (goes law facts meter o left text pieces there named settled are).told

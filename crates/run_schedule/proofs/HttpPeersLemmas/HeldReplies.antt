@@ -1,7 +1,7 @@
 -- What is held of replies.
-use Rattle.std.proofs.Common.{◌≡◌, ℕ, ◌+◌, ◌-◌, ◌<◌, ◌≤◌, nat_lt, true, List, [], ◌∷◌, arith}
+use Rattle.std.proofs.Common.{◌≡◌, ℕ, ◌-◌, ◌<◌, nat_lt, true, [], ◌∷◌, arith}
 use Rattle.std.proofs.lemmas.Bool.Decides.{nat_tests}
-use Rattle.run_schedule.specs.HttpPeers.HeldReplies.{Change, Dropped, HoldsLittle, Made, held_after}
+use Rattle.run_schedule.specs.HttpPeers.HeldReplies.{Dropped, HoldsLittle, Made, held_after}
 
 is_little : (held : ℕ) → nat_lt held 4194304 ≡ true → held < 4194304
 is_little held is = grind (arith, nat_tests, is)
