@@ -1,5 +1,5 @@
 //! The audit of an office in a database.
-ghost use Rattle.std.specs.Prelude.{◌≡◌, ◌↔◌, ◌⊎◌, ◌++◌, [], false, Err, Some, IsTrue, IfOk, IfErr, OnOk, map, option_map, string_bytes};
+ghost use Rattle.std.specs.Prelude.{◌≡◌, ◌↔◌, ◌⊎◌, ◌++◌, [], false, Err, Some, IsTrue, IfOk, IfErr, OnOk, option_map, string_bytes};
 ghost use Rattle.std.specs.Io.KnownBytes.{Appends};
 ghost use Rattle.sqlite.specs.Held.{state};
 ghost use Rattle.sqlite.specs.State.{HasCleanDisk};
@@ -11,7 +11,7 @@ ghost use Rattle.table_audit.specs.Polls.{TellsTables};
 ghost use Rattle.table_audit.specs.Texts.{with_findings};
 ghost use Rattle.table_seals.specs.Filing.{FilesMeters, HasUnfiledMeter};
 ghost use Rattle.table_seals.specs.Joins.{after_next, joins_after, known_as, known_of};
-ghost use Rattle.table_seals.specs.JoinTexts.{join_line, joined_text, texts_of};
+ghost use Rattle.table_seals.specs.JoinTexts.{joined_text, lines_of, texts_of};
 
 use sqlite::{Alter, Connection, Error, ErrorCode};
 use std::alloc::Global;
@@ -149,7 +149,7 @@ pub fn join_stored<'a>(
 ) -> Result<(), AuditFault>
     ensures lines { OnOk result (texts_of joining.new.lines.items
         ≡ texts_of joining.old.lines.items
-        ++ map join_line (joins_after (option_map known_of joining.old.known)
+        ++ lines_of (joins_after (option_map known_of joining.old.known)
         (known_as file.now (string_bytes zone) meters.items))) }
     ensures known { OnOk result (option_map known_of joining.new.known
         ≡ Some (after_next (option_map known_of joining.old.known)

@@ -52,6 +52,9 @@ join_line (Missing old file) =
     meter_said old ++ codes "is not in " ++ file ++ codes ", and is open in " ++ old.file.now
     ++ codes "\n"
 
+abbrev pub lines_of : List Join → List (List ℕ)
+lines_of joins = map join_line joins
+
 -- the lines as they are held
 abbrev pub texts_of : {Z : Type 0} → List (Vec ℕ Z) → List (List ℕ)
 texts_of lines = map (λ line. line.items) lines

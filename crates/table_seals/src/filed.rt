@@ -1,5 +1,5 @@
 //! What is kept of an office's file, so that the next one is held to it.
-ghost use Rattle.std.specs.Prelude.{◌≡◌, ◌++◌, [], Some, None, IfOk, OnOk, map, option_map};
+ghost use Rattle.std.specs.Prelude.{◌≡◌, ◌++◌, [], Some, None, IfOk, OnOk, option_map};
 ghost use Rattle.table_seals.specs.Joins.{known_of, known_with};
 
 use crate::joins::tell_joins;
@@ -57,7 +57,7 @@ pub struct Joining<'a> {
 
 impl<'a> Joining<'a> {
     ghost use Rattle.table_seals.specs.Joins.{after_next, joins_after};
-    ghost use Rattle.table_seals.specs.JoinTexts.{join_line, texts_of};
+    ghost use Rattle.table_seals.specs.JoinTexts.{lines_of, texts_of};
 
     /// None yet. The allocator is kept; no memory is taken.
     pub fn new(alloc: Global) -> Joining<'a>
@@ -74,7 +74,7 @@ impl<'a> Joining<'a> {
     /// what was kept is gone.
     pub fn join(&mut self, alloc: Global, next: FiledOffice<'a>) -> Result<(), AllocError>
         ensures lines { OnOk result (texts_of self.new.lines.items ≡ texts_of self.old.lines.items
-            ++ map join_line (joins_after (option_map known_of self.old.known) (known_of next))) }
+            ++ lines_of (joins_after (option_map known_of self.old.known) (known_of next))) }
         ensures known { OnOk result (option_map known_of self.new.known
             ≡ Some (after_next (option_map known_of self.old.known) (known_of next))) }
     {

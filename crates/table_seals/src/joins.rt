@@ -1,9 +1,9 @@
 //! Whether an office's files go on from each other.
-ghost use Rattle.std.specs.Prelude.{◌≡◌, ◌++◌, ◌∷◌, [], Some, None, OnOk, flat_map, map};
+ghost use Rattle.std.specs.Prelude.{◌≡◌, ◌++◌, ◌∷◌, [], Some, None, OnOk, flat_map};
 ghost use Rattle.std.specs.List.{find};
 ghost use Rattle.std.specs.Option.{option_copied};
 ghost use Rattle.table_seals.specs.Joins as joins;
-ghost use Rattle.table_seals.specs.JoinTexts.{join_line, texts_of};
+ghost use Rattle.table_seals.specs.JoinTexts.{lines_of, texts_of};
 
 use crate::filed::{FiledMeter, FiledOffice};
 use crate::join_lines::{fault_line, missing_line, overlap_line, zone_line};
@@ -159,7 +159,7 @@ fn tell_fault(
     new: &FiledMeter<'_>,
 ) -> Result<(), AllocError>
     ensures { OnOk result (texts_of lines.new.items
-        ≡ texts_of lines.old.items ++ map join_line (joins.joins_by known.now new.now (Some old.now))) }
+        ≡ texts_of lines.old.items ++ lines_of (joins.joins_by known.now new.now (Some old.now))) }
 {
     match fault_between(is_within(known, new), old, new) {
         None => Ok(()),
@@ -178,7 +178,7 @@ fn tell_overlap(
     new: &FiledMeter<'_>,
 ) -> Result<(), AllocError>
     ensures { OnOk result (texts_of lines.new.items
-        ≡ texts_of lines.old.items ++ map join_line (joins.joins_by known.now new.now None)) }
+        ≡ texts_of lines.old.items ++ lines_of (joins.joins_by known.now new.now None)) }
 {
     match overlapped(new, known) {
         None => Ok(()),
@@ -197,7 +197,7 @@ fn tell_meter(
     new: &FiledMeter<'_>,
 ) -> Result<(), AllocError>
     ensures { OnOk result (texts_of lines.new.items
-        ≡ texts_of lines.old.items ++ map join_line (joins.joins_of known.now new.now)) }
+        ≡ texts_of lines.old.items ++ lines_of (joins.joins_of known.now new.now)) }
 {
     match meter_in(&new.meter, known) {
         None => tell_overlap(alloc, lines, known, new),
@@ -213,7 +213,7 @@ fn tell_meters(
     next: &[FiledMeter<'_>],
 ) -> Result<(), AllocError>
     ensures { OnOk result (texts_of lines.new.items ≡ texts_of lines.old.items
-        ++ flat_map (λ new. map join_line (joins.joins_of known.now new)) next.now) }
+        ++ flat_map (λ new. lines_of (joins.joins_of known.now new)) next.now) }
 {
     for new in next {
         tell_meter(alloc, lines, known, new)?;
@@ -229,7 +229,7 @@ fn tell_missing(
     old: &FiledMeter<'_>,
 ) -> Result<(), AllocError>
     ensures { OnOk result (texts_of lines.new.items ≡ texts_of lines.old.items
-        ++ map join_line (joins.missing_of (joins.known_of next.now) old.now)) }
+        ++ lines_of (joins.missing_of (joins.known_of next.now) old.now)) }
 {
     if old.standing.is_ended || has_meter(&old.meter, &next.meters) {
         return Ok(());
@@ -246,7 +246,7 @@ fn tell_each_missing(
     latest: &[FiledMeter<'_>],
 ) -> Result<(), AllocError>
     ensures { OnOk result (texts_of lines.new.items ≡ texts_of lines.old.items
-        ++ flat_map (λ old. map join_line (joins.missing_of (joins.known_of next.now) old))
+        ++ flat_map (λ old. lines_of (joins.missing_of (joins.known_of next.now) old))
         latest.now) }
 {
     for old in latest {
@@ -263,7 +263,7 @@ fn tell_zone(
     next: &FiledOffice<'_>,
 ) -> Result<(), AllocError>
     ensures { OnOk result (texts_of lines.new.items ≡ texts_of lines.old.items
-        ++ map join_line (joins.zone_of (joins.known_of known.now) (joins.known_of next.now))) }
+        ++ lines_of (joins.zone_of (joins.known_of known.now) (joins.known_of next.now))) }
 {
     if next.zone.as_str() == known.zone.as_str() {
         return Ok(());
@@ -280,7 +280,7 @@ pub(crate) fn tell_joins(
     next: &FiledOffice<'_>,
 ) -> Result<(), AllocError>
     ensures { OnOk result (texts_of lines.new.items ≡ texts_of lines.old.items
-        ++ map join_line (joins.joins_between (joins.known_of known.now) (joins.known_of next.now))) }
+        ++ lines_of (joins.joins_between (joins.known_of known.now) (joins.known_of next.now))) }
 {
     let latest = known.latest.min(known.meters.len());
     tell_zone(alloc, lines, known, next)?;
