@@ -11,8 +11,8 @@ use Rattle.std.proofs.lemmas.Slice.Eq.{bytes_eq-Decides}
 use Rattle.energy_core.specs.declared.entries.Last.{Last}
 use Rattle.meter_audit.specs.CarriedFiles.{GoesOnAs}
 use Rattle.table_seals.specs.declared.filed.FiledMeter.{FiledMeter}
-use Rattle.table_seals.specs.declared.joins.JoinFault.{JoinFault}
-use Rattle.table_seals.specs.declared.joins.JoinFault.TheVariants.{Closed, Register, Range, Ceiling, Opening, Energy}
+use Rattle.table_seals.specs.declared.join_faults.JoinFault.{JoinFault}
+use Rattle.table_seals.specs.declared.join_faults.JoinFault.TheVariants.{Closed, Register, Range, Ceiling, Opening, Energy}
 use Rattle.table_seals.specs.Joins.{Join, Differs, is_same, is_within, left_after, stay_within, fault_between, joins_by}
 use Rattle.table_seals.specs.JoinLaws.{MeterGoesOn, JoinedMetersGoOn}
 use Rattle.table_seals.specs.JoinTexts.{join_line}

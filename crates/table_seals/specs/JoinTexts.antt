@@ -4,8 +4,8 @@ use Rattle.std.specs.Fmt.{signed_decimal}
 use Rattle.energy_core.specs.declared.entries.Last.{Last}
 use Rattle.table_audit.specs.declared.differences.TheConstants.{MOST}
 use Rattle.table_seals.specs.declared.filed.FiledMeter.{FiledMeter}
-use Rattle.table_seals.specs.declared.joins.JoinFault.{JoinFault}
-use Rattle.table_seals.specs.declared.joins.JoinFault.TheVariants as fault
+use Rattle.table_seals.specs.declared.join_faults.JoinFault.{JoinFault}
+use Rattle.table_seals.specs.declared.join_faults.JoinFault.TheVariants as fault
 use Rattle.table_seals.specs.Joins.{Join, OtherZone, Differs, Overlaps, Missing, Known}
 
 -- the moment, what the counter shows, and its scale factor

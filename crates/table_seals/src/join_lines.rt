@@ -4,7 +4,7 @@ ghost use Rattle.table_seals.specs.Joins as joins;
 ghost use Rattle.table_seals.specs.JoinTexts as say;
 
 use crate::filed::{FiledMeter, FiledOffice};
-use crate::joins::JoinFault;
+use crate::join_faults::JoinFault;
 use crate::texts::{put, put_number, put_scale, put_word};
 use energy_core::Last;
 use std::alloc::{AllocError, Global};

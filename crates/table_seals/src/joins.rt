@@ -6,26 +6,10 @@ ghost use Rattle.table_seals.specs.Joins as joins;
 ghost use Rattle.table_seals.specs.JoinTexts.{lines_of, texts_of};
 
 use crate::filed::{FiledMeter, FiledOffice};
+use crate::join_faults::JoinFault;
 use crate::join_lines::{fault_line, missing_line, overlap_line, zone_line};
 use energy_core::{Last, MAX_TOTAL};
 use std::alloc::{AllocError, Global};
-
-/// How a meter doesn't go on from the file before.
-#[derive(Clone, Copy, Debug, PartialEq, Eq)]
-pub enum JoinFault {
-    /// It was closed there.
-    Closed,
-    /// It was at another register.
-    Register,
-    /// Its counter had another range.
-    Range,
-    /// It had another ceiling.
-    Ceiling,
-    /// Its counter stood elsewhere than where it is opened.
-    Opening,
-    /// Its energy of all files is more than one meter may have.
-    Energy,
-}
 
 /// Whether a meter has the name.
 fn is_meter(name: &str, meter: &FiledMeter<'_>) -> bool
