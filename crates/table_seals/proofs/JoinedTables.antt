@@ -18,7 +18,7 @@ use Rattle.table_audit.specs.Fine.{IsFine}
 use Rattle.table_audit.specs.Lawful.{IsOpenedBy, last_shown, tables_from}
 use Rattle.table_seals.specs.declared.filed.FiledMeter.{FiledMeter}
 use Rattle.table_seals.specs.Filing.{IsFiledAs, standing_in}
-use Rattle.table_seals.specs.JoinLaws.{EachGoesOn, FiledMetersAreTold, HasOneJournal, IsToldBy, JoinedFilesAreLawful, energy_of, in_files}
+use Rattle.table_seals.specs.JoinLaws.{EachGoesOn, FiledMetersAreTold, HasOneJournal, IsToldBy, JoinedFilesAreLawful, energy_of, in_file, in_files}
 use Rattle.table_seals.proofs.Read.{same_read}
 
 -- ---- one meter of a file
@@ -77,9 +77,6 @@ latest_more first new (next ∷ later) = latest_more next new later
 told_more : (old : Tables) (later : List InFile) (new : InFile) → (told_by_all old (later ++ new ∷ [])).total ≡ (told_by_all old later).total + new.tables.total
 told_more old [] new = refl
 told_more old (next ∷ later) new = told_more (told_by_both old next.tables) later new
-
-abbrev in_file : (FiledMeter → Tables) → FiledMeter → InFile
-in_file tables meter = record { meter = meter.installed; tables = tables meter }
 
 -- Files, the oldest first, that go on up to that of a meter.
 record GoesUpTo (tables : FiledMeter → Tables) (meter : FiledMeter) (meters : List FiledMeter) : Type 0 where

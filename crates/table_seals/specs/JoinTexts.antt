@@ -56,8 +56,11 @@ abbrev pub lines_of : List Join → List (List ℕ)
 lines_of joins = map join_line joins
 
 -- the lines as they are held
+abbrev pub text_in : {Z : Type 0} → Vec ℕ Z → List ℕ
+text_in line = line.items
+
 abbrev pub texts_of : {Z : Type 0} → List (Vec ℕ Z) → List (List ℕ)
-texts_of lines = map (λ line. line.items) lines
+texts_of lines = map text_in lines
 
 abbrev pub more_lines : ℕ → List ℕ
 more_lines more = if more == 0 then [] else codes "and " ++ decimal more ++ codes " more\n"
@@ -70,5 +73,5 @@ all_lines all =
 -- the first of these lines, how many come after them, and how many there are
 abbrev pub joined_text : {Z : Type 0} → List (Vec ℕ Z) → List ℕ
 joined_text lines =
-    flat_map (λ line. line.items) (take MOST lines) ++ more_lines (length lines - MOST)
+    flat_map text_in (take MOST lines) ++ more_lines (length lines - MOST)
     ++ all_lines (length lines)

@@ -192,7 +192,7 @@ pub(crate) fn zone_line(
 
 fn put_lines(text: &mut Vec<u8>, lines: &[Vec<u8>]) -> Result<(), AllocError>
     ensures { OnOk result (text.new.items ≡ text.old.items
-        ++ flat_map (λ line. line.items) lines.now) }
+        ++ flat_map say.text_in lines.now) }
 {
     for line in lines {
         put(text, line.as_slice())?;

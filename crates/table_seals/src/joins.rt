@@ -205,7 +205,14 @@ fn tell_meters(
     Ok(())
 }
 
-/// That a meter is open in the file before, and isn't in the next one.
+/// Whether a meter is open in the file before, and isn't among those of the next one.
+fn is_missing(next: &[FiledMeter<'_>], old: &FiledMeter<'_>) -> bool
+    ensures { result ≡ joins.is_missing next.now old.now }
+{
+    !old.standing.is_ended && !has_meter(&old.meter, next)
+}
+
+/// Tells it.
 fn tell_missing(
     alloc: Global,
     lines: &mut Vec<Vec<u8>>,
@@ -215,7 +222,7 @@ fn tell_missing(
     ensures { OnOk result (texts_of lines.new.items ≡ texts_of lines.old.items
         ++ lines_of (joins.missing_of (joins.known_of next.now) old.now)) }
 {
-    if old.standing.is_ended || has_meter(&old.meter, &next.meters) {
+    if !is_missing(&next.meters, old) {
         return Ok(());
     }
     let line = missing_line(alloc, old, next.file)?;
