@@ -129,7 +129,8 @@ fn two_files(alloc: Global) -> Result<Joining<'static>, Fail> {
 fn a_third_file_goes_on_from_the_second(rt: HostRuntime) -> Result<(), Fail> {
     let mut joining = two_files(rt.alloc())?;
     joining.join(rt.alloc(), new_file(rt.alloc(), b"m1", 2800, 5300)?)?;
-    assert!(rt; said(rt.alloc(), &joining)?.as_slice() == b"joined: fine\n");
+    let text = said(rt.alloc(), &joining)?;
+    assert!(rt; text.as_slice() == b"joined: fine\n");
     Ok(())
 }
 

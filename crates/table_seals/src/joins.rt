@@ -184,8 +184,14 @@ fn tell_meter(
         ≡ texts_of lines.old.items ++ lines_of (joins.joins_of known.now new.now)) }
 {
     match meter_in(&new.meter, known) {
-        None => tell_overlap(alloc, lines, known, new),
-        Some(old) => tell_fault(alloc, lines, known, old, new),
+        None => {
+            tell_overlap(alloc, lines, known, new)?;
+            Ok(())
+        }
+        Some(old) => {
+            tell_fault(alloc, lines, known, old, new)?;
+            Ok(())
+        }
     }
 }
 
