@@ -168,7 +168,7 @@ const UNAUDITED: [(AuditFault, &str); 9] = [
     ),
     (
         AuditFault::NoText,
-        "a meter or a register in it has a name that is no text",
+        "a name in it, or its zone, is no text: give the office's file, or its copy",
     ),
     (
         AuditFault::NoSeal,

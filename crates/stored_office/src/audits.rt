@@ -31,7 +31,7 @@ pub enum AuditFault {
     Earlier,
     /// A row has a value that can't be read, or a name that is no word.
     Unsealable,
-    /// A meter or a register has a name that is no text.
+    /// A name, or the zone, is no text.
     NoText,
     /// A text is that of no seal.
     NoSeal,
