@@ -29,7 +29,7 @@ fn has_meter(name: &str, meters: &[FiledMeter<'_>]) -> bool
 fn meter_in<'m, 'a>(name: &str, meters: &'m [FiledMeter<'a>]) -> Option<&'m FiledMeter<'a>>
     ensures { option_copied result ≡ find (joins.is_meter name.now) meters.now }
 {
-    meters.iter().find(|meter| is_meter(name, meter))
+    meters.iter().find(|meter| is_meter(name, *meter))
 }
 
 /// Whether both show the same counter at the same moment and scale.
@@ -122,7 +122,7 @@ fn overlapped<'m, 'a>(
 ) -> Option<&'m FiledMeter<'a>>
     ensures { option_copied result ≡ find (joins.is_beyond new.now) known.now }
 {
-    known.iter().find(|old| is_beyond(new, old))
+    known.iter().find(|old| is_beyond(new, *old))
 }
 
 /// One more line.
@@ -279,9 +279,10 @@ pub(crate) fn tell_joins(
     ensures { OnOk result (texts_of lines.new.items ≡ texts_of lines.old.items
         ++ lines_of (joins.joins_between (joins.known_of known.now) (joins.known_of next.now))) }
 {
-    let latest = known.latest.min(known.meters.len());
+    let meters = known.meters.as_slice();
+    let latest = known.latest.min(meters.len());
     tell_zone(alloc, lines, known, next)?;
-    tell_meters(alloc, lines, &known.meters, &next.meters)?;
-    tell_each_missing(alloc, lines, next, &known.meters.as_slice()[..latest])?;
+    tell_meters(alloc, lines, meters, &next.meters)?;
+    tell_each_missing(alloc, lines, next, &meters[..latest])?;
     Ok(())
 }
