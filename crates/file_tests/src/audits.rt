@@ -3,8 +3,8 @@ use crate::commands::fill;
 use crate::files::{Files, path, remove};
 use std::test::Fail;
 use stored_office::{
-    AuditFault, Databases, Joining, audit_stored, join_stored, meters_stored, told_zone, write_audit,
-    write_joins,
+    AuditFault, Databases, Joining, audit_stored, join_stored, meters_stored, told_zone,
+    write_audit, write_joins,
 };
 
 /// Whether all is fine, or why there is no audit; and what is printed.

@@ -44,21 +44,11 @@ fn old_file(alloc: Global) -> Result<FiledOffice<'static>, Fail> {
 }
 
 /// Books in which a meter is installed so.
-fn installed(
-    alloc: Global,
-    meter: &[u8],
-    at: u64,
-    raw: u32,
-) -> Result<Connection<MemStore>, Fail> {
+fn installed(alloc: Global, meter: &[u8], at: u64, raw: u32) -> Result<Connection<MemStore>, Fail> {
     booked(alloc, [device(), register(), opening(meter, at, raw)])
 }
 
-fn new_file(
-    alloc: Global,
-    meter: &[u8],
-    at: u64,
-    raw: u32,
-) -> Result<FiledOffice<'static>, Fail> {
+fn new_file(alloc: Global, meter: &[u8], at: u64, raw: u32) -> Result<FiledOffice<'static>, Fail> {
     let mut conn = installed(alloc, meter, at, raw)?;
     filed(alloc, &mut conn, "new.db")
 }
@@ -104,8 +94,10 @@ fn a_meter_goes_on_where_it_stands(rt: HostRuntime) -> Result<(), Fail> {
 fn one_that_begins_elsewhere_is_told(rt: HostRuntime) -> Result<(), Fail> {
     let next = new_file(rt.alloc(), b"m1", 1901, 5201);
     let text = said_of_both(rt.alloc(), old_file(rt.alloc()), next)?;
-    assert!(rt; text.as_slice()
-        == b"meter m1 begins in new.db at 1901 5201 0, stands in old.db at 1900 5200 0\n1 differences between files\n");
+    assert!(rt;
+        text.as_slice()
+            == b"meter m1 begins in new.db at 1901 5201 0, stands in old.db at 1900 5200 0\n1 differences between files\n"
+    );
     Ok(())
 }
 
@@ -113,11 +105,13 @@ fn one_that_begins_elsewhere_is_told(rt: HostRuntime) -> Result<(), Fail> {
 fn one_that_is_missing_is_told(rt: HostRuntime) -> Result<(), Fail> {
     let next = new_file(rt.alloc(), b"m2", 1899, 0);
     let text = said_of_both(rt.alloc(), old_file(rt.alloc()), next)?;
-    assert!(rt; text.as_slice()
-        == b"meter m2 begins in new.db at 1899 0 0, meter m1 stands at its register in old.db at 1900 5200 0
+    assert!(rt;
+        text.as_slice()
+            == b"meter m2 begins in new.db at 1899 0 0, meter m1 stands at its register in old.db at 1900 5200 0
 meter m1 is not in new.db, and is open in old.db
 2 differences between files
-");
+"
+    );
     Ok(())
 }
 
@@ -149,8 +143,10 @@ fn a_third_file_goes_on_from_the_second(rt: HostRuntime) -> Result<(), Fail> {
 fn a_file_that_is_left_out_is_told(rt: HostRuntime) -> Result<(), Fail> {
     let next = new_file(rt.alloc(), b"m1", 2800, 5300);
     let text = said_of_both(rt.alloc(), old_file(rt.alloc()), next)?;
-    assert!(rt; text.as_slice()
-        == b"meter m1 begins in new.db at 2800 5300 0, stands in old.db at 1900 5200 0\n1 differences between files\n");
+    assert!(rt;
+        text.as_slice()
+            == b"meter m1 begins in new.db at 2800 5300 0, stands in old.db at 1900 5200 0\n1 differences between files\n"
+    );
     Ok(())
 }
 
@@ -178,7 +174,12 @@ const STAND: Last = Last {
     sf: 0,
 };
 
-fn file_of(alloc: Global, file: &'static str, zone: &str, had: Had) -> Result<FiledOffice<'static>, Fail> {
+fn file_of(
+    alloc: Global,
+    file: &'static str,
+    zone: &str,
+    had: Had,
+) -> Result<FiledOffice<'static>, Fail> {
     let meter = FiledMeter {
         file,
         meter: String::from_str(alloc, "m1")?,
@@ -238,10 +239,7 @@ static CHANGES: [Change; 6] = [
     },
     Change {
         old: HAD,
-        new: Had {
-            ceiling: 5,
-            ..HAD
-        },
+        new: Had { ceiling: 5, ..HAD },
         told: b"meter m1 ceiling is 5 in new.db, and 100000 in old.db\n1 differences between files\n",
     },
     Change {
@@ -275,7 +273,9 @@ fn another_zone_is_told(rt: HostRuntime) -> Result<(), Fail> {
     let known = file_of(rt.alloc(), "old.db", "UTC0", HAD);
     let next = file_of(rt.alloc(), "new.db", "CET-1", HAD);
     let text = said_of_both(rt.alloc(), known, next)?;
-    assert!(rt; text.as_slice()
-        == b"zone is CET-1 in new.db, and UTC0 in old.db\n1 differences between files\n");
+    assert!(rt;
+        text.as_slice()
+            == b"zone is CET-1 in new.db, and UTC0 in old.db\n1 differences between files\n"
+    );
     Ok(())
 }

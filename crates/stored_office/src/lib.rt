@@ -12,9 +12,7 @@ mod runs;
 mod seals;
 mod tasks;
 
-pub use audits::{
-    AuditFault, audit_stored, join_stored, meters_stored, write_audit, write_joins,
-};
+pub use audits::{AuditFault, audit_stored, join_stored, meters_stored, write_audit, write_joins};
 pub use backups::{CopyFault, whole_file, whole_files};
 pub use carries::{CarryEnd, carry_stored, told_zone};
 pub use carrying::{

@@ -121,8 +121,7 @@ one_more name known next (new ∷ []) (old ∷ older) of nothing one at before f
     let all : energy_of (named (string_bytes new.meter) (new ∷ known.meters)) ≤ MAX_TOTAL =
     energies_stay MAX_TOTAL (string_bytes new.meter) (new ∷ known.meters) goes.within in
     let whole : named (string_bytes new.meter) (new ∷ known.meters) ≡ new ∷ old ∷ older =
-    ap (λ n. named n (new ∷ known.meters)) is ∙ cond-true _ _ _ this.1 ∙ ap (λ ms. new ∷ ms) before in
-    (
+    ap (λ n. named n (new ∷ known.meters)) is ∙ cond-true _ _ _ this.1 ∙ ap (λ ms. new ∷ ms) before in (
       (goes.goes_on, subst EachGoesOn before one.goes_on),
       subst (λ ms. energy_of ms ≤ MAX_TOTAL) whole all,
     )

@@ -101,7 +101,11 @@ fn put_fault(
         ),
         JoinFault::Opening => put_opening(text, old, new),
         JoinFault::Energy => {
-            put_word(text, b"has more energy in all files up to ", new.file.as_bytes())?;
+            put_word(
+                text,
+                b"has more energy in all files up to ",
+                new.file.as_bytes(),
+            )?;
             put(text, b" than a meter may have")
         }
     }
@@ -147,7 +151,11 @@ pub(crate) fn overlap_line(
     put(&mut line, b" at ")?;
     put_stand(&mut line, &new.installed.opening)?;
     put_word(&mut line, b", meter ", old.meter.as_bytes())?;
-    put_word(&mut line, b" stands at its register in ", old.file.as_bytes())?;
+    put_word(
+        &mut line,
+        b" stands at its register in ",
+        old.file.as_bytes(),
+    )?;
     put(&mut line, b" at ")?;
     put_stand(&mut line, &old.standing.last)?;
     put(&mut line, b"\n")?;

@@ -79,11 +79,7 @@ fn is_within(known: &[FiledMeter<'_>], new: &FiledMeter<'_>) -> bool
 }
 
 /// How a meter doesn't go on from the file before.
-fn fault_between(
-    within: bool,
-    old: &FiledMeter<'_>,
-    new: &FiledMeter<'_>,
-) -> Option<JoinFault>
+fn fault_between(within: bool, old: &FiledMeter<'_>, new: &FiledMeter<'_>) -> Option<JoinFault>
     ensures { result ≡ joins.fault_between within old.now new.now }
 {
     if old.standing.is_ended {
