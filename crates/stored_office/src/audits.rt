@@ -150,10 +150,10 @@ pub fn join_stored<'a>(
     ensures lines { OnOk result (texts_of joining.new.lines.items
         ≡ texts_of joining.old.lines.items
         ++ lines_of (joins_after (option_map known_of joining.old.known)
-        (known_as file.now (string_bytes zone) meters.items))) }
+        (known_as file.now (string_bytes zone) meters.entry.items))) }
     ensures known { OnOk result (option_map known_of joining.new.known
         ≡ Some (after_next (option_map known_of joining.old.known)
-        (known_as file.now (string_bytes zone) meters.items))) }
+        (known_as file.now (string_bytes zone) meters.entry.items))) }
     ensures fault { IfErr result (λ fault. fault ≡ AuditFault.Memory) }
 {
     let latest = meters.len();

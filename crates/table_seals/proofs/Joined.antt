@@ -56,8 +56,8 @@ lines_put {Z} lines shown old one two three more shown_are more_is first second 
     let m : List ℕ = more_lines (length lines - MOST) in
     let a : List ℕ = all_lines (length lines) in
     let put : one ≡ old ++ f = first ∙ ap (λ (ls : List (Vec ℕ Z)). old ++ flat_map text_in ls) shown_are in
-    let then : two ≡ old ++ f ++ m = second ∙ ap (λ n. one ++ more_lines n) more_is ∙ ap (λ t. t ++ m) put in
-    third ∙ ap (λ t. t ++ a) (then ∙ append_assoc old f m) ∙ append_assoc old (f ++ m) a
+    let both : two ≡ old ++ f ++ m = second ∙ ap (λ n. one ++ more_lines n) more_is ∙ ap (λ t. t ++ m) put in
+    third ∙ ap (λ t. t ++ a) (both ∙ append_assoc old f m) ∙ append_assoc old (f ++ m) a
 
 -- ---- energies
 

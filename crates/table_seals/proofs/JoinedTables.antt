@@ -23,8 +23,8 @@ use Rattle.table_seals.proofs.Read.{same_read}
 
 -- ---- one meter of a file
 
-same_head : (a b : TableRow) (as bs : List TableRow) → a ∷ as ≡ b ∷ bs → a ≡ b
-same_head a b as bs h = cc
+same_head : (a b : TableRow) (rows others : List TableRow) → a ∷ rows ≡ b ∷ others → a ≡ b
+same_head a b rows others h = cc
 
 same_meter : (m n : Installed) → m.range ≡ n.range → m.ceiling ≡ n.ceiling → m.opening ≡ n.opening → m ≡ n
 same_meter m n range ceiling opening =

@@ -19,9 +19,16 @@ both_say what has had old new =
     what ++ has ++ codes " in " ++ new.file.now ++ codes ", and " ++ had ++ codes " in "
     ++ old.file.now
 
+-- in which file it is so, and in which it was
+abbrev pub both_files : (before between : List ℕ) → (old new : FiledMeter) → List ℕ
+both_files before between old new = before ++ new.file.now ++ between ++ old.file.now
+
+abbrev pub one_file : (before after : List ℕ) → (new : FiledMeter) → List ℕ
+one_file before after new = before ++ new.file.now ++ after
+
 abbrev pub fault_text : JoinFault → (old new : FiledMeter) → List ℕ
 fault_text fault.Closed old new =
-    codes "is in " ++ new.file.now ++ codes ", and was closed in " ++ old.file.now
+    both_files (codes "is in ") (codes ", and was closed in ") old new
 fault_text fault.Register old new =
     both_say (codes "register is ") (string_bytes new.register) (string_bytes old.register) old new
 fault_text fault.Range old new =
@@ -33,7 +40,7 @@ fault_text fault.Opening old new =
     codes "begins in " ++ new.file.now ++ codes " at " ++ stand new.installed.opening
     ++ codes ", stands in " ++ old.file.now ++ codes " at " ++ stand old.standing.last
 fault_text fault.Energy old new =
-    codes "has more energy in all files up to " ++ new.file.now ++ codes " than a meter may have"
+    one_file (codes "has more energy in all files up to ") (codes " than a meter may have") new
 
 abbrev pub meter_said : FiledMeter → List ℕ
 meter_said meter = codes "meter " ++ string_bytes meter.meter ++ codes " "

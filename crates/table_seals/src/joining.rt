@@ -11,7 +11,8 @@ fn with_next<'a>(
     known: FiledOffice<'a>,
     next: FiledOffice<'a>,
 ) -> Result<FiledOffice<'a>, AllocError>
-    ensures { IfOk result (λ all. known_of all ≡ known_with (known_of known) (known_of next)) }
+    ensures { IfOk result (λ all. known_of all
+        ≡ known_with (known_of known.entry) (known_of next.entry)) }
 {
     let mut before = known.meters;
     let mut meters = next.meters;
@@ -52,9 +53,9 @@ impl<'a> Joining<'a> {
     /// what was kept is gone.
     pub fn join(&mut self, alloc: Global, next: FiledOffice<'a>) -> Result<(), AllocError>
         ensures lines { OnOk result (texts_of self.new.lines.items ≡ texts_of self.old.lines.items
-            ++ lines_of (joins_after (option_map known_of self.old.known) (known_of next))) }
+            ++ lines_of (joins_after (option_map known_of self.old.known) (known_of next.entry))) }
         ensures known { OnOk result (option_map known_of self.new.known
-            ≡ Some (after_next (option_map known_of self.old.known) (known_of next))) }
+            ≡ Some (after_next (option_map known_of self.old.known) (known_of next.entry))) }
     {
         let all = match self.known.take() {
             None => next,
