@@ -67,8 +67,8 @@ latest first (next ∷ later) = latest next later
 goes_one_more : (first new : InFile) (later : List InFile) → GoOn first later
     → GoesOnAs (latest first later).meter (latest first later).tables.last (latest first later).tables.ended new.meter
     → AreFine new.meter new.tables → GoOn first (later ++ new ∷ [])
-goes_one_more first new [] goes on fine = (on, (fine, tt))
-goes_one_more first new (next ∷ later) goes on fine = (goes.0, (goes.1, goes_one_more next new later goes.2 on fine))
+goes_one_more first new [] goes on fine = (on, fine, tt)
+goes_one_more first new (next ∷ later) goes on fine = (goes.0, goes.1, goes_one_more next new later goes.2 on fine)
 
 latest_more : (first new : InFile) (later : List InFile) → latest first (later ++ new ∷ []) ≡ new
 latest_more first new [] = refl

@@ -1,9 +1,11 @@
-use Rattle.std.proofs.Common.{◌≡◌, ℕ, List, [], ◌∷◌, drop, refl, sym, subst}
+use Rattle.std.proofs.Common.{rules, ◌≡◌, ◌<◌, List, ◌∷◌, drop, length, refl, sym, subst}
 use Rattle.std.specs.Prelude.{string_bytes}
 use Rattle.std.proofs.lemmas.Str.{IsUtf8-string_bytes}
+use Rattle.meter_audit.specs.declared.rows.TableRow.{TableRow}
 use Rattle.sqlite.specs.Order.{column}
 use Rattle.table_audit.specs.Reading.{IsTextIn}
-use Rattle.table_seals.specs.Tables.{RowsAreRead}
+use Rattle.table_seals.specs.Tables.{HasRead, RowsAreRead}
+use Rattle.table_seals.proofs.FiledMeters.{opened_by}
 use Rattle.table_seals.proofs.filing.filed_of.Goals as goal
 
 pub returns-in_default : goal.returns-in_default
@@ -22,10 +24,23 @@ returns-in-None c = λ filed h.
 
 pub returns : goal.returns
 returns c =
-    let index = c.index.ensures in
-    let empty = c.is_empty.ensures in
-    let branch = c.if-is_empty in
-    let read = c.in_ok-read.ensures in
-    let shown = c.shown_by.ensures in
-    let there = c.in-Ok.ensures in
-    ?
+    let entries : List TableRow = c.in-Some-3.read.entries.items in
+    let some : 0 < length entries = search rules in
+    let first : entries ≡ c.index.result.now ∷ drop 1 entries = opened_by entries c.index.result.now some c.index.ensures in
+    (
+      refl,
+      record {
+        meter_is = subst (λ found. IsTextIn (column c.args.row.now 1) found) c.in-Some.is c.in_ok-meter.ensures;
+        register_is = subst (λ found. IsTextIn (column c.args.row.now 2) found) c.in-Some-2.is c.in_ok-register.ensures;
+        installation = c.in-Ok.installed;
+        installation_read = sym c.in-Ok.ensures;
+        ceiling_is = refl;
+        stands = c.standing_of.ensures;
+        voids = c.in-Some-3.read.voids.items;
+        opening = c.index.result.now;
+        later = drop 1 entries;
+        read = subst (HasRead c.args.rows.now c.in-Some-3.read.range c.in-Some-3.read.voids.items) first
+            (subst (RowsAreRead c.args.rows.now) c.in-Some-3.is c.in_ok-read.ensures);
+        opened = c.shown_by.ensures;
+      },
+    )

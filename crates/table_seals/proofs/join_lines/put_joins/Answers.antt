@@ -1,4 +1,4 @@
-use Rattle.std.proofs.Common.{rules, ◌≡◌, ◌-◌, List, take, length, sym, ap, ◌∙◌, arith}
+use Rattle.std.proofs.Common.{◌-◌, take, length, ap, ◌∙◌, arith}
 use Rattle.std.proofs.lemmas.List.{take_min}
 use Rattle.table_audit.specs.declared.differences.TheConstants.{MOST}
 use Rattle.table_seals.proofs.Joined.{lines_put}
