@@ -45,8 +45,7 @@ filed_meters_are_told row rows installation filed read fine so =
     (law.opened.ceiling_is ∙ ap (λ (i : InstallationRow). i.ceiling) same ∙ sym so.ceiling_is)
     (sym shown ∙ ap last_shown opening ∙ sym so.opened) in
     let stands : standing_in installation ≡ filed.standing = ap standing_in same ∙ sym so.stands in
-    let tables : Tables = tables_from fine.entries fine.shares installation in
-    (
+    let tables : Tables = tables_from fine.entries fine.shares installation in (
       tables,
       record {
         well = subst IsWellInstalled meter law.may.installed;

@@ -64,7 +64,7 @@ fn filed_of<'a>(
         Some(read) => read,
         None => return Ok(None),
     };
-    if read.entries.is_empty() {
+    if read.entries.len() == 0 {
         return Ok(None);
     }
     let opening = read.entries[0];

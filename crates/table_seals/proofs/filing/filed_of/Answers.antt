@@ -1,4 +1,4 @@
-use Rattle.std.proofs.Common.{rules, ◌≡◌, ◌<◌, List, ◌∷◌, drop, length, refl, sym, subst}
+use Rattle.std.proofs.Common.{◌≡◌, ◌<◌, List, ◌∷◌, drop, length, refl, sym, subst, arith}
 use Rattle.std.specs.Prelude.{string_bytes}
 use Rattle.std.proofs.lemmas.Str.{IsUtf8-string_bytes}
 use Rattle.meter_audit.specs.declared.rows.TableRow.{TableRow}
@@ -25,9 +25,8 @@ returns-in-None c = λ filed h.
 pub returns : goal.returns
 returns c =
     let entries : List TableRow = c.in-Some-3.read.entries.items in
-    let some : 0 < length entries = search rules in
-    let first : entries ≡ c.index.result.now ∷ drop 1 entries = opened_by entries c.index.result.now some c.index.ensures in
-    (
+    let some : 0 < length entries = omega (arith, c.len.ensures) in
+    let first : entries ≡ c.index.result.now ∷ drop 1 entries = opened_by entries c.index.result.now some c.index.ensures in (
       refl,
       record {
         meter_is = subst (λ found. IsTextIn (column c.args.row.now 1) found) c.in-Some.is c.in_ok-meter.ensures;
