@@ -4,16 +4,15 @@ use Rattle.std.specs.Prelude.{string_bytes, bytes_eq}
 use Rattle.std.specs.List.{flat_map}
 use Rattle.std.specs.Option.{option_map, option_map_or, option_to_list}
 use Rattle.std.specs.Ordering.{int_eq}
-use Rattle.std.proofs.lemmas.Bool.{eqb-true, not-true, not-false}
+use Rattle.std.proofs.lemmas.Bool.{eqb-true, not-false}
 use Rattle.std.proofs.lemmas.Bool.Decides.{Decides-int_eq}
 use Rattle.std.proofs.lemmas.List.{map-append, drop_more, drop_all}
 use Rattle.std.proofs.lemmas.Slice.Eq.{bytes_eq-Decides}
 use Rattle.energy_core.specs.declared.entries.Last.{Last}
-use Rattle.meter_audit.specs.CarriedFiles.{GoesOnAs}
 use Rattle.table_seals.specs.declared.filed.FiledMeter.{FiledMeter}
 use Rattle.table_seals.specs.declared.join_faults.JoinFault.{JoinFault}
 use Rattle.table_seals.specs.declared.join_faults.JoinFault.TheVariants.{Closed, Register, Range, Ceiling, Opening, Energy}
-use Rattle.table_seals.specs.Joins.{Join, Known, Differs, is_same, is_within, left_after, stay_within, fault_between, joins_by, joins_of, joins_between, missing_of, zone_of}
+use Rattle.table_seals.specs.Joins.{Join, Known, Differs, is_same, is_within, left_after, stay_within, fault_between, joins_of, joins_between, missing_of, zone_of}
 use Rattle.table_seals.specs.JoinLaws.{MeterGoesOn, JoinedMetersGoOn}
 use Rattle.table_audit.specs.declared.differences.TheConstants.{MOST}
 use Rattle.table_seals.specs.JoinTexts.{all_lines, join_line, joined_text, lines_of, more_lines, text_in}

@@ -1,24 +1,19 @@
 -- The tables of files of which nothing is told.
-use Rattle.std.proofs.Common.{◌≡◌, ℕ, ◌+◌, ◌≤◌, List, [], ◌∷◌, ◌++◌, Ok, refl, sym, ap, subst, ◌∙◌, append_assoc, arith}
+use Rattle.std.proofs.Common.{◌≡◌, ◌+◌, List, [], ◌∷◌, ◌++◌, refl, sym, ap, subst, ◌∙◌, arith}
 use Rattle.std.specs.List.{AllByRecursion}
 use Rattle.energy_core.specs.declared.entries.Last.{Last}
-use Rattle.energy_core.specs.declared.limits.TheConstants.{MAX_TOTAL}
 use Rattle.meter_journal.specs.declared.lines.Installed.{Installed}
 use Rattle.meter_journal.specs.Books.{IsWellInstalled}
 use Rattle.meter_audit.specs.declared.rows.TableRow.{TableRow}
 use Rattle.meter_audit.specs.declared.standing.Standing.{Standing}
 use Rattle.meter_audit.specs.CarriedFiles.{GoesOnAs, InFile, GoOn, told_by_both, told_by_all, FilesAreOneHistory}
 use Rattle.meter_audit.specs.Fitting.{Tables, AreFine}
-use Rattle.sqlite.specs.Order.{Row}
-use Rattle.store_tables.specs.Meters.Rows.{installation_in}
 use Rattle.store_tables.specs.declared.meters.rows.InstallationRow.{InstallationRow}
 use Rattle.store_tables.proofs.ReadLemmas.{ok_is}
-use Rattle.table_audit.specs.declared.rows.MeterRows.{MeterRows}
-use Rattle.table_audit.specs.Fine.{IsFine}
-use Rattle.table_audit.specs.Lawful.{IsOpenedBy, last_shown, tables_from}
+use Rattle.table_audit.specs.Lawful.{last_shown, tables_from}
 use Rattle.table_seals.specs.declared.filed.FiledMeter.{FiledMeter}
-use Rattle.table_seals.specs.Filing.{IsFiledAs, standing_in}
-use Rattle.table_seals.specs.JoinLaws.{EachGoesOn, FiledMetersAreTold, HasOneJournal, IsToldBy, JoinedFilesAreLawful, energy_of, in_file, in_files}
+use Rattle.table_seals.specs.Filing.{standing_in}
+use Rattle.table_seals.specs.JoinLaws.{EachGoesOn, FiledMetersAreTold, IsToldBy, JoinedFilesAreLawful, energy_of, in_file, in_files}
 use Rattle.table_seals.proofs.Read.{same_read}
 
 -- ---- one meter of a file

@@ -1,12 +1,12 @@
 -- What is said of files that are to go on from each other: a line for each difference, and a last one.
-use Rattle.std.specs.Prelude.{ℕ, ◌-◌, ◌==◌, List, [], ◌∷◌, ◌++◌, take, map, length, flat_map, if◌then◌else◌, codes, decimal, string_bytes, Vec}
+use Rattle.std.specs.Prelude.{ℕ, ◌-◌, ◌==◌, List, [], ◌++◌, take, map, length, flat_map, if◌then◌else◌, codes, decimal, string_bytes, Vec}
 use Rattle.std.specs.Fmt.{signed_decimal}
 use Rattle.energy_core.specs.declared.entries.Last.{Last}
 use Rattle.table_audit.specs.declared.differences.TheConstants.{MOST}
 use Rattle.table_seals.specs.declared.filed.FiledMeter.{FiledMeter}
 use Rattle.table_seals.specs.declared.join_faults.JoinFault.{JoinFault}
 use Rattle.table_seals.specs.declared.join_faults.JoinFault.TheVariants as fault
-use Rattle.table_seals.specs.Joins.{Join, OtherZone, Differs, Overlaps, Missing, Known}
+use Rattle.table_seals.specs.Joins.{Join, OtherZone, Differs, Overlaps, Missing}
 
 -- the moment, what the counter shows, and its scale factor
 abbrev pub stand : Last → List ℕ
