@@ -179,11 +179,11 @@ pub fn write_joins<W: Write>(
     ensures told { OnOk result (Appends (W.contents output.old) (W.contents output.new)
         (joined_text lines.now)) }
 {
-    let mut text = Vec::new(alloc);
-    if put_joins(&mut text, lines).is_err() {
+    let mut said = Vec::new(alloc);
+    if put_joins(&mut said, lines).is_err() {
         return Err(AuditFault::Memory);
     }
-    match output.take_text(text.as_slice()) {
+    match output.take_text(said.as_slice()) {
         Ok(()) => Ok(lines.is_empty()),
         Err(_) => Err(AuditFault::Output),
     }
