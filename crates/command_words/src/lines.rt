@@ -144,7 +144,7 @@ fn sealing<'a>(found: &ArgMatches<'a>) -> Result<Sealing<'a>, ValueFault<'a>>
 
 // The option that asks something of a seal, if one does.
 fn seal_option(seal: Sealing<'_>) -> Option<&'static str>
-    ensures { is_some result ≡ asks_seal (seen_sealing seal) }
+    ensures { is_some result ≡ asks_seal (seen_sealing seal.entry) }
 {
     match seal {
         Sealing::Nothing => None,
@@ -155,7 +155,7 @@ fn seal_option(seal: Sealing<'_>) -> Option<&'static str>
 
 // An audit of these files. A seal is of one.
 fn audit_of<'a>(dbs: Vec<&'a str>, seal: Sealing<'a>) -> Result<CommandLine<'a>, ValueFault<'a>>
-    ensures { Reads seen (one_sealed (texts dbs.items) (seen_sealing seal)) result }
+    ensures { Reads seen (one_sealed (texts dbs.entry.items) (seen_sealing seal.entry)) result }
 {
     let Some(option) = seal_option(seal) else {
         return Ok(CommandLine::Audit { dbs, seal });

@@ -44,21 +44,11 @@ fn old_file(alloc: Global) -> Result<FiledOffice<'static>, Fail> {
 }
 
 /// Books in which a meter is installed so.
-fn installed(
-    alloc: Global,
-    meter: &[u8],
-    at: u64,
-    raw: u32,
-) -> Result<Connection<MemStore>, Fail> {
+fn installed(alloc: Global, meter: &[u8], at: u64, raw: u32) -> Result<Connection<MemStore>, Fail> {
     booked(alloc, [device(), register(), opening(meter, at, raw)])
 }
 
-fn new_file(
-    alloc: Global,
-    meter: &[u8],
-    at: u64,
-    raw: u32,
-) -> Result<FiledOffice<'static>, Fail> {
+fn new_file(alloc: Global, meter: &[u8], at: u64, raw: u32) -> Result<FiledOffice<'static>, Fail> {
     let mut conn = installed(alloc, meter, at, raw)?;
     filed(alloc, &mut conn, "new.db")
 }
@@ -70,44 +60,58 @@ fn said(alloc: Global, joining: &Joining<'_>) -> Result<Vec<u8>, Fail> {
     Ok(text)
 }
 
+/// Holds a file to those before it.
+fn add(
+    alloc: Global,
+    joining: &mut Joining<'static>,
+    file: Result<FiledOffice<'static>, Fail>,
+) -> Result<(), Fail> {
+    joining.join(alloc, file?)?;
+    Ok(())
+}
+
 /// What is said of two files.
 fn said_of_both(
     alloc: Global,
-    old: FiledOffice<'static>,
-    next: FiledOffice<'static>,
+    old: Result<FiledOffice<'static>, Fail>,
+    next: Result<FiledOffice<'static>, Fail>,
 ) -> Result<Vec<u8>, Fail> {
     let mut joining = Joining::new(alloc);
-    joining.join(alloc, old)?;
-    joining.join(alloc, next)?;
+    add(alloc, &mut joining, old)?;
+    add(alloc, &mut joining, next)?;
     said(alloc, &joining)
 }
 
 #[test]
 fn a_meter_goes_on_where_it_stands(rt: HostRuntime) -> Result<(), Fail> {
-    let next = new_file(rt.alloc(), b"m1", 1900, 5200)?;
-    let text = said_of_both(rt.alloc(), old_file(rt.alloc())?, next)?;
+    let next = new_file(rt.alloc(), b"m1", 1900, 5200);
+    let text = said_of_both(rt.alloc(), old_file(rt.alloc()), next)?;
     assert!(rt; text.as_slice() == b"joined: fine\n");
     Ok(())
 }
 
 #[test]
 fn one_that_begins_elsewhere_is_told(rt: HostRuntime) -> Result<(), Fail> {
-    let next = new_file(rt.alloc(), b"m1", 1901, 5201)?;
-    let text = said_of_both(rt.alloc(), old_file(rt.alloc())?, next)?;
-    assert!(rt; text.as_slice()
-        == b"meter m1 begins in new.db at 1901 5201 0, stands in old.db at 1900 5200 0\n1 differences between files\n");
+    let next = new_file(rt.alloc(), b"m1", 1901, 5201);
+    let text = said_of_both(rt.alloc(), old_file(rt.alloc()), next)?;
+    assert!(rt;
+        text.as_slice()
+            == b"meter m1 begins in new.db at 1901 5201 0, stands in old.db at 1900 5200 0\n1 differences between files\n"
+    );
     Ok(())
 }
 
 #[test]
 fn one_that_is_missing_is_told(rt: HostRuntime) -> Result<(), Fail> {
-    let next = new_file(rt.alloc(), b"m2", 1899, 0)?;
-    let text = said_of_both(rt.alloc(), old_file(rt.alloc())?, next)?;
-    assert!(rt; text.as_slice()
-        == b"meter m2 begins in new.db at 1899 0 0, meter m1 stands at its register in old.db at 1900 5200 0
+    let next = new_file(rt.alloc(), b"m2", 1899, 0);
+    let text = said_of_both(rt.alloc(), old_file(rt.alloc()), next)?;
+    assert!(rt;
+        text.as_slice()
+            == b"meter m2 begins in new.db at 1899 0 0, meter m1 stands at its register in old.db at 1900 5200 0
 meter m1 is not in new.db, and is open in old.db
 2 differences between files
-");
+"
+    );
     Ok(())
 }
 
@@ -120,25 +124,29 @@ fn next_file(alloc: Global) -> Result<FiledOffice<'static>, Fail> {
 
 fn two_files(alloc: Global) -> Result<Joining<'static>, Fail> {
     let mut joining = Joining::new(alloc);
-    joining.join(alloc, old_file(alloc)?)?;
-    joining.join(alloc, next_file(alloc)?)?;
+    add(alloc, &mut joining, old_file(alloc))?;
+    add(alloc, &mut joining, next_file(alloc))?;
     Ok(joining)
 }
 
 #[test]
 fn a_third_file_goes_on_from_the_second(rt: HostRuntime) -> Result<(), Fail> {
     let mut joining = two_files(rt.alloc())?;
-    joining.join(rt.alloc(), new_file(rt.alloc(), b"m1", 2800, 5300)?)?;
-    assert!(rt; said(rt.alloc(), &joining)?.as_slice() == b"joined: fine\n");
+    let next = new_file(rt.alloc(), b"m1", 2800, 5300);
+    add(rt.alloc(), &mut joining, next)?;
+    let text = said(rt.alloc(), &joining)?;
+    assert!(rt; text.as_slice() == b"joined: fine\n");
     Ok(())
 }
 
 #[test]
 fn a_file_that_is_left_out_is_told(rt: HostRuntime) -> Result<(), Fail> {
-    let next = new_file(rt.alloc(), b"m1", 2800, 5300)?;
-    let text = said_of_both(rt.alloc(), old_file(rt.alloc())?, next)?;
-    assert!(rt; text.as_slice()
-        == b"meter m1 begins in new.db at 2800 5300 0, stands in old.db at 1900 5200 0\n1 differences between files\n");
+    let next = new_file(rt.alloc(), b"m1", 2800, 5300);
+    let text = said_of_both(rt.alloc(), old_file(rt.alloc()), next)?;
+    assert!(rt;
+        text.as_slice()
+            == b"meter m1 begins in new.db at 2800 5300 0, stands in old.db at 1900 5200 0\n1 differences between files\n"
+    );
     Ok(())
 }
 
@@ -166,7 +174,12 @@ const STAND: Last = Last {
     sf: 0,
 };
 
-fn file_of(alloc: Global, file: &'static str, zone: &str, had: Had) -> Result<FiledOffice<'static>, Fail> {
+fn file_of(
+    alloc: Global,
+    file: &'static str,
+    zone: &str,
+    had: Had,
+) -> Result<FiledOffice<'static>, Fail> {
     let meter = FiledMeter {
         file,
         meter: String::from_str(alloc, "m1")?,
@@ -226,10 +239,7 @@ static CHANGES: [Change; 6] = [
     },
     Change {
         old: HAD,
-        new: Had {
-            ceiling: 5,
-            ..HAD
-        },
+        new: Had { ceiling: 5, ..HAD },
         told: b"meter m1 ceiling is 5 in new.db, and 100000 in old.db\n1 differences between files\n",
     },
     Change {
@@ -243,8 +253,8 @@ static CHANGES: [Change; 6] = [
 ];
 
 fn is_said(alloc: Global, old: Had, new: Had, told: &[u8]) -> Result<bool, Fail> {
-    let known = file_of(alloc, "old.db", "UTC0", old)?;
-    let next = file_of(alloc, "new.db", "UTC0", new)?;
+    let known = file_of(alloc, "old.db", "UTC0", old);
+    let next = file_of(alloc, "new.db", "UTC0", new);
     let text = said_of_both(alloc, known, next)?;
     Ok(text.as_slice() == told)
 }
@@ -260,10 +270,12 @@ fn what_changed_is_told(rt: HostRuntime) -> Result<(), Fail> {
 
 #[test]
 fn another_zone_is_told(rt: HostRuntime) -> Result<(), Fail> {
-    let known = file_of(rt.alloc(), "old.db", "UTC0", HAD)?;
-    let next = file_of(rt.alloc(), "new.db", "CET-1", HAD)?;
+    let known = file_of(rt.alloc(), "old.db", "UTC0", HAD);
+    let next = file_of(rt.alloc(), "new.db", "CET-1", HAD);
     let text = said_of_both(rt.alloc(), known, next)?;
-    assert!(rt; text.as_slice()
-        == b"zone is CET-1 in new.db, and UTC0 in old.db\n1 differences between files\n");
+    assert!(rt;
+        text.as_slice()
+            == b"zone is CET-1 in new.db, and UTC0 in old.db\n1 differences between files\n"
+    );
     Ok(())
 }

@@ -1,5 +1,5 @@
 //! The audit of an office in a database.
-ghost use Rattle.std.specs.Prelude.{◌≡◌, ◌↔◌, ◌⊎◌, ◌++◌, [], false, Err, Some, IsTrue, IfOk, IfErr, OnOk, map, option_map, string_bytes};
+ghost use Rattle.std.specs.Prelude.{◌≡◌, ◌↔◌, ◌⊎◌, ◌++◌, [], false, Err, Some, IsTrue, IfOk, IfErr, OnOk, option_map, string_bytes};
 ghost use Rattle.std.specs.Io.KnownBytes.{Appends};
 ghost use Rattle.sqlite.specs.Held.{state};
 ghost use Rattle.sqlite.specs.State.{HasCleanDisk};
@@ -11,7 +11,7 @@ ghost use Rattle.table_audit.specs.Polls.{TellsTables};
 ghost use Rattle.table_audit.specs.Texts.{with_findings};
 ghost use Rattle.table_seals.specs.Filing.{FilesMeters, HasUnfiledMeter};
 ghost use Rattle.table_seals.specs.Joins.{after_next, joins_after, known_as, known_of};
-ghost use Rattle.table_seals.specs.JoinTexts.{join_line, joined_text, texts_of};
+ghost use Rattle.table_seals.specs.JoinTexts.{joined_text, lines_of, texts_of};
 
 use sqlite::{Alter, Connection, Error, ErrorCode};
 use std::alloc::Global;
@@ -31,7 +31,7 @@ pub enum AuditFault {
     Earlier,
     /// A row has a value that can't be read, or a name that is no word.
     Unsealable,
-    /// A meter or a register has a name that is no text.
+    /// A name, or the zone, is no text.
     NoText,
     /// A text is that of no seal.
     NoSeal,
@@ -149,11 +149,11 @@ pub fn hold_to_earlier<'a>(
 ) -> Result<(), AuditFault>
     ensures lines { OnOk result (texts_of joining.new.lines.items
         ≡ texts_of joining.old.lines.items
-        ++ map join_line (joins_after (option_map known_of joining.old.known)
-        (known_as file.now (string_bytes zone) meters.items))) }
+        ++ lines_of (joins_after (option_map known_of joining.old.known)
+        (known_as file.now (string_bytes zone) meters.entry.items))) }
     ensures known { OnOk result (option_map known_of joining.new.known
         ≡ Some (after_next (option_map known_of joining.old.known)
-        (known_as file.now (string_bytes zone) meters.items))) }
+        (known_as file.now (string_bytes zone) meters.entry.items))) }
     ensures fault { IfErr result (λ fault. fault ≡ AuditFault.Memory) }
 {
     let latest = meters.len();
@@ -179,11 +179,11 @@ pub fn write_joins<W: Write>(
     ensures told { OnOk result (Appends (W.contents output.old) (W.contents output.new)
         (joined_text lines.now)) }
 {
-    let mut text = Vec::new(alloc);
-    if put_joins(&mut text, lines).is_err() {
+    let mut said = Vec::new(alloc);
+    if put_joins(&mut said, lines).is_err() {
         return Err(AuditFault::Memory);
     }
-    match output.take_text(text.as_slice()) {
+    match output.take_text(said.as_slice()) {
         Ok(()) => Ok(lines.is_empty()),
         Err(_) => Err(AuditFault::Output),
     }

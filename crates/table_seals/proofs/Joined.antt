@@ -1,21 +1,21 @@
 -- Files that go on from each other.
-use Rattle.std.proofs.Common.{◌≡◌, ℕ, ◌+◌, ◌<◌, ◌≤◌, ◌==◌, Bool, true, false, not, ◌&&◌, if◌then◌else◌, List, [], ◌∷◌, ◌++◌, map, take, drop, length, get_or, min, Option, Some, None, refl, sym, ap, ◌∙◌, append_assoc, eq-eqb}
+use Rattle.std.proofs.Common.{◌≡◌, ℕ, ◌+◌, ◌-◌, ◌<◌, ◌≤◌, ◌==◌, Bool, true, false, not, ◌&&◌, if◌then◌else◌, List, [], ◌∷◌, ◌++◌, map, take, drop, length, get_or, Option, Some, None, Vec, refl, sym, ap, ◌∙◌, append_assoc, eq-eqb}
 use Rattle.std.specs.Prelude.{string_bytes, bytes_eq}
 use Rattle.std.specs.List.{flat_map}
 use Rattle.std.specs.Option.{option_map, option_map_or, option_to_list}
 use Rattle.std.specs.Ordering.{int_eq}
-use Rattle.std.proofs.lemmas.Bool.{eqb-true, not-true, not-false}
+use Rattle.std.proofs.lemmas.Bool.{eqb-true, not-false}
 use Rattle.std.proofs.lemmas.Bool.Decides.{Decides-int_eq}
 use Rattle.std.proofs.lemmas.List.{map-append, drop_more, drop_all}
 use Rattle.std.proofs.lemmas.Slice.Eq.{bytes_eq-Decides}
 use Rattle.energy_core.specs.declared.entries.Last.{Last}
-use Rattle.meter_audit.specs.CarriedFiles.{GoesOnAs}
 use Rattle.table_seals.specs.declared.filed.FiledMeter.{FiledMeter}
-use Rattle.table_seals.specs.declared.joins.JoinFault.{JoinFault}
-use Rattle.table_seals.specs.declared.joins.JoinFault.TheVariants.{Closed, Register, Range, Ceiling, Opening, Energy}
-use Rattle.table_seals.specs.Joins.{Join, Differs, is_same, is_within, left_after, stay_within, fault_between, joins_by}
+use Rattle.table_seals.specs.declared.join_faults.JoinFault.{JoinFault}
+use Rattle.table_seals.specs.declared.join_faults.JoinFault.TheVariants.{Closed, Register, Range, Ceiling, Opening, Energy}
+use Rattle.table_seals.specs.Joins.{Join, Known, Differs, is_same, is_within, left_after, stay_within, fault_between, joins_of, joins_between, missing_of, zone_of}
 use Rattle.table_seals.specs.JoinLaws.{MeterGoesOn, JoinedMetersGoOn}
-use Rattle.table_seals.specs.JoinTexts.{join_line}
+use Rattle.table_audit.specs.declared.differences.TheConstants.{MOST}
+use Rattle.table_seals.specs.JoinTexts.{all_lines, join_line, joined_text, lines_of, more_lines, text_in}
 
 -- ---- lines
 
@@ -32,6 +32,31 @@ all_told old one two three a b c first second third =
     ∙ ap (λ ls. ls ++ map join_line c) (append_assoc old (map join_line a) (map join_line b) ∙ ap (λ ls. old ++ ls) (sym (map-append join_line a b)))
     ∙ append_assoc old (map join_line (a ++ b)) (map join_line c)
     ∙ ap (λ ls. old ++ ls) (sym (map-append join_line (a ++ b) c))
+
+pub joins_told : (known next : Known) (meters news latest : List FiledMeter) (old one two three : List (List ℕ)) → meters ≡ known.meters
+    → news ≡ next.meters → latest ≡ take known.latest known.meters → one ≡ old ++ lines_of (zone_of known next)
+    → two ≡ one ++ flat_map (λ new. lines_of (joins_of meters new)) news → three ≡ two ++ flat_map (λ o. lines_of (missing_of next o)) latest
+    → three ≡ old ++ lines_of (joins_between known next)
+joins_told known next meters news latest old one two three meters_are news_are latest_are first second third =
+    all_told old one two three (zone_of known next) (flat_map (joins_of known.meters) next.meters)
+    (flat_map (missing_of next) (take known.latest known.meters)) first
+    (second ∙ ap (λ (ms : List FiledMeter). one ++ flat_map (λ new. lines_of (joins_of ms new)) news) meters_are
+    ∙ ap (λ (ns : List FiledMeter). one ++ flat_map (λ new. lines_of (joins_of known.meters new)) ns) news_are
+    ∙ ap (λ ls. one ++ ls) (lines_of_each (joins_of known.meters) next.meters))
+    (third ∙ ap (λ (ms : List FiledMeter). two ++ flat_map (λ o. lines_of (missing_of next o)) ms) latest_are
+    ∙ ap (λ ls. two ++ ls) (lines_of_each (missing_of next) (take known.latest known.meters)))
+
+-- the first lines, how many come after them, and how many there are
+pub lines_put : {Z : Type 0} (lines shown : List (Vec ℕ Z)) (old one two three : List ℕ) (more : ℕ) → shown ≡ take MOST lines
+    → more ≡ length lines - MOST → one ≡ old ++ flat_map text_in shown → two ≡ one ++ more_lines more
+    → three ≡ two ++ all_lines (length lines) → three ≡ old ++ joined_text lines
+lines_put {Z} lines shown old one two three more shown_are more_is first second third =
+    let f : List ℕ = flat_map text_in (take MOST lines) in
+    let m : List ℕ = more_lines (length lines - MOST) in
+    let a : List ℕ = all_lines (length lines) in
+    let put : one ≡ old ++ f = first ∙ ap (λ (ls : List (Vec ℕ Z)). old ++ flat_map text_in ls) shown_are in
+    let both : two ≡ old ++ f ++ m = second ∙ ap (λ n. one ++ more_lines n) more_is ∙ ap (λ t. t ++ m) put in
+    third ∙ ap (λ t. t ++ a) (both ∙ append_assoc old f m) ∙ append_assoc old (f ++ m) a
 
 -- ---- energies
 

@@ -1,6 +1,6 @@
 -- Files of which nothing is told, one after the other.
-use Rattle.std.proofs.Common.{◌≡◌, ℕ, ◌+◌, ◌-◌, ◌≤◌, Bool, true, false, cond, List, [], ◌∷◌, ◌++◌, length, Option, Some, None, refl, sym, ap, subst, ◌∙◌, inl, inr, arith}
-use Rattle.std.specs.Prelude.{string_bytes, bytes_eq, nat_le}
+use Rattle.std.proofs.Common.{◌≡◌, ℕ, ◌+◌, ◌-◌, ◌≤◌, Bool, true, false, cond, List, [], ◌∷◌, ◌++◌, length, Some, None, refl, sym, ap, subst, ◌∙◌, inl, inr, arith}
+use Rattle.std.specs.Prelude.{string_bytes, nat_le}
 use Rattle.std.specs.List.{AllByRecursion, filter, find, flat_map}
 use Rattle.std.specs.Option.{option_map_or}
 use Rattle.std.proofs.lemmas.Bool.{cases_Bool, cond-true, cond-false}
@@ -8,9 +8,8 @@ use Rattle.std.proofs.lemmas.Bool.Decides.{nat_tests}
 use Rattle.std.proofs.lemmas.List.Elements.{filter-append}
 use Rattle.std.proofs.lemmas.Slice.Eq.{bytes_eq-Decides}
 use Rattle.energy_core.specs.declared.limits.TheConstants.{MAX_TOTAL}
-use Rattle.meter_audit.specs.CarriedFiles.{GoesOnAs}
 use Rattle.table_seals.specs.declared.filed.FiledMeter.{FiledMeter}
-use Rattle.table_seals.specs.Joins.{Join, Known, known_with, is_meter, is_within, joins_by, joins_of, joins_between, joins_of_all, left_after, missing_of, stay_within, zone_of}
+use Rattle.table_seals.specs.Joins.{Known, known_with, is_meter, joins_by, joins_of, joins_between, joins_of_all, left_after, stay_within, zone_of}
 use Rattle.table_seals.specs.JoinLaws.{EachGoesOn, IsOfMeters, IsOneMeter, JoinedFilesAreOne, MeterGoesOn, energy_of, known_with_all, named}
 use Rattle.table_seals.proofs.Joined.{joined_meters_go_on}
 
@@ -121,8 +120,7 @@ one_more name known next (new ∷ []) (old ∷ older) of nothing one at before f
     let all : energy_of (named (string_bytes new.meter) (new ∷ known.meters)) ≤ MAX_TOTAL =
     energies_stay MAX_TOTAL (string_bytes new.meter) (new ∷ known.meters) goes.within in
     let whole : named (string_bytes new.meter) (new ∷ known.meters) ≡ new ∷ old ∷ older =
-    ap (λ n. named n (new ∷ known.meters)) is ∙ cond-true _ _ _ this.1 ∙ ap (λ ms. new ∷ ms) before in
-    (
+    ap (λ n. named n (new ∷ known.meters)) is ∙ cond-true _ _ _ this.1 ∙ ap (λ ms. new ∷ ms) before in (
       (goes.goes_on, subst EachGoesOn before one.goes_on),
       subst (λ ms. energy_of ms ≤ MAX_TOTAL) whole all,
     )

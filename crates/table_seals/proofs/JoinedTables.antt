@@ -1,30 +1,25 @@
 -- The tables of files of which nothing is told.
-use Rattle.std.proofs.Common.{◌≡◌, ℕ, ◌+◌, ◌≤◌, List, [], ◌∷◌, ◌++◌, Ok, refl, sym, ap, subst, ◌∙◌, append_assoc, arith}
+use Rattle.std.proofs.Common.{◌≡◌, ◌+◌, List, [], ◌∷◌, ◌++◌, refl, sym, ap, subst, ◌∙◌, arith}
 use Rattle.std.specs.List.{AllByRecursion}
 use Rattle.energy_core.specs.declared.entries.Last.{Last}
-use Rattle.energy_core.specs.declared.limits.TheConstants.{MAX_TOTAL}
 use Rattle.meter_journal.specs.declared.lines.Installed.{Installed}
 use Rattle.meter_journal.specs.Books.{IsWellInstalled}
 use Rattle.meter_audit.specs.declared.rows.TableRow.{TableRow}
 use Rattle.meter_audit.specs.declared.standing.Standing.{Standing}
 use Rattle.meter_audit.specs.CarriedFiles.{GoesOnAs, InFile, GoOn, told_by_both, told_by_all, FilesAreOneHistory}
 use Rattle.meter_audit.specs.Fitting.{Tables, AreFine}
-use Rattle.sqlite.specs.Order.{Row}
-use Rattle.store_tables.specs.Meters.Rows.{installation_in}
 use Rattle.store_tables.specs.declared.meters.rows.InstallationRow.{InstallationRow}
 use Rattle.store_tables.proofs.ReadLemmas.{ok_is}
-use Rattle.table_audit.specs.declared.rows.MeterRows.{MeterRows}
-use Rattle.table_audit.specs.Fine.{IsFine}
-use Rattle.table_audit.specs.Lawful.{IsOpenedBy, last_shown, tables_from}
+use Rattle.table_audit.specs.Lawful.{last_shown, tables_from}
 use Rattle.table_seals.specs.declared.filed.FiledMeter.{FiledMeter}
-use Rattle.table_seals.specs.Filing.{IsFiledAs, standing_in}
-use Rattle.table_seals.specs.JoinLaws.{EachGoesOn, FiledMetersAreTold, HasOneJournal, IsToldBy, JoinedFilesAreLawful, energy_of, in_files}
+use Rattle.table_seals.specs.Filing.{standing_in}
+use Rattle.table_seals.specs.JoinLaws.{EachGoesOn, FiledMetersAreTold, IsToldBy, JoinedFilesAreLawful, energy_of, in_file, in_files}
 use Rattle.table_seals.proofs.Read.{same_read}
 
 -- ---- one meter of a file
 
-same_head : (a b : TableRow) (as bs : List TableRow) → a ∷ as ≡ b ∷ bs → a ≡ b
-same_head a b as bs h = cc
+same_head : (a b : TableRow) (rows others : List TableRow) → a ∷ rows ≡ b ∷ others → a ≡ b
+same_head a b rows others h = cc
 
 same_meter : (m n : Installed) → m.range ≡ n.range → m.ceiling ≡ n.ceiling → m.opening ≡ n.opening → m ≡ n
 same_meter m n range ceiling opening =
@@ -45,8 +40,7 @@ filed_meters_are_told row rows installation filed read fine so =
     (law.opened.ceiling_is ∙ ap (λ (i : InstallationRow). i.ceiling) same ∙ sym so.ceiling_is)
     (sym shown ∙ ap last_shown opening ∙ sym so.opened) in
     let stands : standing_in installation ≡ filed.standing = ap standing_in same ∙ sym so.stands in
-    let tables : Tables = tables_from fine.entries fine.shares installation in
-    (
+    let tables : Tables = tables_from fine.entries fine.shares installation in (
       tables,
       record {
         well = subst IsWellInstalled meter law.may.installed;
@@ -67,8 +61,8 @@ latest first (next ∷ later) = latest next later
 goes_one_more : (first new : InFile) (later : List InFile) → GoOn first later
     → GoesOnAs (latest first later).meter (latest first later).tables.last (latest first later).tables.ended new.meter
     → AreFine new.meter new.tables → GoOn first (later ++ new ∷ [])
-goes_one_more first new [] goes on fine = (on, (fine, tt))
-goes_one_more first new (next ∷ later) goes on fine = (goes.0, (goes.1, goes_one_more next new later goes.2 on fine))
+goes_one_more first new [] goes on fine = (on, fine, tt)
+goes_one_more first new (next ∷ later) goes on fine = (goes.0, goes.1, goes_one_more next new later goes.2 on fine)
 
 latest_more : (first new : InFile) (later : List InFile) → latest first (later ++ new ∷ []) ≡ new
 latest_more first new [] = refl
@@ -77,9 +71,6 @@ latest_more first new (next ∷ later) = latest_more next new later
 told_more : (old : Tables) (later : List InFile) (new : InFile) → (told_by_all old (later ++ new ∷ [])).total ≡ (told_by_all old later).total + new.tables.total
 told_more old [] new = refl
 told_more old (next ∷ later) new = told_more (told_by_both old next.tables) later new
-
-abbrev in_file : (FiledMeter → Tables) → FiledMeter → InFile
-in_file tables meter = record { meter = meter.installed; tables = tables meter }
 
 -- Files, the oldest first, that go on up to that of a meter.
 record GoesUpTo (tables : FiledMeter → Tables) (meter : FiledMeter) (meters : List FiledMeter) : Type 0 where

@@ -11,7 +11,7 @@ pub mod PollFound
 pub mod PollsStaying
 pub mod SealedTables
 pub mod FollowingPolls
-pub mod Filed
+pub mod FiledMeters
 pub mod Joined
 pub mod JoinedFiles
 pub mod JoinedTables

@@ -84,11 +84,13 @@ FiledMetersAreTold = (row : Row) (rows : MeterRows) (installation : Installation
     → IsFine installation rows → IsFiledAs row rows filed
     → (tables : Tables) × IsToldBy filed tables
 
+abbrev pub in_file : (tables : FiledMeter → Tables) → FiledMeter → InFile
+in_file tables meter = record { meter = meter.installed; tables = tables meter }
+
 -- each of these meters with its tables, the oldest first where they have the latest first
 abbrev pub in_files : (tables : FiledMeter → Tables) → List FiledMeter → List InFile
 in_files tables [] = []
-in_files tables (meter ∷ older) =
-    in_files tables older ++ record { meter = meter.installed; tables = tables meter } ∷ []
+in_files tables (meter ∷ older) = in_files tables older ++ in_file tables meter ∷ []
 
 -- What all files tell of a meter is what one lawful journal comes to, from where it was opened in the first of them.
 pub record HasOneJournal (tables : FiledMeter → Tables) (meters : List FiledMeter) : Type 0 where

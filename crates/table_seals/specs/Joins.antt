@@ -8,8 +8,8 @@ use Rattle.energy_core.specs.declared.entries.Last.{Last}
 use Rattle.energy_core.specs.declared.limits.TheConstants.{MAX_TOTAL}
 use Rattle.table_seals.specs.declared.filed.FiledMeter.{FiledMeter}
 use Rattle.table_seals.specs.declared.filed.FiledOffice.{FiledOffice}
-use Rattle.table_seals.specs.declared.joins.JoinFault.{JoinFault}
-use Rattle.table_seals.specs.declared.joins.JoinFault.TheVariants.{Closed, Register, Range, Ceiling, Opening, Energy}
+use Rattle.table_seals.specs.declared.join_faults.JoinFault.{JoinFault}
+use Rattle.table_seals.specs.declared.join_faults.JoinFault.TheVariants.{Closed, Register, Range, Ceiling, Opening, Energy}
 
 -- what is kept of a file, or of several: the name and the zone of the latest, its meters, so many, and those of the files before
 pub record Known : Type 0 where

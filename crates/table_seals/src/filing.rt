@@ -64,7 +64,7 @@ fn filed_of<'a>(
         Some(read) => read,
         None => return Ok(None),
     };
-    if read.entries.is_empty() {
+    if read.entries.len() == 0 {
         return Ok(None);
     }
     let opening = read.entries[0];
@@ -106,7 +106,7 @@ fn file_row<'a, S: Alter>(
 
 /// One more meter.
 fn keep<'a>(meters: &mut Vec<FiledMeter<'a>>, filed: FiledMeter<'a>) -> Result<(), RowFault>
-    ensures kept { OnOk result (meters.new.items ≡ meters.old.items ++ filed ∷ []) }
+    ensures kept { OnOk result (meters.new.items ≡ meters.old.items ++ filed.entry ∷ []) }
     ensures fault { IfErr result (λ fault. fault ≡ RowFault.Sql want_of_memory) }
 {
     match meters.push(filed) {

@@ -4,7 +4,7 @@ ghost use Rattle.table_seals.specs.Joins as joins;
 ghost use Rattle.table_seals.specs.JoinTexts as say;
 
 use crate::filed::{FiledMeter, FiledOffice};
-use crate::joins::JoinFault;
+use crate::join_faults::JoinFault;
 use crate::texts::{put, put_number, put_scale, put_word};
 use energy_core::Last;
 use std::alloc::{AllocError, Global};
@@ -20,18 +20,21 @@ fn put_stand(text: &mut Vec<u8>, last: &Last) -> Result<(), AllocError>
     put_scale(text, b" ", last.sf)
 }
 
-/// In which files a meter has what it has, and had what it had.
-fn put_register(
+/// What a meter has in a file, and what it had in the one before.
+fn put_words(
     text: &mut Vec<u8>,
+    what: &[u8],
+    has: &[u8],
+    had: &[u8],
     old: &FiledMeter<'_>,
     new: &FiledMeter<'_>,
 ) -> Result<(), AllocError>
-    ensures { OnOk result
-        (text.new.items ≡ text.old.items ++ say.fault_text JoinFault.Register old.now new.now) }
+    ensures { OnOk result (text.new.items ≡ text.old.items
+        ++ say.both_say what.now has.now had.now old.now new.now) }
 {
-    put_word(text, b"register is ", new.register.as_bytes())?;
+    put_word(text, what, has)?;
     put_word(text, b" in ", new.file.as_bytes())?;
-    put_word(text, b", and ", old.register.as_bytes())?;
+    put_word(text, b", and ", had)?;
     put_word(text, b" in ", old.file.as_bytes())
 }
 
@@ -50,6 +53,33 @@ fn put_numbers(
     put_word(text, b" in ", new.file.as_bytes())?;
     put_number(text, b", and ", had)?;
     put_word(text, b" in ", old.file.as_bytes())
+}
+
+fn put_files(
+    text: &mut Vec<u8>,
+    before: &[u8],
+    between: &[u8],
+    old: &FiledMeter<'_>,
+    new: &FiledMeter<'_>,
+) -> Result<(), AllocError>
+    ensures { OnOk result (text.new.items ≡ text.old.items
+        ++ say.both_files before.now between.now old.now new.now) }
+{
+    put_word(text, before, new.file.as_bytes())?;
+    put_word(text, between, old.file.as_bytes())
+}
+
+fn put_file(
+    text: &mut Vec<u8>,
+    before: &[u8],
+    after: &[u8],
+    new: &FiledMeter<'_>,
+) -> Result<(), AllocError>
+    ensures { OnOk result
+        (text.new.items ≡ text.old.items ++ say.one_file before.now after.now new.now) }
+{
+    put_word(text, before, new.file.as_bytes())?;
+    put(text, after)
 }
 
 fn put_opening(
@@ -78,11 +108,15 @@ fn put_fault(
         (text.new.items ≡ text.old.items ++ say.fault_text fault old.now new.now) }
 {
     match fault {
-        JoinFault::Closed => {
-            put_word(text, b"is in ", new.file.as_bytes())?;
-            put_word(text, b", and was closed in ", old.file.as_bytes())
-        }
-        JoinFault::Register => put_register(text, old, new),
+        JoinFault::Closed => put_files(text, b"is in ", b", and was closed in ", old, new),
+        JoinFault::Register => put_words(
+            text,
+            b"register is ",
+            new.register.as_bytes(),
+            old.register.as_bytes(),
+            old,
+            new,
+        ),
         JoinFault::Range => put_numbers(
             text,
             b"range is ",
@@ -100,10 +134,12 @@ fn put_fault(
             new,
         ),
         JoinFault::Opening => put_opening(text, old, new),
-        JoinFault::Energy => {
-            put_word(text, b"has more energy in all files up to ", new.file.as_bytes())?;
-            put(text, b" than a meter may have")
-        }
+        JoinFault::Energy => put_file(
+            text,
+            b"has more energy in all files up to ",
+            b" than a meter may have",
+            new,
+        ),
     }
 }
 
@@ -147,7 +183,11 @@ pub(crate) fn overlap_line(
     put(&mut line, b" at ")?;
     put_stand(&mut line, &new.installed.opening)?;
     put_word(&mut line, b", meter ", old.meter.as_bytes())?;
-    put_word(&mut line, b" stands at its register in ", old.file.as_bytes())?;
+    put_word(
+        &mut line,
+        b" stands at its register in ",
+        old.file.as_bytes(),
+    )?;
     put(&mut line, b" at ")?;
     put_stand(&mut line, &old.standing.last)?;
     put(&mut line, b"\n")?;
@@ -192,7 +232,7 @@ pub(crate) fn zone_line(
 
 fn put_lines(text: &mut Vec<u8>, lines: &[Vec<u8>]) -> Result<(), AllocError>
     ensures { OnOk result (text.new.items ≡ text.old.items
-        ++ flat_map (λ line. line.items) lines.now) }
+        ++ flat_map say.text_in lines.now) }
 {
     for line in lines {
         put(text, line.as_slice())?;

@@ -1,31 +1,15 @@
 //! Whether an office's files go on from each other.
-ghost use Rattle.std.specs.Prelude.{◌≡◌, ◌++◌, ◌∷◌, [], Some, None, OnOk, flat_map, map};
+ghost use Rattle.std.specs.Prelude.{◌≡◌, ◌++◌, ◌∷◌, [], Some, None, OnOk, flat_map};
 ghost use Rattle.std.specs.List.{find};
 ghost use Rattle.std.specs.Option.{option_copied};
 ghost use Rattle.table_seals.specs.Joins as joins;
-ghost use Rattle.table_seals.specs.JoinTexts.{join_line, texts_of};
+ghost use Rattle.table_seals.specs.JoinTexts.{lines_of, texts_of};
 
 use crate::filed::{FiledMeter, FiledOffice};
+use crate::join_faults::JoinFault;
 use crate::join_lines::{fault_line, missing_line, overlap_line, zone_line};
 use energy_core::{Last, MAX_TOTAL};
 use std::alloc::{AllocError, Global};
-
-/// How a meter doesn't go on from the file before.
-#[derive(Clone, Copy, Debug, PartialEq, Eq)]
-pub enum JoinFault {
-    /// It was closed there.
-    Closed,
-    /// It was at another register.
-    Register,
-    /// Its counter had another range.
-    Range,
-    /// It had another ceiling.
-    Ceiling,
-    /// Its counter stood elsewhere than where it is opened.
-    Opening,
-    /// Its energy of all files is more than one meter may have.
-    Energy,
-}
 
 /// Whether a meter has the name.
 fn is_meter(name: &str, meter: &FiledMeter<'_>) -> bool
@@ -45,7 +29,7 @@ fn has_meter(name: &str, meters: &[FiledMeter<'_>]) -> bool
 fn meter_in<'m, 'a>(name: &str, meters: &'m [FiledMeter<'a>]) -> Option<&'m FiledMeter<'a>>
     ensures { option_copied result ≡ find (joins.is_meter name.now) meters.now }
 {
-    meters.iter().find(|meter| is_meter(name, meter))
+    meters.iter().find(|meter| is_meter(name, *meter))
 }
 
 /// Whether both show the same counter at the same moment and scale.
@@ -95,11 +79,7 @@ fn is_within(known: &[FiledMeter<'_>], new: &FiledMeter<'_>) -> bool
 }
 
 /// How a meter doesn't go on from the file before.
-fn fault_between(
-    within: bool,
-    old: &FiledMeter<'_>,
-    new: &FiledMeter<'_>,
-) -> Option<JoinFault>
+fn fault_between(within: bool, old: &FiledMeter<'_>, new: &FiledMeter<'_>) -> Option<JoinFault>
     ensures { result ≡ joins.fault_between within old.now new.now }
 {
     if old.standing.is_ended {
@@ -138,7 +118,7 @@ fn overlapped<'m, 'a>(
 ) -> Option<&'m FiledMeter<'a>>
     ensures { option_copied result ≡ find (joins.is_beyond new.now) known.now }
 {
-    known.iter().find(|old| is_beyond(new, old))
+    known.iter().find(|old| is_beyond(new, *old))
 }
 
 /// One more line.
@@ -159,7 +139,7 @@ fn tell_fault(
     new: &FiledMeter<'_>,
 ) -> Result<(), AllocError>
     ensures { OnOk result (texts_of lines.new.items
-        ≡ texts_of lines.old.items ++ map join_line (joins.joins_by known.now new.now (Some old.now))) }
+        ≡ texts_of lines.old.items ++ lines_of (joins.joins_by known.now new.now (Some old.now))) }
 {
     match fault_between(is_within(known, new), old, new) {
         None => Ok(()),
@@ -178,7 +158,7 @@ fn tell_overlap(
     new: &FiledMeter<'_>,
 ) -> Result<(), AllocError>
     ensures { OnOk result (texts_of lines.new.items
-        ≡ texts_of lines.old.items ++ map join_line (joins.joins_by known.now new.now None)) }
+        ≡ texts_of lines.old.items ++ lines_of (joins.joins_by known.now new.now None)) }
 {
     match overlapped(new, known) {
         None => Ok(()),
@@ -197,11 +177,17 @@ fn tell_meter(
     new: &FiledMeter<'_>,
 ) -> Result<(), AllocError>
     ensures { OnOk result (texts_of lines.new.items
-        ≡ texts_of lines.old.items ++ map join_line (joins.joins_of known.now new.now)) }
+        ≡ texts_of lines.old.items ++ lines_of (joins.joins_of known.now new.now)) }
 {
     match meter_in(&new.meter, known) {
-        None => tell_overlap(alloc, lines, known, new),
-        Some(old) => tell_fault(alloc, lines, known, old, new),
+        None => {
+            tell_overlap(alloc, lines, known, new)?;
+            Ok(())
+        }
+        Some(old) => {
+            tell_fault(alloc, lines, known, old, new)?;
+            Ok(())
+        }
     }
 }
 
@@ -213,7 +199,7 @@ fn tell_meters(
     next: &[FiledMeter<'_>],
 ) -> Result<(), AllocError>
     ensures { OnOk result (texts_of lines.new.items ≡ texts_of lines.old.items
-        ++ flat_map (λ new. map join_line (joins.joins_of known.now new)) next.now) }
+        ++ flat_map (λ new. lines_of (joins.joins_of known.now new)) next.now) }
 {
     for new in next {
         tell_meter(alloc, lines, known, new)?;
@@ -221,7 +207,14 @@ fn tell_meters(
     Ok(())
 }
 
-/// That a meter is open in the file before, and isn't in the next one.
+/// Whether a meter is open in the file before, and isn't among those of the next one.
+fn is_missing(next: &[FiledMeter<'_>], old: &FiledMeter<'_>) -> bool
+    ensures { result ≡ joins.is_missing next.now old.now }
+{
+    !old.standing.is_ended && !has_meter(&old.meter, next)
+}
+
+/// Tells it.
 fn tell_missing(
     alloc: Global,
     lines: &mut Vec<Vec<u8>>,
@@ -229,9 +222,9 @@ fn tell_missing(
     old: &FiledMeter<'_>,
 ) -> Result<(), AllocError>
     ensures { OnOk result (texts_of lines.new.items ≡ texts_of lines.old.items
-        ++ map join_line (joins.missing_of (joins.known_of next.now) old.now)) }
+        ++ lines_of (joins.missing_of (joins.known_of next.now) old.now)) }
 {
-    if old.standing.is_ended || has_meter(&old.meter, &next.meters) {
+    if !is_missing(&next.meters, old) {
         return Ok(());
     }
     let line = missing_line(alloc, old, next.file)?;
@@ -246,7 +239,7 @@ fn tell_each_missing(
     latest: &[FiledMeter<'_>],
 ) -> Result<(), AllocError>
     ensures { OnOk result (texts_of lines.new.items ≡ texts_of lines.old.items
-        ++ flat_map (λ old. map join_line (joins.missing_of (joins.known_of next.now) old))
+        ++ flat_map (λ old. lines_of (joins.missing_of (joins.known_of next.now) old))
         latest.now) }
 {
     for old in latest {
@@ -263,7 +256,7 @@ fn tell_zone(
     next: &FiledOffice<'_>,
 ) -> Result<(), AllocError>
     ensures { OnOk result (texts_of lines.new.items ≡ texts_of lines.old.items
-        ++ map join_line (joins.zone_of (joins.known_of known.now) (joins.known_of next.now))) }
+        ++ lines_of (joins.zone_of (joins.known_of known.now) (joins.known_of next.now))) }
 {
     if next.zone.as_str() == known.zone.as_str() {
         return Ok(());
@@ -280,11 +273,12 @@ pub(crate) fn tell_joins(
     next: &FiledOffice<'_>,
 ) -> Result<(), AllocError>
     ensures { OnOk result (texts_of lines.new.items ≡ texts_of lines.old.items
-        ++ map join_line (joins.joins_between (joins.known_of known.now) (joins.known_of next.now))) }
+        ++ lines_of (joins.joins_between (joins.known_of known.now) (joins.known_of next.now))) }
 {
-    let latest = known.latest.min(known.meters.len());
+    let meters = known.meters.as_slice();
+    let latest = known.latest.min(meters.len());
     tell_zone(alloc, lines, known, next)?;
-    tell_meters(alloc, lines, &known.meters, &next.meters)?;
-    tell_each_missing(alloc, lines, next, &known.meters.as_slice()[..latest])?;
+    tell_meters(alloc, lines, meters, &next.meters)?;
+    tell_each_missing(alloc, lines, next, &meters[..latest])?;
     Ok(())
 }

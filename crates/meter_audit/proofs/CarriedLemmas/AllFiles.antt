@@ -1,5 +1,5 @@
 -- What files tell together of a meter that is carried from each into the next.
-use Rattle.std.proofs.Common.{◌≡◌, ℕ, ◌+◌, ◌≤◌, Bool, false, List, [], ◌∷◌, ◌++◌, map, refl, sym, ap, subst, ◌∙◌, arith}
+use Rattle.std.proofs.Common.{◌≡◌, ℕ, ◌+◌, ◌≤◌, false, List, [], ◌∷◌, ◌++◌, map, refl, sym, ap, subst, ◌∙◌, arith}
 use Rattle.energy_core.specs.declared.entries.Entry.{Entry}
 use Rattle.energy_core.specs.declared.entries.Last.{Last}
 use Rattle.energy_core.specs.declared.limits.TheConstants.{MAX_TOTAL}

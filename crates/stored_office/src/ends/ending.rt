@@ -38,7 +38,8 @@ impl<'a> Ending<'a> {
             Ending::Fine => 0,
             Ending::Refused => 1,
             Ending::Wrong(_) | Ending::NoText | Ending::NoZone(_) => 2,
-            Ending::NoDay { .. } | Ending::Backward | Ending::NoSeal(_) | Ending::Twice(_) => 2,
+            Ending::NoDay { .. } | Ending::Backward | Ending::NoSeal(_) => 2,
+            Ending::Twice(_) => 2,
             Ending::Failed(_) => 3,
         }
     }

@@ -3,7 +3,7 @@ use Rattle.table_audit.specs.Looking.{Finds}
 use Rattle.table_audit.proofs.Looking.{finds_then, passed_on, made, cut_off}
 use Rattle.store_tables.specs.declared.faults.RowFault.{RowFault}
 use Rattle.table_seals.specs.Filing.{FilesRow, AreFiled, FilesRows}
-use Rattle.table_seals.proofs.Filed.{next_filed}
+use Rattle.table_seals.proofs.FiledMeters.{next_filed}
 use Rattle.table_seals.proofs.Rows.{there_at}
 use Rattle.table_seals.proofs.filing.file_rows.Goals as goal
 

@@ -1,10 +1,16 @@
 -- Meters that are kept of a file, one after the other.
-use Rattle.std.proofs.Common.{◌≡◌, ℕ, ◌+◌, ◌<◌, List, [], ◌∷◌, ◌++◌, take, length, get_or, Some, sym, ap, subst, ◌∙◌}
+use Rattle.std.proofs.Common.{◌≡◌, ℕ, ◌+◌, ◌<◌, List, [], ◌∷◌, ◌++◌, take, length, get_or, drop, Some, sym, ap, subst, ◌∙◌, arith}
 use Rattle.std.proofs.lemmas.List.{take_more}
+use Rattle.meter_audit.specs.declared.rows.TableRow.{TableRow}
 use Rattle.sqlite.specs.Order.{Row}
 use Rattle.store_tables.specs.Content.{Content}
 use Rattle.table_seals.specs.declared.filed.FiledMeter.{FiledMeter}
 use Rattle.table_seals.specs.Filing.{FilesRow, AreFiled}
+
+-- the first of some rows, and those after it
+pub opened_by : (rows : List TableRow) (row : TableRow) → 0 < length rows → row ≡ get_or rows 0 row → rows ≡ row ∷ drop 1 rows
+opened_by [] row lt is = absurd (omega (arith, lt))
+opened_by (first ∷ rows) row lt is = ap (λ (r : TableRow). r ∷ rows) (sym is)
 
 filed_more : (file : List ℕ) (content : Content) (rows : List Row) (meters : List FiledMeter) (row : Row) (filed : FiledMeter)
     → AreFiled file content rows meters → FilesRow file content row (Some filed) → AreFiled file content (rows ++ row ∷ []) (meters ++ filed ∷ [])
