@@ -1,2 +1,3 @@
 pub mod HttpPeersLemmas
 pub mod PeriodLemmas
+pub mod NameLemmas
