@@ -266,9 +266,9 @@ fn is_of_a_period(alloc: Global, text: &str) -> Option<bool> {
 #[test]
 fn periods_are_known_by_their_form(rt: HostRuntime) {
     for text in &PERIODS {
-        assert!(rt; is_of_a_period(rt.alloc(), text) == Some(true), "{text}");
+        assert!(rt; is_of_a_period(rt.alloc(), *text) == Some(true), "{text}");
     }
     for text in &NO_PERIODS {
-        assert!(rt; is_of_a_period(rt.alloc(), text) == Some(false), "{text}");
+        assert!(rt; is_of_a_period(rt.alloc(), *text) == Some(false), "{text}");
     }
 }
