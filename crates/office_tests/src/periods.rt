@@ -66,14 +66,22 @@ fn end_of(rt: &impl Abort, case: &Case) -> Option<u64> {
 #[test]
 fn months_end_at_local_midnight(rt: HostRuntime) {
     for case in &MONTHS {
-        assert!(rt; end_of(&rt, case).unwrap_or(0) == case.end, "{}", case.moment);
+        assert!(rt;
+            end_of(&rt, case).unwrap_or(0) == case.end,
+            "{}",
+            case.moment
+        );
     }
 }
 
 #[test]
 fn years_and_days_end_so_too(rt: HostRuntime) {
     for case in &OTHERS {
-        assert!(rt; end_of(&rt, case).unwrap_or(0) == case.end, "{}", case.moment);
+        assert!(rt;
+            end_of(&rt, case).unwrap_or(0) == case.end,
+            "{}",
+            case.moment
+        );
     }
 }
 
@@ -120,7 +128,12 @@ fn ends_on_its_last_day(case: &LastDay) -> Option<bool> {
 fn periods_have_a_last_day(rt: HostRuntime) {
     periods_end_with_their_last_day();
     for case in &LAST_DAYS {
-        assert!(rt; ends_on_its_last_day(case) == Some(true), "{} {}", case.year, case.month);
+        assert!(rt;
+            ends_on_its_last_day(case) == Some(true),
+            "{} {}",
+            case.year,
+            case.month
+        );
     }
 }
 
@@ -174,7 +187,11 @@ macro_rules! named {
 static NAMES: [Named; 7] = [
     named!("office.db", "2026-11", "office-2026-11.db"),
     named!("office.db", "2026", "office-2026.db"),
-    named!("/var/lib/a.db/office", "2026-11", "/var/lib/a.db/office-2026-11"),
+    named!(
+        "/var/lib/a.db/office",
+        "2026-11",
+        "/var/lib/a.db/office-2026-11"
+    ),
     named!(".db", "2026", "-2026.db"),
     named!("db", "2026", "db-2026"),
     named!("", "2026", "-2026"),

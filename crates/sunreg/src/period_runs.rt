@@ -70,8 +70,7 @@ fn say_carried(rt: &HostRuntime, from: &str, to: &str, count: u64) {
 }
 
 fn say_later(rt: &HostRuntime, path: &str) {
-    if let Ok(line) = format!(
-        in rt.alloc();
+    if let Ok(line) = format!(in rt.alloc();
         "sunreg: {path}: its period is later than the clock says: books go on in it\n"
     ) {
         say(rt, line.as_bytes());
@@ -79,8 +78,7 @@ fn say_later(rt: &HostRuntime, path: &str) {
 }
 
 fn say_behind(rt: &HostRuntime, path: &str) {
-    if let Ok(line) = format!(
-        in rt.alloc();
+    if let Ok(line) = format!(in rt.alloc();
         "sunreg: {path}: the clock stands before its last entry, so it is not carried yet: books go on in it until the next hour\n"
     ) {
         say(rt, line.as_bytes());
@@ -209,7 +207,15 @@ fn run_in<D: Databases + NamedFiles, C: Clock + Drop>(
     let mut settings = asked.settings;
     settings.lasts = left;
     settings.ends = until;
-    let done = run_opened(rt, databases, path, connection, asked.sites, &settings, clock);
+    let done = run_opened(
+        rt,
+        databases,
+        path,
+        connection,
+        asked.sites,
+        &settings,
+        clock,
+    );
     match ending_of_done(done, OWN_HOST, settings.listen.port()) {
         Ending::Fine => None,
         ending => Some(ended(rt, &ending)),
@@ -233,7 +239,13 @@ fn open_once<'a, D: Databases>(
 }
 
 fn is_busy(failure: &Failure<'_>) -> bool {
-    matches!(failure, Failure::File { fault: FileFault::Busy, .. })
+    matches!(
+        failure,
+        Failure::File {
+            fault: FileFault::Busy,
+            ..
+        }
+    )
 }
 
 // The same of a file that nobody had open a moment ago: who has opened it meanwhile is waited for, some seconds.
@@ -342,7 +354,16 @@ fn turn<D: Databases + NamedFiles, C: Clock + Drop>(
     match plan {
         Plan::Stay(until) => run_in(asked, databases, path, connection, clock, until, left),
         Plan::Carry(to, until) => {
-            carry_on(asked, databases, path, connection, to.as_str(), clock, until, left)
+            carry_on(
+                asked,
+                databases,
+                path,
+                connection,
+                to.as_str(),
+                clock,
+                until,
+                left,
+            )
         }
     }
 }
