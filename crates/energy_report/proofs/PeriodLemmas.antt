@@ -114,11 +114,13 @@ last_date period.Year day =
     }
 
 last_is : (p : Period) (day : Date) → epoch_day (last_date p day) ≡ last_day p day
+unfolding last_date
 last_is period.Day day = refl
 last_is period.Month day = refl
 last_is period.Year day = refl
 
 last_same : (p : Period) (day : Date) → is_same p day (last_date p day) ≡ true
+unfolding last_date
 last_same period.Day day = equals (epoch_day day) (epoch_day day) refl
 last_same period.Month day =
     ap (λ v. v && int_eq (pos day.month) (pos day.month)) (equals day.year day.year refl) ∙ equals (pos day.month) (pos day.month) refl
@@ -126,6 +128,7 @@ last_same period.Year day = equals day.year day.year refl
 
 -- no day of a period is after its last one
 up_to_last : (p : Period) (day other : Date) → is_same p day other ≡ true → epoch_day other ≤ℤ epoch_day (last_date p day)
+unfolding last_date
 up_to_last period.Day day other same =
     let is = equal (epoch_day day) (epoch_day other) same in
     omega (arith, signed_arith, is)

@@ -66,49 +66,74 @@ fn end_of(rt: &impl Abort, case: &Case) -> Option<u64> {
 #[test]
 fn months_end_at_local_midnight(rt: HostRuntime) {
     for case in &MONTHS {
-        assert!(rt; end_of(&rt, case).unwrap_or(0) == case.end, "{}", case.moment);
+        assert!(rt;
+            end_of(&rt, case).unwrap_or(0) == case.end,
+            "{}",
+            case.moment
+        );
     }
 }
 
 #[test]
 fn years_and_days_end_so_too(rt: HostRuntime) {
     for case in &OTHERS {
-        assert!(rt; end_of(&rt, case).unwrap_or(0) == case.end, "{}", case.moment);
+        assert!(rt;
+            end_of(&rt, case).unwrap_or(0) == case.end,
+            "{}",
+            case.moment
+        );
     }
 }
 
 /// A day, and the last one of its month.
-static LAST_DAYS: [[i16; 4]; 6] = [
-    [2026, 11, 27, 30],
-    [2026, 12, 1, 31],
-    [2026, 2, 28, 28],
-    [2028, 2, 10, 29],
-    [2000, 2, 1, 29],
-    [2100, 2, 1, 28],
+struct LastDay {
+    year: i16,
+    month: i8,
+    day: i8,
+    last: i8,
+}
+
+macro_rules! last {
+    ($year:expr, $month:expr, $day:expr, $last:expr) => {
+        LastDay {
+            year: $year,
+            month: $month,
+            day: $day,
+            last: $last,
+        }
+    };
+}
+
+static LAST_DAYS: [LastDay; 6] = [
+    last!(2026, 11, 27, 30),
+    last!(2026, 12, 1, 31),
+    last!(2026, 2, 28, 28),
+    last!(2028, 2, 10, 29),
+    last!(2000, 2, 1, 29),
+    last!(2100, 2, 1, 28),
 ];
 
-fn ends_on_its_last_day(year: i16, month: i8, day: i8, last: i8) -> bool {
-    match Day::new(year, month, day) {
-        Ok(day) => {
-            let end = Period::Month.last_day(day);
-            let year_end = Period::Year.last_day(day);
-            end.year() == year
-                && end.month() == month
-                && end.day() == last
-                && year_end.year() == year
-                && year_end.month() == 12
-                && year_end.day() == 31
-                && Period::Day.last_day(day) == day
-        }
-        Err(_) => false,
-    }
+fn ends_on_its_last_day(case: &LastDay) -> Option<bool> {
+    let day = Day::new(case.year, case.month, case.day).ok()?;
+    let month_end = Day::new(case.year, case.month, case.last).ok()?;
+    let year_end = Day::new(case.year, 12, 31).ok()?;
+    Some(
+        Period::Month.last_day(day) == month_end
+            && Period::Year.last_day(day) == year_end
+            && Period::Day.last_day(day) == day,
+    )
 }
 
 #[test]
 fn periods_have_a_last_day(rt: HostRuntime) {
     periods_end_with_their_last_day();
-    for [year, month, day, last] in LAST_DAYS {
-        assert!(rt; ends_on_its_last_day(year, month as i8, day as i8, last as i8), "{year} {month}");
+    for case in &LAST_DAYS {
+        assert!(rt;
+            ends_on_its_last_day(case) == Some(true),
+            "{} {}",
+            case.year,
+            case.month
+        );
     }
 }
 
@@ -143,29 +168,56 @@ fn periods_have_the_names_of_rows(rt: HostRuntime) {
 }
 
 /// A file, the text of a period, and the file of that.
-static NAMES: [[&str; 3]; 7] = [
-    ["office.db", "2026-11", "office-2026-11.db"],
-    ["office.db", "2026", "office-2026.db"],
-    ["/var/lib/a.db/office", "2026-11", "/var/lib/a.db/office-2026-11"],
-    [".db", "2026", "-2026.db"],
-    ["db", "2026", "db-2026"],
-    ["", "2026", "-2026"],
-    ["office.db.db", "2026", "office.db-2026.db"],
+struct Named {
+    file: &'static str,
+    text: &'static str,
+    name: &'static str,
+}
+
+macro_rules! named {
+    ($file:expr, $text:expr, $name:expr) => {
+        Named {
+            file: $file,
+            text: $text,
+            name: $name,
+        }
+    };
+}
+
+static NAMES: [Named; 7] = [
+    named!("office.db", "2026-11", "office-2026-11.db"),
+    named!("office.db", "2026", "office-2026.db"),
+    named!(
+        "/var/lib/a.db/office",
+        "2026-11",
+        "/var/lib/a.db/office-2026-11"
+    ),
+    named!(".db", "2026", "-2026.db"),
+    named!("db", "2026", "db-2026"),
+    named!("", "2026", "-2026"),
+    named!("office.db.db", "2026", "office.db-2026.db"),
 ];
 
-fn is_called(rt: &impl Abort, names: &[&str; 3]) -> Option<bool> {
-    let [file, text, name] = names;
-    let made = file_of_period(Global, file.as_bytes(), text.as_bytes()).ok()?;
-    assert!(rt; made.as_slice() == name.as_bytes(), "{}", *name);
-    let period = if text.len() == 4 { Period::Year } else { Period::Month };
-    let found = period_of_file(file.as_bytes(), period, name.as_bytes())?;
-    Some(found == text.as_bytes())
+fn length_of(text: &str) -> Period {
+    match text.len() {
+        4 => Period::Year,
+        7 => Period::Month,
+        _ => Period::Day,
+    }
+}
+
+// Whether the file of a period is called so, and is known by its name.
+fn is_called(alloc: Global, case: &Named) -> Option<bool> {
+    let file = case.file.as_bytes();
+    let made = file_of_period(alloc, file, case.text.as_bytes()).ok()?;
+    let found = period_of_file(file, length_of(case.text), case.name.as_bytes())?;
+    Some(made.as_slice() == case.name.as_bytes() && found == case.text.as_bytes())
 }
 
 #[test]
 fn files_have_their_period_before_the_end(rt: HostRuntime) {
-    for names in &NAMES {
-        assert!(rt; is_called(&rt, names) == Some(true), "{}", names[2]);
+    for case in &NAMES {
+        assert!(rt; is_called(rt.alloc(), case) == Some(true), "{}", case.name);
     }
 }
 
@@ -193,15 +245,28 @@ static NO_MONTHS: [&str; 18] = [
 
 #[test]
 fn other_files_are_of_no_month(rt: HostRuntime) {
-    for name in NO_MONTHS {
-        assert!(rt; period_of_file(b"office.db", Period::Month, name.as_bytes()) == None, "{name}");
+    for name in &NO_MONTHS {
+        let found = period_of_file(b"office.db", Period::Month, name.as_bytes());
+        assert!(rt; found.is_none(), "{name}");
     }
 }
 
-/// The days that a file can be of, and that none is of.
-static DAYS: [&str; 4] = ["2026-01-01", "2026-10-20", "2026-12-31", "0000-09-09"];
+/// The texts of periods, and some that are nearly.
+static PERIODS: [&str; 9] = [
+    "2026",
+    "0000",
+    "9999",
+    "2026-01",
+    "2026-12",
+    "2026-01-01",
+    "2026-10-20",
+    "2026-12-31",
+    "0000-09-09",
+];
 
-static NO_DAYS: [&str; 6] = [
+static NO_PERIODS: [&str; 8] = [
+    "202a",
+    "20260",
     "2026-01-00",
     "2026-01-32",
     "2026-01-40",
@@ -210,26 +275,17 @@ static NO_DAYS: [&str; 6] = [
     "2026-01-1",
 ];
 
-fn day_in(text: &str) -> Option<bool> {
-    let name = file_of_period(Global, b"o", text.as_bytes()).ok()?;
-    let found = period_of_file(b"o", Period::Day, &name)?;
-    Some(found == text.as_bytes())
+fn is_of_a_period(alloc: Global, text: &str) -> Option<bool> {
+    let name = file_of_period(alloc, b"o", text.as_bytes()).ok()?;
+    Some(period_of_file(b"o", length_of(text), name.as_slice()).is_some())
 }
 
 #[test]
-fn a_file_can_be_of_a_day(rt: HostRuntime) {
-    for text in DAYS {
-        assert!(rt; day_in(text) == Some(true), "{text}");
+fn periods_are_known_by_their_form(rt: HostRuntime) {
+    for text in &PERIODS {
+        assert!(rt; is_of_a_period(rt.alloc(), *text) == Some(true), "{text}");
     }
-    for text in NO_DAYS {
-        assert!(rt; day_in(text) == None, "{text}");
-    }
-    for text in ["2026", "0000", "9999"] {
-        let name = file_of_period(Global, b"o", text.as_bytes());
-        let is_year = match &name {
-            Ok(name) => period_of_file(b"o", Period::Year, name).is_some(),
-            Err(_) => false,
-        };
-        assert!(rt; is_year, "{text}");
+    for text in &NO_PERIODS {
+        assert!(rt; is_of_a_period(rt.alloc(), *text) == Some(false), "{text}");
     }
 }

@@ -1,12 +1,13 @@
 -- Clocks of zones.
-use Rattle.std.proofs.Common.{◌≡◌, ℕ, true, false, arith}
-use Rattle.std.specs.Prelude.{ℤ, pos, ◌+ℤ◌, ◌*ℤ◌, ◌≤ℤ◌, ◌<ℤ◌}
+use Rattle.std.proofs.Common.{◌≡◌, ◌∙◌, ℕ, true, false, refl, sym, ap, subst, arith, to_z, of_z, to_z-of_z, w64}
+use Rattle.std.specs.Prelude.{ℤ, pos, negsuc, neg_ℤ, ◌+ℤ◌, ◌*ℤ◌, ◌≤ℤ◌, ◌<ℤ◌, unsigned_abs}
 use Rattle.std.specs.Cmp.{int_ranks}
-use Rattle.std.specs.Int.{int_div_euclid}
+use Rattle.std.specs.Int.{FitsUnsignedBits, int_div_euclid}
 use Rattle.std.specs.Ordering.{MatchOrdering, int_cmp, is_lt}
 use Rattle.std.specs.declared.cmp.Ordering.TheVariants.{Less, Equal, Greater}
+use Rattle.jiff_core.specs.Calendar.{IsBetween}
 use Rattle.jiff_core.specs.Timestamp.{IsOffsetSeconds}
-use Rattle.jiff_core.proofs.SignedLemmas.{signed_arith}
+use Rattle.jiff_core.proofs.SignedLemmas.{fits_between, signed_arith}
 use Rattle.jiff_tz.specs.PosixRule as PosixRule
 use Rattle.jiff_tz.specs.Tzif as Table
 use Rattle.jiff_tz.specs.Zone.{offset_at, zero_in_range}
@@ -33,6 +34,22 @@ pub not_past : (zone : Zone) (last : ℤ) (at : ℕ) → (pos at +ℤ pos 93_599
 not_past zone last at early =
     let bound = offset_range zone at in
     omega (arith, signed_arith, bound.1, early)
+
+-- ---- numbers
+
+natural : (z : ℤ) → FitsUnsignedBits 64 z → z ≡ pos (unsigned_abs z)
+natural (pos n) fits = refl
+natural (negsuc n) fits = absurd fits
+
+-- a number of 64 bits that fits one without a sign is that
+pub as_natural : (z : ℤ) (n : ℕ) → IsBetween (neg_ℤ (pos 1_000_000_000_000)) (pos 1_000_000_000_000) z
+    → FitsUnsignedBits 64 (to_z w64 (of_z w64 z)) → n ≡ unsigned_abs (to_z w64 (of_z w64 z)) → z ≡ pos n
+as_natural z n bound fits is =
+    let low = bound.0 in
+    let high = bound.1 in
+    let back : to_z w64 (of_z w64 z) ≡ z = to_z-of_z (fits_between w64 z (omega (arith, signed_arith, low, high), omega (arith, signed_arith, low, high))) in
+    let here : FitsUnsignedBits 64 z = subst (FitsUnsignedBits 64) back fits in
+    natural z here ∙ ap pos (sym (is ∙ ap unsigned_abs back))
 
 -- ---- comparisons
 

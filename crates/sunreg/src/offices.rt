@@ -337,7 +337,15 @@ fn run_over<'a, D: Databases + NamedFiles>(
 ) -> Result<Done, Failure<'a>> {
     let connection = open_in(rt, surroundings, path)?;
     let mut clock = OnwardClock::of(SystemClock::new(rt));
-    run_opened(rt, surroundings, path, connection, sites, settings, &mut clock)
+    run_opened(
+        rt,
+        surroundings,
+        path,
+        connection,
+        sites,
+        settings,
+        &mut clock,
+    )
 }
 
 /// Runs over a connection to the database at a path, by a clock. What it keeps of requests is counted once, before its books are

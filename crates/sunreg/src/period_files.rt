@@ -180,7 +180,10 @@ impl Led {
 
 // Whether two paths are names of one file.
 fn are_one(rt: &HostRuntime, path: &str, other: &str) -> bool {
-    match (fs::symlink_metadata(rt, path), fs::symlink_metadata(rt, other)) {
+    match (
+        fs::symlink_metadata(rt, path),
+        fs::symlink_metadata(rt, other),
+    ) {
         (Ok(one), Ok(other)) => one.dev() == other.dev() && one.ino() == other.ino(),
         _ => false,
     }

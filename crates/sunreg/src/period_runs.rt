@@ -21,11 +21,17 @@ use sqlite::{Alter, Connection};
 use std::io::{self, Write};
 use std::process::ExitCode;
 use std::str::from_utf8;
-use std::time::Instant;
-use stored_office::{Databases, Ending, Failure, ending_of_done, told_zone};
+use std::thread::sleep;
+use std::time::{Duration, Instant};
+use stored_office::{Databases, Ending, Failure, FileFault, ending_of_done, told_zone};
 
 /// After how many seconds it is tried again to carry meters.
 const HOUR: u64 = 3600;
+
+/// How often a file is tried that another process has open, and how many milliseconds pass between.
+const TRIES: u32 = 100;
+
+const PAUSE: u64 = 100;
 
 const NOT_CARRIED: &str =
     "it was not carried: books go on in it, and it is tried again at the next hour";
@@ -64,8 +70,7 @@ fn say_carried(rt: &HostRuntime, from: &str, to: &str, count: u64) {
 }
 
 fn say_later(rt: &HostRuntime, path: &str) {
-    if let Ok(line) = format!(
-        in rt.alloc();
+    if let Ok(line) = format!(in rt.alloc();
         "sunreg: {path}: its period is later than the clock says: books go on in it\n"
     ) {
         say(rt, line.as_bytes());
@@ -73,8 +78,7 @@ fn say_later(rt: &HostRuntime, path: &str) {
 }
 
 fn say_behind(rt: &HostRuntime, path: &str) {
-    if let Ok(line) = format!(
-        in rt.alloc();
+    if let Ok(line) = format!(in rt.alloc();
         "sunreg: {path}: the clock stands before its last entry, so it is not carried yet: books go on in it until the next hour\n"
     ) {
         say(rt, line.as_bytes());
@@ -203,11 +207,61 @@ fn run_in<D: Databases + NamedFiles, C: Clock + Drop>(
     let mut settings = asked.settings;
     settings.lasts = left;
     settings.ends = until;
-    let done = run_opened(rt, databases, path, connection, asked.sites, &settings, clock);
+    let done = run_opened(
+        rt,
+        databases,
+        path,
+        connection,
+        asked.sites,
+        &settings,
+        clock,
+    );
     match ending_of_done(done, OWN_HOST, settings.listen.port()) {
         Ending::Fine => None,
         ending => Some(ended(rt, &ending)),
     }
+}
+
+// Opens the file at a path. One that was just made has no log yet, which isn't told.
+fn open_once<'a, D: Databases>(
+    rt: &HostRuntime,
+    databases: &D,
+    path: &'a str,
+    is_new: bool,
+) -> Result<Connection<D::Store>, Failure<'a>> {
+    if !is_new {
+        return open_in(rt, databases, path);
+    }
+    match databases.open(path) {
+        Ok(connection) => Ok(connection),
+        Err(fault) => Err(Failure::File { path, fault }),
+    }
+}
+
+fn is_busy(failure: &Failure<'_>) -> bool {
+    matches!(
+        failure,
+        Failure::File {
+            fault: FileFault::Busy,
+            ..
+        }
+    )
+}
+
+// The same of a file that nobody had open a moment ago: who has opened it meanwhile is waited for, some seconds.
+fn open_again<'a, D: Databases>(
+    rt: &HostRuntime,
+    databases: &D,
+    path: &'a str,
+    is_new: bool,
+) -> Result<Connection<D::Store>, Failure<'a>> {
+    for _try in 0..TRIES {
+        match open_once(rt, databases, path, is_new) {
+            Err(failure) if is_busy(&failure) => sleep(rt, Duration::from_millis(PAUSE)),
+            opened => return opened,
+        }
+    }
+    open_once(rt, databases, path, is_new)
 }
 
 // Opens the file at a path that was just made, or was open before, and runs over it.
@@ -215,13 +269,14 @@ fn run_at<D: Databases + NamedFiles, C: Clock + Drop>(
     asked: &Asked<'_>,
     databases: &D,
     path: &str,
+    is_new: bool,
     clock: &mut OnwardClock<C>,
     until: Option<u64>,
     left: Option<u64>,
 ) -> Option<ExitCode> {
-    match databases.open(path) {
+    match open_again(asked.rt, databases, path, is_new) {
         Ok(connection) => run_in(asked, databases, path, connection, clock, until, left),
-        Err(fault) => Some(ended(asked.rt, &Ending::Failed(Failure::File { path, fault }))),
+        Err(failure) => Some(ended(asked.rt, &Ending::Failed(failure))),
     }
 }
 
@@ -244,13 +299,27 @@ fn carry_on<D: Databases + NamedFiles, C: Clock + Drop>(
             if !is_there(rt, to) {
                 say_not_carried(rt, from, to, why, NOT_CARRIED);
                 let until = next_hour(asked, clock.now());
-                return run_at(asked, databases, from, clock, until, left);
+                return run_at(asked, databases, from, false, clock, until, left);
             }
             // (it has its name, which can't be brought to the disk)
             say_not_carried(rt, from, to, why, NAMED);
         }
     }
-    run_at(asked, databases, to, clock, until, left)
+    run_at(asked, databases, to, true, clock, until, left)
+}
+
+// Opens the file in which books are led: where a run has just let it go, with some patience.
+fn open_led<'a, D: Databases>(
+    rt: &HostRuntime,
+    databases: &D,
+    path: &'a str,
+    is_first: bool,
+) -> Result<Connection<D::Store>, Failure<'a>> {
+    if is_first {
+        open_in(rt, databases, path)
+    } else {
+        open_again(rt, databases, path, false)
+    }
 }
 
 // Runs over the file in which books are led, or over a new one that is due.
@@ -258,6 +327,7 @@ fn turn<D: Databases + NamedFiles, C: Clock + Drop>(
     asked: &Asked<'_>,
     databases: &D,
     clock: &mut OnwardClock<C>,
+    is_first: bool,
     left: Option<u64>,
 ) -> Option<ExitCode> {
     let rt = asked.rt;
@@ -267,7 +337,7 @@ fn turn<D: Databases + NamedFiles, C: Clock + Drop>(
     };
     let path = led.path.as_str();
     leave_one_name(rt, path);
-    let mut connection = match open_in(rt, databases, path) {
+    let mut connection = match open_led(rt, databases, path, is_first) {
         Ok(connection) => connection,
         Err(failure) => return Some(ended(rt, &Ending::Failed(failure))),
     };
@@ -284,7 +354,16 @@ fn turn<D: Databases + NamedFiles, C: Clock + Drop>(
     match plan {
         Plan::Stay(until) => run_in(asked, databases, path, connection, clock, until, left),
         Plan::Carry(to, until) => {
-            carry_on(asked, databases, path, connection, to.as_str(), clock, until, left)
+            carry_on(
+                asked,
+                databases,
+                path,
+                connection,
+                to.as_str(),
+                clock,
+                until,
+                left,
+            )
         }
     }
 }
@@ -327,12 +406,12 @@ pub(crate) fn run_by_periods<'a>(
         Ok(begun) => Some(begun),
         Err(_) => None,
     };
-    for _run in 0..u64::MAX {
+    for run in 0..u64::MAX {
         let left = left_of(rt, settings.lasts, begun);
         if left == Some(0) {
             break;
         }
-        match turn(&asked, &files, &mut clock, left) {
+        match turn(&asked, &files, &mut clock, run == 0, left) {
             Some(code) => return code,
             None => clock.go_on(),
         }

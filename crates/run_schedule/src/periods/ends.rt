@@ -1,5 +1,5 @@
 //! When a period of the calendar is over.
-ghost use Rattle.std.specs.Prelude.{◌≡◌, ◌≤◌, ◌<◌, ◌/◌, ◌≤ℤ◌, ◌<ℤ◌, ℕ, min, true, false};
+ghost use Rattle.std.specs.Prelude.{◌≡◌, ◌≤◌, ◌<◌, ◌/◌, ◌≤ℤ◌, ◌<ℤ◌, ◌+ℤ◌, ◌-ℤ◌, ◌*ℤ◌, ℕ, pos, min, true, false};
 ghost use Rattle.jiff.specs.Words.{epoch_day};
 ghost use Rattle.interval_core.specs.Zone.{day_at};
 ghost use Rattle.interval_core.specs.declared.zone.Zone.{Zone as TheZone};
@@ -17,6 +17,14 @@ const MOST_OFFSET: i64 = 93_599;
 /// The most seconds for a round that is due as a period begins.
 const MOST_LAST_ROUND: u64 = 30;
 
+// When the day after a day begins by the earliest clock that a zone can have, in seconds since 1970-01-01 UTC.
+fn earliest_after(last: Day) -> i64
+    ensures { result ≡ (epoch_day last +ℤ pos 1) *ℤ pos 86_400 -ℤ pos 93_599 }
+{
+    let day = i64::from(last.to_plain().to_unix_epoch_day());
+    (day + 1) * DAY - MOST_OFFSET
+}
+
 // A moment after this one, before which no later day begins anywhere.
 fn search_from(last: Day, moment: u64) -> u64
     requires { moment ≤ LAST_MOMENT }
@@ -24,9 +32,7 @@ fn search_from(last: Day, moment: u64) -> u64
     ensures early { (zone : TheZone) (at : ℕ) → moment < at → at < result
         → day_at zone at ≤ℤ epoch_day last }
 {
-    let day = i64::from(last.to_plain().to_unix_epoch_day());
-    let begins = (day + 1) * DAY - MOST_OFFSET;
-    match u64::try_from(begins) {
+    match u64::try_from(earliest_after(last)) {
         Ok(begins) => begins.max(moment + 1),
         Err(_) => moment + 1,
     }

@@ -107,17 +107,34 @@ fn before<'a>(text: &'a [u8], end: &[u8]) -> Option<&'a [u8]>
     text.strip_suffix(end)
 }
 
+// What stands between a beginning with a hyphen and an end.
+fn between<'a>(name: &'a [u8], stem: &[u8], suffix: &[u8]) -> Option<&'a [u8]>
+    ensures { MatchOption result
+        ((text : List ℕ) → stem.now ++ codes "-" ++ text ++ suffix.now ≢ name.now)
+        (λ text. stem.now ++ codes "-" ++ text.now ++ suffix.now ≡ name.now) }
+{
+    match after(name, stem) {
+        None => None,
+        Some(hyphened) => match after(hyphened, b"-") {
+            None => None,
+            Some(rest) => before(rest, suffix),
+        },
+    }
+}
+
 /// Of which period a file is by its name, where it is one of those that belong to a file.
 pub fn period_of_file<'a>(file: &[u8], period: Period, name: &'a [u8]) -> Option<&'a [u8]>
     ensures { IsPeriodIn file.now period name.now result }
 {
     let (stem, suffix) = parts_of(file);
-    let rest = after(name, stem)?;
-    let rest = after(rest, b"-")?;
-    let text = before(rest, suffix)?;
-    if spells(period, text) {
-        Some(text)
-    } else {
-        None
+    match between(name, stem, suffix) {
+        None => None,
+        Some(text) => {
+            if spells(period, text) {
+                Some(text)
+            } else {
+                None
+            }
+        }
     }
 }

@@ -7,8 +7,8 @@ use Rattle.run_schedule.proofs.periods.ends.first_past.Goals as goal
 
 pub loop-at-init : goal.loop-at-init
 loop-at-init c = record {
-  later = c.search_from.ensures.later;
-  none = λ at below later. c.search_from.ensures.early c.args.zone.now at later below;
+  later = c.search_from-at.ensures.later;
+  none = λ at below later. c.search_from-at.ensures.early c.args.zone.now at later below;
 }
 
 pub loop-at-preserved : goal.loop-at-preserved
