@@ -1,5 +1,5 @@
 //! What files of one office tell of a register, one file after the other.
-ghost use Rattle.std.specs.Prelude.{◌≡◌, List, [], IfOk, is_some};
+ghost use Rattle.std.specs.Prelude.{◌≡◌, ℕ, List, [], IfOk};
 ghost use Rattle.office_events.specs.declared.facts.Fact.{Fact};
 ghost use Rattle.office_rules.specs.Intervals.{rows_of_register};
 ghost use Rattle.office_books.specs.Entries.{installations_of};

@@ -57,7 +57,10 @@ fn files_before(alloc: Global, zone: Zone, before: Option<JoinedOffice>) -> Join
 {
     match before {
         None => no_files(alloc, zone),
-        Some(joined) => joined.files,
+        Some(joined) => {
+            let JoinedOffice { files, .. } = joined;
+            files
+        }
     }
 }
 
