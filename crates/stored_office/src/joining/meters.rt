@@ -1,5 +1,5 @@
 //! The meters at a register over files, one file after the other.
-ghost use Rattle.std.specs.Prelude.{◌≡◌, true, false, All, Contains, IfOk, MatchOption};
+ghost use Rattle.std.specs.Prelude.{◌≡◌, ◌&&◌, not, find, IfOk};
 ghost use Rattle.stored_office.specs.Joining.Meters as meters;
 ghost use Rattle.stored_office.specs.Joining.Meters.{AddOrAreApart, AddsNext, AddsOrIsApart};
 
@@ -69,8 +69,7 @@ fn is_before(stands: &Installation, row: &Installation) -> bool
 
 // The first of these that was not there before another.
 fn not_before(known: &[Installation], row: &Installation) -> Option<Installation>
-    ensures { MatchOption result (All (λ stands. meters.is_before stands row.now ≡ true) known.now)
-        (λ stands. Contains known.now stands × (meters.is_before stands row.now ≡ false)) }
+    ensures { result ≡ find (λ stands. not (meters.is_before stands row.now)) known.now }
 {
     for stands in known {
         if !is_before(stands, row) {

@@ -1,6 +1,5 @@
 //! The statement of the meters at a register over files of one office.
-ghost use Rattle.std.specs.Prelude.{◌≡◌, ◌++◌, ◌∷◌, [], List, map, false, IfOk, MatchOption};
-ghost use Rattle.std.specs.Prelude.{All, Contains, OnOk, filter};
+ghost use Rattle.std.specs.Prelude.{◌≡◌, ◌++◌, ℕ, [], List, map, find, filter, IfOk, OnOk};
 ghost use Rattle.energy_report.specs.Held.{held_within};
 ghost use Rattle.energy_report.specs.Statements as statements;
 ghost use Rattle.energy_report.specs.Statements.{energy_within, tally_of};
@@ -150,8 +149,7 @@ fn is_among(rows: &[Installation], meter: &Name) -> bool
 
 // What was told of a meter of the name, if something was.
 fn told_of(told: &[MeterStatement], meter: &Name) -> Option<MeterStatement>
-    ensures { MatchOption result (All (λ row. same row.meter meter.now ≡ false) told.now)
-        (λ row. Contains told.now row × (row.meter ≡ meter.now)) }
+    ensures { result ≡ find (λ row. same row.meter meter.now) told.now }
 {
     for row in told {
         if row.meter.is(meter) {
