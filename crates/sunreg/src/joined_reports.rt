@@ -186,6 +186,13 @@ fn report_register<'a>(
     }
 }
 
+// Says that a statement is of one file.
+fn say_one_file(rt: &HostRuntime) -> Ending<'static> {
+    let mut errors = Escaped::new(rt.stderr());
+    let _said = errors.write_all(b"sunreg: a statement is of one file: ask for each alone\n");
+    Ending::Refused
+}
+
 /// Prints the energy of a register over several files of one office, the oldest first, as one.
 pub(crate) fn report_files<'a>(
     rt: &HostRuntime,
@@ -193,6 +200,9 @@ pub(crate) fn report_files<'a>(
     register: &str,
     words: &FormWords<'a>,
 ) -> Ending<'a> {
+    if words.statement {
+        return say_one_file(rt);
+    }
     let range = match range_of(words) {
         Ok(range) => range,
         Err(ending) => return ending,
