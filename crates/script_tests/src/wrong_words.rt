@@ -36,6 +36,8 @@ static WRONG: [&[&str]; 52] = [
     &["round", "--db", "x", "--port", "1"],
     &["round", "--db", "x", "--device", "d"],
     &["report", "--db", "x"],
+    &["report", "--register", "r"],
+    &["report", "--db", "x", "--db", "--register", "r"],
     &["report", "--db", "x", "--register", "r", "--by", "week"],
     &["report", "--db", "x", "--register", "r", "--unit", "wh"],
     &["report", "--db", "x", "--register", "r", "--format", "xml"],

@@ -98,7 +98,7 @@ module _ {S : Type 0} (g : Ghosts S) where
 
   pub record IsElsewhere (zone : List ℕ) (before : Option JoinedOffice) : Type 0 where
     pub left : Held S
-    pub other : HasCleanDisk (state g left) → ¬ IsOfZone zone before
+    pub other : HasCleanDisk (state g left) → IsOfZone zone before → ⊥
 
   abbrev pub RefusesOffice : (zone : List ℕ) → Span → (register : List ℕ) → (facts : List Fact)
       → (before : Option JoinedOffice) → JoinFault → Type 0
