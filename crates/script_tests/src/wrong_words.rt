@@ -1,7 +1,7 @@
 //! Words that spell no command.
 use command_words::{WordsFault, command_of};
 
-static WRONG: [&[&str]; 52] = [
+static WRONG: [&[&str]; 53] = [
     &["bogus"],
     &[""],
     &["Plan"],
@@ -37,7 +37,6 @@ static WRONG: [&[&str]; 52] = [
     &["round", "--db", "x", "--device", "d"],
     &["report", "--db", "x"],
     &["report", "--register", "r"],
-    &["report", "--db", "x", "--db", "--register", "r"],
     &["report", "--db", "x", "--register", "r", "--by", "week"],
     &["report", "--db", "x", "--register", "r", "--unit", "wh"],
     &["report", "--db", "x", "--register", "r", "--format", "xml"],
