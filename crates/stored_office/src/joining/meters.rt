@@ -4,8 +4,8 @@ ghost use Rattle.stored_office.specs.Joining.Meters as meters;
 ghost use Rattle.stored_office.specs.Joining.Meters.{AddOrAreApart, AddsNext, AddsOrIsApart};
 
 use energy_core::Last;
-use office_books::BooksFault;
 use office_events::{Installation, Opening};
+use std::alloc::AllocError;
 
 /// Two meters at a register that don't join: where one stands by the files before, and another that begins in the next one,
 /// neither there nor after it.
@@ -15,7 +15,7 @@ pub struct Apart {
     pub begins: Installation,
 }
 
-fn both(one: bool, other: bool) -> bool
+pub(crate) fn both(one: bool, other: bool) -> bool
     ensures { result ≡ one && other }
 {
     one && other
@@ -83,7 +83,7 @@ fn not_before(known: &[Installation], row: &Installation) -> Option<Installation
 fn add_next(
     known: &mut Vec<Installation>,
     row: &Installation,
-) -> Result<Option<Apart>, BooksFault>
+) -> Result<Option<Apart>, AllocError>
     ensures { IfOk result (AddsNext known.old.items row.now known.new.items) }
 {
     match not_before(known.as_slice(), row) {
@@ -102,7 +102,7 @@ fn add_next(
 fn add_meter(
     known: &mut Vec<Installation>,
     row: &Installation,
-) -> Result<Option<Apart>, BooksFault>
+) -> Result<Option<Apart>, AllocError>
     ensures { IfOk result (AddsOrIsApart known.old.items row.now known.new.items) }
 {
     let Some(last) = known.pop() else {
@@ -121,7 +121,7 @@ fn add_meter(
 pub fn add_meters(
     known: &mut Vec<Installation>,
     listed: &[Installation],
-) -> Result<Option<Apart>, BooksFault>
+) -> Result<Option<Apart>, AllocError>
     ensures { IfOk result (AddOrAreApart known.old.items listed.now known.new.items) }
 {
     for row in listed {
