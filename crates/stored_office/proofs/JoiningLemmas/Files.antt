@@ -56,6 +56,14 @@ joins_with span register facts old mid new is (Some unjoined.OutOfTurn) test sam
   added = subst (λ (sink : JoinedDays). AddDays (rows_within span (rows_of_register facts register)) sink adds.days (Some unjoined.OutOfTurn)) days adds.added;
 }
 
+pub adds_rows : (span : Span) (register : List ℕ) (facts : List Fact) (old new : JoinedFiles) (why : Option Unjoined)
+    → new.is_recorded ≡ old.is_recorded → AddMeters old.meters.items (installations_of facts register) new.meters.items
+    → AddDays (rows_within span (rows_of_register facts register)) old.days new.days why → AddsRows span register facts old new why
+adds_rows span register facts old new None same meters days = record { recorded = same; meters = meters; days = days }
+adds_rows span register facts old new (Some unjoined.NotRecorded) same meters days = absurd days
+adds_rows span register facts old new (Some (unjoined.Apart apart)) same meters days = absurd days
+adds_rows span register facts old new (Some unjoined.OutOfTurn) same meters days = record { days = new.days; added = days }
+
 -- ---- one file more
 
 module _ (zone : Zone) (span : Span) (register : List ℕ) (facts : List Fact) (files : List (List Fact)) (old new : JoinedFiles) where

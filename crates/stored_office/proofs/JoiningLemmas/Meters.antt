@@ -13,20 +13,20 @@ use Rattle.stored_office.specs.Joining.Meters.{AddMeters, AddOrAreApart, AddsMet
 pub find_none : {X : Type 0} (p : X → Bool) (xs : List X) → find p xs ≡ None → All (λ x. p x ≡ false) xs
 find_none p [] is = λ k d less. absurd (omega (arith, less))
 find_none p (x ∷ xs) is = elim (cases_Bool (p x)) [
-  | inl yes ↦ absurd (let e : Some x ≡ None = sym (cond-true _ _ _ yes) ∙ is in cc e)
-  | inr no ↦ All-cons (λ y. p y ≡ false) x xs no (find_none p xs (sym (cond-false _ _ _ no) ∙ is))
+  | inl passes ↦ absurd (let e : Some x ≡ None = sym (cond-true _ _ _ passes) ∙ is in cc e)
+  | inr fails ↦ All-cons (λ y. p y ≡ false) x xs fails (find_none p xs (sym (cond-false _ _ _ fails) ∙ is))
 ]
 
 pub find_some : {X : Type 0} (p : X → Bool) (xs : List X) (x : X) → find p xs ≡ Some x → Contains xs x × (p x ≡ true)
 find_some p [] x is = absurd (cc is)
 find_some p (y ∷ ys) x is = elim (cases_Bool (p y)) [
-  | inl yes ↦
-      let e : Some y ≡ Some x = sym (cond-true _ _ _ yes) ∙ is in
+  | inl passes ↦
+      let e : Some y ≡ Some x = sym (cond-true _ _ _ passes) ∙ is in
       let same : y ≡ x = cc e in
       let less : 0 < length (y ∷ ys) = omega arith in
-      (subst (Contains (y ∷ ys)) same (All-contains_itself (y ∷ ys) 0 y less), subst (λ z. p z ≡ true) same yes)
-  | inr no ↦
-      let rest = find_some p ys x (sym (cond-false _ _ _ no) ∙ is) in
+      (subst (Contains (y ∷ ys)) same (All-contains_itself (y ∷ ys) 0 y less), subst (λ z. p z ≡ true) same passes)
+  | inr fails ↦
+      let rest = find_some p ys x (sym (cond-false _ _ _ fails) ∙ is) in
       (Contains-append_right (y ∷ []) ys x rest.0, rest.1)
 ]
 
@@ -68,3 +68,9 @@ apart_among known listed mid now after row begun (Some apart) is n same took amo
   among = among;
   is = adds;
 }
+
+-- one of a list joins
+pub joined_one : (mid : List Installation) (row : Installation) (now : List Installation) (apart : Option Apart) → is_some apart ≡ false
+    → AddsOrIsApart mid row now apart → AddsMeter mid row now
+joined_one mid row now None isnt adds = adds
+joined_one mid row now (Some apart) isnt adds = absurd (cc isnt)
