@@ -15,12 +15,11 @@ use Rattle.energy_report.specs.declared.form.ReportForm.{ReportForm}
 use Rattle.energy_report.specs.declared.report_rows.ReportRows.{ReportRows}
 use Rattle.interval_core.specs.Account.{energy_of, starts_of}
 use Rattle.meter_audit.specs.Carried.{AreCountedOnce}
-use Rattle.interval_core.specs.Days.{AreAccounts, DayAccount, account_of, distinct_count, rows_on}
+use Rattle.interval_core.specs.Days.{AccountsAreOne, AreAccounts, DayAccount, account_of, distinct_count, rows_on}
 use Rattle.interval_core.specs.Ranges.{days_in, is_in}
 use Rattle.interval_core.specs.declared.shares.Share.{Share}
 use Rattle.interval_core.specs.declared.totals.DayTotal.{DayTotal}
 use Rattle.interval_core.specs.declared.zone.Zone.{Zone}
-use Rattle.interval_core.proofs.OneLemmas.{exists_for, one_for}
 use Rattle.office_books.specs.declared.spans.Span.{Span}
 use Rattle.office_books.specs.declared.spans.Span.TheVariants.{All, Between}
 use Rattle.office_books.specs.Rows.{TakesAll}
@@ -76,22 +75,27 @@ same_text form days =
 
 -- ---- the report
 
-pub is_over : (zone : Zone) (register : List ℕ) (files : List (List Fact)) (form : ReportForm) (joined : JoinedFiles) (days : List DayTotal)
+pub is_over : (zone : Zone) (register : List ℕ) (files : List (List Fact)) (form : ReportForm) (joined : JoinedFiles) (days : List DayTotal) → AccountsAreOne
     → HasJoined zone (span_of form.range) register files joined → HasNumber (rows_over register files)
     → map account_of days ≡ joined.days.fold.accounts → IsReportOver zone register files form (report_text form days)
-is_over zone register files form joined days has fits are =
+is_over zone register files form joined days one has fits are =
     let span = span_of form.range in
     let rows = rows_over register files in
     let same = over_within span register files in
     let taken = has.days (subst HasNumber (sym same) (has_number span rows fits)) in
     let totals = subst (λ (accounts : List DayAccount). AreAccounts zone (rows_over_within span register files) accounts) (sym are) taken.accounts in
     let asked = days_within zone form.range span (λ start is. has_each form.range.from form.range.till zone start is)
-    (λ zone rows. let one = exists_for zone rows in (one.0, one.1, λ others are. one_for zone rows others one.0 are one.1))
-    rows days (days_in form.range days) (subst (λ (those : List Share). AreAccounts zone those (map account_of days)) same totals) refl in (
+    one rows days (days_in form.range days) (subst (λ (those : List Share). AreAccounts zone those (map account_of days)) same totals) refl in (
       days_in form.range days,
       record { all = asked.0; are = asked.1; asked = asked.2 },
       sym (same_text form days),
     )
+
+-- the writer is the one that it was
+pub taken_by : {W : Type 0} (contents : W → Option (List ℕ)) (days : List DayTotal) (from to : ReportRows W) → TakesAll (TakesDay contents) from days to
+    → to.output.ghost_name ≡ from.output.ghost_name
+taken_by {W} contents [] from to took = ap (λ (rows : ReportRows W). rows.output.ghost_name) took
+taken_by contents (day ∷ more) from to took = taken_by contents more took.0 to took.2 ∙ took.1.output
 
 told_by : (failed : Bool) (status : ExitStatus) (text : List ℕ) (old new : Option (List ℕ)) → status ≡ (if failed then Failed else Fine)
     → GotUnless failed text old new → IsTold text Fine status old new

@@ -7,7 +7,7 @@ ghost use Rattle.stored_office.specs.Joining.Reports.{ReportsJoined};
 use crate::joining::files::JoinedFiles;
 use command_io::ExitStatus;
 use energy_report::{ReportForm, ReportRows};
-use interval_core::DayTotal;
+use interval_core::{DayTotal, accounts_are_one};
 use office_books::RowSink;
 use std::io::Write;
 
@@ -42,6 +42,7 @@ pub fn report_joined<W: Write>(
 ) -> ExitStatus
     ensures { ReportsJoined W.Write joined form.now output.old output.new result }
 {
+    accounts_are_one();
     let JoinedFiles { days, .. } = joined;
     let days = days.into_rows();
     let mut rows = ReportRows::to(*form, output);
