@@ -80,10 +80,7 @@ fn not_before(known: &[Installation], row: &Installation) -> Option<Installation
 }
 
 // Adds a meter that comes after these.
-fn add_next(
-    known: &mut Vec<Installation>,
-    row: &Installation,
-) -> Result<Option<Apart>, AllocError>
+fn add_next(known: &mut Vec<Installation>, row: &Installation) -> Result<Option<Apart>, AllocError>
     ensures { IfOk result (AddsNext known.old.items row.now known.new.items) }
 {
     match not_before(known.as_slice(), row) {
@@ -99,10 +96,7 @@ fn add_next(
 }
 
 // Adds a meter as which the last of these goes on, or which comes after them.
-fn add_meter(
-    known: &mut Vec<Installation>,
-    row: &Installation,
-) -> Result<Option<Apart>, AllocError>
+fn add_meter(known: &mut Vec<Installation>, row: &Installation) -> Result<Option<Apart>, AllocError>
     ensures { IfOk result (AddsOrIsApart known.old.items row.now known.new.items) }
 {
     let Some(last) = known.pop() else {

@@ -35,11 +35,7 @@ fn finish<W: Write>(rows: &mut ReportRows<'_, W>) -> ExitStatus
 
 /// Prints the energy of a register in files that join, on the days of a range, by periods, in a unit and a format. What was kept
 /// of them has the quarter hours around the days of the range.
-pub fn report_joined<W: Write>(
-    joined: JoinedFiles,
-    form: &ReportForm,
-    output: &mut W,
-) -> ExitStatus
+pub fn report_joined<W: Write>(joined: JoinedFiles, form: &ReportForm, output: &mut W) -> ExitStatus
     ensures { ReportsJoined W.Write joined form.now output.old output.new result }
 {
     accounts_are_one();

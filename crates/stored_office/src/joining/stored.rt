@@ -158,7 +158,14 @@ pub fn join_stored<S: Alter + Drop>(
             if !is_of_zone(&zone, &before) {
                 return Err(JoinFault::OtherZone);
             }
-            join_opened(alloc, connection, before, zone, register, span_around(range))
+            join_opened(
+                alloc,
+                connection,
+                before,
+                zone,
+                register,
+                span_around(range),
+            )
         }
         Err(fault) => Err(JoinFault::Unopened(fault)),
     }
