@@ -11,7 +11,7 @@ use Rattle.interval_core.specs.declared.shares.Share.{Share}
 use Rattle.interval_core.specs.declared.zone.Zone.{Zone}
 use Rattle.office_books.specs.Rows.{TakesAll}
 use Rattle.stored_office.specs.declared.joining.days.JoinedDays.{JoinedDays}
-use Rattle.stored_office.specs.Joining.Days.{AddsRow, AddsUp, AddUp, AreOutOfTurn, HasAdded, HasNumber, TakesShare}
+use Rattle.stored_office.specs.Joining.Days.{AddsRow, AddsUp, AddUp, AreOutOfTurn, HasNumber, TakesShare}
 
 -- ---- a row before the latest is out of turn
 
