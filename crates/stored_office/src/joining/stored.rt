@@ -113,6 +113,14 @@ fn join_books<B: Books>(
     }
 }
 
+// Why an office isn't joined; what was kept goes.
+fn refused(before: Option<JoinedOffice>, why: JoinFault) -> Result<JoinedOffice, JoinFault>
+    ensures { result ≡ Err why }
+{
+    drop(before);
+    Err(why)
+}
+
 // Opens an office of that zone, and adds what it tells.
 fn join_opened<S: Alter + Drop>(
     alloc: Global,
@@ -130,7 +138,7 @@ fn join_opened<S: Alter + Drop>(
 {
     match SqlBooks::open(alloc, connection) {
         Ok(books) => join_books(alloc, books, before, zone, register, span),
-        Err(unopened) => Err(JoinFault::Unopened(unopened.fault)),
+        Err(unopened) => refused(before, JoinFault::Unopened(unopened.fault)),
     }
 }
 
@@ -156,7 +164,7 @@ pub fn join_stored<S: Alter + Drop>(
     match told_zone(&mut connection) {
         Ok(zone) => {
             if !is_of_zone(&zone, &before) {
-                return Err(JoinFault::OtherZone);
+                return refused(before, JoinFault::OtherZone);
             }
             join_opened(
                 alloc,
@@ -167,6 +175,6 @@ pub fn join_stored<S: Alter + Drop>(
                 span_around(range),
             )
         }
-        Err(fault) => Err(JoinFault::Unopened(fault)),
+        Err(fault) => refused(before, JoinFault::Unopened(fault)),
     }
 }
