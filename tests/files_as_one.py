@@ -230,6 +230,7 @@ def hold_refusals(room, parts, carries):
     same("no name", run("report", "--db", one, "--db", two, "--register", "?")[:2], (1, "refused 1\n"))
     same("no meter", run("report", "--db", one, "--db", two, "--register", "spare"), (0, "end 0\n", []))
     same("no file", over([one, str(room / "gone.db")])[:2], (3, ""))
+    same("a statement", over(parts, "--statement"), (1, "", ["sunreg: a statement is of one file: ask for each alone"]))
     same("no day", over(parts, "--from", "2024-02-30")[0], 2)
 
 

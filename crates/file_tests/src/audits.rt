@@ -3,7 +3,7 @@ use crate::commands::fill;
 use crate::files::{Files, path, remove};
 use std::test::Fail;
 use stored_office::{
-    AuditFault, Databases, Joining, audit_stored, join_stored, meters_stored, told_zone,
+    AuditFault, Databases, Joining, audit_stored, hold_to_earlier, meters_stored, told_zone,
     write_audit, write_joins,
 };
 
@@ -99,7 +99,7 @@ fn join<'a, D: Databases>(
     let Ok(zone) = told_zone(&mut connection) else {
         return Err(Fail::from("no zone"));
     };
-    match join_stored(rt.alloc(), joining, name, zone, meters) {
+    match hold_to_earlier(rt.alloc(), joining, name, zone, meters) {
         Ok(()) => Ok(()),
         Err(_) => Err(Fail::from("not joined")),
     }

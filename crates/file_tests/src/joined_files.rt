@@ -8,8 +8,8 @@ use interval_core::DayRange;
 use office_events::Name;
 use std::test::Fail;
 use stored_office::{
-    Databases, JoinFault, JoinedOffice, Unjoined, join_stored, one_file_tells_its_days,
-    report_joined,
+    Databases, JoinFault, JoinedOffice, Unjoined, both_files_tell_the_joined_days, join_stored,
+    one_file_tells_its_days, report_joined,
 };
 
 const ALL: DayRange = DayRange {
@@ -90,6 +90,7 @@ fn is_apart_from_itself<D: Databases>(
 #[test]
 fn a_file_is_reported_alone_and_not_after_itself(rt: HostRuntime) -> Result<(), Fail> {
     one_file_tells_its_days();
+    both_files_tell_the_joined_days();
     let path = path(&rt)?;
     let files = Files { rt: &rt };
     fill(&rt, &files, &path)?;

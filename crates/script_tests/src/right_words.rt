@@ -374,6 +374,35 @@ fn an_entering_asks_and_reads_no_counter_where_nothing_more_is_given(rt: HostRun
     }
 }
 
+static REPORT_FILES: [&str; 8] = [
+    "report",
+    "--db=2026.db",
+    "--register",
+    "main",
+    "--db",
+    "o.db",
+    "--statement",
+    "--",
+];
+
+#[test]
+fn a_report_takes_its_files_in_their_order(rt: HostRuntime) {
+    match command_of(rt.alloc(), &REPORT_FILES) {
+        Ok(
+            CommandLine::ReportFiles {
+                files,
+                register,
+                form,
+            },
+        ) => {
+            let names = ["2026.db", "o.db"];
+            assert!(rt; files.as_slice() == names.as_slice());
+            assert!(rt; register == "main" && form.statement);
+        }
+        _ => panic!(rt; "no report"),
+    }
+}
+
 static ENTER: [&str; 6] = ["enter", "-n", "--caller", "site", "--db", "o.db"];
 
 #[test]

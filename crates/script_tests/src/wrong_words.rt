@@ -1,7 +1,7 @@
 //! Words that spell no command.
 use command_words::{WordsFault, command_of};
 
-static WRONG: [&[&str]; 55] = [
+static WRONG: [&[&str]; 56] = [
     &["bogus"],
     &[""],
     &["Plan"],
@@ -36,6 +36,7 @@ static WRONG: [&[&str]; 55] = [
     &["round", "--db", "x", "--port", "1"],
     &["round", "--db", "x", "--device", "d"],
     &["report", "--db", "x"],
+    &["report", "--register", "r"],
     &["report", "--db", "x", "--register", "r", "--by", "week"],
     &["report", "--db", "x", "--register", "r", "--unit", "wh"],
     &["report", "--db", "x", "--register", "r", "--format", "xml"],

@@ -10,7 +10,7 @@ mod stored;
 
 pub use days::JoinedDays;
 pub use files::{JoinedFiles, Unjoined, add_books, no_files};
-pub use laws::one_file_tells_its_days;
+pub use laws::{both_files_tell_the_joined_days, one_file_tells_its_days};
 pub use meters::Apart;
 pub use reports::report_joined;
 pub use stored::{JoinFault, JoinedOffice, join_stored};

@@ -24,8 +24,8 @@ pub use carrying::{
 pub use ends::{Ending, Failure, ending_of, say};
 pub use files::{Databases, FileConnection, FileFault, is_bare, is_office, make_file, open_file};
 pub use joining::{
-    Apart, JoinFault, JoinedDays, JoinedFiles, JoinedOffice, Unjoined, add_books, join_stored, no_files,
-    one_file_tells_its_days, report_joined,
+    Apart, JoinFault, JoinedDays, JoinedFiles, JoinedOffice, Unjoined, add_books,
+    both_files_tell_the_joined_days, join_stored, no_files, one_file_tells_its_days, report_joined,
 };
 pub use new_office::create_stored;
 pub use seals::{check_stored_seal, seal_stored, write_checked, write_seal};

@@ -44,11 +44,12 @@ fn say_apart(rt: &HostRuntime, before: &str, path: &str, apart: &Apart) {
     );
     let _said = write!(
         errors,
-        "up to {before} the meter {} {state} at moment {}, counter {}, scale {}: {REMEDY}\n",
+        "up to {before} the meter {} {state} at moment {}, counter {}, scale {}: {}\n",
         name_of(&apart.stands),
         stands.at,
         stands.raw,
-        stands.sf
+        stands.sf,
+        REMEDY
     );
 }
 
@@ -60,13 +61,15 @@ fn say_unjoined(rt: &HostRuntime, before: &str, path: &str, why: &Unjoined) -> E
         Unjoined::NotRecorded => {
             let _said = write!(
                 errors,
-                "sunreg: {path}: the register is not recorded there, but is in {before} or before it: {REMEDY}\n"
+                "sunreg: {path}: the register is not recorded there, but is in {before} or before it: {}\n",
+                REMEDY
             );
         }
         Unjoined::OutOfTurn => {
             let _said = write!(
                 errors,
-                "sunreg: {path}: it has a quarter hour from before the last of {before}: {REMEDY}\n"
+                "sunreg: {path}: it has a quarter hour from before the last of {before}: {}\n",
+                REMEDY
             );
         }
     }
@@ -78,7 +81,8 @@ fn say_other_zone(rt: &HostRuntime, before: &str, path: &str) -> Ending<'static>
     let mut errors = Escaped::new(rt.stderr());
     let _said = write!(
         errors,
-        "sunreg: {path}: its days are those of another zone than the days of {before}: {REMEDY}\n"
+        "sunreg: {path}: its days are those of another zone than the days of {before}: {}\n",
+        REMEDY
     );
     Ending::Refused
 }
@@ -98,7 +102,8 @@ fn join_in<'a, D: Databases>(
     rt: &HostRuntime,
     databases: &D,
     joined: Option<JoinedOffice>,
-    (before, path): (&str, &'a str),
+    before: &str,
+    path: &'a str,
     register: &Name,
     range: DayRange,
 ) -> Result<JoinedOffice, Ending<'a>> {
@@ -122,7 +127,7 @@ fn join_all<'a>(
     let mut joined = None;
     let mut before = "";
     for path in paths {
-        match join_in(rt, &files, joined, (before, *path), register, range) {
+        match join_in(rt, &files, joined, before, *path, register, range) {
             Ok(next) => joined = Some(next),
             Err(ending) => return Err(ending),
         }
@@ -181,6 +186,13 @@ fn report_register<'a>(
     }
 }
 
+// Says that a statement is of one file.
+fn say_one_file(rt: &HostRuntime) -> Ending<'static> {
+    let mut errors = Escaped::new(rt.stderr());
+    let _said = errors.write_all(b"sunreg: a statement is of one file: ask for each alone\n");
+    Ending::Refused
+}
+
 /// Prints the energy of a register over several files of one office, the oldest first, as one.
 pub(crate) fn report_files<'a>(
     rt: &HostRuntime,
@@ -188,6 +200,9 @@ pub(crate) fn report_files<'a>(
     register: &str,
     words: &FormWords<'a>,
 ) -> Ending<'a> {
+    if words.statement {
+        return say_one_file(rt);
+    }
     let range = match range_of(words) {
         Ok(range) => range,
         Err(ending) => return ending,

@@ -105,7 +105,7 @@ module _ (until : Option ℕ) where
 
   -- ---- entries that are asked for piece by piece
 
-  piece_of : (facts : List Fact) (found : Option Opening) (n most : ℕ)
+  pub piece_of : (facts : List Fact) (found : Option Opening) (n most : ℕ)
       → first_from (n + 1) most (entries_at facts found) ≡ take most (drop n (entries_at facts found))
   piece_of facts None n most = none_listed (n + 1) most ∙ sym (ap (take most) (drop_all n [] (omega arith)) ∙ take_all most [] (omega arith))
   piece_of facts (Some opening) n most = piece_at facts opening n most

@@ -1,7 +1,5 @@
 -- Files that join, with one more.
-use Rattle.std.proofs.Common.{◌≡◌, ℕ, Bool, true, false, ◌||◌, Option, List, [], ◌∷◌, ◌++◌, Some, None, inl, inr, refl, sym, ap, subst, ◌∙◌}
-use Rattle.std.specs.List.{list_any}
-use Rattle.std.proofs.lemmas.Bool.{cases_Bool}
+use Rattle.std.proofs.Common.{◌≡◌, ℕ, Bool, true, false, not, ◌&&◌, ◌||◌, Option, List, [], ◌∷◌, ◌++◌, Some, None, refl, sym, subst, ◌∙◌}
 use Rattle.interval_core.specs.Fold.{HasTaken}
 use Rattle.interval_core.specs.declared.shares.Share.{Share}
 use Rattle.interval_core.specs.declared.zone.Zone.{Zone}
@@ -13,10 +11,12 @@ use Rattle.office_books.specs.Entries.{installations_of}
 use Rattle.office_books.specs.Spans.{rows_within}
 use Rattle.office_books.proofs.Handing.{takes_both}
 use Rattle.stored_office.specs.Joining.Days.{AddUp, HasNumber}
-use Rattle.stored_office.specs.Joining.Files.{AddDays, AllJoin, HasJoined, Joins, JoinsFile, is_recorded, is_recorded_in, meters_over, rows_over_within}
-use Rattle.stored_office.specs.Joining.Meters.{AddsMeter}
+use Rattle.stored_office.specs.Joining.Files.{AddDays, AddsRows, AllJoin, HasJoined, Joins, JoinsFile, is_recorded, is_recorded_in, meters_over, rows_over_within}
+use Rattle.stored_office.specs.Joining.Meters.{AddMeters, AddsMeter, AreApart}
 use Rattle.stored_office.specs.declared.joining.files.JoinedFiles.{JoinedFiles}
 use Rattle.stored_office.specs.declared.joining.files.Unjoined.{Unjoined}
+use Rattle.stored_office.specs.declared.joining.files.Unjoined.TheVariants as unjoined
+use Rattle.stored_office.specs.declared.joining.days.JoinedDays.{JoinedDays}
 use Rattle.stored_office.proofs.JoiningLemmas.Days.{add_all, first_has, same_zone}
 
 -- ---- a register that is in a file is in each later one
@@ -25,6 +25,42 @@ is_in_both : (here before : Bool) → (before ≡ true → here ≡ true) → he
 is_in_both true before stays = refl
 is_in_both false true stays = stays refl
 is_in_both false false stays = refl
+
+is_kept : (was is there : Bool) → (was && not is) ≡ false → is ≡ there → was ≡ true → there ≡ true
+is_kept true true there test same so = sym same
+is_kept true false there test same so = absurd (cc test)
+is_kept false is there test same so = absurd (cc so)
+
+pub is_lost : (was is there : Bool) → (was && not is) ≡ true → is ≡ there → (was ≡ true) × (there ≡ false)
+is_lost true true there test same = absurd (cc test)
+is_lost true false there test same = (refl, sym same)
+is_lost false is there test same = absurd (cc test)
+
+pub joins_with : (span : Span) (register : List ℕ) (facts : List Fact) (old mid new : JoinedFiles) (is : Bool) (why : Option Unjoined)
+    → (old.is_recorded && not is) ≡ false → is ≡ is_recorded register facts
+    → mid.is_recorded ≡ is → mid.meters.items ≡ old.meters.items → mid.days ≡ old.days
+    → AddsRows span register facts mid new why → Joins span register facts old new why
+joins_with span register facts old mid new is None test same put meters days adds = record {
+  recorded = adds.recorded ∙ put ∙ same;
+  stays = is_kept old.is_recorded is (is_recorded register facts) test same;
+  meters = subst (λ (known : List Installation). AddMeters known (installations_of facts register) new.meters.items) meters adds.meters;
+  days = subst (λ (sink : JoinedDays). AddDays (rows_within span (rows_of_register facts register)) sink new.days None) days adds.days;
+}
+joins_with span register facts old mid new is (Some unjoined.NotRecorded) test same put meters days adds = absurd adds
+joins_with span register facts old mid new is (Some (unjoined.Apart apart)) test same put meters days adds =
+    subst (λ (known : List Installation). AreApart known (installations_of facts register) apart) meters adds
+joins_with span register facts old mid new is (Some unjoined.OutOfTurn) test same put meters days adds = record {
+  days = adds.days;
+  added = subst (λ (sink : JoinedDays). AddDays (rows_within span (rows_of_register facts register)) sink adds.days (Some unjoined.OutOfTurn)) days adds.added;
+}
+
+pub adds_rows : (span : Span) (register : List ℕ) (facts : List Fact) (old new : JoinedFiles) (why : Option Unjoined)
+    → new.is_recorded ≡ old.is_recorded → AddMeters old.meters.items (installations_of facts register) new.meters.items
+    → AddDays (rows_within span (rows_of_register facts register)) old.days new.days why → AddsRows span register facts old new why
+adds_rows span register facts old new None same meters days = record { recorded = same; meters = meters; days = days }
+adds_rows span register facts old new (Some unjoined.NotRecorded) same meters days = absurd days
+adds_rows span register facts old new (Some (unjoined.Apart apart)) same meters days = absurd days
+adds_rows span register facts old new (Some unjoined.OutOfTurn) same meters days = record { days = new.days; added = days }
 
 -- ---- one file more
 

@@ -1,6 +1,8 @@
 -- Days that are reported of files that join.
-use Rattle.std.proofs.Common.{◌≡◌, ℕ, ◌<◌, ◌^◌, Bool, true, false, not, List, [], ◌∷◌, ◌++◌, length, Option, inl, inr, refl, sym, ap, subst, ◌∙◌, arith}
+use Rattle.std.proofs.Common.{◌≡◌, ℕ, ◌+◌, ◌<◌, ◌^◌, ◌==◌, Bool, true, false, cond, not, List, [], ◌∷◌, ◌++◌, length, Option, inl, inr, refl, sym, ap, subst, ◌∙◌, arith}
 use Rattle.std.specs.Prelude.{filter, map, if◌then◌else◌}
+use Rattle.std.specs.List.{list_any}
+use Rattle.std.proofs.lemmas.List.{length-map}
 use Rattle.std.proofs.lemmas.Bool.{cases_Bool, cond-true, cond-false}
 use Rattle.std.proofs.lemmas.List.Elements.{filter-append}
 use Rattle.std.proofs.lemmas.List.Filters.{sum_by-filter_both}
@@ -11,13 +13,13 @@ use Rattle.energy_report.specs.Texts.{report_text, rows_text}
 use Rattle.energy_report.specs.Writing.{GotUnless, IsFresh, TakesDay}
 use Rattle.energy_report.specs.declared.form.ReportForm.{ReportForm}
 use Rattle.energy_report.specs.declared.report_rows.ReportRows.{ReportRows}
-use Rattle.interval_core.specs.Account.{energy_of}
-use Rattle.interval_core.specs.Days.{AreAccounts, DayAccount, account_of}
+use Rattle.interval_core.specs.Account.{starts_of}
+use Rattle.meter_audit.specs.Carried.{AreCountedOnce}
+use Rattle.interval_core.specs.Days.{AccountsAreOne, AreAccounts, DayAccount, account_of, distinct_count, rows_on}
 use Rattle.interval_core.specs.Ranges.{days_in, is_in}
 use Rattle.interval_core.specs.declared.shares.Share.{Share}
 use Rattle.interval_core.specs.declared.totals.DayTotal.{DayTotal}
 use Rattle.interval_core.specs.declared.zone.Zone.{Zone}
-use Rattle.interval_core.proofs.OneLemmas.{exists_for, one_for}
 use Rattle.office_books.specs.declared.spans.Span.{Span}
 use Rattle.office_books.specs.declared.spans.Span.TheVariants.{All, Between}
 use Rattle.office_books.specs.Rows.{TakesAll}
@@ -73,22 +75,27 @@ same_text form days =
 
 -- ---- the report
 
-pub is_over : (zone : Zone) (register : List ℕ) (files : List (List Fact)) (form : ReportForm) (joined : JoinedFiles) (days : List DayTotal)
+pub is_over : (zone : Zone) (register : List ℕ) (files : List (List Fact)) (form : ReportForm) (joined : JoinedFiles) (days : List DayTotal) → AccountsAreOne
     → HasJoined zone (span_of form.range) register files joined → HasNumber (rows_over register files)
     → map account_of days ≡ joined.days.fold.accounts → IsReportOver zone register files form (report_text form days)
-is_over zone register files form joined days has fits are =
+is_over zone register files form joined days one has fits are =
     let span = span_of form.range in
     let rows = rows_over register files in
     let same = over_within span register files in
     let taken = has.days (subst HasNumber (sym same) (has_number span rows fits)) in
     let totals = subst (λ (accounts : List DayAccount). AreAccounts zone (rows_over_within span register files) accounts) (sym are) taken.accounts in
     let asked = days_within zone form.range span (λ start is. has_each form.range.from form.range.till zone start is)
-    (λ zone rows. let one = exists_for zone rows in (one.0, one.1, λ others are. one_for zone rows others one.0 are one.1))
-    rows days (days_in form.range days) (subst (λ (those : List Share). AreAccounts zone those (map account_of days)) same totals) refl in (
+    one rows days (days_in form.range days) (subst (λ (those : List Share). AreAccounts zone those (map account_of days)) same totals) refl in (
       days_in form.range days,
       record { all = asked.0; are = asked.1; asked = asked.2 },
       sym (same_text form days),
     )
+
+-- the writer is the one that it was
+pub taken_by : {W : Type 0} (contents : W → Option (List ℕ)) (days : List DayTotal) (from to : ReportRows W) → TakesAll (TakesDay contents) from days to
+    → to.output.ghost_name ≡ from.output.ghost_name
+taken_by {W} contents [] from to took = ap (λ (rows : ReportRows W). rows.output.ghost_name) took
+taken_by contents (day ∷ more) from to took = taken_by contents more took.0 to took.2 ∙ took.1.output
 
 told_by : (failed : Bool) (status : ExitStatus) (text : List ℕ) (old new : Option (List ℕ)) → status ≡ (if failed then Failed else Fine)
     → GotUnless failed text old new → IsTold text Fine status old new
@@ -103,3 +110,38 @@ told_over contents form days from to left output status fresh took few last =
     let got = last.finishes.finished from days taken few in
     let told = told_by left.failed status (report_text from.form days) (contents from.output.now) (contents left.output.now) last.means got in
     rw (sym fresh.form, sym fresh.output) told
+
+-- ---- a meter that is carried
+
+-- how many different numbers there are is none exactly where there is no number
+positive : (ns : List ℕ) → 0 < length ns → 0 < distinct_count ns
+positive [] less = absurd (omega (arith, less))
+positive (n ∷ []) less = omega arith
+positive (n ∷ m ∷ ms) less =
+    let rest = positive (m ∷ ms) (omega arith) in
+    elim (list_any (λ k. k == n) (m ∷ ms)) as (λ b. 0 < cond b 0 1 + distinct_count (m ∷ ms)) [
+      | true ↦ omega (arith, rest)
+      | false ↦ omega (arith, rest)
+    ]
+
+some_there : (ns : List ℕ) → 0 < distinct_count ns → 0 < length ns
+some_there [] less = absurd (omega (arith, less))
+some_there (n ∷ ns) less = omega arith
+
+-- rows of as many quarter hours are there, where others are
+there_too : (rows others : List Share) → distinct_count (starts_of rows) ≡ distinct_count (starts_of others) → 0 < length rows → 0 < length others
+there_too rows others same less =
+    let counted = positive (starts_of rows) (subst (λ n. 0 < n) (sym (length-map rows (λ (row : Share). row.start))) less) in
+    subst (λ n. 0 < n) (length-map others (λ (row : Share). row.start)) (some_there (starts_of others) (subst (λ n. 0 < n) same counted))
+
+pub joined_days : (zone : Zone) (old new both : List Share) (accounts : List DayAccount) → AreCountedOnce old new both
+    → AreAccounts zone (old ++ new) accounts → AreAccounts zone both accounts
+joined_days zone old new both accounts once are = record {
+  in_order = are.in_order;
+  complete = λ day.
+      let same = ap (λ (account : DayAccount). account.count) (once.days zone day) in (
+        λ has. there_too (rows_on zone (old ++ new) day) (rows_on zone both day) (sym same) ((are.complete day).0 has),
+        λ some. (are.complete day).1 (there_too (rows_on zone both day) (rows_on zone (old ++ new) day) same some),
+      );
+  each = λ k d less. are.each k d less ∙ sym (once.days zone _);
+}

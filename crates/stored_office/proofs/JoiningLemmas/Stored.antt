@@ -1,6 +1,6 @@
 -- Offices in databases that join.
-use Rattle.std.proofs.Common.{◌≡◌, ℕ, List, [], ◌∷◌, Result, Ok, Err, IfOk, Option, Some, None, sym, subst, ◌∙◌}
-use Rattle.std.specs.Prelude.{String, string_bytes}
+use Rattle.std.proofs.Common.{◌≡◌, ℕ, List, [], ◌∷◌, Result, Ok, Err, IfOk, Option, Some, None, refl, sym, subst, ◌∙◌}
+use Rattle.std.specs.Prelude.{◌≢◌, IfErr, String, string_bytes}
 use Rattle.sqlite.specs.Store.{Ghosts}
 use Rattle.sqlite.specs.Held.{Held, state}
 use Rattle.sqlite.specs.State.{HasCleanDisk}
@@ -11,8 +11,10 @@ use Rattle.office_store.specs.Database.{HoldsAlone}
 use Rattle.office_store.specs.declared.books.SqlBooks.{SqlBooks}
 use Rattle.stored_office.specs.BooksFound.{ledger_beneath}
 use Rattle.stored_office.specs.Joining.Files.{AllJoin, HasJoined}
-use Rattle.stored_office.specs.Joining.Stored.{AreBefore, IsOfZone, JoinsBooks, JoinsFrom, JoinsNext, JoinsOffice}
+use Rattle.stored_office.specs.Joining.Stored.{AreBefore, IsElsewhere, IsOfZone, IsRefused, IsUnjoined, JoinsBooks, JoinsFrom, JoinsNext, JoinsOffice, RefusesOffice, RefusesUnless, UnjoinsBooks}
 use Rattle.stored_office.specs.declared.joining.files.JoinedFiles.{JoinedFiles}
+use Rattle.stored_office.specs.declared.joining.stored.JoinFault.{JoinFault}
+use Rattle.stored_office.specs.declared.joining.stored.JoinFault.TheVariants as fault
 use Rattle.stored_office.specs.declared.joining.stored.JoinedOffice.{JoinedOffice}
 
 -- the next file after those before it, or the first
@@ -46,3 +48,36 @@ joins_office g mid facts told zone span register before (Ok new) is same it = re
   joins = it.joins;
 }
 joins_office g mid facts told zone span register before (Err why) is same it = tt
+
+-- ---- what doesn't join
+
+-- what is kept and books that were found in a file
+pub refuses_unless : {S T : Type 0} (g : Ghosts S) (facts : List Fact) (its : List ℕ) (span : Span) (register : List ℕ) (before : Option JoinedOffice)
+    (books : SqlBooks S g) (result : Result T JoinFault) → HoldsAlone g its books.connection facts
+    → IfErr result (λ why. why ≢ fault.OtherZone)
+    → IfErr result (UnjoinsBooks (ledger_beneath g) books span register before) → IfErr result (RefusesUnless g span register facts before)
+refuses_unless g facts its span register before books (Ok new) holds same it = tt
+refuses_unless g facts its span register before books (Err (fault.Unopened why)) holds same it = tt
+refuses_unless g facts its span register before books (Err fault.OtherZone) holds same it = absurd (same refl)
+refuses_unless g facts its span register before books (Err (fault.Books why)) holds same it = tt
+refuses_unless g facts its span register before books (Err (fault.Unjoined why)) holds same it = record {
+  asked = it.asked;
+  files = it.files;
+  are = it.are;
+  unjoined = it.unjoined facts (record { zone = its; holds = holds.holds });
+}
+
+pub refuses_office : {S T : Type 0} (g : Ghosts S) (zone : List ℕ) (span : Span) (register : List ℕ) (facts : List Fact) (before : Option JoinedOffice)
+    (result : Result T JoinFault) → IfErr result (RefusesUnless g span register facts before) → IfErr result (RefusesOffice g zone span register facts before)
+refuses_office g zone span register facts before (Ok new) it = tt
+refuses_office g zone span register facts before (Err (fault.Unopened why)) it = tt
+refuses_office g zone span register facts before (Err fault.OtherZone) it = absurd it
+refuses_office g zone span register facts before (Err (fault.Unjoined why)) it = it
+refuses_office g zone span register facts before (Err (fault.Books why)) it = tt
+
+pub elsewhere : {S : Type 0} (g : Ghosts S) (left : Held S) (told zone : List ℕ) (before : Option JoinedOffice)
+    → (HasCleanDisk (state g left) → told ≡ zone) → (IsOfZone told before → ⊥) → IsElsewhere g zone before
+elsewhere g left told zone before is other = record {
+  left = left;
+  other = λ clean same. other (subst (λ (those : List ℕ). IsOfZone those before) (sym (is clean)) same);
+}

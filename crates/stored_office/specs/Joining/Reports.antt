@@ -1,14 +1,16 @@
 -- The report of a register over files of one office, on a range of days, in a form.
-use Rattle.std.specs.Prelude.{◌≡◌, ◌↔◌, ℕ, List, [], ◌∷◌, map, Option, Some}
+use Rattle.std.specs.Prelude.{◌≡◌, ◌↔◌, ℕ, List, [], ◌∷◌, ◌++◌, map, Option, Some}
 use Rattle.std.specs.declared.io.Write as writers
 use Rattle.command_io.specs.declared.status.ExitStatus.{ExitStatus}
 use Rattle.command_io.specs.declared.status.ExitStatus.TheVariants.{Fine}
 use Rattle.energy_report.specs.Texts.{report_text}
 use Rattle.energy_report.specs.declared.form.ReportForm.{ReportForm}
 use Rattle.interval_core.specs.Days.{AreAccounts, DayAccount, account_of}
+use Rattle.interval_core.specs.declared.shares.Share.{Share}
 use Rattle.interval_core.specs.declared.day_range.DayRange.{DayRange}
 use Rattle.interval_core.specs.declared.totals.DayTotal.{DayTotal}
 use Rattle.interval_core.specs.declared.zone.Zone.{Zone}
+use Rattle.meter_audit.specs.Carried.{AreCountedOnce}
 use Rattle.office_core.specs.DayRange.{AreDaysWithin, accounts_within, span_of}
 use Rattle.office_events.specs.declared.facts.Fact.{Fact}
 use Rattle.office_program.specs.Texts.EndTexts.{IsTold}
@@ -52,3 +54,10 @@ OneFileTellsItsDays = (zone : Zone) (register : List ℕ) (facts : List Fact) (r
     (days : List DayAccount)
     → AreDaysOver zone register (facts ∷ []) range days
     ↔ AreDaysWithin zone facts (Some register) range days
+
+-- The rows that the old file and the new one have of a meter that is carried from the one into the other come to the days of
+-- its journal in both: to those that one file tells that was never carried.
+abbrev pub BothFilesTellTheJoinedDays : Type 0
+BothFilesTellTheJoinedDays = (zone : Zone) (old new both : List Share) (accounts : List DayAccount)
+    → AreCountedOnce old new both
+    → AreAccounts zone (old ++ new) accounts → AreAccounts zone both accounts

@@ -37,6 +37,13 @@ impl JoinedDays {
         }
     }
 
+    /// By whose clocks the days are.
+    pub fn zone(&self) -> Zone
+        ensures { result ≡ self.now.zone }
+    {
+        self.zone
+    }
+
     // Adds a row up.
     fn add(&mut self, row: Share)
         requires works { self.old.fault ≡ None }

@@ -1,5 +1,5 @@
 //! What files of one office tell of a register, one file after the other.
-ghost use Rattle.std.specs.Prelude.{◌≡◌, List, [], IfOk, is_some};
+ghost use Rattle.std.specs.Prelude.{◌≡◌, ℕ, List, [], IfOk};
 ghost use Rattle.office_events.specs.declared.facts.Fact.{Fact};
 ghost use Rattle.office_rules.specs.Intervals.{rows_of_register};
 ghost use Rattle.office_books.specs.Entries.{installations_of};
@@ -11,7 +11,7 @@ ghost use Rattle.stored_office.specs.Joining.Files.{AddDays, AddsRows, AllJoin, 
 ghost use Rattle.stored_office.specs.Joining.Meters.{AddOrAreApart};
 
 use crate::joining::days::JoinedDays;
-use crate::joining::meters::{Apart, add_meters};
+use crate::joining::meters::{Apart, add_meters, both};
 use interval_core::{DayFault, Zone};
 use office_books::{Books, BooksFault, Span};
 use office_events::{Installation, Name};
@@ -72,7 +72,10 @@ fn join_meters<B: Books>(
     ensures reads { Consults (B.ledger books.old) (B.ledger books.new) result }
 {
     match books.meters(register) {
-        Ok(listed) => add_meters(meters, &listed),
+        Ok(listed) => match add_meters(meters, &listed) {
+            Ok(apart) => Ok(apart),
+            Err(_) => Err(BooksFault::Memory),
+        },
         Err(fault) => Err(fault),
     }
 }
@@ -136,7 +139,7 @@ fn add_file<B: Books>(
     match is_recorded(books, register) {
         Err(fault) => Err(fault),
         Ok(is_recorded) => {
-            if joined.is_recorded && !is_recorded {
+            if both(joined.is_recorded, !is_recorded) {
                 return Ok(Some(Unjoined::NotRecorded));
             }
             joined.is_recorded = is_recorded;

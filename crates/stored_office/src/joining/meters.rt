@@ -1,11 +1,11 @@
 //! The meters at a register over files, one file after the other.
-ghost use Rattle.std.specs.Prelude.{◌≡◌, true, false, All, Contains, IfOk, MatchOption};
+ghost use Rattle.std.specs.Prelude.{◌≡◌, ◌&&◌, not, find, IfOk};
 ghost use Rattle.stored_office.specs.Joining.Meters as meters;
 ghost use Rattle.stored_office.specs.Joining.Meters.{AddOrAreApart, AddsNext, AddsOrIsApart};
 
 use energy_core::Last;
-use office_books::BooksFault;
 use office_events::{Installation, Opening};
+use std::alloc::AllocError;
 
 /// Two meters at a register that don't join: where one stands by the files before, and another that begins in the next one,
 /// neither there nor after it.
@@ -15,7 +15,7 @@ pub struct Apart {
     pub begins: Installation,
 }
 
-fn both(one: bool, other: bool) -> bool
+pub(crate) fn both(one: bool, other: bool) -> bool
     ensures { result ≡ one && other }
 {
     one && other
@@ -69,8 +69,7 @@ fn is_before(stands: &Installation, row: &Installation) -> bool
 
 // The first of these that was not there before another.
 fn not_before(known: &[Installation], row: &Installation) -> Option<Installation>
-    ensures { MatchOption result (All (λ stands. meters.is_before stands row.now ≡ true) known.now)
-        (λ stands. Contains known.now stands × (meters.is_before stands row.now ≡ false)) }
+    ensures { result ≡ find (λ stands. not (meters.is_before stands row.now)) known.now }
 {
     for stands in known {
         if !is_before(stands, row) {
@@ -81,10 +80,7 @@ fn not_before(known: &[Installation], row: &Installation) -> Option<Installation
 }
 
 // Adds a meter that comes after these.
-fn add_next(
-    known: &mut Vec<Installation>,
-    row: &Installation,
-) -> Result<Option<Apart>, BooksFault>
+fn add_next(known: &mut Vec<Installation>, row: &Installation) -> Result<Option<Apart>, AllocError>
     ensures { IfOk result (AddsNext known.old.items row.now known.new.items) }
 {
     match not_before(known.as_slice(), row) {
@@ -100,10 +96,7 @@ fn add_next(
 }
 
 // Adds a meter as which the last of these goes on, or which comes after them.
-fn add_meter(
-    known: &mut Vec<Installation>,
-    row: &Installation,
-) -> Result<Option<Apart>, BooksFault>
+fn add_meter(known: &mut Vec<Installation>, row: &Installation) -> Result<Option<Apart>, AllocError>
     ensures { IfOk result (AddsOrIsApart known.old.items row.now known.new.items) }
 {
     let Some(last) = known.pop() else {
@@ -122,7 +115,7 @@ fn add_meter(
 pub fn add_meters(
     known: &mut Vec<Installation>,
     listed: &[Installation],
-) -> Result<Option<Apart>, BooksFault>
+) -> Result<Option<Apart>, AllocError>
     ensures { IfOk result (AddOrAreApart known.old.items listed.now known.new.items) }
 {
     for row in listed {

@@ -7,7 +7,7 @@ ghost use Rattle.stored_office.specs.Joining.Reports.{ReportsJoined};
 use crate::joining::files::JoinedFiles;
 use command_io::ExitStatus;
 use energy_report::{ReportForm, ReportRows};
-use interval_core::DayTotal;
+use interval_core::{DayTotal, accounts_are_one};
 use office_books::RowSink;
 use std::io::Write;
 
@@ -35,13 +35,10 @@ fn finish<W: Write>(rows: &mut ReportRows<'_, W>) -> ExitStatus
 
 /// Prints the energy of a register in files that join, on the days of a range, by periods, in a unit and a format. What was kept
 /// of them has the quarter hours around the days of the range.
-pub fn report_joined<W: Write>(
-    joined: JoinedFiles,
-    form: &ReportForm,
-    output: &mut W,
-) -> ExitStatus
+pub fn report_joined<W: Write>(joined: JoinedFiles, form: &ReportForm, output: &mut W) -> ExitStatus
     ensures { ReportsJoined W.Write joined form.now output.old output.new result }
 {
+    accounts_are_one();
     let JoinedFiles { days, .. } = joined;
     let days = days.into_rows();
     let mut rows = ReportRows::to(*form, output);

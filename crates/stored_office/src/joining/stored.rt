@@ -1,5 +1,5 @@
 //! Offices in databases, of which one is open at a time, joined one after the other.
-ghost use Rattle.std.specs.Prelude.{◌≡◌, ◌↔◌, ℕ, List, None, Err, IfOk, IsTrue, string_bytes};
+ghost use Rattle.std.specs.Prelude.{◌≡◌, ◌≢◌, ◌↔◌, ℕ, List, None, Err, IfErr, IfOk, IsTrue, string_bytes};
 ghost use Rattle.office_events.specs.declared.facts.Fact.{Fact};
 ghost use Rattle.office_rules.specs.History.{History, facts_of};
 ghost use Rattle.store_files.specs.declared.layouts.Layout.{Layout as TheLayout};
@@ -9,7 +9,8 @@ ghost use Rattle.office_core.specs.DayRange.{span_of};
 ghost use Rattle.stored_office.specs.BooksFound.{HasPast};
 ghost use Rattle.stored_office.specs.Joining.Files.{AllJoin};
 ghost use Rattle.stored_office.specs.Joining.Stored.{AreBefore, IsOfZone, JoinsBooks};
-ghost use Rattle.stored_office.specs.Joining.Stored.{JoinsFrom, JoinsOffice};
+ghost use Rattle.stored_office.specs.Joining.Stored.{IsUnjoined, JoinsFrom, JoinsOffice};
+ghost use Rattle.stored_office.specs.Joining.Stored.{RefusesOffice, RefusesUnless, UnjoinsBooks};
 
 use crate::carries::told_zone;
 use crate::joining::files::{JoinedFiles, Unjoined, add_books, no_files};
@@ -57,7 +58,10 @@ fn files_before(alloc: Global, zone: Zone, before: Option<JoinedOffice>) -> Join
 {
     match before {
         None => no_files(alloc, zone),
-        Some(joined) => joined.files,
+        Some(joined) => {
+            let JoinedOffice { files, .. } = joined;
+            files
+        }
     }
 }
 
@@ -71,6 +75,10 @@ fn join_next<B: Books>(
     ensures joins { (known : List Fact) → (B.ledger books.old).holds known
         → (B.ledger books.new).is_clean
         → IfOk result (λ new. AllJoin span register.now known files new None) }
+    ensures unjoined { (known : List Fact) → (B.ledger books.old).holds known
+        → (B.ledger books.new).is_clean
+        → IfErr result (IsUnjoined span register.now known files) }
+    ensures same { IfErr result (λ why. why ≢ JoinFault.OtherZone) }
     ensures clean { (B.ledger books.new).is_clean → (B.ledger books.old).is_clean }
 {
     let mut files = files;
@@ -92,7 +100,10 @@ fn join_books<B: Books>(
     register: &Name,
     span: Span,
 ) -> Result<JoinedOffice, JoinFault>
-    ensures { IfOk result (JoinsBooks B.ledger books (string_bytes zone) span register.now before) }
+    ensures joins { IfOk result
+        (JoinsBooks B.ledger books (string_bytes zone) span register.now before) }
+    ensures unjoined { IfErr result (UnjoinsBooks B.ledger books span register.now before) }
+    ensures same { IfErr result (λ why. why ≢ JoinFault.OtherZone) }
 {
     let mut books = books;
     let files = files_before(alloc, books.zone(), before);
@@ -100,6 +111,14 @@ fn join_books<B: Books>(
         Ok(files) => Ok(JoinedOffice { zone, files }),
         Err(fault) => Err(fault),
     }
+}
+
+// Why an office isn't joined; what was kept goes.
+fn refused(before: Option<JoinedOffice>, why: JoinFault) -> Result<JoinedOffice, JoinFault>
+    ensures { result ≡ Err why }
+{
+    drop(before);
+    Err(why)
 }
 
 // Opens an office of that zone, and adds what it tells.
@@ -111,13 +130,15 @@ fn join_opened<S: Alter + Drop>(
     register: &Name,
     span: Span,
 ) -> Result<JoinedOffice, JoinFault>
-    ensures { (its : List ℕ) (facts : List Fact) → HasFile S.Store its connection facts
+    ensures joins { (its : List ℕ) (facts : List Fact) → HasFile S.Store its connection facts
         → IfOk result
         (JoinsFrom S.Store connection facts (string_bytes zone) span register.now before) }
+    ensures unjoined { (its : List ℕ) (facts : List Fact) → HasFile S.Store its connection facts
+        → IfErr result (RefusesUnless S.Store span register.now facts before) }
 {
     match SqlBooks::open(alloc, connection) {
         Ok(books) => join_books(alloc, books, before, zone, register, span),
-        Err(unopened) => Err(JoinFault::Unopened(unopened.fault)),
+        Err(unopened) => refused(before, JoinFault::Unopened(unopened.fault)),
     }
 }
 
@@ -135,15 +156,25 @@ pub fn join_stored<S: Alter + Drop>(
     ensures joins { (past : History) → (has : HasPast S.Store connection past)
         → IfOk result
         (JoinsOffice S.Store has.zone (span_of range) register.now (facts_of past) before) }
+    ensures refuses { (past : History) → (has : HasPast S.Store connection past)
+        → IfErr result
+        (RefusesOffice S.Store has.zone (span_of range) register.now (facts_of past) before) }
 {
     let mut connection = connection;
     match told_zone(&mut connection) {
         Ok(zone) => {
             if !is_of_zone(&zone, &before) {
-                return Err(JoinFault::OtherZone);
+                return refused(before, JoinFault::OtherZone);
             }
-            join_opened(alloc, connection, before, zone, register, span_around(range))
+            join_opened(
+                alloc,
+                connection,
+                before,
+                zone,
+                register,
+                span_around(range),
+            )
         }
-        Err(fault) => Err(JoinFault::Unopened(fault)),
+        Err(fault) => refused(before, JoinFault::Unopened(fault)),
     }
 }

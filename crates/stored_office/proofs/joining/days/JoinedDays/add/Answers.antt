@@ -1,4 +1,4 @@
-use Rattle.std.proofs.Common.{[], ◌∷◌, ◌++◌, Option, inl, inr, refl, sym, subst}
+use Rattle.std.proofs.Common.{Option, inl, inr, refl, sym, subst}
 use Rattle.interval_core.specs.declared.day.DayFault.{DayFault}
 use Rattle.stored_office.specs.Joining.Days.{AddsUp}
 use Rattle.stored_office.proofs.JoiningLemmas.Days.{behind}
