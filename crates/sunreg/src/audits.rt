@@ -7,8 +7,9 @@ use std::fs::File;
 use std::io::{self, Read, Write};
 use std::str::from_utf8;
 use stored_office::{
-    AuditFault, Databases, Ending, Failure, Joining, audit_stored, check_stored_seal, hold_to_earlier,
-    meters_stored, seal_stored, told_zone, write_audit, write_checked, write_joins, write_seal,
+    AuditFault, Databases, Ending, Failure, Joining, audit_stored, check_stored_seal,
+    hold_to_earlier, meters_stored, seal_stored, told_zone, write_audit, write_checked,
+    write_joins, write_seal,
 };
 
 /// The most bytes that are read of a seal. One of 4,096 meters, each with a thousand voids, has fewer.
