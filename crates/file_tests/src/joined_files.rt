@@ -2,15 +2,15 @@
 use crate::commands::fill;
 use crate::day::{MONTH, REPORTED};
 use crate::files::{Files, path, remove};
+use carried_books::{
+    Unjoined, both_files_tell_the_joined_days, one_file_tells_its_days, report_joined,
+};
 use command_io::ExitStatus;
 use energy_report::{EnergyUnit, Format, Period, ReportForm};
 use interval_core::DayRange;
 use office_events::Name;
 use std::test::Fail;
-use stored_office::{
-    Databases, JoinFault, JoinedOffice, Unjoined, both_files_tell_the_joined_days, join_stored,
-    one_file_tells_its_days, report_joined,
-};
+use stored_office::{Databases, JoinFault, JoinedOffice, join_stored};
 
 const ALL: DayRange = DayRange {
     from: None,

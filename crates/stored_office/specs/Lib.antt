@@ -4,6 +4,5 @@ pub mod Tasks
 pub mod Ends
 pub mod Files
 pub mod Backups
-pub mod Carrying
 pub mod Carries
-pub mod Joining
+pub mod Joins

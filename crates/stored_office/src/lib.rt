@@ -4,10 +4,9 @@
 mod audits;
 mod backups;
 mod carries;
-mod carrying;
 mod ends;
 mod files;
-mod joining;
+mod joins;
 mod new_office;
 mod runs;
 mod seals;
@@ -18,15 +17,9 @@ pub use audits::{
 };
 pub use backups::{CopyFault, whole_file, whole_files};
 pub use carries::{CarryEnd, carry_stored, told_zone};
-pub use carrying::{
-    CarryFault, carry_books, commands_record_the_same, meters_go_on_where_they_stand,
-};
 pub use ends::{Ending, Failure, ending_of, say};
 pub use files::{Databases, FileConnection, FileFault, is_bare, is_office, make_file, open_file};
-pub use joining::{
-    Apart, JoinFault, JoinedDays, JoinedFiles, JoinedOffice, Unjoined, add_books,
-    both_files_tell_the_joined_days, join_stored, no_files, one_file_tells_its_days, report_joined,
-};
+pub use joins::{JoinFault, JoinedOffice, join_stored};
 pub use new_office::create_stored;
 pub use seals::{check_stored_seal, seal_stored, write_checked, write_seal};
 pub use table_seals::Joining;

@@ -3,6 +3,7 @@ use crate::backups::{give_name, part_of};
 use crate::copies::{Pair, remove};
 use crate::escaped::Escaped;
 use crate::offices::{Files, Opening, open_in};
+use carried_books::CarryFault;
 use office_events::{Name, Refusal};
 use printed_numbers::{Kind, meaning_of};
 use sqlite::{Connection, Unknown};
@@ -10,9 +11,7 @@ use std::fs::{self, File, OpenOptions};
 use std::io::{self, ErrorKind, Write};
 use std::os::unix::fs::OpenOptionsExt;
 use std::str::from_utf8;
-use stored_office::{
-    CarryEnd, CarryFault, CopyFault, Databases, Ending, Failure, carry_stored, whole_file,
-};
+use stored_office::{CarryEnd, CopyFault, Databases, Ending, Failure, carry_stored, whole_file};
 
 // Makes an empty file that is its owner's alone.
 fn make_part(rt: &HostRuntime, part: &str) -> io::Result<()> {

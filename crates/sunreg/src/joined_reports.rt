@@ -4,16 +4,14 @@ use crate::command_output::CommandOutput;
 use crate::escaped::Escaped;
 use crate::offices::{Files, Opening, open_in};
 use crate::reports::{form_of, range_of};
+use carried_books::{Apart, Unjoined, report_joined};
 use command_words::FormWords;
 use energy_report::ReportForm;
 use interval_core::DayRange;
 use office_events::{Installation, Name, Refusal};
 use std::io::{self, Write};
 use std::str::from_utf8;
-use stored_office::{
-    Apart, Databases, Ending, Failure, JoinFault, JoinedOffice, Unjoined, ending_of, join_stored,
-    report_joined,
-};
+use stored_office::{Databases, Ending, Failure, JoinFault, JoinedOffice, ending_of, join_stored};
 
 // What to do where files don't join.
 const REMEDY: &str =

@@ -1,5 +1,0 @@
-pub mod Days
-pub mod Meters
-pub mod Files
-pub mod Reports
-pub mod Stored

@@ -1,5 +1,0 @@
-pub mod Meters
-pub mod Days
-pub mod Files
-pub mod Reports
-pub mod Stored
