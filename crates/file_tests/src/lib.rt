@@ -17,6 +17,8 @@ mod failures;
 #[cfg(test)]
 mod files;
 #[cfg(test)]
+mod joined_files;
+#[cfg(test)]
 mod made_files;
 #[cfg(test)]
 mod said;
@@ -26,3 +28,5 @@ mod statuses;
 mod stored;
 #[cfg(test)]
 mod task_ends;
+#[cfg(test)]
+mod unwaited_lines;

@@ -4,6 +4,8 @@ use Rattle.std.specs.Prelude.{max, position, slice_get, if◌then◌else◌}
 use Rattle.std.specs.declared.alloc.Global.{Global}
 use Rattle.std.specs.declared.vec.Vec.{Vec}
 use Rattle.energy_report.specs.declared.form.ReportForm.{ReportForm}
+use Rattle.interval_core.specs.declared.shares.Share.{Share}
+use Rattle.office_events.specs.declared.questions.Installation.{Installation}
 use Rattle.office_events.specs.declared.answers.Answer.{Answer}
 use Rattle.office_events.specs.declared.events.Event.{Event}
 use Rattle.office_events.specs.declared.facts.Fact.{Fact}
@@ -12,6 +14,7 @@ use Rattle.office_rules.specs.History.{History, Opened}
 use Rattle.office_rules.specs.Refusals.{with_answer}
 use Rattle.office_books.specs.declared.failures.Failures.{Failures}
 use Rattle.office_books.specs.Ledgers.{KeepsFacts, Ledger}
+use Rattle.office_core.specs.Asking.{OnlyAsks}
 use Rattle.office_core.specs.Leaving.{BooksStand}
 use Rattle.office_core.specs.EventRun.{Answered}
 use Rattle.office_core.specs.Standing.{After, Stands, books_in}
@@ -46,6 +49,8 @@ use Rattle.http_request.specs.declared.head.head.HeadState.{HeadState}
 use Rattle.run_http.specs.RegisterReplies.{RepliesEnergy}
 use Rattle.run_http.specs.StatusRoute.{IsFor, IsRunRoute}
 use Rattle.run_http.specs.MeterReplies.{RepliesRows}
+use Rattle.run_http.specs.Pieces.{BeginsReply, TellsOn}
+use Rattle.run_http.specs.declared.pieces.RowsLeft.{RowsLeft}
 use Rattle.run_http.specs.SiteReply.{RepliesSite}
 use Rattle.office_running.specs.Runs.{AreAt, BooksRun, Goes, IsOfRound, ReadsClock, RunsOn, Step, Fed, Asks, TakesTurns, history_with, latest_of, steps_of, with_step}
 
@@ -258,6 +263,23 @@ goes_energy names ledger at old new register form from to result replies = recor
   clean = replies.asks.clean;
   zone = replies.asks.zone;
 }
+
+pub goes_met : {B T : Type 0} (names : List (List ℕ)) (ledger : B → Ledger) (at : ℕ) (old new : Office B) (answer : Result T Refusal)
+    → OnlyAsks ledger old new answer → Goes names at ledger old new
+goes_met names ledger at old new answer asks = record {
+  stands = λ past stands clean. record { steps = []; each = tt; stands = asks.stands past stands };
+  clean = asks.clean;
+  zone = asks.zone;
+}
+
+pub goes_begun : {B E : Type 0} (names : List (List ℕ)) (ledger : B → Ledger) (at : ℕ) (old new : Office B) (it : Installation) (from till : ℕ)
+    (reply : List Share → List ℕ) (put : List ℕ) (result : Result (Result RowsLeft Refusal) E) → BeginsReply ledger old new it from till reply put result
+    → Goes names at ledger old new
+goes_begun names ledger at old new it from till reply put result begins = goes_met names ledger at old new begins.answer begins.asks
+
+pub goes_told : {B E : Type 0} (names : List (List ℕ)) (ledger : B → Ledger) (at : ℕ) (old new : Office B) (left later : RowsLeft) (seconds : ℕ)
+    (from to : List ℕ) (result : Result (Result (Unit {0}) Refusal) E) → TellsOn ledger old new left later seconds from to result → Goes names at ledger old new
+goes_told names ledger at old new left later seconds from to result tells = goes_met names ledger at old new tells.answer tells.asks
 
 -- ---- Turns
 

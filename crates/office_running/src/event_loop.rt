@@ -31,6 +31,19 @@ const FIRST_DEVICE: usize = MOST_PEERS + 1;
 /// After how many milliseconds it is tried again to accept a connection.
 const RETRY: u64 = 100;
 
+// When a run ends: by its time, or by the clock that tells the moments.
+#[derive(Clone, Copy)]
+struct End {
+    time: u64,
+    moment: u64,
+}
+
+impl End {
+    fn has_come(self, now: Now) -> bool {
+        self.time <= now.time || self.moment <= now.moment
+    }
+}
+
 /// The process: its sockets, and what is told of it.
 #[derive(Drop)]
 struct Running {
@@ -232,12 +245,12 @@ impl Running {
         events: &mut Events<Global>,
         office: &mut Office<B>,
         now: Now,
-        until: u64,
+        end: End,
     ) -> bool
         ensures { Goes (texts names.now) now.moment B.ledger office.old office.new }
     {
         self.go_on(rt, names, events, office, now);
-        if now.time < until {
+        if !end.has_come(now) {
             return false;
         }
         self.end_rounds(office, now);
@@ -334,13 +347,13 @@ impl Running {
         time: &mut RunTime,
         events: &mut Events<Global>,
         now: Now,
-        until: u64,
+        end: End,
         output: &mut W,
         errors: &mut E,
     ) -> Result<bool, RunFault>
         ensures { Goes (texts names.now) now.moment B.ledger office.old office.new }
     {
-        let is_over = self.act(rt, names, events, office, now, until);
+        let is_over = self.act(rt, names, events, office, now, end);
         self.rest(rt, time, events, now, output, errors, is_over)?;
         Ok(is_over)
     }
@@ -382,7 +395,7 @@ impl Running {
         steady: &mut SteadyClock,
         time: &mut RunTime,
         events: &mut Events<Global>,
-        until: u64,
+        end: End,
         output: &mut W,
         errors: &mut E,
     ) -> Result<(), RunFault>
@@ -395,7 +408,7 @@ impl Running {
                 time: self.time,
                 moment,
             };
-            let is_over = self.turn(rt, names, office, time, events, now, until, output, errors)?;
+            let is_over = self.turn(rt, names, office, time, events, now, end, output, errors)?;
             if is_over {
                 return Ok(());
             }
@@ -406,10 +419,13 @@ impl Running {
 }
 
 // When a run ends that begins now.
-fn end_of(settings: &Settings<'_>, now: u64) -> u64 {
-    match settings.lasts {
-        Some(seconds) => now.saturating_add(seconds),
-        None => u64::MAX,
+fn end_of(settings: &Settings<'_>, now: u64) -> End {
+    End {
+        time: match settings.lasts {
+            Some(seconds) => now.saturating_add(seconds),
+            None => u64::MAX,
+        },
+        moment: settings.ends.unwrap_or(u64::MAX),
     }
 }
 
@@ -459,7 +475,7 @@ fn run_from<R: Net + std::rt::Clock, B: Books, C: Clock, W: Write, E: Write>(
     let mut events = Events::with_capacity(alloc, sockets)?;
     let begun = time.seconds();
     let mut running = open(rt, alloc, left, lacks, settings, sites, begun, output)?;
-    let until = end_of(settings, begun);
+    let end = end_of(settings, begun);
     running.turns(
         rt,
         settings.host_names,
@@ -468,7 +484,7 @@ fn run_from<R: Net + std::rt::Clock, B: Books, C: Clock, W: Write, E: Write>(
         &mut steady,
         &mut time,
         &mut events,
-        until,
+        end,
         output,
         errors,
     )

@@ -16,16 +16,23 @@ use mio::net::{TcpListener, TcpStream};
 use mio::{Interest, Registry, Token};
 use office_books::{Books, Span};
 use office_core::Office;
-use office_events::Name;
+use office_events::{Name, Refusal};
 use run_http::{
-    PeerReply, RunRoute, StatusRoute, ask, reply_energy, reply_entries, reply_intervals,
-    reply_meters, reply_metrics, reply_site, reply_status, reply_voids, run_route,
+    PeerReply, RowsLeft, RunRoute, StatusRoute, all_rows_asked, are_many, ask, begin_all_intervals,
+    begin_intervals, end_rows, has_more, may_void, reply_energy, reply_entries, reply_intervals,
+    reply_meters, reply_metrics, reply_site, reply_status, reply_voids, run_route, tell_rows,
 };
-use run_schedule::{MOST_PEERS, PEER_SECONDS, Peers, TurnShare, place_at, place_for};
+use run_schedule::{MOST_PEERS, PEER_SECONDS, Peers, TurnShare, may_reply, place_at, place_for};
 use std::alloc::{AllocError, Global};
 use std::io::ErrorKind;
 use std::mem;
 use std::net::Net;
+
+/// Quarter hours of more seconds are told in pieces of so many: a thousand lines, of 32 bytes each at most.
+const PIECE_SECONDS: u64 = 900_000;
+
+/// How many pieces a peer is told in a row at most: more than a turn replies.
+const MOST_PIECES: u32 = 64;
 
 /// The port and its connections. The token of a connection is its place, and that of the port is the number of places.
 #[derive(Drop)]
@@ -45,20 +52,79 @@ pub(crate) struct Serving {
     is_full: bool,
 }
 
-// Whether the connection of a place has something that was not looked at.
-fn is_ready(connection: &Option<Peer>) -> bool {
+// Whether the connection of a place has something that was not looked at, and needn't wait for what is held of replies.
+fn is_ready(connection: &Option<Peer>, may_reply: bool) -> bool {
     match connection {
-        Some(peer) => peer.ready,
+        Some(peer) => peer.ready && (may_reply || peer.has_reply()),
         None => false,
     }
 }
 
-// Whether the connection of a place is attended, where this is left of what may be replied in a turn: those that ask wait for
-// a turn in which something is left, and replies that were made are written on.
+// Whether the connection of a place is attended, where this is left of what may be replied in a turn: those that ask, or want
+// more rows, wait for a turn in which something is left, and what was made of a reply is written on.
 fn is_attended(connection: &Option<Peer>, share: TurnShare) -> bool {
     match connection {
-        Some(peer) => peer.ready && (peer.has_reply() || !share.is_over()),
+        Some(peer) => {
+            let is_written_on = peer.has_reply() && !peer.wants_rows();
+            is_written_on || !share.is_over()
+        }
         None => false,
+    }
+}
+
+// How many bytes are held of the reply of the connection of a place.
+fn held_by(connection: &Option<Peer>) -> usize {
+    match connection {
+        Some(peer) => peer.held(),
+        None => 0,
+    }
+}
+
+// Whether the reply of the connection of a place has rows that are still to be told.
+fn tells_rows(connection: &Option<Peer>) -> bool {
+    match connection {
+        Some(peer) => peer.rows.is_some(),
+        None => false,
+    }
+}
+
+// What was begun of a reply with many rows. Where the office refuses it, it is asked for all of it.
+fn begun_reply(
+    text: Vec<u8>,
+    begun: Result<Result<RowsLeft, Refusal>, AllocError>,
+    rows: &mut Option<RowsLeft>,
+) -> Option<PeerReply> {
+    match begun {
+        Ok(Ok(left)) => {
+            *rows = Some(left);
+            Some(PeerReply::Replied(text))
+        }
+        Ok(Err(_)) => None,
+        Err(_) => Some(PeerReply::Failed),
+    }
+}
+
+// Puts the next rows of a reply at the end of a text, or the last; it answers whether these were. None where the books failed, or
+// memory was wanting.
+#[tactic(auto, using(crate::proofs::Going::goes_none, crate::proofs::Going::goes_told))]
+fn put_next<B: Books>(
+    alloc: Global,
+    text: &mut Vec<u8>,
+    rows: &mut RowsLeft,
+    office: &mut Office<B>,
+) -> Option<bool>
+    ensures { (names : List (List ℕ)) (at : ℕ) → Goes names at B.ledger office.old office.new }
+{
+    if !has_more(rows) {
+        return match end_rows(text, rows) {
+            Ok(()) => Some(true),
+            Err(_) => None,
+        };
+    }
+    match tell_rows(alloc, text, office, rows, PIECE_SECONDS) {
+        Ok(Ok(())) => Some(false),
+        Ok(Err(_)) => None,
+        Err(_) => None,
     }
 }
 
@@ -130,9 +196,9 @@ impl Serving {
         self.first
     }
 
-    // A place was replied to, which took so long.
-    fn note_reply(&mut self, place: usize, asked: &PeerReply, milliseconds: u64) {
-        self.share = self.share.after(size_of(asked), milliseconds);
+    // A place was replied so many bytes, which took so long.
+    fn note_reply(&mut self, place: usize, bytes: usize, milliseconds: u64) {
+        self.share = self.share.after(bytes, milliseconds);
         self.first = place_at(place, 1);
     }
 
@@ -152,9 +218,19 @@ impl Serving {
         }
     }
 
-    /// Whether something may have come that was not looked at.
+    // Whether a request may be replied to, by what is held of replies that were not taken.
+    fn may_reply(&self) -> bool {
+        let mut held = 0usize;
+        for connection in &self.connections {
+            held = held.saturating_add(held_by(connection));
+        }
+        may_reply(held)
+    }
+
+    /// Whether something may have come that was not looked at, and needn't wait.
     pub(crate) fn is_ready(&self) -> bool {
-        self.connections.iter().any(|it| is_ready(it))
+        let may_reply = self.may_reply();
+        self.connections.iter().any(|it| is_ready(it, may_reply))
     }
 
     /// Whether a connection may wait that was not accepted.
@@ -299,6 +375,71 @@ impl Serving {
         }
     }
 
+    // Begins the reply with those of a span, where they are many.
+    #[tactic(auto, using(crate::proofs::Going::goes_none, crate::proofs::Going::goes_met))]
+    fn begin_span<B: Books>(
+        &self,
+        office: &mut Office<B>,
+        meter: &Option<Name>,
+        span: Span,
+        rows: &mut Option<RowsLeft>,
+    ) -> Option<PeerReply>
+        ensures { (names : List (List ℕ)) (at : ℕ) → Goes names at B.ledger office.old office.new }
+    {
+        let Span::Between { from, till } = span else {
+            return None;
+        };
+        let Ok(it) = office.meter(meter) else {
+            return None;
+        };
+        if !are_many(&it, from, till, PIECE_SECONDS) {
+            return None;
+        }
+        let mut text = Vec::new(self.alloc);
+        let begun = begin_intervals(self.alloc, &mut text, office, &it, from, till);
+        begun_reply(text, begun, rows)
+    }
+
+    // The reply with those of a span, or what it begins with.
+    fn reply_span<B: Books>(
+        &self,
+        office: &mut Office<B>,
+        meter: &Option<Name>,
+        span: Span,
+        rows: &mut Option<RowsLeft>,
+    ) -> PeerReply
+        ensures { (names : List (List ℕ)) (at : ℕ) → Goes names at B.ledger office.old office.new }
+    {
+        match self.begin_span(office, meter, span, rows) {
+            Some(begun) => begun,
+            None => self.reply_intervals(office, meter, span),
+        }
+    }
+
+    // Begins the office's own reply with all quarter hours of a meter, where a request asks for them, and they are many.
+    #[tactic(auto, using(crate::proofs::Going::goes_none, crate::proofs::Going::goes_met))]
+    fn begin_all<B: Books>(
+        &self,
+        request: &[u8],
+        office: &mut Office<B>,
+        rows: &mut Option<RowsLeft>,
+    ) -> Option<PeerReply>
+        ensures { (names : List (List ℕ)) (at : ℕ) → Goes names at B.ledger office.old office.new }
+    {
+        let Some(meter) = all_rows_asked(&self.router, request) else {
+            return None;
+        };
+        let Ok(it) = office.meter(&meter) else {
+            return None;
+        };
+        if !are_many(&it, 0, u64::MAX, PIECE_SECONDS) {
+            return None;
+        }
+        let mut text = Vec::new(self.alloc);
+        let begun = begin_all_intervals(self.alloc, &mut text, office, &it);
+        begun_reply(text, begun, rows)
+    }
+
     // The reply to the question for entries of a meter.
     #[tactic(auto, using(crate::proofs::Going::goes_rows))]
     fn reply_entries<B: Books>(
@@ -357,7 +498,8 @@ impl Serving {
         }
     }
 
-    // What comes of what a peer has asked. Who asks is tested before all else, and then whether what is kept has room.
+    // What comes of what a peer has asked, and the rows that are told after that. Who asks is tested before all else, and then
+    // whether what is kept has room.
     #[tactic(auto, using(crate::proofs::Going::goes_none, crate::proofs::Going::goes_both))]
     fn reply<B: Books>(
         &self,
@@ -366,6 +508,7 @@ impl Serving {
         office: &mut Office<B>,
         voice: &Voice,
         now: Now,
+        rows: &mut Option<RowsLeft>,
     ) -> PeerReply
         ensures { Goes (texts names.now) now.moment B.ledger office.old office.new }
     {
@@ -373,7 +516,9 @@ impl Serving {
             Some(RunRoute::Own(route)) => self.reply_status(route, voice),
             Some(RunRoute::Metrics) => self.reply_metrics(office, voice),
             Some(RunRoute::Site) => self.reply_site(office, now.moment),
-            Some(RunRoute::Intervals { meter, span }) => self.reply_intervals(office, &meter, span),
+            Some(RunRoute::Intervals { meter, span }) => {
+                self.reply_span(office, &meter, span, rows)
+            }
             Some(RunRoute::Entries { meter, from }) => self.reply_entries(office, &meter, from),
             Some(RunRoute::Voids { meter }) => self.reply_voids(office, &meter),
             Some(RunRoute::Energy { register, form }) => {
@@ -384,14 +529,27 @@ impl Serving {
                 if self.room.lacks(request) {
                     return self.reply_status(StatusRoute::Rejected(Status::Unavailable), voice);
                 }
-                ask(self.alloc, request, office, now.moment)
+                match self.begin_all(request, office, rows) {
+                    Some(begun) => begun,
+                    None => ask(self.alloc, request, office, now.moment),
+                }
             }
+        }
+    }
+
+    // Whether the connection of a place is attended now.
+    fn has_turn(&self, place: usize) -> bool {
+        match self.connections.get(place) {
+            Some(connection) => {
+                is_attended(connection, self.share) && is_ready(connection, self.may_reply())
+            }
+            None => false,
         }
     }
 
     // Takes the connection of a place whose turn it is.
     fn take_ready(&mut self, place: usize) -> Option<Peer> {
-        if place < self.connections.len() && is_attended(&self.connections[place], self.share) {
+        if self.has_turn(place) && place < self.connections.len() {
             return self.connections[place].take();
         }
         None
@@ -410,6 +568,120 @@ impl Serving {
         }
     }
 
+    // A void may have changed rows that are still to be told: replies with such rows are cut.
+    fn cut_replies(&mut self) {
+        for place in 0..MOST_PEERS {
+            if place < self.connections.len() && tells_rows(&self.connections[place]) {
+                self.end(place);
+            }
+        }
+    }
+
+    // A reply goes on: its place stays the first, so that one after the other is told to its end, and none is late for all.
+    fn stay_at(&mut self, place: usize, goes_on: bool) {
+        if goes_on {
+            self.first = place;
+        }
+    }
+
+    // Takes note of what a peer was replied, which took so long.
+    fn count(&mut self, place: usize, request: &[u8], asked: &PeerReply, milliseconds: u64) {
+        self.note_reply(place, size_of(asked), milliseconds);
+        self.is_full = self.is_full || self.room.lacks(request);
+        self.room.count(request, asked);
+        if may_void(request) {
+            self.cut_replies();
+        }
+    }
+
+    // Replies to what a peer has asked.
+    fn answer<R: std::rt::Clock, B: Books>(
+        &mut self,
+        rt: &R,
+        place: usize,
+        peer: &mut Peer,
+        names: &[&str],
+        office: &mut Office<B>,
+        voice: &Voice,
+        now: Now,
+    )
+        ensures { Goes (texts names.now) now.moment B.ledger office.old office.new }
+    {
+        let begun = even_milliseconds(rt);
+        let mut rows = None;
+        let asked = self.reply(names, &peer.asked, office, voice, now, &mut rows);
+        let took = even_milliseconds(rt).saturating_sub(begun);
+        self.count(place, &peer.asked, &asked, took);
+        self.stay_at(place, rows.is_some());
+        peer.take(asked, rows);
+    }
+
+    // Tells a peer the next rows of its reply.
+    #[tactic(auto, using(crate::proofs::Going::goes_none))]
+    fn tell_next<R: std::rt::Clock, B: Books>(
+        &mut self,
+        rt: &R,
+        place: usize,
+        peer: &mut Peer,
+        office: &mut Office<B>,
+    )
+        ensures { (names : List (List ℕ)) (at : ℕ) → Goes names at B.ledger office.old office.new }
+    {
+        let Some(rows) = &mut peer.rows else {
+            return;
+        };
+        let begun = even_milliseconds(rt);
+        let mut text = Vec::new(self.alloc);
+        let put = put_next(self.alloc, &mut text, rows, office);
+        let took = even_milliseconds(rt).saturating_sub(begun);
+        self.note_reply(place, text.len(), took);
+        self.stay_at(place, put == Some(false));
+        match put {
+            Some(is_last) => peer.take_more(text, is_last),
+            None => peer.cut(),
+        }
+    }
+
+    // Tells a peer rows of its reply, as long as its socket takes them, and something is left of the turn.
+    fn tell_on<R: std::rt::Clock, B: Books>(
+        &mut self,
+        rt: &R,
+        place: usize,
+        peer: &mut Peer,
+        office: &mut Office<B>,
+        now: Now,
+    )
+        ensures { (names : List (List ℕ)) (at : ℕ) → Goes names at B.ledger office.old office.new }
+    {
+        for _piece in 0..MOST_PIECES {
+            if !peer.wants_rows() || self.share.is_over() {
+                return;
+            }
+            self.tell_next(rt, place, peer, office);
+            peer.give(now.time);
+        }
+    }
+
+    // Hears a peer, and replies to what it has asked, or goes on with its reply.
+    fn go_on<R: std::rt::Clock, B: Books>(
+        &mut self,
+        rt: &R,
+        place: usize,
+        peer: &mut Peer,
+        names: &[&str],
+        office: &mut Office<B>,
+        voice: &Voice,
+        now: Now,
+    )
+        ensures { Goes (texts names.now) now.moment B.ledger office.old office.new }
+    {
+        if peer.hear(&self.router) {
+            self.answer(rt, place, peer, names, office, voice, now);
+            return;
+        }
+        self.tell_on(rt, place, peer, office, now);
+    }
+
     /// Goes on with the connection of a place, where something may have come.
     #[tactic(auto, using(crate::proofs::Going::goes_none, crate::proofs::Going::goes_both))]
     pub(crate) fn attend<R: std::rt::Clock, B: Books>(
@@ -426,15 +698,7 @@ impl Serving {
         let Some(mut peer) = self.take_ready(place) else {
             return;
         };
-        if peer.hear(&self.router) {
-            let begun = even_milliseconds(rt);
-            let asked = self.reply(names, &peer.asked, office, voice, now);
-            let took = even_milliseconds(rt).saturating_sub(begun);
-            self.note_reply(place, &asked, took);
-            self.is_full = self.is_full || self.room.lacks(&peer.asked);
-            self.room.count(&peer.asked, &asked);
-            peer.take(asked);
-        }
+        self.go_on(rt, place, &mut peer, names, office, voice, now);
         self.put_back(place, peer, now.time);
     }
 }

@@ -19,4 +19,5 @@ mod voice;
 
 pub use fault::RunFault;
 pub use office::{Ran, run_office};
+pub use outlet::write_without_waiting;
 pub use settings::{Descriptors, Settings, Site};

@@ -47,6 +47,11 @@ impl Outbox {
         self.bytes.is_empty()
     }
 
+    /// How many bytes it has, with those that were written.
+    pub(crate) fn len(&self) -> usize {
+        self.bytes.len()
+    }
+
     /// Whether all of it was written.
     pub(crate) fn is_written(&self) -> bool {
         self.bytes.len() <= self.written

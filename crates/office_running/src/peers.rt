@@ -3,7 +3,7 @@ use crate::outbox::{MOST_CALLS, Outbox, Went, went_by};
 use http_request::{MOST_ROOM, Route, is_whole};
 use matchit::Router;
 use mio::net::TcpStream;
-use run_http::PeerReply;
+use run_http::{PeerReply, RowsLeft};
 use std::alloc::Global;
 use std::io::Read;
 use std::net::Shutdown;
@@ -11,6 +11,7 @@ use std::net::Shutdown;
 /// A connection of a peer.
 #[derive(Drop)]
 pub(crate) struct Peer {
+    alloc: Global,
     pub(crate) stream: TcpStream,
     /// What it has asked so far.
     pub(crate) asked: Vec<u8>,
@@ -19,6 +20,8 @@ pub(crate) struct Peer {
     /// Until when what still comes is dropped, once the reply was written.
     pub(crate) lingers: Option<u64>,
     reply: Outbox,
+    /// The rows that are told after what its reply has so far.
+    pub(crate) rows: Option<RowsLeft>,
     ended: bool,
     over: bool,
 }
@@ -32,11 +35,13 @@ fn fitting<'p>(asked: &[u8], piece: &'p [u8]) -> &'p [u8] {
 impl Peer {
     pub(crate) fn new(alloc: Global, stream: TcpStream) -> Peer {
         Peer {
+            alloc,
             stream,
             asked: Vec::new(alloc),
             ready: true,
             lingers: None,
             reply: Outbox::empty(alloc),
+            rows: None,
             ended: false,
             over: false,
         }
@@ -49,7 +54,17 @@ impl Peer {
 
     /// Whether it has been replied to.
     pub(crate) fn has_reply(&self) -> bool {
-        !self.reply.is_empty()
+        !self.reply.is_empty() || self.rows.is_some() || self.lingers.is_some()
+    }
+
+    /// Whether rows are to be told after all that was written of its reply.
+    pub(crate) fn wants_rows(&self) -> bool {
+        !self.over && self.rows.is_some() && self.reply.is_written()
+    }
+
+    /// How many bytes are held of its reply.
+    pub(crate) fn held(&self) -> usize {
+        self.reply.len()
     }
 
     // Keeps a piece of what came.
@@ -109,16 +124,32 @@ impl Peer {
         false
     }
 
-    /// Takes what came of what was asked.
-    pub(crate) fn take(&mut self, asked: PeerReply) {
+    /// Takes what came of what was asked, and the rows that are told after that. What was asked isn't needed any more once it is
+    /// replied to.
+    pub(crate) fn take(&mut self, asked: PeerReply, rows: Option<RowsLeft>) {
         match asked {
             PeerReply::Open => self.over = self.ended,
             PeerReply::Replied(reply) => {
                 self.over = reply.is_empty();
                 self.reply = Outbox::of(reply);
+                self.rows = rows;
+                self.asked = Vec::new(self.alloc);
             }
             PeerReply::Failed => self.over = true,
         }
+    }
+
+    /// Takes more of its reply, or the last of it.
+    pub(crate) fn take_more(&mut self, more: Vec<u8>, is_last: bool) {
+        self.reply = Outbox::of(more);
+        if is_last {
+            self.rows = None;
+        }
+    }
+
+    /// Its reply is cut.
+    pub(crate) fn cut(&mut self) {
+        self.over = true;
     }
 
     /// Writes the reply, as far as the socket takes it, and says that nothing more comes. What the peer sends until it has
@@ -138,9 +169,10 @@ impl Peer {
     // Says that nothing more comes, where the whole reply was written.
     fn close(&mut self, time: u64) {
         self.ready = true;
-        if self.reply.is_written() {
+        if self.reply.is_written() && self.rows.is_none() {
             self.over = self.stream.shutdown(Shutdown::Write).is_err();
             self.lingers = Some(time.saturating_add(2));
+            self.reply = Outbox::empty(self.alloc);
         }
     }
 

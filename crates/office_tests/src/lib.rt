@@ -43,6 +43,8 @@ mod parts;
 #[cfg(test)]
 mod peers;
 #[cfg(test)]
+mod periods;
+#[cfg(test)]
 mod planned_lists;
 #[cfg(test)]
 mod questions;

@@ -1,1 +1,4 @@
 pub mod HttpPeersLemmas
+pub mod PeriodLemmas
+pub mod NameLemmas
+pub mod PeriodExamples

@@ -4,5 +4,5 @@ pub mod Tasks
 pub mod Ends
 pub mod Files
 pub mod Backups
-pub mod Carrying
 pub mod Carries
+pub mod Joins

@@ -3,16 +3,15 @@ use crate::backups::{give_name, part_of};
 use crate::copies::{Pair, remove};
 use crate::escaped::Escaped;
 use crate::offices::{Files, Opening, open_in};
+use carried_books::CarryFault;
 use office_events::{Name, Refusal};
 use printed_numbers::{Kind, meaning_of};
-use sqlite::Unknown;
+use sqlite::{Connection, Unknown};
 use std::fs::{self, File, OpenOptions};
 use std::io::{self, ErrorKind, Write};
 use std::os::unix::fs::OpenOptionsExt;
 use std::str::from_utf8;
-use stored_office::{
-    CarryEnd, CarryFault, CopyFault, Databases, Ending, Failure, carry_stored, whole_file,
-};
+use stored_office::{CarryEnd, CopyFault, Databases, Ending, Failure, carry_stored, whole_file};
 
 // Makes an empty file that is its owner's alone.
 fn make_part(rt: &HostRuntime, part: &str) -> io::Result<()> {
@@ -34,19 +33,31 @@ fn unwritable(to: &str) -> Failure<'_> {
     }
 }
 
-// Carries the meters of one database into another, or tells which one there is no connection to.
-fn carry_in<'a, D: Databases>(
+/// Why meters were not carried into a new file.
+#[derive(Drop)]
+pub(crate) enum NotCarried<'a> {
+    Failed(Failure<'a>),
+    Ended(CarryEnd),
+}
+
+// Carries the meters of a database into the part of a new file.
+fn carry_into_part<'a, D: Databases>(
     rt: &HostRuntime,
     databases: &D,
-    from: &'a str,
+    old: Connection<D::Store>,
     to: &'a str,
     part: &Pair,
     until: Option<u64>,
-) -> Result<Result<u64, CarryEnd>, Failure<'a>> {
-    let old = open_in(rt, databases, from)?;
+) -> Result<u64, NotCarried<'a>> {
     match databases.make(part.file.as_str()) {
-        Ok(new) => Ok(carry_stored(rt.alloc(), old, new, until)),
-        Err(fault) => Err(Failure::File { path: to, fault }),
+        Ok(new) => match carry_stored(rt.alloc(), old, new, until) {
+            Ok(count) => Ok(count),
+            Err(end) => Err(NotCarried::Ended(end)),
+        },
+        Err(fault) => {
+            let failure = Failure::File { path: to, fault };
+            Err(NotCarried::Failed(failure))
+        }
     }
 }
 
@@ -88,6 +99,47 @@ fn finish<'a>(rt: &HostRuntime, to: &'a str, part: &Pair) -> Result<(), Failure<
     }
 }
 
+// Carries the meters of a database into the part of a new file, and makes that the new file. It answers how many they are.
+fn carry_whole<'a, D: Databases>(
+    rt: &HostRuntime,
+    databases: &D,
+    old: Connection<D::Store>,
+    to: &'a str,
+    part: &Pair,
+    until: Option<u64>,
+) -> Result<u64, NotCarried<'a>> {
+    let count = match carry_into_part(rt, databases, old, to, part, until) {
+        Ok(count) => count,
+        Err(why) => return Err(why),
+    };
+    match finish(rt, to, part) {
+        Ok(()) => Ok(count),
+        Err(failure) => Err(NotCarried::Failed(failure)),
+    }
+}
+
+/// Carries the meters of an open database into a new file, as they stand at its end, and answers how many they are. Of a carry that
+/// fails nothing is left.
+pub(crate) fn carry_open<'a, D: Databases>(
+    rt: &HostRuntime,
+    databases: &D,
+    old: Connection<D::Store>,
+    to: &'a str,
+) -> Result<u64, NotCarried<'a>> {
+    let part = match part_of(rt, to) {
+        Ok(part) => part,
+        Err(failure) => return Err(NotCarried::Failed(failure)),
+    };
+    if make_part(rt, part.file.as_str()).is_err() {
+        return Err(NotCarried::Failed(unwritable(to)));
+    }
+    let carried = carry_whole(rt, databases, old, to, &part, None);
+    if carried.is_err() {
+        remove(rt, &part);
+    }
+    carried
+}
+
 // Prints how many meters were carried.
 fn say_carried(rt: &HostRuntime, count: u64) -> Ending<'static> {
     match write!(io::writer(rt), "carried {count} meters\n") {
@@ -96,41 +148,101 @@ fn say_carried(rt: &HostRuntime, count: u64) -> Ending<'static> {
     }
 }
 
-// Prints a refusal, and says what it means and of which file.
-fn say_refused(rt: &HostRuntime, path: &str, why: Refusal) -> Ending<'static> {
-    let number = why.number();
-    if write!(io::writer(rt), "refused {number}\n").is_err() {
-        return Ending::Failed(Failure::Streams);
-    }
-    if let Some(meaning) = meaning_of(Kind::Refused, u32::from(number)) {
-        let mut errors = Escaped::new(rt.stderr());
-        let _said = write!(
+// What a refusal means, and of which file it is.
+fn write_refusal<W: Write>(errors: &mut W, path: &str, why: Refusal) -> io::Result<()> {
+    match meaning_of(Kind::Refused, u32::from(why.number())) {
+        Some(meaning) => write!(
             errors,
             "sunreg: {path}: {}; {}\n",
             meaning.means, meaning.remedy
-        );
+        ),
+        None => Ok(()),
     }
-    Ending::Refused
 }
 
-// Says which meter has no entry yet.
-fn say_not_yet(rt: &HostRuntime, path: &str, meter: Name) -> Ending<'static> {
+// Which meter of a file has no entry yet.
+fn write_not_yet<W: Write>(errors: &mut W, path: &str, meter: Name) -> io::Result<()> {
     let name = from_utf8(meter.as_bytes()).unwrap_or("a meter");
-    let mut errors = Escaped::new(rt.stderr());
-    let _said = write!(
+    write!(
         errors,
         "sunreg: {path}: the meter {name} was installed after the moment of --until: give a later one\n"
-    );
+    )
+}
+
+fn write_fault<W: Write>(
+    errors: &mut W,
+    from: &str,
+    to: &str,
+    fault: CarryFault,
+) -> io::Result<()> {
+    match fault {
+        CarryFault::Old(why) => write_refusal(errors, from, why),
+        CarryFault::New(why) => write_refusal(errors, to, why),
+        CarryFault::NotYet(meter) => write_not_yet(errors, from, meter),
+    }
+}
+
+fn write_end<W: Write>(errors: &mut W, from: &str, to: &str, end: CarryEnd) -> io::Result<()> {
+    match end {
+        CarryEnd::Unopened(fault) => {
+            let failure = Failure::Unopened { path: from, fault };
+            write!(errors, "sunreg: {failure}\n")
+        }
+        CarryEnd::Unmade(fault) => {
+            let failure = Failure::Unmade { path: to, fault };
+            write!(errors, "sunreg: {failure}\n")
+        }
+        CarryEnd::Ended(fault) => write_fault(errors, from, to, fault),
+    }
+}
+
+/// Writes why meters were not carried from one file into another: a sentence in a line.
+pub(crate) fn write_why<W: Write>(
+    errors: &mut W,
+    from: &str,
+    to: &str,
+    why: NotCarried<'_>,
+) -> io::Result<()> {
+    match why {
+        NotCarried::Failed(failure) => write!(errors, "sunreg: {failure}\n"),
+        NotCarried::Ended(end) => write_end(errors, from, to, end),
+    }
+}
+
+// The refusal of a fault, of either office.
+fn refusal_of(fault: CarryFault) -> Option<Refusal> {
+    match fault {
+        CarryFault::Old(why) => Some(why),
+        CarryFault::New(why) => Some(why),
+        CarryFault::NotYet(_) => None,
+    }
+}
+
+fn print_refusal(rt: &HostRuntime, why: Refusal) -> io::Result<()> {
+    let number = why.number();
+    write!(io::writer(rt), "refused {number}\n")
+}
+
+/// Prints a refusal, and says what it means and of which file.
+pub(crate) fn say_refused(rt: &HostRuntime, path: &str, why: Refusal) -> Ending<'static> {
+    if print_refusal(rt, why).is_err() {
+        return Ending::Failed(Failure::Streams);
+    }
+    let mut errors = Escaped::new(rt.stderr());
+    let _said = write_refusal(&mut errors, path, why);
     Ending::Refused
 }
 
-// Why an office was not carried into a new one.
+// Prints a refusal, and says why an office was not carried into a new one.
 fn say_fault<'a>(rt: &HostRuntime, from: &'a str, to: &'a str, fault: CarryFault) -> Ending<'a> {
-    match fault {
-        CarryFault::Old(why) => say_refused(rt, from, why),
-        CarryFault::New(why) => say_refused(rt, to, why),
-        CarryFault::NotYet(meter) => say_not_yet(rt, from, meter),
+    if let Some(why) = refusal_of(fault) {
+        if print_refusal(rt, why).is_err() {
+            return Ending::Failed(Failure::Streams);
+        }
     }
+    let mut errors = Escaped::new(rt.stderr());
+    let _said = write_fault(&mut errors, from, to, fault);
+    Ending::Refused
 }
 
 // How a carry ended that came to no new file.
@@ -142,7 +254,35 @@ fn say_ended<'a>(rt: &HostRuntime, from: &'a str, to: &'a str, end: CarryEnd) ->
     }
 }
 
-// Carries the meters into the part of a new file, and makes that the new file. Of a carry that fails nothing is left.
+// How a carry ended, of which nothing is left.
+fn ending_of_none<'a>(
+    rt: &HostRuntime,
+    from: &'a str,
+    to: &'a str,
+    why: NotCarried<'a>,
+) -> Ending<'a> {
+    match why {
+        NotCarried::Failed(failure) => Ending::Failed(failure),
+        NotCarried::Ended(end) => say_ended(rt, from, to, end),
+    }
+}
+
+// Carries the meters of the file at a path.
+fn carry_in<'a, D: Databases>(
+    rt: &HostRuntime,
+    databases: &D,
+    from: &'a str,
+    to: &'a str,
+    part: &Pair,
+    until: Option<u64>,
+) -> Result<u64, NotCarried<'a>> {
+    match open_in(rt, databases, from) {
+        Ok(old) => carry_whole(rt, databases, old, to, part, until),
+        Err(failure) => Err(NotCarried::Failed(failure)),
+    }
+}
+
+// Carries the meters of a file into the part of a new one, and makes that the new file. Of a carry that fails nothing is left.
 fn carry_into<'a>(
     rt: &HostRuntime,
     from: &'a str,
@@ -152,12 +292,8 @@ fn carry_into<'a>(
 ) -> Ending<'a> {
     let files = Files::opened(rt, Opening::Copied);
     let ending = match carry_in(rt, &files, from, to, part, until) {
-        Ok(Ok(count)) => match finish(rt, to, part) {
-            Ok(()) => return say_carried(rt, count),
-            Err(failure) => Ending::Failed(failure),
-        },
-        Ok(Err(end)) => say_ended(rt, from, to, end),
-        Err(failure) => Ending::Failed(failure),
+        Ok(count) => return say_carried(rt, count),
+        Err(why) => ending_of_none(rt, from, to, why),
     };
     remove(rt, part);
     ending

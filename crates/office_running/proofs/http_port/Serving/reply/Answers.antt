@@ -1,11 +1,13 @@
 use Rattle.http_request.specs.Hosts.{texts}
-use Rattle.office_running.proofs.Going.{goes_asked, may_ask_of}
+use Rattle.office_running.proofs.Going.{goes_asked, goes_both, may_ask_of}
 use Rattle.office_running.proofs.http_port.Serving.reply.Goals as goal
 
-pub returns-else-lacks : goal.returns-else-lacks
-returns-else-lacks g c =
-    goes_asked (texts c.args.names.now) g.B.Books.ledger c.args.now.moment c.args.office.now c.ask.new.office c.args.request.now c.ask.result
-    (may_ask_of (texts c.args.names.now) c.args.request.now c.in-None.ensures) c.ask.ensures.asks c.ask.ensures.lasts
+pub returns-in-None-begin_all : goal.returns-in-None-begin_all
+returns-in-None-begin_all g c =
+    goes_both (texts c.args.names.now) c.args.now.moment g.B.Books.ledger c.args.office.now c.begin_all.new.office c.ask.new.office
+    (c.begin_all.ensures (texts c.args.names.now) c.args.now.moment)
+    (goes_asked (texts c.args.names.now) g.B.Books.ledger c.args.now.moment c.begin_all.new.office c.ask.new.office c.args.request.now c.ask.result
+    (may_ask_of (texts c.args.names.now) c.args.request.now c.in-None.ensures) c.ask.ensures.asks c.ask.ensures.lasts)
 
 pub returns-in-Some-Metrics : goal.returns-in-Some-Metrics
 returns-in-Some-Metrics g c = c.reply_metrics.ensures (texts c.args.names.now) c.args.now.moment
@@ -14,7 +16,7 @@ pub returns-in-Some-Site : goal.returns-in-Some-Site
 returns-in-Some-Site g c = c.reply_site.ensures (texts c.args.names.now)
 
 pub returns-in-Some-Intervals : goal.returns-in-Some-Intervals
-returns-in-Some-Intervals g c = c.reply_intervals.ensures (texts c.args.names.now) c.args.now.moment
+returns-in-Some-Intervals g c = c.reply_span.ensures (texts c.args.names.now) c.args.now.moment
 
 pub returns-in-Some-Entries : goal.returns-in-Some-Entries
 returns-in-Some-Entries g c = c.reply_entries.ensures (texts c.args.names.now) c.args.now.moment

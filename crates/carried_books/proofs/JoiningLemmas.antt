@@ -1,0 +1,4 @@
+pub mod Days
+pub mod Meters
+pub mod Files
+pub mod Reports

@@ -1,0 +1,4 @@
+pub mod Meters
+pub mod Days
+pub mod Files
+pub mod Reports

@@ -1,0 +1,40 @@
+-- The names of files, and the texts of periods, computed from their definitions.
+use Rattle.std.proofs.Common.{◌≡◌, codes, true, false, refl}
+use Rattle.energy_report.specs.declared.form.Period.TheVariants as period
+use Rattle.run_schedule.specs.Periods.Names.{file_of, spells}
+
+before_the_end : file_of (codes "office.db") (codes "2026-11") ≡ codes "office-2026-11.db"
+before_the_end = refl
+
+at_the_end : file_of (codes "/srv/a.db/office") (codes "2026") ≡ codes "/srv/a.db/office-2026"
+at_the_end = refl
+
+of_a_short_name : file_of (codes "db") (codes "2026") ≡ codes "db-2026"
+of_a_short_name = refl
+
+of_the_end_alone : file_of (codes ".db") (codes "2026") ≡ codes "-2026.db"
+of_the_end_alone = refl
+
+first_month : spells period.Month (codes "2026-01") ≡ true
+first_month = refl
+
+last_month : spells period.Month (codes "2026-12") ≡ true
+last_month = refl
+
+month_0 : spells period.Month (codes "2026-00") ≡ false
+month_0 = refl
+
+month_13 : spells period.Month (codes "2026-13") ≡ false
+month_13 = refl
+
+a_year : spells period.Year (codes "2026") ≡ true
+a_year = refl
+
+a_month_is_no_year : spells period.Year (codes "2026-01") ≡ false
+a_month_is_no_year = refl
+
+last_day_of_a_month : spells period.Day (codes "2026-12-31") ≡ true
+last_day_of_a_month = refl
+
+day_32 : spells period.Day (codes "2026-12-32") ≡ false
+day_32 = refl
