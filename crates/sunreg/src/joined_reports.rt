@@ -3,10 +3,13 @@ use crate::carries::say_refused;
 use crate::command_output::CommandOutput;
 use crate::escaped::Escaped;
 use crate::offices::{Files, Opening, open_in};
-use crate::reports::{form_of, range_of};
-use carried_books::{Apart, Unjoined, report_joined};
+use crate::reports::{form_of, range_of, statement_form};
+use carried_books::{
+    Apart, JoinedFiles, JoinedStatement, Keeping, Unjoined, report_joined, state_joined,
+};
+use command_io::ExitStatus;
 use command_words::FormWords;
-use energy_report::ReportForm;
+use energy_report::{ReportForm, StatementForm};
 use interval_core::DayRange;
 use office_events::{Installation, Name, Refusal};
 use std::io::{self, Write};
@@ -96,15 +99,15 @@ fn say_fault<'a>(rt: &HostRuntime, before: &str, path: &'a str, fault: JoinFault
 }
 
 // Adds what one file tells.
-fn join_in<'a, D: Databases>(
+fn join_in<'a, D: Databases, K: Keeping>(
     rt: &HostRuntime,
     databases: &D,
-    joined: Option<JoinedOffice>,
+    joined: Option<JoinedOffice<K>>,
     before: &str,
     path: &'a str,
     register: &Name,
     range: DayRange,
-) -> Result<JoinedOffice, Ending<'a>> {
+) -> Result<JoinedOffice<K>, Ending<'a>> {
     match open_in(rt, databases, path) {
         Ok(connection) => match join_stored(rt.alloc(), connection, joined, register, range) {
             Ok(joined) => Ok(joined),
@@ -115,12 +118,12 @@ fn join_in<'a, D: Databases>(
 }
 
 // What the files tell of a register, one after the other: one of them is open at a time.
-fn join_all<'a>(
+fn join_all<'a, K: Keeping>(
     rt: &HostRuntime,
     paths: &[&'a str],
     register: &Name,
     range: DayRange,
-) -> Result<Option<JoinedOffice>, Ending<'a>> {
+) -> Result<Option<JoinedOffice<K>>, Ending<'a>> {
     let files = Files::opened(rt, Opening::ToRead);
     let mut joined = None;
     let mut before = "";
@@ -134,27 +137,64 @@ fn join_all<'a>(
     Ok(joined)
 }
 
-// Prints the report of what files tell.
-fn print_joined(rt: &HostRuntime, joined: JoinedOffice, form: &ReportForm) -> Ending<'static> {
-    let mut output = CommandOutput::in_pieces(io::writer(rt));
-    let status = report_joined(joined.files, form, &mut output);
+// How a command ends that printed all it had to.
+fn ended<W: Write + Drop>(output: &mut CommandOutput<W>, status: ExitStatus) -> Ending<'static> {
     match output.flush() {
         Ok(()) => ending_of(status),
         Err(_) => Ending::Failed(Failure::Streams),
     }
 }
 
-// The same of a register that is recorded.
-fn print_recorded(
+// Prints the report of what files tell.
+fn print_report(rt: &HostRuntime, joined: JoinedFiles, form: &ReportForm) -> Ending<'static> {
+    let mut output = CommandOutput::in_pieces(io::writer(rt));
+    let status = report_joined(joined, form, &mut output);
+    ended(&mut output, status)
+}
+
+// The same where the register is recorded in one of them.
+fn report_recorded(
     rt: &HostRuntime,
     path: &str,
-    joined: Option<JoinedOffice>,
+    joined: Option<JoinedOffice<JoinedFiles>>,
     form: &ReportForm,
 ) -> Ending<'static> {
     match joined {
         Some(joined) => {
-            if joined.files.is_recorded {
-                print_joined(rt, joined, form)
+            if joined.kept.is_recorded {
+                print_report(rt, joined.kept, form)
+            } else {
+                say_refused(rt, path, Refusal::NotFound)
+            }
+        }
+        None => say_refused(rt, path, Refusal::NotFound),
+    }
+}
+
+// Prints the statement of what files tell.
+fn print_statement(
+    rt: &HostRuntime,
+    joined: &JoinedStatement,
+    form: &StatementForm,
+) -> Ending<'static> {
+    let mut output = CommandOutput::in_pieces(io::writer(rt));
+    match state_joined(rt.alloc(), joined, form, &mut output) {
+        Ok(status) => ended(&mut output, status),
+        Err(_) => Ending::Failed(Failure::Memory),
+    }
+}
+
+// The same where the register is recorded in one of them.
+fn state_recorded(
+    rt: &HostRuntime,
+    path: &str,
+    joined: Option<JoinedOffice<JoinedStatement>>,
+    form: &StatementForm,
+) -> Ending<'static> {
+    match joined {
+        Some(joined) => {
+            if joined.kept.is_recorded {
+                print_statement(rt, &joined.kept, form)
             } else {
                 say_refused(rt, path, Refusal::NotFound)
             }
@@ -171,7 +211,7 @@ fn last_of<'a>(paths: &[&'a str]) -> &'a str {
     }
 }
 
-// Prints the energy of a register, where it is recorded in one of the files.
+// Prints the energy of a register.
 fn report_register<'a>(
     rt: &HostRuntime,
     paths: &[&'a str],
@@ -180,33 +220,40 @@ fn report_register<'a>(
 ) -> Ending<'a> {
     match join_all(rt, paths, register, form.range) {
         Err(ending) => ending,
-        Ok(joined) => print_recorded(rt, last_of(paths), joined, form),
+        Ok(joined) => report_recorded(rt, last_of(paths), joined, form),
     }
 }
 
-// Says that a statement is of one file.
-fn say_one_file(rt: &HostRuntime) -> Ending<'static> {
-    let mut errors = Escaped::new(rt.stderr());
-    let _said = errors.write_all(b"sunreg: a statement is of one file: ask for each alone\n");
-    Ending::Refused
+// Prints the statement of its meters.
+fn state_register<'a>(
+    rt: &HostRuntime,
+    paths: &[&'a str],
+    register: &Name,
+    form: &StatementForm,
+) -> Ending<'a> {
+    match join_all(rt, paths, register, form.range) {
+        Err(ending) => ending,
+        Ok(joined) => state_recorded(rt, last_of(paths), joined, form),
+    }
 }
 
-/// Prints the energy of a register over several files of one office, the oldest first, as one.
+/// Prints the energy of a register over several files of one office, the oldest first, as one, or the statement of its meters.
 pub(crate) fn report_files<'a>(
     rt: &HostRuntime,
     paths: &[&'a str],
     register: &str,
     words: &FormWords<'a>,
 ) -> Ending<'a> {
-    if words.statement {
-        return say_one_file(rt);
-    }
     let range = match range_of(words) {
         Ok(range) => range,
         Err(ending) => return ending,
     };
-    match Name::new(register.as_bytes()) {
-        Some(name) => report_register(rt, paths, &name, &form_of(words, range)),
-        None => say_refused(rt, last_of(paths), Refusal::NotFound),
+    let Some(name) = Name::new(register.as_bytes()) else {
+        return say_refused(rt, last_of(paths), Refusal::NotFound);
+    };
+    let form = form_of(words, range);
+    if words.statement {
+        return state_register(rt, paths, &name, &statement_form(&form));
     }
+    report_register(rt, paths, &name, &form)
 }

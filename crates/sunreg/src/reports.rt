@@ -40,6 +40,15 @@ pub(crate) fn form_of(words: &FormWords<'_>, range: DayRange) -> ReportForm {
     }
 }
 
+/// The same form of a statement.
+pub(crate) fn statement_form(form: &ReportForm) -> StatementForm {
+    StatementForm {
+        range: form.range,
+        unit: form.unit,
+        format: form.format,
+    }
+}
+
 // Carries out the report that a task is.
 fn report_by<'a>(rt: &HostRuntime, path: &'a str, task: Task<'_>) -> Ending<'a> {
     let files = Files::opened(rt, Opening::ToRead);
@@ -62,11 +71,7 @@ pub(crate) fn report<'a>(
     };
     let form = form_of(words, range);
     if words.statement {
-        let form = StatementForm {
-            range,
-            unit: form.unit,
-            format: form.format,
-        };
+        let form = statement_form(&form);
         let task = Task::Statement {
             register,
             form: &form,

@@ -1,0 +1,330 @@
+-- What is kept of meters over files, for their statement.
+use Rattle.std.proofs.Common.{◌≡◌, ℕ, ◌+◌, ◌-◌, ◌^◌, ◌<◌, ◌&&◌, ◌||◌, nat_le, Bool, true, false, cond, not, List, [], ◌∷◌, ◌++◌, map, take, drop, length, Option, Some, None, Result, Ok, Err, inl, inr, refl, sym, ap, subst, ◌∙◌, append-nil, append_assoc, arith}
+use Rattle.std.specs.Prelude.{All, filter, is_some, min}
+use Rattle.std.specs.List.{sum_by}
+use Rattle.std.proofs.lemmas.Bool.{cases_Bool, cond-false, cond-true}
+use Rattle.std.proofs.lemmas.List.{drop-drop, map-append}
+use Rattle.std.proofs.lemmas.List.Elements.{All-cons, All-head, All-tail, filter-append}
+use Rattle.command_io.specs.declared.status.ExitStatus.{ExitStatus}
+use Rattle.energy_report.specs.Energies.{AddsShare}
+use Rattle.energy_report.specs.Held.{held_within}
+use Rattle.energy_report.specs.HeldSinks.{CountsReading}
+use Rattle.energy_report.specs.Statements.{energy_within, tally_of, was_there}
+use Rattle.energy_report.specs.StatementTexts.{statement_text}
+use Rattle.energy_report.specs.declared.form.StatementForm.{StatementForm}
+use Rattle.energy_report.specs.declared.meter_statement.MeterStatement.{MeterStatement}
+use Rattle.energy_report.specs.declared.tallies.EntryTally.{EntryTally}
+use Rattle.energy_report.proofs.EnergyLemmas.{added_up}
+use Rattle.energy_report.proofs.HeldLemmas.{counted_all}
+use Rattle.interval_core.specs.Ranges.{has_day, has_moment}
+use Rattle.interval_core.specs.Zone.{day_at}
+use Rattle.interval_core.specs.declared.day_range.DayRange.{DayRange}
+use Rattle.interval_core.specs.declared.limits.TheConstants.{LAST_MOMENT}
+use Rattle.interval_core.specs.declared.shares.Share.{Share}
+use Rattle.interval_core.specs.declared.zone.Zone.{Zone}
+use Rattle.office_books.specs.Entries.{all_entries, entries_from, installations_of}
+use Rattle.office_books.specs.Holds.{holds_of, holds_within}
+use Rattle.office_books.specs.Rows.{TakesAll}
+use Rattle.office_books.specs.Spans.{is_within, rows_within}
+use Rattle.office_books.specs.declared.entries.MeterEntry.{MeterEntry}
+use Rattle.office_books.specs.declared.spans.Span.{Span}
+use Rattle.office_books.specs.declared.spans.Span.TheVariants.{All as Whole, Between}
+use Rattle.office_books.proofs.Handing.{takes_both}
+use Rattle.office_books.proofs.Pieces.{last_piece, one_piece_more}
+use Rattle.office_core.specs.DayRange.{span_of}
+use Rattle.office_core.proofs.Around.{has_each}
+use Rattle.office_events.specs.declared.facts.Fact.{Fact}
+use Rattle.office_events.specs.declared.facts.HeldReading.{HeldReading}
+use Rattle.office_events.specs.declared.questions.Installation.{Installation}
+use Rattle.office_program.specs.Texts.EndTexts.{IsTold}
+use Rattle.office_rules.specs.Facts.{opening_of}
+use Rattle.office_rules.specs.Intervals.{rows_of_meter}
+use Rattle.carried_books.specs.Joining.Files.{StaysRecorded, is_recorded, is_recorded_in}
+use Rattle.carried_books.specs.Joining.Keeping.{KeepsFile, PartsFile}
+use Rattle.carried_books.specs.Joining.Meters.{AddOrAreApart, AddsMeter, as_one, goes_on, is_before}
+use Rattle.carried_books.specs.Joining.Statements.{AddedUp, AddsListed, AddsOver, AreMetersOver, AreTold, Begins, Counted, DoesNotGoOn, HasStated, IsStatementOver, MeterOver, TalliesOn, Tells, TellsAll, TellsMore, both_of, kept_row, meter_in, own_entries, parts_over, stands_of, statement_over, statements_over}
+use Rattle.carried_books.specs.declared.joining.files.Unjoined.{Unjoined}
+use Rattle.carried_books.specs.declared.joining.files.Unjoined.TheVariants as unjoined
+use Rattle.carried_books.specs.declared.joining.kept_meters.KeptMeter.{KeptMeter}
+use Rattle.carried_books.specs.declared.joining.meters.Apart.{Apart}
+use Rattle.carried_books.specs.declared.joining.statements.JoinedStatement.{JoinedStatement}
+use Rattle.carried_books.proofs.CarryingLemmas.Lasts.{piece_of}
+
+-- ---- entries that are asked for piece by piece
+
+abbrev skipped : Bool → ℕ
+skipped goes_on = cond goes_on 1 0
+
+own_of : (goes_on : Bool) (entries : List MeterEntry) → own_entries goes_on entries ≡ drop (skipped goes_on) entries
+own_of true entries = refl
+own_of false entries = refl
+
+module _ (zone : Zone) (range : DayRange) (facts : List Fact) (meter : List ℕ) (goes_on : Bool) where
+  abbrev pub its_own : List MeterEntry
+  its_own = own_entries goes_on (all_entries facts meter)
+
+  piece_is : (n first : ℕ) (piece : List MeterEntry) → first ≡ cond goes_on 2 1 → piece ≡ entries_from facts meter (n + first) 65536
+      → piece ≡ take 65536 (drop n its_own)
+  piece_is n first piece is are =
+      let k = skipped goes_on in
+      let place : n + first ≡ n + k + 1 = elim goes_on as (λ b. first ≡ cond b 2 1 → n + first ≡ n + cond b 1 0 + 1) [
+        | true ↦ λ e. omega (arith, e)
+        | false ↦ λ e. omega (arith, e)
+      ] is in
+      let both : k + n ≡ n + k = omega arith in
+      are ∙ ap (λ p. entries_from facts meter p 65536) place ∙ piece_of facts (opening_of facts meter) (n + k) 65536
+      ∙ ap (take 65536) (ap (λ c. drop c (all_entries facts meter)) (sym both) ∙ sym (drop-drop n k (all_entries facts meter))
+      ∙ ap (drop n) (sym (own_of goes_on (all_entries facts meter))))
+
+  -- so many of them were tallied
+  abbrev pub HasTallied : (n : ℕ) → (old now : EntryTally) → Type 0
+  HasTallied n old now = TalliesOn zone range (take n its_own) old now
+
+  pub tally_none : (old : EntryTally) → HasTallied 0 old old
+  tally_none old = λ before is. is ∙ ap (tally_of zone range) (sym (append-nil before))
+
+  pub tally_more : (n first : ℕ) (piece : List MeterEntry) (old now more : EntryTally) → first ≡ cond goes_on 2 1
+      → piece ≡ entries_from facts meter (n + first) 65536 → HasTallied n old now → TalliesOn zone range piece now more → HasTallied (n + 65536) old more
+  tally_more n first piece old now more is are had took = λ before from.
+      took (before ++ take n its_own) (had before from)
+      ∙ ap (tally_of zone range) (append_assoc before (take n its_own) piece
+      ∙ ap (λ (those : List MeterEntry). before ++ those)
+      (ap (λ (those : List MeterEntry). take n its_own ++ those) (piece_is n first piece is are) ∙ one_piece_more n 65536 its_own))
+
+  pub tally_all : (n first : ℕ) (piece : List MeterEntry) (old now more : EntryTally) → first ≡ cond goes_on 2 1
+      → piece ≡ entries_from facts meter (n + first) 65536 → HasTallied n old now → TalliesOn zone range piece now more → length piece < 65536
+      → TalliesOn zone range its_own old more
+  tally_all n first piece old now more is are had took few = λ before from.
+      let items = piece_is n first piece is are in
+      took (before ++ take n its_own) (had before from)
+      ∙ ap (tally_of zone range) (append_assoc before (take n its_own) piece
+      ∙ ap (λ (those : List MeterEntry). before ++ those)
+      (ap (λ (those : List MeterEntry). take n its_own ++ those) items
+      ∙ last_piece n 65536 its_own (subst (λ (those : List MeterEntry). length those < 65536) items few)))
+
+all_held : (holds : List HeldReading) → holds_within Whole holds ≡ holds
+all_held [] = refl
+all_held (held ∷ holds) = ap (λ (those : List HeldReading). held ∷ those) (all_held holds)
+
+pub took_held : (old new : _) (holds : List HeldReading) → TakesAll CountsReading old (holds_within Whole holds) new → TakesAll CountsReading old holds new
+took_held old new holds took = subst (λ (those : List HeldReading). TakesAll CountsReading old those new) (all_held holds) took
+
+-- ---- what is kept of a meter, and more of it
+
+rows_both : (span : Span) (rows more : List Share) → rows_within span (rows ++ more) ≡ rows_within span rows ++ rows_within span more
+rows_both Whole rows more = refl
+rows_both (Between from till) rows more = filter-append (λ (row : Share). is_within (Between from till) row.start) rows more
+
+module _ (zone : Zone) (range : DayRange) (facts : List Fact) (row : Installation) where
+  abbrev span : Span
+  span = span_of range
+
+  -- it goes on
+  pub tells_both : (old joined new : KeptMeter) (m : MeterOver) → Tells zone range old m → joined.stands ≡ as_one old.stands row
+      → joined.entries ≡ old.entries → joined.energy ≡ old.energy → joined.held ≡ old.held
+      → TellsMore zone range row.opening.meter true facts joined new → Tells zone range new (both_of m (meter_in facts row))
+  tells_both old joined new m told stands entries energy held more = record {
+    stands = more.stands ∙ stands ∙ ap (λ (one : Installation). as_one one row) told.stands;
+    entries = more.entries m.entries (entries ∙ told.entries);
+    energy = (
+        told.energy.0,
+        told.energy.1,
+        subst (λ (those : List Share). TakesAll AddsShare told.energy.0 those new.energy) (sym (rows_both span m.rows (rows_of_meter facts row.opening.meter)))
+        (takes_both AddsShare told.energy.0 old.energy new.energy (rows_within span m.rows) (rows_within span (rows_of_meter facts row.opening.meter)) told.energy.2
+        (subst (λ sink. TakesAll AddsShare sink (rows_within span (rows_of_meter facts row.opening.meter)) new.energy) energy more.energy)),
+    );
+    held = (
+        told.held.0,
+        told.held.1,
+        takes_both CountsReading told.held.0 old.held new.held m.holds (holds_of facts row.opening.meter) told.held.2
+        (subst (λ sink. TakesAll CountsReading sink (holds_of facts row.opening.meter) new.held) held more.held),
+    );
+  }
+
+  -- it begins
+  pub tells_first : (fresh new : KeptMeter) → Begins zone range row fresh → TellsMore zone range row.opening.meter false facts fresh new
+      → Tells zone range new (meter_in facts row)
+  tells_first fresh new none more = record {
+    stands = more.stands ∙ none.stands;
+    entries = more.entries [] none.entries;
+    energy = (fresh.energy, none.energy, more.energy);
+    held = (fresh.held, none.held, more.held);
+  }
+
+-- ---- lists of them
+
+module _ (zone : Zone) (range : DayRange) where
+  -- the last of those that are told of
+  pub told_last : (kept : List KeptMeter) (one : KeptMeter) (meters : List MeterOver) → AreTold zone range (kept ++ one ∷ []) meters
+      → (before : List MeterOver) × (m : MeterOver) × (meters ≡ before ++ m ∷ []) × AreTold zone range kept before × Tells zone range one m
+  told_last [] one [] told = absurd told
+  told_last [] one (m ∷ []) told = ([], m, refl, tt, told.0)
+  told_last [] one (m ∷ other ∷ meters) told = absurd told.1
+  told_last (first ∷ kept) one [] told = absurd told
+  told_last (first ∷ kept) one (m ∷ meters) told =
+      let rest = told_last kept one meters told.1 in
+      (m ∷ rest.0, rest.1, ap (λ (those : List MeterOver). m ∷ those) rest.2, (told.0, rest.3), rest.4)
+
+  pub told_more : (kept : List KeptMeter) (one : KeptMeter) (meters : List MeterOver) (m : MeterOver) → AreTold zone range kept meters → Tells zone range one m
+      → AreTold zone range (kept ++ one ∷ []) (meters ++ m ∷ [])
+  told_more [] one [] m told more = (more, tt)
+  told_more [] one (other ∷ meters) m told more = absurd told
+  told_more (first ∷ kept) one [] m told more = absurd told
+  told_more (first ∷ kept) one (other ∷ meters) m told more = (told.0, told_more kept one meters m told.1 more)
+
+  pub before_too : (row : Installation) (kept : List KeptMeter) (meters : List MeterOver) → AreTold zone range kept meters
+      → All (λ stands. is_before stands row ≡ true) (map stands_of kept) → All (λ m. is_before m.stands row ≡ true) meters
+  before_too row [] [] told all = λ k d less. absurd (omega (arith, less))
+  before_too row [] (m ∷ meters) told all = absurd told
+  before_too row (one ∷ kept) [] told all = absurd told
+  before_too row (one ∷ kept) (m ∷ meters) told all =
+      All-cons (λ (those : MeterOver). is_before those.stands row ≡ true) m meters
+      (subst (λ (stands : Installation). is_before stands row ≡ true) told.0.stands (All-head (λ stands. is_before stands row ≡ true) (stands_of one) (map stands_of kept) all))
+      (before_too row kept meters told.1 (All-tail (λ stands. is_before stands row ≡ true) (stands_of one) (map stands_of kept) all))
+
+  -- ---- one row more
+
+  pub goes_on_told : (facts : List Fact) (row : Installation) (kept : List KeptMeter) (last joined new : KeptMeter) (old after : List KeptMeter)
+      → old ≡ kept ++ last ∷ [] → goes_on last.stands row ≡ true
+      → ((m : MeterOver) → Tells zone range last m → Tells zone range new (both_of m (meter_in facts row)))
+      → after ≡ kept ++ new ∷ [] → TellsAll zone range facts (row ∷ []) old after None
+  goes_on_told facts row kept last joined new old after old_is goes tells after_is = λ meters told.
+      let found = told_last kept last meters (subst (λ (those : List KeptMeter). AreTold zone range those meters) old_is told) in
+      let both = both_of found.1 (meter_in facts row) in
+      let now = found.0 ++ both ∷ [] in (
+          now,
+          (
+            now,
+            inl (record {
+              before = found.0;
+              one = found.1;
+              known_is = found.2;
+              goes = subst (λ (stands : Installation). goes_on stands row ≡ true) found.4.stands goes;
+              after_is = refl;
+            }),
+            refl,
+          ),
+          subst (λ (those : List KeptMeter). AreTold zone range those now) (sym after_is) (told_more kept new found.0 both found.3 (tells found.1 found.4)),
+      )
+
+  pub comes_after_told : (facts : List Fact) (row : Installation) (new : KeptMeter) (old after : List KeptMeter)
+      → All (λ stands. is_before stands row ≡ true) (map stands_of old) → Tells zone range new (meter_in facts row)
+      → after ≡ old ++ new ∷ [] → TellsAll zone range facts (row ∷ []) old after None
+  comes_after_told facts row new old after earlier tells after_is = λ meters told.
+      let m = meter_in facts row in
+      let now = meters ++ m ∷ [] in (
+          now,
+          (now, inr (record { earlier = before_too row old meters told earlier; after_is = refl }), refl),
+          subst (λ (those : List KeptMeter). AreTold zone range those now) (sym after_is) (told_more old new meters m told tells),
+      )
+
+  -- ---- all rows of a file
+
+  pub told_none : (facts : List Fact) (old : List KeptMeter) → TellsAll zone range facts [] old old None
+  told_none facts old = λ meters told. (meters, refl, told)
+
+  pub told_all : (facts : List Fact) (before : List Installation) (row : Installation) (old mid now : List KeptMeter) (apart : Option Apart) → is_some apart ≡ false
+      → TellsAll zone range facts before old mid None → TellsAll zone range facts (row ∷ []) mid now apart
+      → TellsAll zone range facts (before ++ row ∷ []) old now None
+  told_all facts before row old mid now (Some apart) isnt had more = absurd (cc isnt)
+  told_all facts before row old mid now None isnt had more = λ meters told.
+      let first = had meters told in
+      let next = more first.0 first.2 in (
+          next.0,
+          subst (λ (those : List MeterOver). TakesAll AddsOver meters those next.0) (sym (map-append (meter_in facts) before (row ∷ [])))
+          (takes_both AddsOver meters first.0 next.0 (map (meter_in facts) before) (meter_in facts row ∷ []) first.1 next.1),
+          next.2,
+      )
+
+-- ---- the rows of a statement
+
+all_pass : {X : Type 0} (xs : List X) → filter (λ x. true) xs ≡ xs
+all_pass [] = refl
+all_pass (x ∷ xs) = ap (λ l. x ∷ l) (all_pass xs)
+
+by_test : (asked : Span) (rows : List Share) → rows_within asked rows ≡ filter (λ row. is_within asked row.start) rows
+by_test Whole rows = sym (all_pass rows)
+by_test (Between from till) rows = refl
+
+fails_too : (p q : Bool) → (p ≡ true → q ≡ true) → q ≡ false → p ≡ false
+fails_too true q implies isnt = absurd (let e : false ≡ true = sym isnt ∙ implies refl in cc e)
+fails_too false q implies isnt = refl
+
+filter_among : {X : Type 0} (p q : X → Bool) → ((x : X) → p x ≡ true → q x ≡ true) → (xs : List X) → filter p (filter q xs) ≡ filter p xs
+filter_among p q implies [] = refl
+filter_among p q implies (x ∷ xs) =
+    let rest = filter_among p q implies xs in
+    elim (cases_Bool (q x)) [
+      | inl is ↦ ap (filter p) (cond-true _ _ _ is) ∙ ap (λ l. cond (p x) (x ∷ l) l) rest
+      | inr isnt ↦ ap (filter p) (cond-false _ _ _ isnt) ∙ rest ∙ sym (cond-false _ _ _ (fails_too (p x) (q x) (implies x) isnt))
+    ]
+
+and_second : (a b : Bool) → (a && b) ≡ true → b ≡ true
+and_second true b is = is
+and_second false b is = absurd (cc is)
+
+module _ (zone : Zone) (range : DayRange) where
+  energy_around : (rows : List Share) → energy_within zone range (rows_within (span_of range) rows) ≡ energy_within zone range rows
+  energy_around rows =
+      ap (λ (those : List Share). min (sum_by (λ row. row.mwh) those) (2 ^ 128 - 1))
+      (ap (filter (λ row. has_moment zone range row.start)) (by_test (span_of range) rows)
+      ∙ filter_among (λ (row : Share). has_moment zone range row.start) (λ row. is_within (span_of range) row.start)
+      (λ row has. has_each range.from range.till zone row.start (and_second (nat_le row.start LAST_MOMENT) (has_day range (day_at zone row.start)) has)) rows)
+
+  row_told : (kept : KeptMeter) (m : MeterOver) → Tells zone range kept m → kept_row kept ≡ statement_over zone range m
+  row_told kept m told =
+      let name = ap (λ (row : Installation). row.opening.meter) told.stands in
+      let mwh : kept.energy.mwh ≡ energy_within zone range m.rows =
+      added_up zone range (rows_within (span_of range) m.rows) told.energy.0 kept.energy told.energy.1 told.energy.2 ∙ energy_around m.rows in
+      let held = counted_all zone range m.holds told.held.0 kept.held told.held.1 told.held.2 in
+      rw (name, told.entries, mwh, held) refl
+
+  there : KeptMeter → Bool
+  there kept = was_there zone range kept.stands
+
+  pub rows_told : (kept : List KeptMeter) (meters : List MeterOver) → AreTold zone range kept meters
+      → map kept_row (filter (λ one. was_there zone range one.stands) kept) ≡ statements_over zone range meters
+  rows_told [] [] told = refl
+  rows_told [] (m ∷ meters) told = absurd told
+  rows_told (one ∷ kept) [] told = absurd told
+  rows_told (one ∷ kept) (m ∷ meters) told =
+      let rest = rows_told kept meters told.1 in
+      let same : was_there zone range one.stands ≡ was_there zone range m.stands = ap (was_there zone range) told.0.stands in
+      elim (cases_Bool (was_there zone range m.stands)) [
+        | inl is ↦
+            ap (map kept_row) (cond-true _ _ _ (same ∙ is)) ∙ ap (λ (row : MeterStatement). row ∷ map kept_row (filter (λ k. was_there zone range k.stands) kept)) (row_told one m told.0)
+            ∙ ap (λ (rows : List MeterStatement). statement_over zone range m ∷ rows) rest
+            ∙ sym (ap (map (statement_over zone range)) (cond-true _ _ _ is))
+        | inr isnt ↦ ap (map kept_row) (cond-false _ _ _ (same ∙ isnt)) ∙ rest ∙ sym (ap (map (statement_over zone range)) (cond-false _ _ _ isnt))
+      ]
+
+-- ---- one file more
+
+is_in_both : (here before : Bool) → (before ≡ true → here ≡ true) → here ≡ (here || before)
+is_in_both true before stays = refl
+is_in_both false true stays = stays refl
+is_in_both false false stays = refl
+
+is_kept : (was is there : Bool) → (was && not is) ≡ false → is ≡ there → was ≡ true → there ≡ true
+is_kept true true there test same so = sym same
+is_kept true false there test same so = absurd (cc test)
+is_kept false is there test same so = absurd (cc so)
+
+pub keeps_more : (zone : Zone) (range : DayRange) (register : List ℕ) (facts : List Fact) (old new : JoinedStatement) (is : Bool)
+    → (old.is_recorded && not is) ≡ false → is ≡ is_recorded register facts → new.is_recorded ≡ is → new.zone ≡ old.zone
+    → TellsAll old.zone range facts (installations_of facts register) old.meters.items new.meters.items None
+    → KeepsFile (HasStated zone range register) facts old new None
+keeps_more zone range register facts old new is test same put zones tells = λ files has.
+    let stays = λ (so : is_recorded_in register files ≡ true). is_kept old.is_recorded is (is_recorded register facts) test same (has.recorded ∙ so) in
+    let now = subst (λ (those : Zone). TellsAll those range facts (installations_of facts register) old.meters.items new.meters.items None) has.zone_is tells
+    has.meters has.told in
+    record {
+      recorded = put ∙ same ∙ is_in_both (is_recorded register facts) (is_recorded_in register files) stays;
+      zone_is = zones ∙ has.zone_is;
+      meters = now.0;
+      are = record {
+        recorded = (stays, has.are.recorded);
+        joined = takes_both AddsOver [] has.meters now.0 (parts_over register files) (map (meter_in facts) (installations_of facts register)) has.are.joined now.1;
+      };
+      told = now.2;
+    }

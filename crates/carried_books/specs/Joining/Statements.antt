@@ -1,0 +1,243 @@
+-- The statement of the meters at a register over files of one office, on a range of days. Lists of files have the latest at the head.
+use Rattle.std.specs.Prelude.{◌≡◌, ◌⊎◌, ℕ, Bool, true, false, List, [], ◌∷◌, ◌++◌, map, filter, drop, All, Option, Some, None}
+use Rattle.std.specs.declared.io.Write as writers
+use Rattle.command_io.specs.declared.status.ExitStatus.{ExitStatus}
+use Rattle.command_io.specs.declared.status.ExitStatus.TheVariants.{Fine}
+use Rattle.energy_report.specs.Energies.{AddsShare, IsFresh}
+use Rattle.energy_report.specs.Held.{held_within}
+use Rattle.energy_report.specs.HeldSinks.{CountsReading, HasCountedNone}
+use Rattle.energy_report.specs.Statements.{energy_within, tally_of, was_there}
+use Rattle.energy_report.specs.StatementTexts.{statement_text}
+use Rattle.energy_report.specs.declared.energy_within.EnergyWithin.{EnergyWithin}
+use Rattle.energy_report.specs.declared.form.StatementForm.{StatementForm}
+use Rattle.energy_report.specs.declared.held_within.HeldWithin.{HeldWithin}
+use Rattle.energy_report.specs.declared.meter_statement.MeterStatement.{MeterStatement}
+use Rattle.energy_report.specs.declared.tallies.EntryTally.{EntryTally}
+use Rattle.interval_core.specs.declared.day_range.DayRange.{DayRange}
+use Rattle.interval_core.specs.declared.shares.Share.{Share}
+use Rattle.interval_core.specs.declared.zone.Zone.{Zone}
+use Rattle.office_books.specs.Entries.{all_entries, installations_of}
+use Rattle.office_books.specs.Holds.{holds_of}
+use Rattle.office_books.specs.Rows.{TakesAll}
+use Rattle.office_books.specs.Spans.{rows_within}
+use Rattle.office_books.specs.declared.entries.MeterEntry.{MeterEntry}
+use Rattle.office_core.specs.DayRange.{span_of}
+use Rattle.office_events.specs.declared.facts.Fact.{Fact}
+use Rattle.office_events.specs.declared.facts.HeldReading.{HeldReading}
+use Rattle.office_events.specs.declared.questions.Installation.{Installation}
+use Rattle.office_program.specs.Texts.EndTexts.{IsTold}
+use Rattle.office_rules.specs.Intervals.{rows_of_meter}
+use Rattle.carried_books.specs.Joining.Files.{StaysRecorded, is_recorded, is_recorded_in}
+use Rattle.carried_books.specs.Joining.Meters.{AddOrAreApart, AreApart, as_one, goes_on, is_before}
+use Rattle.carried_books.specs.declared.joining.files.Unjoined.{Unjoined}
+use Rattle.carried_books.specs.declared.joining.files.Unjoined.TheVariants as unjoined
+use Rattle.carried_books.specs.declared.joining.meters.Apart.{Apart}
+use Rattle.carried_books.specs.declared.joining.kept_meters.KeptMeter.{KeptMeter}
+use Rattle.carried_books.specs.declared.joining.statements.JoinedStatement.{JoinedStatement}
+
+-- ---- a meter over files
+
+-- What files have of a meter, as one: as it stands, its entries in their order, its quarter hours, and its readings that were held.
+pub record MeterOver : Type 0 where
+  pub stands : Installation
+  pub entries : List MeterEntry
+  pub rows : List Share
+  pub holds : List HeldReading
+
+-- what one file has of it
+abbrev pub meter_in : List Fact → Installation → MeterOver
+meter_in facts row = record {
+  stands = row;
+  entries = all_entries facts row.opening.meter;
+  rows = rows_of_meter facts row.opening.meter;
+  holds = holds_of facts row.opening.meter;
+}
+
+-- Its own entries in a file: where it goes on, its opening there is none. It shows what the last entry before it showed, at the same
+-- moment.
+abbrev pub own_entries : (goes_on : Bool) → List MeterEntry → List MeterEntry
+own_entries true entries = drop 1 entries
+own_entries false entries = entries
+
+-- what files have of a meter, and the next one, in which it goes on
+abbrev pub both_of : (one next : MeterOver) → MeterOver
+both_of one next = record {
+  stands = as_one one.stands next.stands;
+  entries = one.entries ++ own_entries true next.entries;
+  rows = one.rows ++ next.rows;
+  holds = one.holds ++ next.holds;
+}
+
+-- ---- the meters at a register
+
+-- The last of these goes on as this one,
+pub record GoesOnAs (known : List MeterOver) (next : MeterOver) (after : List MeterOver) :
+    Type 0 where
+  pub before : List MeterOver
+  pub one : MeterOver
+  pub known_is : known ≡ before ++ one ∷ []
+  pub goes : goes_on one.stands next.stands ≡ true
+  pub after_is : after ≡ before ++ both_of one next ∷ []
+
+-- or all of them were there before it.
+pub record ComesAfter (known : List MeterOver) (next : MeterOver) (after : List MeterOver) :
+    Type 0 where
+  pub earlier : All (λ one. is_before one.stands next.stands ≡ true) known
+  pub after_is : after ≡ known ++ next ∷ []
+
+abbrev pub AddsOver : (known : List MeterOver) → MeterOver → (after : List MeterOver) → Type 0
+AddsOver known next after = GoesOnAs known next after ⊎ ComesAfter known next after
+
+-- What each file has of its meters: those of the first, in the order in which they were installed, then those of the next, and so
+-- on.
+abbrev pub parts_over : (register : List ℕ) → (files : List (List Fact)) → List MeterOver
+parts_over register [] = []
+parts_over register (facts ∷ files) =
+    parts_over register files ++ map (meter_in facts) (installations_of facts register)
+
+-- The files join at the register, and these are its meters over all of them.
+pub record AreMetersOver (register : List ℕ) (files : List (List Fact)) (meters : List MeterOver) :
+    Type 0 where
+  pub recorded : StaysRecorded register files
+  pub joined : TakesAll AddsOver [] (parts_over register files) meters
+
+-- ---- what is stated
+
+abbrev pub statement_over : Zone → DayRange → MeterOver → MeterStatement
+statement_over zone range m = record {
+  meter = m.stands.opening.meter;
+  entries = tally_of zone range m.entries;
+  mwh = energy_within zone range m.rows;
+  held = held_within zone range m.holds;
+}
+
+-- of those that were there in the range
+abbrev pub statements_over : Zone → DayRange → List MeterOver → List MeterStatement
+statements_over zone range meters =
+    map (statement_over zone range) (filter (λ m. was_there zone range m.stands) meters)
+
+-- The statement of the register's meters over the files.
+abbrev pub IsStatementOver : Zone → (register : List ℕ) → (files : List (List Fact))
+    → StatementForm → (text : List ℕ) → Type 0
+IsStatementOver zone register files form text = (meters : List MeterOver)
+    × AreMetersOver register files meters
+    × (text ≡ statement_text form (statements_over zone form.range meters))
+
+-- ---- what is kept of a meter
+
+-- a sink that had no rows took these
+abbrev pub AddedUp : Zone → DayRange → List Share → EnergyWithin → Type 0
+AddedUp zone range rows sink = (fresh : EnergyWithin) × IsFresh zone range fresh
+    × TakesAll AddsShare fresh rows sink
+
+abbrev pub Counted : Zone → DayRange → List HeldReading → HeldWithin → Type 0
+Counted zone range holds sink = (fresh : HeldWithin) × HasCountedNone zone range fresh
+    × TakesAll CountsReading fresh holds sink
+
+-- What is kept of a meter is what it comes to in the range. Of its quarter hours those around the range were taken.
+pub record Tells (zone : Zone) (range : DayRange) (kept : KeptMeter) (m : MeterOver) : Type 0 where
+  pub stands : kept.stands ≡ m.stands
+  pub entries : kept.entries ≡ tally_of zone range m.entries
+  pub energy : AddedUp zone range (rows_within (span_of range) m.rows) kept.energy
+  pub held : Counted zone range m.holds kept.held
+
+-- each is kept of the meter at its place
+abbrev pub AreTold : Zone → DayRange → List KeptMeter → List MeterOver → Type 0
+AreTold zone range [] [] = Unit {0}
+AreTold zone range [] (m ∷ meters) = ⊥
+AreTold zone range (one ∷ kept) [] = ⊥
+AreTold zone range (one ∷ kept) (m ∷ meters) =
+    Tells zone range one m × AreTold zone range kept meters
+
+abbrev pub stands_of : KeptMeter → Installation
+stands_of kept = kept.stands
+
+-- What was kept of files that join.
+pub record HasStated (zone : Zone) (range : DayRange) (register : List ℕ)
+    (files : List (List Fact)) (kept : JoinedStatement) : Type 0 where
+  pub recorded : kept.is_recorded ≡ is_recorded_in register files
+  pub zone_is : kept.zone ≡ zone
+  pub meters : List MeterOver
+  pub are : AreMetersOver register files meters
+  pub told : AreTold zone range kept.meters.items meters
+
+-- ---- one file more
+
+-- More entries are tallied after those before.
+abbrev pub TalliesOn : Zone → DayRange → List MeterEntry → (old new : EntryTally) → Type 0
+TalliesOn zone range entries old new = (before : List MeterEntry)
+    → old ≡ tally_of zone range before → new ≡ tally_of zone range (before ++ entries)
+
+-- What a file has of a meter, which goes on there or begins, was added to what was kept of it.
+pub record TellsMore (zone : Zone) (range : DayRange) (meter : List ℕ) (goes_on : Bool)
+    (facts : List Fact) (old new : KeptMeter) : Type 0 where
+  pub stands : new.stands ≡ old.stands
+  pub entries : TalliesOn zone range (own_entries goes_on (all_entries facts meter)) old.entries
+      new.entries
+  pub energy : TakesAll AddsShare old.energy
+      (rows_within (span_of range) (rows_of_meter facts meter)) new.energy
+  pub held : TakesAll CountsReading old.held (holds_of facts meter) new.held
+
+-- nothing was kept of it yet
+pub record Begins (zone : Zone) (range : DayRange) (row : Installation) (new : KeptMeter) :
+    Type 0 where
+  pub stands : new.stands ≡ row
+  pub entries : new.entries ≡ tally_of zone range []
+  pub energy : IsFresh zone range new.energy
+  pub held : HasCountedNone zone range new.held
+
+-- What was kept of meters, with those that a file lists, is what is kept of all of them, unless two are apart.
+abbrev pub TellsAll : Zone → DayRange → (facts : List Fact) → (listed : List Installation)
+    → (old new : List KeptMeter) → Option Apart → Type 0
+TellsAll zone range facts listed old new None = (meters : List MeterOver)
+    → AreTold zone range old meters
+    → (after : List MeterOver) × TakesAll AddsOver meters (map (meter_in facts) listed) after
+    × AreTold zone range new after
+TellsAll zone range facts listed old new (Some apart) = Unit {0}
+
+-- They were added so, or two are apart.
+abbrev pub AddsListed : Zone → DayRange → (facts : List Fact) → (listed : List Installation)
+    → (old new : List KeptMeter) → Option Apart → Type 0
+AddsListed zone range facts listed old new apart =
+    AddOrAreApart (map stands_of old) listed (map stands_of new) apart
+    × TellsAll zone range facts listed old new apart
+
+-- The file doesn't join those before it, so.
+abbrev pub DoesNotGoOn : (register : List ℕ) → (facts : List Fact) → (old : JoinedStatement)
+    → Unjoined → Type 0
+DoesNotGoOn register facts old unjoined.NotRecorded =
+    (old.is_recorded ≡ true) × (is_recorded register facts ≡ false)
+DoesNotGoOn register facts old (unjoined.Apart apart) =
+    AreApart (map stands_of old.meters.items) (installations_of facts register) apart
+DoesNotGoOn register facts old unjoined.OutOfTurn = ⊥
+
+-- ---- what is printed
+
+-- what a statement tells of a meter that was kept
+abbrev pub kept_row : KeptMeter → MeterStatement
+kept_row kept = record {
+  meter = kept.stands.opening.meter;
+  entries = kept.entries;
+  mwh = kept.energy.mwh;
+  held = kept.held.counts;
+}
+
+abbrev pub PrintsRows : {W : Type 0} → (contents : W → Option (List ℕ)) → StatementForm
+    → List MeterStatement → ExitStatus → (had holds : W) → Type 0
+PrintsRows contents form rows status had holds =
+    IsTold (statement_text form rows) Fine status (contents had) (contents holds)
+
+-- The statement was printed, or a part of it, since a write failed.
+pub record PrintsStatement (zone : Zone) (register : List ℕ) (files : List (List Fact))
+    (form : StatementForm) (status : ExitStatus) (had holds : Option (List ℕ)) : Type 0 where
+  pub text : List ℕ
+  pub is : IsStatementOver zone register files form text
+  pub told : IsTold text Fine status had holds
+
+-- So it is of files that join, by what was kept of them.
+abbrev pub StatesJoined : {W : Type 0} → writers.Ghosts W → JoinedStatement → StatementForm
+    → (had holds : W) → ExitStatus → Type 0
+StatesJoined w joined form had holds status =
+    (zone : Zone) (register : List ℕ) (files : List (List Fact))
+    → HasStated zone form.range register files joined
+    → PrintsStatement zone register files form status (w.contents had) (w.contents holds)
