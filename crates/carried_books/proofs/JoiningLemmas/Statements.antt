@@ -1,14 +1,20 @@
 -- What is kept of meters over files, for their statement.
 use Rattle.std.proofs.Common.{◌≡◌, ℕ, ◌+◌, ◌-◌, ◌^◌, ◌<◌, ◌&&◌, ◌||◌, nat_le, Bool, true, false, cond, not, List, [], ◌∷◌, ◌++◌, map, take, drop, length, Option, Some, None, Result, Ok, Err, inl, inr, refl, sym, ap, subst, ◌∙◌, append-nil, append_assoc, arith}
 use Rattle.std.specs.Prelude.{All, filter, is_some, min}
-use Rattle.std.specs.List.{sum_by}
+use Rattle.std.specs.List.{count_by, sum_by}
 use Rattle.std.proofs.lemmas.Bool.{cases_Bool, cond-false, cond-true}
 use Rattle.std.proofs.lemmas.List.{drop-drop, map-append}
 use Rattle.std.proofs.lemmas.List.Elements.{All-cons, All-head, All-tail, filter-append}
+use Rattle.std.proofs.lemmas.List.Sums.{sum_by-append}
 use Rattle.command_io.specs.declared.status.ExitStatus.{ExitStatus}
-use Rattle.energy_report.specs.Energies.{AddsShare}
-use Rattle.energy_report.specs.Held.{held_within}
-use Rattle.energy_report.specs.HeldSinks.{CountsReading}
+use Rattle.energy_core.specs.declared.verdicts.Cause.{Cause}
+use Rattle.energy_core.specs.declared.verdicts.Cause.TheVariants as cause
+use Rattle.energy_report.specs.Energies.{AddsShare, IsFresh}
+use Rattle.energy_report.specs.Held.{held_for, held_within, is_held_within}
+use Rattle.energy_report.specs.HeldSinks.{CountsReading, HasCountedNone}
+use Rattle.energy_report.specs.RowLines.{counted}
+use Rattle.energy_report.specs.declared.energy_within.EnergyWithin.{EnergyWithin}
+use Rattle.energy_report.specs.declared.held_within.HeldWithin.{HeldWithin}
 use Rattle.energy_report.specs.Statements.{energy_within, tally_of, was_there}
 use Rattle.energy_report.specs.StatementTexts.{statement_text}
 use Rattle.energy_report.specs.declared.form.StatementForm.{StatementForm}
@@ -42,7 +48,7 @@ use Rattle.office_rules.specs.Intervals.{rows_of_meter}
 use Rattle.carried_books.specs.Joining.Files.{StaysRecorded, is_recorded, is_recorded_in}
 use Rattle.carried_books.specs.Joining.Keeping.{KeepsFile, PartsFile}
 use Rattle.carried_books.specs.Joining.Meters.{AddOrAreApart, AddsMeter, as_one, goes_on, is_before}
-use Rattle.carried_books.specs.Joining.Statements.{AddedUp, AddsListed, AddsOver, AreMetersOver, AreTold, Begins, Counted, DoesNotGoOn, HasStated, IsStatementOver, MeterOver, TalliesOn, Tells, TellsAll, TellsMore, both_of, kept_row, meter_in, own_entries, parts_over, stands_of, statement_over, statements_over}
+use Rattle.carried_books.specs.Joining.Statements.{AddsListed, AddsOver, AreMetersOver, AreTold, DoesNotGoOn, Goes, HasStated, IsStatementOver, MeterOver, TalliesOn, TellsAll, TellsPart, both_held, both_of, kept_of, meter_in, own_entries, parts_over, stands_of, statement_over, statements_over, told_of}
 use Rattle.carried_books.specs.declared.joining.files.Unjoined.{Unjoined}
 use Rattle.carried_books.specs.declared.joining.files.Unjoined.TheVariants as unjoined
 use Rattle.carried_books.specs.declared.joining.kept_meters.KeptMeter.{KeptMeter}
@@ -106,137 +112,11 @@ all_held : (holds : List HeldReading) → holds_within Whole holds ≡ holds
 all_held [] = refl
 all_held (held ∷ holds) = ap (λ (those : List HeldReading). held ∷ those) (all_held holds)
 
-pub took_held : (old new : _) (holds : List HeldReading) → TakesAll CountsReading old (holds_within Whole holds) new → TakesAll CountsReading old holds new
-took_held old new holds took = subst (λ (those : List HeldReading). TakesAll CountsReading old those new) (all_held holds) took
-
--- ---- what is kept of a meter, and more of it
-
-rows_both : (span : Span) (rows more : List Share) → rows_within span (rows ++ more) ≡ rows_within span rows ++ rows_within span more
-rows_both Whole rows more = refl
-rows_both (Between from till) rows more = filter-append (λ (row : Share). is_within (Between from till) row.start) rows more
-
-module _ (zone : Zone) (range : DayRange) (facts : List Fact) (row : Installation) where
-  abbrev span : Span
-  span = span_of range
-
-  -- it goes on
-  pub tells_both : (old joined new : KeptMeter) (m : MeterOver) → Tells zone range old m → joined.stands ≡ as_one old.stands row
-      → joined.entries ≡ old.entries → joined.energy ≡ old.energy → joined.held ≡ old.held
-      → TellsMore zone range row.opening.meter true facts joined new → Tells zone range new (both_of m (meter_in facts row))
-  tells_both old joined new m told stands entries energy held more = record {
-    stands = more.stands ∙ stands ∙ ap (λ (one : Installation). as_one one row) told.stands;
-    entries = more.entries m.entries (entries ∙ told.entries);
-    energy = (
-        told.energy.0,
-        told.energy.1,
-        subst (λ (those : List Share). TakesAll AddsShare told.energy.0 those new.energy) (sym (rows_both span m.rows (rows_of_meter facts row.opening.meter)))
-        (takes_both AddsShare told.energy.0 old.energy new.energy (rows_within span m.rows) (rows_within span (rows_of_meter facts row.opening.meter)) told.energy.2
-        (subst (λ sink. TakesAll AddsShare sink (rows_within span (rows_of_meter facts row.opening.meter)) new.energy) energy more.energy)),
-    );
-    held = (
-        told.held.0,
-        told.held.1,
-        takes_both CountsReading told.held.0 old.held new.held m.holds (holds_of facts row.opening.meter) told.held.2
-        (subst (λ sink. TakesAll CountsReading sink (holds_of facts row.opening.meter) new.held) held more.held),
-    );
-  }
-
-  -- it begins
-  pub tells_first : (fresh new : KeptMeter) → Begins zone range row fresh → TellsMore zone range row.opening.meter false facts fresh new
-      → Tells zone range new (meter_in facts row)
-  tells_first fresh new none more = record {
-    stands = more.stands ∙ none.stands;
-    entries = more.entries [] none.entries;
-    energy = (fresh.energy, none.energy, more.energy);
-    held = (fresh.held, none.held, more.held);
-  }
-
--- ---- lists of them
-
-module _ (zone : Zone) (range : DayRange) where
-  -- the last of those that are told of
-  pub told_last : (kept : List KeptMeter) (one : KeptMeter) (meters : List MeterOver) → AreTold zone range (kept ++ one ∷ []) meters
-      → (before : List MeterOver) × (m : MeterOver) × (meters ≡ before ++ m ∷ []) × AreTold zone range kept before × Tells zone range one m
-  told_last [] one [] told = absurd told
-  told_last [] one (m ∷ []) told = ([], m, refl, tt, told.0)
-  told_last [] one (m ∷ other ∷ meters) told = absurd told.1
-  told_last (first ∷ kept) one [] told = absurd told
-  told_last (first ∷ kept) one (m ∷ meters) told =
-      let rest = told_last kept one meters told.1 in
-      (m ∷ rest.0, rest.1, ap (λ (those : List MeterOver). m ∷ those) rest.2, (told.0, rest.3), rest.4)
-
-  pub told_more : (kept : List KeptMeter) (one : KeptMeter) (meters : List MeterOver) (m : MeterOver) → AreTold zone range kept meters → Tells zone range one m
-      → AreTold zone range (kept ++ one ∷ []) (meters ++ m ∷ [])
-  told_more [] one [] m told more = (more, tt)
-  told_more [] one (other ∷ meters) m told more = absurd told
-  told_more (first ∷ kept) one [] m told more = absurd told
-  told_more (first ∷ kept) one (other ∷ meters) m told more = (told.0, told_more kept one meters m told.1 more)
-
-  pub before_too : (row : Installation) (kept : List KeptMeter) (meters : List MeterOver) → AreTold zone range kept meters
-      → All (λ stands. is_before stands row ≡ true) (map stands_of kept) → All (λ m. is_before m.stands row ≡ true) meters
-  before_too row [] [] told all = λ k d less. absurd (omega (arith, less))
-  before_too row [] (m ∷ meters) told all = absurd told
-  before_too row (one ∷ kept) [] told all = absurd told
-  before_too row (one ∷ kept) (m ∷ meters) told all =
-      All-cons (λ (those : MeterOver). is_before those.stands row ≡ true) m meters
-      (subst (λ (stands : Installation). is_before stands row ≡ true) told.0.stands (All-head (λ stands. is_before stands row ≡ true) (stands_of one) (map stands_of kept) all))
-      (before_too row kept meters told.1 (All-tail (λ stands. is_before stands row ≡ true) (stands_of one) (map stands_of kept) all))
-
-  -- ---- one row more
-
-  pub goes_on_told : (facts : List Fact) (row : Installation) (kept : List KeptMeter) (last joined new : KeptMeter) (old after : List KeptMeter)
-      → old ≡ kept ++ last ∷ [] → goes_on last.stands row ≡ true
-      → ((m : MeterOver) → Tells zone range last m → Tells zone range new (both_of m (meter_in facts row)))
-      → after ≡ kept ++ new ∷ [] → TellsAll zone range facts (row ∷ []) old after None
-  goes_on_told facts row kept last joined new old after old_is goes tells after_is = λ meters told.
-      let found = told_last kept last meters (subst (λ (those : List KeptMeter). AreTold zone range those meters) old_is told) in
-      let both = both_of found.1 (meter_in facts row) in
-      let now = found.0 ++ both ∷ [] in (
-          now,
-          (
-            now,
-            inl (record {
-              before = found.0;
-              one = found.1;
-              known_is = found.2;
-              goes = subst (λ (stands : Installation). goes_on stands row ≡ true) found.4.stands goes;
-              after_is = refl;
-            }),
-            refl,
-          ),
-          subst (λ (those : List KeptMeter). AreTold zone range those now) (sym after_is) (told_more kept new found.0 both found.3 (tells found.1 found.4)),
-      )
-
-  pub comes_after_told : (facts : List Fact) (row : Installation) (new : KeptMeter) (old after : List KeptMeter)
-      → All (λ stands. is_before stands row ≡ true) (map stands_of old) → Tells zone range new (meter_in facts row)
-      → after ≡ old ++ new ∷ [] → TellsAll zone range facts (row ∷ []) old after None
-  comes_after_told facts row new old after earlier tells after_is = λ meters told.
-      let m = meter_in facts row in
-      let now = meters ++ m ∷ [] in (
-          now,
-          (now, inr (record { earlier = before_too row old meters told earlier; after_is = refl }), refl),
-          subst (λ (those : List KeptMeter). AreTold zone range those now) (sym after_is) (told_more old new meters m told tells),
-      )
-
-  -- ---- all rows of a file
-
-  pub told_none : (facts : List Fact) (old : List KeptMeter) → TellsAll zone range facts [] old old None
-  told_none facts old = λ meters told. (meters, refl, told)
-
-  pub told_all : (facts : List Fact) (before : List Installation) (row : Installation) (old mid now : List KeptMeter) (apart : Option Apart) → is_some apart ≡ false
-      → TellsAll zone range facts before old mid None → TellsAll zone range facts (row ∷ []) mid now apart
-      → TellsAll zone range facts (before ++ row ∷ []) old now None
-  told_all facts before row old mid now (Some apart) isnt had more = absurd (cc isnt)
-  told_all facts before row old mid now None isnt had more = λ meters told.
-      let first = had meters told in
-      let next = more first.0 first.2 in (
-          next.0,
-          subst (λ (those : List MeterOver). TakesAll AddsOver meters those next.0) (sym (map-append (meter_in facts) before (row ∷ [])))
-          (takes_both AddsOver meters first.0 next.0 (map (meter_in facts) before) (meter_in facts row ∷ []) first.1 next.1),
-          next.2,
-      )
-
--- ---- the rows of a statement
+-- what sinks come to that took what a file has
+pub held_told : (zone : Zone) (range : DayRange) (holds : List HeldReading) (from to : HeldWithin) → HasCountedNone zone range from
+    → TakesAll CountsReading from (holds_within Whole holds) to → to.counts ≡ held_within zone range holds
+held_told zone range holds from to fresh took =
+    counted_all zone range holds from to fresh (subst (λ (those : List HeldReading). TakesAll CountsReading from those to) (all_held holds) took)
 
 all_pass : {X : Type 0} (xs : List X) → filter (λ x. true) xs ≡ xs
 all_pass [] = refl
@@ -263,40 +143,187 @@ and_second : (a b : Bool) → (a && b) ≡ true → b ≡ true
 and_second true b is = is
 and_second false b is = absurd (cc is)
 
+pub energy_told : (zone : Zone) (range : DayRange) (rows : List Share) (from to : EnergyWithin) → IsFresh zone range from
+    → TakesAll AddsShare from (rows_within (span_of range) rows) to → to.mwh ≡ energy_within zone range rows
+energy_told zone range rows from to fresh took =
+    added_up zone range (rows_within (span_of range) rows) from to fresh took
+    ∙ ap (λ (those : List Share). min (sum_by (λ row. row.mwh) those) (2 ^ 128 - 1))
+    (ap (filter (λ row. has_moment zone range row.start)) (by_test (span_of range) rows)
+    ∙ filter_among (λ (row : Share). has_moment zone range row.start) (λ row. is_within (span_of range) row.start)
+    (λ row has. has_each range.from range.till zone row.start (and_second (nat_le row.start LAST_MOMENT) (has_day range (day_at zone row.start)) has)) rows)
+
+-- ---- what is kept of a meter, and more of it
+
+-- a sum of numbers that stay at the greatest
+capped_both : (most a b : ℕ) → min (min a most + min b most) most ≡ min (a + b) most
+capped_both most a b = omega arith
+
+energy_both : (zone : Zone) (range : DayRange) (rows more : List Share)
+    → energy_within zone range (rows ++ more) ≡ min (energy_within zone range rows + energy_within zone range more) (2 ^ 128 - 1)
+energy_both zone range rows more =
+    let has : Share → Bool = λ row. has_moment zone range row.start in
+    let mwh : Share → ℕ = λ row. row.mwh in
+    ap (λ n. min n (2 ^ 128 - 1)) (ap (sum_by mwh) (filter-append has rows more) ∙ sum_by-append mwh (filter has rows) (filter has more))
+    ∙ sym (capped_both (2 ^ 128 - 1) (sum_by mwh (filter has rows)) (sum_by mwh (filter has more)))
+
+held_for_both : (zone : Zone) (range : DayRange) (holds more : List HeldReading) (why : Cause)
+    → held_for zone range (holds ++ more) why ≡ counted (held_for zone range holds why + held_for zone range more why)
+held_for_both zone range holds more why =
+    let is : HeldReading → Bool = is_held_within zone range why in
+    ap counted (sum_by-append (λ (held : HeldReading). cond (is held) 1 0) holds more) ∙ sym (capped_both 18446744073709551615 (count_by is holds) (count_by is more))
+
+held_both : (zone : Zone) (range : DayRange) (holds more : List HeldReading)
+    → held_within zone range (holds ++ more) ≡ both_held (held_within zone range holds) (held_within zone range more)
+held_both zone range holds more = rw (
+    held_for_both zone range holds more cause.NotAccumulated,
+    held_for_both zone range holds more cause.ScaleChanged,
+    held_for_both zone range holds more cause.NotLater,
+    held_for_both zone range holds more cause.SpanTooLong,
+    held_for_both zone range holds more cause.GapTooLong,
+    held_for_both zone range holds more cause.TooFast,
+    held_for_both zone range holds more cause.TotalFull,
+    held_for_both zone range holds more cause.NotBelowRange,
+) refl
+
+module _ (zone : Zone) (range : DayRange) (facts : List Fact) (row : Installation) where
+  -- it goes on
+  pub tells_both : (old new : KeptMeter) (part : MeterStatement) (m : MeterOver) → old ≡ kept_of zone range m → Goes old row part new
+      → TellsPart zone range row.opening.meter true facts old.told.entries part → new ≡ kept_of zone range (both_of m (meter_in facts row))
+  tells_both old new part m told goes more =
+      let stands = goes.stands ∙ ap (λ (k : KeptMeter). as_one k.stands row) told in
+      let name = goes.meter ∙ ap (λ (k : KeptMeter). k.told.meter) told in
+      let entries = goes.entries ∙ more.entries m.entries (ap (λ (k : KeptMeter). k.told.entries) told) in
+      let mwh = goes.energy ∙ ap (λ (k : KeptMeter). min (k.told.mwh + part.mwh) (2 ^ 128 - 1)) told
+      ∙ ap (λ n. min (energy_within zone range m.rows + n) (2 ^ 128 - 1)) more.energy
+      ∙ sym (energy_both zone range m.rows (rows_of_meter facts row.opening.meter)) in
+      let held = goes.held ∙ ap (λ (k : KeptMeter). both_held k.told.held part.held) told
+      ∙ ap (both_held (held_within zone range m.holds)) more.held ∙ sym (held_both zone range m.holds (holds_of facts row.opening.meter)) in
+      rw (stands, name, entries, mwh, held) refl
+
+  -- it begins
+  pub tells_first : (new : KeptMeter) (none : EntryTally) → none ≡ tally_of zone range [] → new.stands ≡ row
+      → TellsPart zone range row.opening.meter false facts none new.told → new ≡ kept_of zone range (meter_in facts row)
+  tells_first new none is stands more =
+      let entries = more.entries [] is in
+      rw (stands, more.meter_is, entries, more.energy, more.held) refl
+
+-- ---- lists of them
+
+all_stand : (zone : Zone) (range : DayRange) (meters : List MeterOver) → map stands_of (map (kept_of zone range) meters) ≡ map (λ m. m.stands) meters
+all_stand zone range [] = refl
+all_stand zone range (m ∷ meters) = ap (λ (those : List Installation). m.stands ∷ those) (all_stand zone range meters)
+
+stand_before : (row : Installation) (meters : List MeterOver) → All (λ stands. is_before stands row ≡ true) (map (λ m. m.stands) meters)
+    → All (λ m. is_before m.stands row ≡ true) meters
+stand_before row [] all = λ k d less. absurd (omega (arith, less))
+stand_before row (m ∷ meters) all =
+    All-cons (λ (those : MeterOver). is_before those.stands row ≡ true) m meters
+    (All-head (λ stands. is_before stands row ≡ true) m.stands (map (λ m. m.stands) meters) all)
+    (stand_before row meters (All-tail (λ stands. is_before stands row ≡ true) m.stands (map (λ m. m.stands) meters) all))
+
+
 module _ (zone : Zone) (range : DayRange) where
-  energy_around : (rows : List Share) → energy_within zone range (rows_within (span_of range) rows) ≡ energy_within zone range rows
-  energy_around rows =
-      ap (λ (those : List Share). min (sum_by (λ row. row.mwh) those) (2 ^ 128 - 1))
-      (ap (filter (λ row. has_moment zone range row.start)) (by_test (span_of range) rows)
-      ∙ filter_among (λ (row : Share). has_moment zone range row.start) (λ row. is_within (span_of range) row.start)
-      (λ row has. has_each range.from range.till zone row.start (and_second (nat_le row.start LAST_MOMENT) (has_day range (day_at zone row.start)) has)) rows)
+  rows_of_meters : (meters : List MeterOver)
+      → map told_of (filter (λ one. was_there zone range one.stands) (map (kept_of zone range) meters)) ≡ statements_over zone range meters
+  rows_of_meters [] = refl
+  rows_of_meters (m ∷ meters) =
+      let rest = rows_of_meters meters in
+      elim (cases_Bool (was_there zone range m.stands)) [
+        | inl is ↦ ap (map told_of) (cond-true _ _ _ is) ∙ ap (λ (rows : List MeterStatement). statement_over zone range m ∷ rows) rest
+            ∙ sym (ap (map (statement_over zone range)) (cond-true _ _ _ is))
+        | inr isnt ↦ ap (map told_of) (cond-false _ _ _ isnt) ∙ rest ∙ sym (ap (map (statement_over zone range)) (cond-false _ _ _ isnt))
+      ]
 
-  row_told : (kept : KeptMeter) (m : MeterOver) → Tells zone range kept m → kept_row kept ≡ statement_over zone range m
-  row_told kept m told =
-      let name = ap (λ (row : Installation). row.opening.meter) told.stands in
-      let mwh : kept.energy.mwh ≡ energy_within zone range m.rows =
-      added_up zone range (rows_within (span_of range) m.rows) told.energy.0 kept.energy told.energy.1 told.energy.2 ∙ energy_around m.rows in
-      let held = counted_all zone range m.holds told.held.0 kept.held told.held.1 told.held.2 in
-      rw (name, told.entries, mwh, held) refl
+  -- the last of those that are told of
+  pub told_last : (kept : List KeptMeter) (one : KeptMeter) (meters : List MeterOver) → AreTold zone range (kept ++ one ∷ []) meters
+      → (before : List MeterOver) × (m : MeterOver) × (meters ≡ before ++ m ∷ []) × AreTold zone range kept before × (one ≡ kept_of zone range m)
+  told_last [] one [] told = absurd (cc told)
+  told_last [] one (m ∷ []) told = ([], m, refl, refl, let e : one ≡ kept_of zone range m = cc told in e)
+  told_last [] one (m ∷ other ∷ meters) told = absurd (cc told)
+  told_last (first ∷ kept) one [] told = absurd (cc told)
+  told_last (first ∷ kept) one (m ∷ meters) told =
+      let head : first ≡ kept_of zone range m = cc told in
+      let tail : kept ++ one ∷ [] ≡ map (kept_of zone range) meters = cc told in
+      let rest = told_last kept one meters tail in (
+          m ∷ rest.0,
+          rest.1,
+          ap (λ (those : List MeterOver). m ∷ those) rest.2,
+          ap (λ (k : KeptMeter). k ∷ kept) head ∙ ap (λ (those : List KeptMeter). kept_of zone range m ∷ those) rest.3,
+          rest.4,
+      )
 
-  there : KeptMeter → Bool
-  there kept = was_there zone range kept.stands
+  pub told_more : (kept : List KeptMeter) (one : KeptMeter) (meters : List MeterOver) (m : MeterOver) → AreTold zone range kept meters → one ≡ kept_of zone range m
+      → AreTold zone range (kept ++ one ∷ []) (meters ++ m ∷ [])
+  told_more kept one meters m told more =
+      ap (λ (those : List KeptMeter). those ++ one ∷ []) told ∙ ap (λ (k : KeptMeter). map (kept_of zone range) meters ++ k ∷ []) more
+      ∙ sym (map-append (kept_of zone range) meters (m ∷ []))
+
+  pub before_too : (row : Installation) (kept : List KeptMeter) (meters : List MeterOver) → AreTold zone range kept meters
+      → All (λ stands. is_before stands row ≡ true) (map stands_of kept) → All (λ m. is_before m.stands row ≡ true) meters
+  before_too row kept meters told all =
+      let same : map stands_of kept ≡ map (λ m. m.stands) meters = ap (map stands_of) told ∙ all_stand zone range meters in
+      stand_before row meters (subst (All (λ stands. is_before stands row ≡ true)) same all)
+
+  -- ---- one row more
+
+  pub goes_on_told : (facts : List Fact) (row : Installation) (kept : List KeptMeter) (last new : KeptMeter) (old after : List KeptMeter)
+      → old ≡ kept ++ last ∷ [] → goes_on last.stands row ≡ true
+      → ((m : MeterOver) → last ≡ kept_of zone range m → new ≡ kept_of zone range (both_of m (meter_in facts row)))
+      → after ≡ kept ++ new ∷ [] → TellsAll zone range facts (row ∷ []) old after None
+  goes_on_told facts row kept last new old after old_is goes tells after_is = λ meters told.
+      let found = told_last kept last meters (sym old_is ∙ told) in
+      let both = both_of found.1 (meter_in facts row) in
+      let now = found.0 ++ both ∷ [] in (
+          now,
+          (
+            now,
+            inl (record {
+              before = found.0;
+              one = found.1;
+              known_is = found.2;
+              goes = subst (λ (k : KeptMeter). goes_on k.stands row ≡ true) found.4 goes;
+              after_is = refl;
+            }),
+            refl,
+          ),
+          after_is ∙ told_more kept new found.0 both found.3 (tells found.1 found.4),
+      )
+
+  pub comes_after_told : (facts : List Fact) (row : Installation) (new : KeptMeter) (old after : List KeptMeter)
+      → All (λ stands. is_before stands row ≡ true) (map stands_of old) → new ≡ kept_of zone range (meter_in facts row)
+      → after ≡ old ++ new ∷ [] → TellsAll zone range facts (row ∷ []) old after None
+  comes_after_told facts row new old after earlier tells after_is = λ meters told.
+      let m = meter_in facts row in
+      let now = meters ++ m ∷ [] in (
+          now,
+          (now, inr (record { earlier = before_too row old meters told earlier; after_is = refl }), refl),
+          after_is ∙ told_more old new meters m told tells,
+      )
+
+  -- ---- all rows of a file
+
+  pub told_none : (facts : List Fact) (old : List KeptMeter) → TellsAll zone range facts [] old old None
+  told_none facts old = λ meters told. (meters, refl, told)
+
+  pub told_all : (facts : List Fact) (before : List Installation) (row : Installation) (old mid now : List KeptMeter) (apart : Option Apart) → is_some apart ≡ false
+      → TellsAll zone range facts before old mid None → TellsAll zone range facts (row ∷ []) mid now apart
+      → TellsAll zone range facts (before ++ row ∷ []) old now None
+  told_all facts before row old mid now (Some apart) isnt had more = absurd (cc isnt)
+  told_all facts before row old mid now None isnt had more = λ meters told.
+      let first = had meters told in
+      let next = more first.0 first.2 in (
+          next.0,
+          subst (λ (those : List MeterOver). TakesAll AddsOver meters those next.0) (sym (map-append (meter_in facts) before (row ∷ [])))
+          (takes_both AddsOver meters first.0 next.0 (map (meter_in facts) before) (meter_in facts row ∷ []) first.1 next.1),
+          next.2,
+      )
+
+  -- ---- the rows of a statement
 
   pub rows_told : (kept : List KeptMeter) (meters : List MeterOver) → AreTold zone range kept meters
-      → map kept_row (filter (λ one. was_there zone range one.stands) kept) ≡ statements_over zone range meters
-  rows_told [] [] told = refl
-  rows_told [] (m ∷ meters) told = absurd told
-  rows_told (one ∷ kept) [] told = absurd told
-  rows_told (one ∷ kept) (m ∷ meters) told =
-      let rest = rows_told kept meters told.1 in
-      let same : was_there zone range one.stands ≡ was_there zone range m.stands = ap (was_there zone range) told.0.stands in
-      elim (cases_Bool (was_there zone range m.stands)) [
-        | inl is ↦
-            ap (map kept_row) (cond-true _ _ _ (same ∙ is)) ∙ ap (λ (row : MeterStatement). row ∷ map kept_row (filter (λ k. was_there zone range k.stands) kept)) (row_told one m told.0)
-            ∙ ap (λ (rows : List MeterStatement). statement_over zone range m ∷ rows) rest
-            ∙ sym (ap (map (statement_over zone range)) (cond-true _ _ _ is))
-        | inr isnt ↦ ap (map kept_row) (cond-false _ _ _ (same ∙ isnt)) ∙ rest ∙ sym (ap (map (statement_over zone range)) (cond-false _ _ _ isnt))
-      ]
+      → map told_of (filter (λ one. was_there zone range one.stands) kept) ≡ statements_over zone range meters
+  rows_told kept meters told =
+      ap (λ (those : List KeptMeter). map told_of (filter (λ one. was_there zone range one.stands) those)) told ∙ rows_of_meters meters
 
 -- ---- one file more
 

@@ -1,16 +1,14 @@
 -- The statement of the meters at a register over files of one office, on a range of days. Lists of files have the latest at the head.
-use Rattle.std.specs.Prelude.{◌≡◌, ◌⊎◌, ℕ, Bool, true, false, List, [], ◌∷◌, ◌++◌, map, filter, drop, All, Option, Some, None}
+use Rattle.std.specs.Prelude.{◌≡◌, ◌⊎◌, ℕ, ◌+◌, ◌-◌, ◌^◌, min, Bool, true, false, List, [], ◌∷◌, ◌++◌, map, filter, drop, All, Option, Some, None}
 use Rattle.std.specs.declared.io.Write as writers
 use Rattle.command_io.specs.declared.status.ExitStatus.{ExitStatus}
 use Rattle.command_io.specs.declared.status.ExitStatus.TheVariants.{Fine}
-use Rattle.energy_report.specs.Energies.{AddsShare, IsFresh}
 use Rattle.energy_report.specs.Held.{held_within}
-use Rattle.energy_report.specs.HeldSinks.{CountsReading, HasCountedNone}
+use Rattle.energy_report.specs.RowLines.{counted}
 use Rattle.energy_report.specs.Statements.{energy_within, tally_of, was_there}
 use Rattle.energy_report.specs.StatementTexts.{statement_text}
-use Rattle.energy_report.specs.declared.energy_within.EnergyWithin.{EnergyWithin}
 use Rattle.energy_report.specs.declared.form.StatementForm.{StatementForm}
-use Rattle.energy_report.specs.declared.held_within.HeldWithin.{HeldWithin}
+use Rattle.energy_report.specs.declared.held_counts.HeldCounts.{HeldCounts}
 use Rattle.energy_report.specs.declared.meter_statement.MeterStatement.{MeterStatement}
 use Rattle.energy_report.specs.declared.tallies.EntryTally.{EntryTally}
 use Rattle.interval_core.specs.declared.day_range.DayRange.{DayRange}
@@ -19,9 +17,7 @@ use Rattle.interval_core.specs.declared.zone.Zone.{Zone}
 use Rattle.office_books.specs.Entries.{all_entries, installations_of}
 use Rattle.office_books.specs.Holds.{holds_of}
 use Rattle.office_books.specs.Rows.{TakesAll}
-use Rattle.office_books.specs.Spans.{rows_within}
 use Rattle.office_books.specs.declared.entries.MeterEntry.{MeterEntry}
-use Rattle.office_core.specs.DayRange.{span_of}
 use Rattle.office_events.specs.declared.facts.Fact.{Fact}
 use Rattle.office_events.specs.declared.facts.HeldReading.{HeldReading}
 use Rattle.office_events.specs.declared.questions.Installation.{Installation}
@@ -125,32 +121,18 @@ IsStatementOver zone register files form text = (meters : List MeterOver)
 
 -- ---- what is kept of a meter
 
--- a sink that had no rows took these
-abbrev pub AddedUp : Zone → DayRange → List Share → EnergyWithin → Type 0
-AddedUp zone range rows sink = (fresh : EnergyWithin) × IsFresh zone range fresh
-    × TakesAll AddsShare fresh rows sink
+abbrev pub kept_of : Zone → DayRange → MeterOver → KeptMeter
+kept_of zone range m = record { stands = m.stands; told = statement_over zone range m }
 
-abbrev pub Counted : Zone → DayRange → List HeldReading → HeldWithin → Type 0
-Counted zone range holds sink = (fresh : HeldWithin) × HasCountedNone zone range fresh
-    × TakesAll CountsReading fresh holds sink
-
--- What is kept of a meter is what it comes to in the range. Of its quarter hours those around the range were taken.
-pub record Tells (zone : Zone) (range : DayRange) (kept : KeptMeter) (m : MeterOver) : Type 0 where
-  pub stands : kept.stands ≡ m.stands
-  pub entries : kept.entries ≡ tally_of zone range m.entries
-  pub energy : AddedUp zone range (rows_within (span_of range) m.rows) kept.energy
-  pub held : Counted zone range m.holds kept.held
-
--- each is kept of the meter at its place
+-- Each is kept of the meter at its place.
 abbrev pub AreTold : Zone → DayRange → List KeptMeter → List MeterOver → Type 0
-AreTold zone range [] [] = Unit {0}
-AreTold zone range [] (m ∷ meters) = ⊥
-AreTold zone range (one ∷ kept) [] = ⊥
-AreTold zone range (one ∷ kept) (m ∷ meters) =
-    Tells zone range one m × AreTold zone range kept meters
+AreTold zone range kept meters = kept ≡ map (kept_of zone range) meters
 
 abbrev pub stands_of : KeptMeter → Installation
 stands_of kept = kept.stands
+
+abbrev pub told_of : KeptMeter → MeterStatement
+told_of kept = kept.told
 
 -- What was kept of files that join.
 pub record HasStated (zone : Zone) (range : DayRange) (register : List ℕ)
@@ -168,23 +150,36 @@ abbrev pub TalliesOn : Zone → DayRange → List MeterEntry → (old new : Entr
 TalliesOn zone range entries old new = (before : List MeterEntry)
     → old ≡ tally_of zone range before → new ≡ tally_of zone range (before ++ entries)
 
--- What a file has of a meter, which goes on there or begins, was added to what was kept of it.
-pub record TellsMore (zone : Zone) (range : DayRange) (meter : List ℕ) (goes_on : Bool)
-    (facts : List Fact) (old new : KeptMeter) : Type 0 where
-  pub stands : new.stands ≡ old.stands
-  pub entries : TalliesOn zone range (own_entries goes_on (all_entries facts meter)) old.entries
-      new.entries
-  pub energy : TakesAll AddsShare old.energy
-      (rows_within (span_of range) (rows_of_meter facts meter)) new.energy
-  pub held : TakesAll CountsReading old.held (holds_of facts meter) new.held
+-- What a file has of a meter, which goes on there or begins; its entries are tallied after those before.
+pub record TellsPart (zone : Zone) (range : DayRange) (meter : List ℕ) (goes_on : Bool)
+    (facts : List Fact) (begun : EntryTally) (told : MeterStatement) : Type 0 where
+  pub meter_is : told.meter ≡ meter
+  pub entries : TalliesOn zone range (own_entries goes_on (all_entries facts meter)) begun
+      told.entries
+  pub energy : told.mwh ≡ energy_within zone range (rows_of_meter facts meter)
+  pub held : told.held ≡ held_within zone range (holds_of facts meter)
 
--- nothing was kept of it yet
-pub record Begins (zone : Zone) (range : DayRange) (row : Installation) (new : KeptMeter) :
+-- how many readings were held in both, as numbers of 64 bits hold it
+abbrev pub both_held : (one more : HeldCounts) → HeldCounts
+both_held one more = record {
+  not_accumulated = counted (one.not_accumulated + more.not_accumulated);
+  scale_changed = counted (one.scale_changed + more.scale_changed);
+  not_later = counted (one.not_later + more.not_later);
+  span_too_long = counted (one.span_too_long + more.span_too_long);
+  gap_too_long = counted (one.gap_too_long + more.gap_too_long);
+  too_fast = counted (one.too_fast + more.too_fast);
+  total_full = counted (one.total_full + more.total_full);
+  not_below_range = counted (one.not_below_range + more.not_below_range);
+}
+
+-- A meter goes on in a file which has this part of it.
+pub record Goes (kept : KeptMeter) (row : Installation) (part : MeterStatement) (new : KeptMeter) :
     Type 0 where
-  pub stands : new.stands ≡ row
-  pub entries : new.entries ≡ tally_of zone range []
-  pub energy : IsFresh zone range new.energy
-  pub held : HasCountedNone zone range new.held
+  pub stands : new.stands ≡ as_one kept.stands row
+  pub meter : new.told.meter ≡ kept.told.meter
+  pub entries : new.told.entries ≡ part.entries
+  pub energy : new.told.mwh ≡ min (kept.told.mwh + part.mwh) (2 ^ 128 - 1)
+  pub held : new.told.held ≡ both_held kept.told.held part.held
 
 -- What was kept of meters, with those that a file lists, is what is kept of all of them, unless two are apart.
 abbrev pub TellsAll : Zone → DayRange → (facts : List Fact) → (listed : List Installation)
@@ -212,15 +207,6 @@ DoesNotGoOn register facts old (unjoined.Apart apart) =
 DoesNotGoOn register facts old unjoined.OutOfTurn = ⊥
 
 -- ---- what is printed
-
--- what a statement tells of a meter that was kept
-abbrev pub kept_row : KeptMeter → MeterStatement
-kept_row kept = record {
-  meter = kept.stands.opening.meter;
-  entries = kept.entries;
-  mwh = kept.energy.mwh;
-  held = kept.held.counts;
-}
 
 abbrev pub PrintsRows : {W : Type 0} → (contents : W → Option (List ℕ)) → StatementForm
     → List MeterStatement → ExitStatus → (had holds : W) → Type 0

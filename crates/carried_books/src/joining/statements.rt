@@ -8,14 +8,14 @@ ghost use Rattle.carried_books.specs.Joining.Meters as meters;
 ghost use Rattle.carried_books.specs.Joining.Meters.{AddOrAreApart, AddsNext, AddsOrIsApart};
 ghost use Rattle.carried_books.specs.Joining.Statements.{AddsListed, DoesNotGoOn, HasStated};
 ghost use Rattle.carried_books.specs.Joining.Statements.{PrintsRows, StatesJoined, TellsAll};
-ghost use Rattle.carried_books.specs.Joining.Statements.{kept_row, stands_of};
+ghost use Rattle.carried_books.specs.Joining.Statements.{stands_of, told_of};
 
 use crate::joining::files::{Unjoined, is_recorded};
 use crate::joining::keeping::Keeping;
-use crate::joining::kept_meters::{KeptMeter, begun, tell_more};
-use crate::joining::meters::{Apart, as_one, both, goes_on, is_before};
+use crate::joining::kept_meters::{KeptMeter, gone_on, told_in};
+use crate::joining::meters::{Apart, both, goes_on, is_before};
 use command_io::ExitStatus;
-use energy_report::{MeterStatement, StatementForm, was_there, write_statement};
+use energy_report::{EntryTally, MeterStatement, StatementForm, was_there, write_statement};
 use interval_core::{DayRange, Zone};
 use office_books::{Books, BooksFault};
 use office_events::{Installation, Name};
@@ -66,32 +66,11 @@ fn add_next<B: Books>(
             begins: *row,
         })),
         None => {
-            let fresh = begun(zone, range, row);
-            let kept = tell_more(fresh, books, zone, range, &row.opening.meter, false)?;
-            known.push(kept)?;
+            let none = EntryTally::new();
+            let told = told_in(books, none, zone, range, &row.opening.meter, false)?;
+            known.push(KeptMeter { stands: *row, told })?;
             Ok(None)
         }
-    }
-}
-
-// What was kept of a meter that goes on in a file.
-fn with_row(kept: KeptMeter, row: &Installation) -> KeptMeter
-    ensures stands { result.stands ≡ meters.as_one kept.stands row.now }
-    ensures entries { result.entries ≡ kept.entries }
-    ensures energy { result.energy ≡ kept.energy }
-    ensures held { result.held ≡ kept.held }
-{
-    let KeptMeter {
-        stands,
-        entries,
-        energy,
-        held,
-    } = kept;
-    KeptMeter {
-        stands: as_one(&stands, row),
-        entries,
-        energy,
-        held,
     }
 }
 
@@ -115,9 +94,9 @@ fn add_row<B: Books>(
         return add_next(known, books, zone, range, row);
     };
     if goes_on(&last.stands, row) {
-        let joined = with_row(last, row);
-        let kept = tell_more(joined, books, zone, range, &row.opening.meter, true)?;
-        known.push(kept)?;
+        let entries = last.told.entries;
+        let part = told_in(books, entries, zone, range, &row.opening.meter, true)?;
+        known.push(gone_on(&last, row, &part))?;
         return Ok(None);
     }
     known.push(last)?;
@@ -201,18 +180,6 @@ impl Keeping for JoinedStatement {
 
 // ---- what is printed
 
-// What a statement tells of a meter.
-fn row_of(kept: &KeptMeter) -> MeterStatement
-    ensures { result ≡ kept_row kept.now }
-{
-    MeterStatement {
-        meter: kept.stands.opening.meter,
-        entries: kept.entries,
-        mwh: kept.energy.mwh(),
-        held: kept.held.counts(),
-    }
-}
-
 // The rows of the meters that were there in a range.
 fn rows_of(
     alloc: Global,
@@ -220,13 +187,13 @@ fn rows_of(
     range: &DayRange,
     known: &[KeptMeter],
 ) -> Result<Vec<MeterStatement>, AllocError>
-    ensures { IfOk result (λ rows. rows.items ≡ map kept_row
+    ensures { IfOk result (λ rows. rows.items ≡ map told_of
         (filter (λ one. is_there zone.now range.now one.stands) known.now)) }
 {
     let mut rows = Vec::new(alloc);
     for one in known {
         if was_there(zone, range, &one.stands) {
-            rows.push(row_of(one))?;
+            rows.push(one.told)?;
         }
     }
     Ok(rows)
