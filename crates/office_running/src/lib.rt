@@ -6,14 +6,10 @@ mod device_polls;
 mod devices;
 mod event_loop;
 mod fault;
-mod http_port;
-mod kept_room;
 mod lacking;
 mod leftovers;
 mod office;
-mod outbox;
 mod outlet;
-mod peers;
 mod settings;
 mod voice;
 

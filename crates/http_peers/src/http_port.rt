@@ -1,14 +1,12 @@
 //! HTTP on a port.
 ghost use Rattle.std.specs.Prelude.{ℕ, List};
 ghost use Rattle.http_request.specs.Hosts.{texts};
-ghost use Rattle.office_running.specs.Runs.{Goes};
+ghost use Rattle.http_peers.specs.PeersAsk.{PeersAsk};
 
-use crate::clocks::{Now, even_milliseconds};
-use crate::fault::RunFault;
 use crate::kept_room::KeptRoom;
+use crate::moments::{Now, even_milliseconds};
 use crate::peers::Peer;
-use crate::settings::Settings;
-use crate::voice::Voice;
+use crate::run_told::RunTold;
 use energy_report::ReportForm;
 use http_request::{Route, Status, router};
 use matchit::Router;
@@ -26,7 +24,6 @@ use run_schedule::{MOST_PEERS, PEER_SECONDS, Peers, TurnShare, may_reply, place_
 use std::alloc::{AllocError, Global};
 use std::io::ErrorKind;
 use std::mem;
-use std::net::Net;
 
 /// Quarter hours of more seconds are told in pieces of so many: a thousand lines, of 32 bytes each at most.
 const PIECE_SECONDS: u64 = 900_000;
@@ -34,9 +31,12 @@ const PIECE_SECONDS: u64 = 900_000;
 /// How many pieces a peer is told in a row at most: more than a turn replies.
 const MOST_PIECES: u32 = 64;
 
-/// The port and its connections. The token of a connection is its place, and that of the port is the number of places.
+/// The token of the port. That of a connection is its place, and all are less.
+pub const PORT_TOKEN: usize = MOST_PEERS;
+
+/// The port and its connections.
 #[derive(Drop)]
-pub(crate) struct Serving {
+pub struct HttpPort {
     alloc: Global,
     listener: TcpListener,
     waiting: bool,
@@ -106,14 +106,14 @@ fn begun_reply(
 
 // Puts the next rows of a reply at the end of a text, or the last; it answers whether these were. None where the books failed, or
 // memory was wanting.
-#[tactic(auto, using(crate::proofs::Going::goes_none, crate::proofs::Going::goes_told))]
+#[tactic(auto, using(crate::proofs::PeersAsking::nobody_asks, crate::proofs::PeersAsking::asks_told))]
 fn put_next<B: Books>(
     alloc: Global,
     text: &mut Vec<u8>,
     rows: &mut RowsLeft,
     office: &mut Office<B>,
 ) -> Option<bool>
-    ensures { (names : List (List ℕ)) (at : ℕ) → Goes names at B.ledger office.old office.new }
+    ensures { (names : List (List ℕ)) (at : ℕ) → PeersAsk names at B.ledger office.old office.new }
 {
     if !has_more(rows) {
         return match end_rows(text, rows) {
@@ -153,26 +153,16 @@ fn no_connections(alloc: Global) -> Result<Vec<Option<Peer>>, AllocError> {
     Ok(connections)
 }
 
-impl Serving {
-    /// Opens the port.
-    pub(crate) fn open<R: Net>(
-        rt: &R,
+impl HttpPort {
+    /// A port that is listened on, whose listener is registered under [`PORT_TOKEN`]; nobody is connected.
+    pub fn new(
         alloc: Global,
-        registry: &Registry,
-        settings: &Settings<'_>,
-    ) -> Result<Serving, RunFault> {
-        let Ok(mut listener) = TcpListener::bind(rt, settings.listen) else {
-            return Err(RunFault::Port);
-        };
-        if registry
-            .register(&mut listener, Token(MOST_PEERS), Interest::READABLE)
-            .is_err()
-        {
-            return Err(RunFault::Sockets);
-        }
+        listener: TcpListener,
+        room: KeptRoom,
+    ) -> Result<HttpPort, AllocError> {
         let router = router(alloc)?;
         let connections = no_connections(alloc)?;
-        Ok(Serving {
+        Ok(HttpPort {
             alloc,
             listener,
             waiting: true,
@@ -181,18 +171,18 @@ impl Serving {
             connections,
             share: TurnShare::whole(),
             first: 0,
-            room: KeptRoom::of(settings),
+            room,
             is_full: false,
         })
     }
 
     /// A turn begins, with what may be replied in it: devices wait for no more.
-    pub(crate) fn begin_turn(&mut self) {
+    pub fn begin_turn(&mut self) {
         self.share = TurnShare::whole();
     }
 
     /// The place that is attended first: the one after that which was replied to last.
-    pub(crate) fn first(&self) -> usize {
+    pub fn first(&self) -> usize {
         self.first
     }
 
@@ -203,13 +193,13 @@ impl Serving {
     }
 
     /// Takes whether a command was refused since there is no room to keep it.
-    pub(crate) fn take_full(&mut self) -> bool {
+    pub fn take_full(&mut self) -> bool {
         mem::replace(&mut self.is_full, false)
     }
 
     /// Something may have come for a token.
-    pub(crate) fn mark(&mut self, token: usize) {
-        if token == MOST_PEERS {
+    pub fn mark(&mut self, token: usize) {
+        if token == PORT_TOKEN {
             self.waiting = true;
         } else if token < self.connections.len() {
             if let Some(peer) = &mut self.connections[token] {
@@ -228,13 +218,13 @@ impl Serving {
     }
 
     /// Whether something may have come that was not looked at, and needn't wait.
-    pub(crate) fn is_ready(&self) -> bool {
+    pub fn is_ready(&self) -> bool {
         let may_reply = self.may_reply();
         self.connections.iter().any(|it| is_ready(it, may_reply))
     }
 
     /// Whether a connection may wait that was not accepted.
-    pub(crate) fn is_waiting(&self) -> bool {
+    pub fn is_waiting(&self) -> bool {
         self.waiting
     }
 
@@ -247,7 +237,7 @@ impl Serving {
     }
 
     /// Drops the connections that took too long, and those that were replied to.
-    pub(crate) fn sweep(&mut self, time: u64) {
+    pub fn sweep(&mut self, time: u64) {
         for place in 0..MOST_PEERS {
             let is_late = self.peers.is_over(place, time);
             if is_late
@@ -295,7 +285,7 @@ impl Serving {
     }
 
     /// Accepts what waits, as far as there are places.
-    pub(crate) fn accept(&mut self, registry: &Registry, time: u64) {
+    pub fn accept(&mut self, registry: &Registry, time: u64) {
         for _connection in 0..MOST_PEERS {
             if !self.waiting || !self.has_room(time) {
                 return;
@@ -311,16 +301,16 @@ impl Serving {
     }
 
     // The reply of a route that is answered without the office.
-    fn reply_status(&self, route: StatusRoute, voice: &Voice) -> PeerReply {
+    fn reply_status(&self, route: StatusRoute, told: &RunTold<'_>) -> PeerReply {
         let mut text = Vec::new(self.alloc);
-        let monitor = &voice.monitor;
+        let monitor = told.monitor;
         match reply_status(
             self.alloc,
             &mut text,
             route,
             &monitor.counts,
             &monitor.states,
-            &voice.lacks,
+            told.lacks,
         ) {
             Ok(()) => PeerReply::Replied(text),
             Err(_) => PeerReply::Failed,
@@ -328,12 +318,12 @@ impl Serving {
     }
 
     // The reply with what was counted and the energy of meters.
-    #[tactic(auto, using(crate::proofs::Going::goes_looked))]
-    fn reply_metrics<B: Books>(&self, office: &mut Office<B>, voice: &Voice) -> PeerReply
-        ensures { (names : List (List ℕ)) (at : ℕ) → Goes names at B.ledger office.old office.new }
+    #[tactic(auto, using(crate::proofs::PeersAsking::asks_site))]
+    fn reply_metrics<B: Books>(&self, office: &mut Office<B>, told: &RunTold<'_>) -> PeerReply
+        ensures { (names : List (List ℕ)) (at : ℕ) → PeersAsk names at B.ledger office.old office.new }
     {
         let mut text = Vec::new(self.alloc);
-        let monitor = &voice.monitor;
+        let monitor = told.monitor;
         match reply_metrics(
             self.alloc,
             &mut text,
@@ -347,9 +337,9 @@ impl Serving {
     }
 
     // The reply to the question which registers and meters there are.
-    #[tactic(auto, using(crate::proofs::Going::goes_looked))]
+    #[tactic(auto, using(crate::proofs::PeersAsking::asks_site))]
     fn reply_site<B: Books>(&self, office: &mut Office<B>, moment: u64) -> PeerReply
-        ensures { (names : List (List ℕ)) → Goes names moment B.ledger office.old office.new }
+        ensures { (names : List (List ℕ)) → PeersAsk names moment B.ledger office.old office.new }
     {
         let mut text = Vec::new(self.alloc);
         match reply_site(self.alloc, &mut text, office, moment) {
@@ -359,14 +349,14 @@ impl Serving {
     }
 
     // The reply to the question for quarter hours of a meter.
-    #[tactic(auto, using(crate::proofs::Going::goes_rows))]
+    #[tactic(auto, using(crate::proofs::PeersAsking::asks_rows))]
     fn reply_intervals<B: Books>(
         &self,
         office: &mut Office<B>,
         meter: &Option<Name>,
         span: Span,
     ) -> PeerReply
-        ensures { (names : List (List ℕ)) (at : ℕ) → Goes names at B.ledger office.old office.new }
+        ensures { (names : List (List ℕ)) (at : ℕ) → PeersAsk names at B.ledger office.old office.new }
     {
         let mut text = Vec::new(self.alloc);
         match reply_intervals(self.alloc, &mut text, office, meter, span) {
@@ -376,7 +366,7 @@ impl Serving {
     }
 
     // Begins the reply with those of a span, where they are many.
-    #[tactic(auto, using(crate::proofs::Going::goes_none, crate::proofs::Going::goes_met))]
+    #[tactic(auto, using(crate::proofs::PeersAsking::nobody_asks, crate::proofs::PeersAsking::only_asks))]
     fn begin_span<B: Books>(
         &self,
         office: &mut Office<B>,
@@ -384,7 +374,7 @@ impl Serving {
         span: Span,
         rows: &mut Option<RowsLeft>,
     ) -> Option<PeerReply>
-        ensures { (names : List (List ℕ)) (at : ℕ) → Goes names at B.ledger office.old office.new }
+        ensures { (names : List (List ℕ)) (at : ℕ) → PeersAsk names at B.ledger office.old office.new }
     {
         let Span::Between { from, till } = span else {
             return None;
@@ -408,7 +398,7 @@ impl Serving {
         span: Span,
         rows: &mut Option<RowsLeft>,
     ) -> PeerReply
-        ensures { (names : List (List ℕ)) (at : ℕ) → Goes names at B.ledger office.old office.new }
+        ensures { (names : List (List ℕ)) (at : ℕ) → PeersAsk names at B.ledger office.old office.new }
     {
         match self.begin_span(office, meter, span, rows) {
             Some(begun) => begun,
@@ -417,14 +407,14 @@ impl Serving {
     }
 
     // Begins the office's own reply with all quarter hours of a meter, where a request asks for them, and they are many.
-    #[tactic(auto, using(crate::proofs::Going::goes_none, crate::proofs::Going::goes_met))]
+    #[tactic(auto, using(crate::proofs::PeersAsking::nobody_asks, crate::proofs::PeersAsking::only_asks))]
     fn begin_all<B: Books>(
         &self,
         request: &[u8],
         office: &mut Office<B>,
         rows: &mut Option<RowsLeft>,
     ) -> Option<PeerReply>
-        ensures { (names : List (List ℕ)) (at : ℕ) → Goes names at B.ledger office.old office.new }
+        ensures { (names : List (List ℕ)) (at : ℕ) → PeersAsk names at B.ledger office.old office.new }
     {
         let Some(meter) = all_rows_asked(&self.router, request) else {
             return None;
@@ -441,14 +431,14 @@ impl Serving {
     }
 
     // The reply to the question for entries of a meter.
-    #[tactic(auto, using(crate::proofs::Going::goes_rows))]
+    #[tactic(auto, using(crate::proofs::PeersAsking::asks_rows))]
     fn reply_entries<B: Books>(
         &self,
         office: &mut Office<B>,
         meter: &Option<Name>,
         from: u64,
     ) -> PeerReply
-        ensures { (names : List (List ℕ)) (at : ℕ) → Goes names at B.ledger office.old office.new }
+        ensures { (names : List (List ℕ)) (at : ℕ) → PeersAsk names at B.ledger office.old office.new }
     {
         let mut text = Vec::new(self.alloc);
         match reply_entries(self.alloc, &mut text, office, meter, from) {
@@ -458,9 +448,9 @@ impl Serving {
     }
 
     // The reply to the question which entries of a meter voids name.
-    #[tactic(auto, using(crate::proofs::Going::goes_rows))]
+    #[tactic(auto, using(crate::proofs::PeersAsking::asks_rows))]
     fn reply_voids<B: Books>(&self, office: &mut Office<B>, meter: &Option<Name>) -> PeerReply
-        ensures { (names : List (List ℕ)) (at : ℕ) → Goes names at B.ledger office.old office.new }
+        ensures { (names : List (List ℕ)) (at : ℕ) → PeersAsk names at B.ledger office.old office.new }
     {
         let mut text = Vec::new(self.alloc);
         match reply_voids(self.alloc, &mut text, office, meter) {
@@ -470,14 +460,14 @@ impl Serving {
     }
 
     // The reply to the question for the energy of a register.
-    #[tactic(auto, using(crate::proofs::Going::goes_energy))]
+    #[tactic(auto, using(crate::proofs::PeersAsking::asks_energy))]
     fn reply_energy<B: Books>(
         &self,
         office: &mut Office<B>,
         register: &Option<Name>,
         form: &ReportForm,
     ) -> PeerReply
-        ensures { (names : List (List ℕ)) (at : ℕ) → Goes names at B.ledger office.old office.new }
+        ensures { (names : List (List ℕ)) (at : ℕ) → PeersAsk names at B.ledger office.old office.new }
     {
         let mut text = Vec::new(self.alloc);
         match reply_energy(self.alloc, &mut text, office, register, form) {
@@ -487,9 +477,9 @@ impl Serving {
     }
 
     // The reply to the question which meters are at a register.
-    #[tactic(auto, using(crate::proofs::Going::goes_rows))]
+    #[tactic(auto, using(crate::proofs::PeersAsking::asks_rows))]
     fn reply_meters<B: Books>(&self, office: &mut Office<B>, register: &Option<Name>) -> PeerReply
-        ensures { (names : List (List ℕ)) (at : ℕ) → Goes names at B.ledger office.old office.new }
+        ensures { (names : List (List ℕ)) (at : ℕ) → PeersAsk names at B.ledger office.old office.new }
     {
         let mut text = Vec::new(self.alloc);
         match reply_meters(self.alloc, &mut text, office, register) {
@@ -500,21 +490,21 @@ impl Serving {
 
     // What comes of what a peer has asked, and the rows that are told after that. Who asks is tested before all else, and then
     // whether what is kept has room.
-    #[tactic(auto, using(crate::proofs::Going::goes_none, crate::proofs::Going::goes_both))]
+    #[tactic(auto, using(crate::proofs::PeersAsking::nobody_asks, crate::proofs::PeersAsking::both_ask))]
     fn reply<B: Books>(
         &self,
         names: &[&str],
         request: &[u8],
         office: &mut Office<B>,
-        voice: &Voice,
+        told: &RunTold<'_>,
         now: Now,
         rows: &mut Option<RowsLeft>,
     ) -> PeerReply
-        ensures { Goes (texts names.now) now.moment B.ledger office.old office.new }
+        ensures { PeersAsk (texts names.now) now.moment B.ledger office.old office.new }
     {
         match run_route(names, request) {
-            Some(RunRoute::Own(route)) => self.reply_status(route, voice),
-            Some(RunRoute::Metrics) => self.reply_metrics(office, voice),
+            Some(RunRoute::Own(route)) => self.reply_status(route, told),
+            Some(RunRoute::Metrics) => self.reply_metrics(office, told),
             Some(RunRoute::Site) => self.reply_site(office, now.moment),
             Some(RunRoute::Intervals { meter, span }) => {
                 self.reply_span(office, &meter, span, rows)
@@ -527,7 +517,7 @@ impl Serving {
             Some(RunRoute::Meters { register }) => self.reply_meters(office, &register),
             None => {
                 if self.room.lacks(request) {
-                    return self.reply_status(StatusRoute::Rejected(Status::Unavailable), voice);
+                    return self.reply_status(StatusRoute::Rejected(Status::Unavailable), told);
                 }
                 match self.begin_all(request, office, rows) {
                     Some(begun) => begun,
@@ -602,14 +592,14 @@ impl Serving {
         peer: &mut Peer,
         names: &[&str],
         office: &mut Office<B>,
-        voice: &Voice,
+        told: &RunTold<'_>,
         now: Now,
     )
-        ensures { Goes (texts names.now) now.moment B.ledger office.old office.new }
+        ensures { PeersAsk (texts names.now) now.moment B.ledger office.old office.new }
     {
         let begun = even_milliseconds(rt);
         let mut rows = None;
-        let asked = self.reply(names, &peer.asked, office, voice, now, &mut rows);
+        let asked = self.reply(names, &peer.asked, office, told, now, &mut rows);
         let took = even_milliseconds(rt).saturating_sub(begun);
         self.count(place, &peer.asked, &asked, took);
         self.stay_at(place, rows.is_some());
@@ -617,7 +607,7 @@ impl Serving {
     }
 
     // Tells a peer the next rows of its reply.
-    #[tactic(auto, using(crate::proofs::Going::goes_none))]
+    #[tactic(auto, using(crate::proofs::PeersAsking::nobody_asks))]
     fn tell_next<R: std::rt::Clock, B: Books>(
         &mut self,
         rt: &R,
@@ -625,7 +615,7 @@ impl Serving {
         peer: &mut Peer,
         office: &mut Office<B>,
     )
-        ensures { (names : List (List ℕ)) (at : ℕ) → Goes names at B.ledger office.old office.new }
+        ensures { (names : List (List ℕ)) (at : ℕ) → PeersAsk names at B.ledger office.old office.new }
     {
         let Some(rows) = &mut peer.rows else {
             return;
@@ -651,7 +641,7 @@ impl Serving {
         office: &mut Office<B>,
         now: Now,
     )
-        ensures { (names : List (List ℕ)) (at : ℕ) → Goes names at B.ledger office.old office.new }
+        ensures { (names : List (List ℕ)) (at : ℕ) → PeersAsk names at B.ledger office.old office.new }
     {
         for _piece in 0..MOST_PIECES {
             if !peer.wants_rows() || self.share.is_over() {
@@ -670,35 +660,35 @@ impl Serving {
         peer: &mut Peer,
         names: &[&str],
         office: &mut Office<B>,
-        voice: &Voice,
+        told: &RunTold<'_>,
         now: Now,
     )
-        ensures { Goes (texts names.now) now.moment B.ledger office.old office.new }
+        ensures { PeersAsk (texts names.now) now.moment B.ledger office.old office.new }
     {
         if peer.hear(&self.router) {
-            self.answer(rt, place, peer, names, office, voice, now);
+            self.answer(rt, place, peer, names, office, told, now);
             return;
         }
         self.tell_on(rt, place, peer, office, now);
     }
 
-    /// Goes on with the connection of a place, where something may have come.
-    #[tactic(auto, using(crate::proofs::Going::goes_none, crate::proofs::Going::goes_both))]
-    pub(crate) fn attend<R: std::rt::Clock, B: Books>(
+    /// PeersAsk on with the connection of a place, where something may have come.
+    #[tactic(auto, using(crate::proofs::PeersAsking::nobody_asks, crate::proofs::PeersAsking::both_ask))]
+    pub fn attend<R: std::rt::Clock, B: Books>(
         &mut self,
         rt: &R,
         place: usize,
         names: &[&str],
         office: &mut Office<B>,
-        voice: &Voice,
+        told: &RunTold<'_>,
         now: Now,
     )
-        ensures { Goes (texts names.now) now.moment B.ledger office.old office.new }
+        ensures { PeersAsk (texts names.now) now.moment B.ledger office.old office.new }
     {
         let Some(mut peer) = self.take_ready(place) else {
             return;
         };
-        self.go_on(rt, place, &mut peer, names, office, voice, now);
+        self.go_on(rt, place, &mut peer, names, office, told, now);
         self.put_back(place, peer, now.time);
     }
 }

@@ -1,12 +1,12 @@
 use Rattle.http_request.specs.Hosts.{texts}
-use Rattle.office_running.proofs.Going.{goes_asked, goes_both, may_ask_of}
-use Rattle.office_running.proofs.http_port.Serving.reply.Goals as goal
+use Rattle.http_peers.proofs.PeersAsking.{one_asks, both_ask, may_ask_of}
+use Rattle.http_peers.proofs.http_port.HttpPort.reply.Goals as goal
 
 pub returns-in-None-begin_all : goal.returns-in-None-begin_all
 returns-in-None-begin_all g c =
-    goes_both (texts c.args.names.now) c.args.now.moment g.B.Books.ledger c.args.office.now c.begin_all.new.office c.ask.new.office
+    both_ask (texts c.args.names.now) c.args.now.moment g.B.Books.ledger c.args.office.now c.begin_all.new.office c.ask.new.office
     (c.begin_all.ensures (texts c.args.names.now) c.args.now.moment)
-    (goes_asked (texts c.args.names.now) g.B.Books.ledger c.args.now.moment c.begin_all.new.office c.ask.new.office c.args.request.now c.ask.result
+    (one_asks (texts c.args.names.now) g.B.Books.ledger c.args.now.moment c.begin_all.new.office c.ask.new.office c.args.request.now c.ask.result
     (may_ask_of (texts c.args.names.now) c.args.request.now c.in-None.ensures) c.ask.ensures.asks c.ask.ensures.lasts)
 
 pub returns-in-Some-Metrics : goal.returns-in-Some-Metrics

@@ -1,4 +1,7 @@
 //! What is still to be written to a socket.
+ghost use Rattle.std.specs.Prelude.{◌≡◌, ◌==◌, ◌++◌, [], drop, length, nat_le, OnOk};
+ghost use Rattle.http_peers.specs.Outbox.{went_of};
+
 use mio::net::TcpStream;
 use std::alloc::{AllocError, Global};
 use std::io::{ErrorKind, Write};
@@ -8,7 +11,7 @@ pub(crate) const MOST_CALLS: u32 = 16;
 
 /// What a read, or a write, came to.
 #[derive(Clone, Copy, Debug, PartialEq, Eq)]
-pub(crate) enum Went {
+pub enum Went {
     /// On.
     On,
     /// The socket has no more for now, or takes no more.
@@ -18,7 +21,9 @@ pub(crate) enum Went {
 }
 
 /// What a read, or a write, came to that failed.
-pub(crate) fn went_by(kind: ErrorKind) -> Went {
+pub fn went_by(kind: ErrorKind) -> Went
+    ensures { result ≡ went_of kind }
+{
     match kind {
         ErrorKind::WouldBlock => Went::Waits,
         ErrorKind::Interrupted => Went::On,
@@ -28,37 +33,54 @@ pub(crate) fn went_by(kind: ErrorKind) -> Went {
 
 /// Bytes, of which a beginning was written.
 #[derive(Drop)]
-pub(crate) struct Outbox {
+pub struct Outbox {
     bytes: Vec<u8>,
     written: usize,
 }
 
 impl Outbox {
-    pub(crate) fn of(bytes: Vec<u8>) -> Outbox {
+    /// Bytes of which none was written.
+    pub fn of(bytes: Vec<u8>) -> Outbox
+        ensures bytes { result.bytes.items ≡ bytes.items }
+        ensures written { result.written ≡ 0 }
+    {
         Outbox { bytes, written: 0 }
     }
 
-    pub(crate) fn empty(alloc: Global) -> Outbox {
+    /// No bytes.
+    pub fn empty(alloc: Global) -> Outbox
+        ensures bytes { result.bytes.items ≡ [] }
+        ensures written { result.written ≡ 0 }
+    {
         Outbox::of(Vec::new(alloc))
     }
 
     /// Whether it never had any bytes.
-    pub(crate) fn is_empty(&self) -> bool {
+    pub fn is_empty(&self) -> bool
+        ensures { result ≡ (length self.now.bytes.items == 0) }
+    {
         self.bytes.is_empty()
     }
 
     /// How many bytes it has, with those that were written.
-    pub(crate) fn len(&self) -> usize {
+    pub fn len(&self) -> usize
+        ensures { result ≡ length self.now.bytes.items }
+    {
         self.bytes.len()
     }
 
     /// Whether all of it was written.
-    pub(crate) fn is_written(&self) -> bool {
+    pub fn is_written(&self) -> bool
+        ensures { result ≡ nat_le (length self.now.bytes.items) self.now.written }
+    {
         self.bytes.len() <= self.written
     }
 
-    /// Puts bytes after those that it has.
-    pub(crate) fn put(&mut self, bytes: &[u8]) -> Result<(), AllocError> {
+    /// Puts bytes after those that are still to be written.
+    pub fn put(&mut self, bytes: &[u8]) -> Result<(), AllocError>
+        ensures { OnOk result (drop self.new.written self.new.bytes.items
+            ≡ drop self.old.written self.old.bytes.items ++ bytes.now) }
+    {
         if self.is_written() {
             self.bytes.clear();
             self.written = 0;
@@ -84,7 +106,7 @@ impl Outbox {
 
     /// Writes what is left, as far as the socket takes it. On where all of it was written, or where there is more to write
     /// at once.
-    pub(crate) fn write_all(&mut self, stream: &TcpStream) -> Went {
+    pub fn write_all(&mut self, stream: &TcpStream) -> Went {
         for _write in 0..MOST_CALLS {
             if self.is_written() {
                 return Went::On;
