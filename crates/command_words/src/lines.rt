@@ -16,8 +16,8 @@ use crate::options::{
     is_set, number, number_if, number_or, several, text, text_if, text_or, texts,
 };
 use crate::table::{
-    CONNECTIONS, EARLIER, EVERY, FIRST_UNIT, HOST, HOST_NAME, LASTS, LISTEN, MOST_KEPT, PATIENCE, PORT,
-    TIMEOUT, UNIT, UNTIL, ZONE,
+    CONNECTIONS, EARLIER, EVERY, FIRST_UNIT, HOST, HOST_NAME, LASTS, LISTEN, MOST_KEPT, PATIENCE,
+    PORT, TIMEOUT, UNIT, UNTIL, ZONE,
 };
 use crate::values::{Device, ListFault, devices_in};
 use clap::ArgMatches;

@@ -1,7 +1,7 @@
 //! Words that spell no command.
 use command_words::{WordsFault, command_of};
 
-static WRONG: [&[&str]; 56] = [
+static WRONG: [&[&str]; 58] = [
     &["bogus"],
     &[""],
     &["Plan"],
