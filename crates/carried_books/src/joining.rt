@@ -5,10 +5,12 @@ mod days;
 mod files;
 mod laws;
 mod meters;
+mod offices;
 mod reports;
 
 pub use days::JoinedDays;
 pub use files::{JoinedFiles, Unjoined, add_books, no_files};
 pub use laws::{both_files_tell_the_joined_days, one_file_tells_its_days};
 pub use meters::Apart;
-pub use reports::report_joined;
+pub use offices::days_over;
+pub use reports::{report_days, report_joined};

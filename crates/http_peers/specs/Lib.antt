@@ -1,3 +1,0 @@
-pub mod KeptRoom
-pub mod Outbox
-pub mod PeersAsk
