@@ -3,3 +3,5 @@ pub mod Days
 pub mod Files
 pub mod Reports
 pub mod Offices
+pub mod Keeping
+pub mod Earlier

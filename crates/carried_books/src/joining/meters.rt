@@ -37,8 +37,8 @@ fn is_opened_at(last: &Last, opening: &Opening) -> bool
     both(opening.at == last.at, shows)
 }
 
-// Whether a meter goes on as one of a later file.
-fn goes_on(stands: &Installation, row: &Installation) -> bool
+/// Whether a meter goes on as one of a later file.
+pub(crate) fn goes_on(stands: &Installation, row: &Installation) -> bool
     ensures { result ≡ meters.goes_on stands.now row.now }
 {
     let is_one = is_one(&stands.opening, &row.opening);
@@ -46,8 +46,8 @@ fn goes_on(stands: &Installation, row: &Installation) -> bool
     both(!stands.ended, both(is_one, is_there))
 }
 
-// The meter of both files.
-fn as_one(stands: &Installation, row: &Installation) -> Installation
+/// The meter of both files.
+pub(crate) fn as_one(stands: &Installation, row: &Installation) -> Installation
     ensures { result ≡ meters.as_one stands.now row.now }
 {
     Installation {
@@ -58,8 +58,8 @@ fn as_one(stands: &Installation, row: &Installation) -> Installation
     }
 }
 
-// Whether a meter was there before another.
-fn is_before(stands: &Installation, row: &Installation) -> bool
+/// Whether a meter was there before another.
+pub(crate) fn is_before(stands: &Installation, row: &Installation) -> bool
     ensures { result ≡ meters.is_before stands.now row.now }
 {
     let is_same = row.opening.meter.is(&stands.opening.meter);
