@@ -22,10 +22,13 @@ use std::io::{self, Write};
 use std::process::ExitCode;
 use std::thread::sleep;
 use std::time::{Duration, Instant};
-use stored_office::{Databases, Ending, Failure, FileFault, ending_of_done, told_zone};
+use stored_office::{CopyFault, Databases, Ending, Failure, FileFault, ending_of_done, told_zone};
 
-/// How often a file is tried that another process has open, and how many milliseconds pass between.
+/// How often a file is tried that another process has open, and one looked for that another may be making; and how many milliseconds
+/// pass between.
 const TRIES: u32 = 100;
+
+const LOOKS: u32 = 30;
 
 const PAUSE: u64 = 100;
 
@@ -263,6 +266,30 @@ fn run_at<D: Databases + NamedFiles, C: Clock + Drop>(
     }
 }
 
+fn is_unfinished(why: &NotCarried<'_>) -> bool {
+    matches!(
+        why,
+        NotCarried::Failed(Failure::Uncopied {
+            fault: CopyFault::Unfinished,
+            ..
+        })
+    )
+}
+
+// Whether a new file is there that this process has not made. One whose beginning is there may be another run's, which then has its name
+// in a moment.
+fn is_made(rt: &HostRuntime, to: &str, why: &NotCarried<'_>) -> bool {
+    if is_unfinished(why) {
+        for _look in 0..LOOKS {
+            if is_there(rt, to) {
+                return true;
+            }
+            sleep(rt, Duration::from_millis(PAUSE));
+        }
+    }
+    is_there(rt, to)
+}
+
 // Carries the file at a path into another, and runs over that. Where it can't be carried, books go on where they are, and it is tried
 // again at the next hour.
 fn carry_on<D: Databases + NamedFiles, C: Clock + Drop>(
@@ -279,12 +306,12 @@ fn carry_on<D: Databases + NamedFiles, C: Clock + Drop>(
     match carry_open(rt, databases, connection, to) {
         Ok(count) => say_carried(rt, from, to, count),
         Err(why) => {
-            if !is_there(rt, to) {
+            if !is_made(rt, to, &why) {
                 say_not_carried(rt, from, to, why, NOT_CARRIED);
                 let until = next_try(asked.settings.every, clock.now());
                 return run_at(asked, databases, from, false, clock, until, left);
             }
-            // (it has its name, which can't be brought to the disk)
+            // (it has its name, which can't be brought to the disk; or another process made it, and has it)
             say_not_carried(rt, from, to, why, NAMED);
         }
     }
