@@ -142,7 +142,7 @@ pub(crate) struct Stepping {
 }
 
 impl Stepping {
-    pub(crate) fn from(seconds: u64, step: u64) -> Stepping {
+    pub(crate) fn of(seconds: u64, step: u64) -> Stepping {
         Stepping {
             seconds: Cell::new(seconds),
             step,
@@ -168,7 +168,7 @@ fn are_served(rt: &HostRuntime, clients: &[Client; 3], step: u64) -> Result<bool
     let listener = TcpListener::bind(rt, "127.0.0.1:0")?;
     let mut streams = streams_of(rt, &listener, clients)?;
     let mut clock = FixedClock::new(&[2800]);
-    let time = Stepping::from(7, step);
+    let time = Stepping::of(7, step);
     let served = serve_named_on(
         &time,
         rt.alloc(),

@@ -11,43 +11,19 @@ use office_core::Office;
 use run_http::PeerReply;
 use run_schedule::{MOST_PEERS, place_at};
 use run_status::RunMonitor;
-use std::alloc::Global;
+use std::alloc::{AllocError, Global};
 use std::io::{self, ErrorKind, Read};
 use std::net::{TcpListener, TcpStream};
 use std::test::Fail;
 use std::time::Duration;
 
-// One turn: what waits is accepted, each peer attended, and those that were replied to are dropped.
-fn turn(
-    port: &mut HttpPort,
-    poll: &Poll,
-    office: &mut Office<ListBooks>,
-    monitor: &RunMonitor,
-    time: u64,
-) {
-    let told = RunTold {
-        monitor,
-        lacks: &[],
-    };
-    let now = Now { time, moment: 2800 };
-    port.begin_turn();
-    port.accept(poll.registry(), time);
-    let first = port.first();
-    for step in 0..MOST_PEERS {
-        let place = place_at(first, step);
-        port.attend(&Stepping::from(7, 0), place, &[], office, &told, now);
-    }
-    port.sweep(time);
-}
-
-// Waits a tenth of a second at most, and takes note of what came.
-fn look(port: &mut HttpPort, poll: &mut Poll, events: &mut Events<Global>) -> io::Result<()> {
-    poll.poll(events, Some(Duration::from_millis(100)))?;
-    for event in &*events {
-        let Token(token) = event.token();
-        port.mark(token);
-    }
-    Ok(())
+// A port, and what a run has beside it.
+#[derive(Drop)]
+struct Listening {
+    poll: Poll,
+    events: Events<Global>,
+    port: HttpPort,
+    monitor: RunMonitor,
 }
 
 // A listener that doesn't wait, and is registered as that of a port.
@@ -59,51 +35,108 @@ fn registered(listener: TcpListener, poll: &Poll) -> io::Result<mio::net::TcpLis
     Ok(listener)
 }
 
-// The port of a listener after three turns. None of its clients waits then.
-fn port_after(
+impl Listening {
+    fn of(
+        alloc: Global,
+        poll: Poll,
+        listener: mio::net::TcpListener,
+        room: KeptRoom,
+    ) -> Result<Listening, AllocError> {
+        Ok(Listening {
+            poll,
+            events: Events::with_capacity(alloc, 8)?,
+            port: HttpPort::new(alloc, listener, room)?,
+            monitor: RunMonitor::new(alloc, &[])?,
+        })
+    }
+
+    fn open(rt: &HostRuntime, listener: TcpListener, room: KeptRoom) -> Result<Listening, Fail> {
+        let poll = Poll::new(rt)?;
+        let listener = registered(listener, &poll)?;
+        Ok(Listening::of(rt.alloc(), poll, listener, room)?)
+    }
+
+    // What waits is accepted, each peer attended, and those that were replied to are dropped.
+    fn turn(&mut self, office: &mut Office<ListBooks>, time: u64) {
+        let now = Now { time, moment: 2800 };
+        self.port.begin_turn();
+        self.port.accept(self.poll.registry(), time);
+        let first = self.port.first();
+        for step in 0..MOST_PEERS {
+            let told = RunTold {
+                monitor: &self.monitor,
+                lacks: &[],
+            };
+            let place = place_at(first, step);
+            self.port
+                .attend(&Stepping::of(7, 0), place, &[], office, &told, now);
+        }
+        self.port.sweep(time);
+    }
+
+    // Waits a tenth of a second at most, and takes note of what came.
+    fn look(&mut self) -> io::Result<()> {
+        self.poll
+            .poll(&mut self.events, Some(Duration::from_millis(100)))?;
+        for event in &self.events {
+            let Token(token) = event.token();
+            self.port.mark(token);
+        }
+        Ok(())
+    }
+
+    fn turns(&mut self, office: &mut Office<ListBooks>) -> io::Result<()> {
+        for time in 0..3 {
+            self.turn(office, time);
+            self.look()?;
+        }
+        self.turn(office, 3);
+        Ok(())
+    }
+}
+
+// Serves the clients of a listener, none of which waits then; whether it is to be said that nothing more is kept.
+fn serves(
     rt: &HostRuntime,
     listener: TcpListener,
     room: KeptRoom,
     office: &mut Office<ListBooks>,
-) -> Result<HttpPort, Fail> {
-    let mut poll = Poll::new(rt)?;
-    let mut events = Events::with_capacity(rt.alloc(), 8)?;
-    let mut port = HttpPort::new(rt.alloc(), registered(listener, &poll)?, room)?;
-    let monitor = RunMonitor::new(rt.alloc(), &[])?;
-    for time in 0..3 {
-        turn(&mut port, &poll, office, &monitor, time);
-        look(&mut port, &mut poll, &mut events)?;
-    }
-    turn(&mut port, &poll, office, &monitor, 3);
-    assert!(rt; !port.is_waiting());
-    assert!(rt; !port.is_ready());
-    Ok(port)
+) -> Result<bool, Fail> {
+    let mut listening = Listening::open(rt, listener, room)?;
+    listening.turns(office)?;
+    assert!(rt; !listening.port.is_waiting());
+    assert!(rt; !listening.port.is_ready());
+    let is_full = listening.port.take_full();
+    assert!(rt; !listening.port.take_full());
+    Ok(is_full)
 }
 
-// What a client is replied that asks this, and whether it is then to be said that nothing more is kept.
+fn read_all(alloc: Global, mut stream: TcpStream) -> Result<Vec<u8>, Fail> {
+    let mut got = Vec::new(alloc);
+    stream.read_to_end(&mut got)?;
+    Ok(got)
+}
+
+// What a client is replied that asks this; it is then to be said that nothing more is kept, or isn't.
 fn replied(
     rt: &HostRuntime,
     room: KeptRoom,
     request: &[u8],
     office: &mut Office<ListBooks>,
-) -> Result<(Vec<u8>, bool), Fail> {
+    is_full: bool,
+) -> Result<Vec<u8>, Fail> {
     let listener = TcpListener::bind(rt, "127.0.0.1:0")?;
-    let mut client = client_of(rt, &listener, request)?;
-    let mut port = port_after(rt, listener, room, office)?;
-    let is_full = port.take_full();
-    let mut got = Vec::new(rt.alloc());
-    client.read_to_end(&mut got)?;
-    assert!(rt; !port.take_full());
-    Ok((got, is_full))
+    let client = client_of(rt, &listener, request)?;
+    assert!(rt; serves(rt, listener, room, office)? == is_full);
+    read_all(rt.alloc(), client)
 }
 
 #[test]
 fn a_peer_is_replied_to(rt: HostRuntime) -> Result<(), Fail> {
     let mut office = metered(rt.alloc())?;
     let room = KeptRoom::new(Some(REQUEST.len() as u64), 0);
-    let (got, is_full) = replied(&rt, room, REQUEST, &mut office)?;
+    let got = replied(&rt, room, REQUEST, &mut office, false)?;
     assert!(rt; got.as_slice() == REPLY);
-    assert!(rt; !is_full);
     assert!(rt; energy_of_ended(&mut office) == Some(300_000));
     Ok(())
 }
@@ -116,10 +149,9 @@ static AFTER_LINES: &[u8] =
 fn a_command_has_no_room(rt: HostRuntime) -> Result<(), Fail> {
     let mut office = metered(rt.alloc())?;
     let room = KeptRoom::new(Some(300), 200);
-    let (got, is_full) = replied(&rt, room, AFTER_LINES, &mut office)?;
+    let got = replied(&rt, room, AFTER_LINES, &mut office, true)?;
     let want = reply(rt.alloc(), "503 Service Unavailable", "{\"fault\":503}")?;
     assert!(rt; got.as_slice() == want.as_bytes());
-    assert!(rt; is_full);
     assert!(rt; energy_of_ended(&mut office) == None);
     Ok(())
 }
@@ -129,16 +161,18 @@ static GET: &[u8] = b"GET /meters/m1 HTTP/1.1\r\n\r\n";
 // A command of 28 bytes, with the empty line before it.
 static POST: &[u8] = b"\r\nPOST /devices HTTP/1.1\r\n\r\n";
 
+// A reply that begins so.
+fn reply_of(alloc: Global, text: &[u8]) -> Result<PeerReply, AllocError> {
+    Ok(PeerReply::Replied(text.to_vec(alloc)?))
+}
+
 #[test]
 fn a_command_that_acted_is_counted(rt: HostRuntime) -> Result<(), Fail> {
     let mut room = KeptRoom::new(Some(100), 60);
     assert!(rt; !room.lacks(POST));
     room.count(POST, &PeerReply::Open);
-    room.count(
-        POST,
-        &PeerReply::Replied(b"HTTP/1.1 409 ".to_vec(rt.alloc())?),
-    );
-    let acted = PeerReply::Replied(b"HTTP/1.1 200 OK".to_vec(rt.alloc())?);
+    room.count(POST, &reply_of(rt.alloc(), b"HTTP/1.1 409 Conflict")?);
+    let acted = reply_of(rt.alloc(), b"HTTP/1.1 200 OK")?;
     room.count(GET, &acted);
     assert!(rt; !room.lacks(POST));
     room.count(POST, &acted);
@@ -155,29 +189,32 @@ fn without_a_limit_no_command_lacks_room(rt: HostRuntime) {
     assert!(rt; KeptRoom::new(Some(10), 11).lacks(POST));
 }
 
+// Whether all of an outbox is taken by a connection, which ends then.
+fn is_taken(stream: TcpStream, outbox: &mut Outbox) -> bool {
+    let stream = mio::net::TcpStream::from_std(stream);
+    outbox.write_all(&stream) == Went::On && outbox.is_written()
+}
+
 // What comes of a connection on which an outbox was written.
 fn written(rt: &HostRuntime, outbox: &mut Outbox) -> Result<Vec<u8>, Fail> {
     let listener = TcpListener::bind(rt, "127.0.0.1:0")?;
-    let stream = mio::net::TcpStream::from_std(client_of(rt, &listener, b"")?);
-    assert!(rt; outbox.write_all(&stream) == Went::On);
-    drop(stream);
+    assert!(rt; is_taken(client_of(rt, &listener, b"")?, outbox));
     read_all(rt.alloc(), listener.accept()?.0)
 }
 
-fn read_all(alloc: Global, mut stream: TcpStream) -> Result<Vec<u8>, Fail> {
-    let mut got = Vec::new(alloc);
-    stream.read_to_end(&mut got)?;
-    Ok(got)
+// An outbox of some bytes.
+fn outbox_of(alloc: Global, bytes: &[u8]) -> Result<Outbox, AllocError> {
+    Ok(Outbox::of(bytes.to_vec(alloc)?))
 }
 
 #[test]
 fn what_is_put_is_written_once(rt: HostRuntime) -> Result<(), Fail> {
-    let mut outbox = Outbox::of(b"one".to_vec(rt.alloc())?);
+    let mut outbox = outbox_of(rt.alloc(), b"one")?;
     outbox.put(b"two")?;
     assert!(rt; outbox.len() == 6);
     assert!(rt; !outbox.is_written());
     assert!(rt; written(&rt, &mut outbox)?.as_slice() == b"onetwo");
-    assert!(rt; outbox.is_written() && !outbox.is_empty());
+    assert!(rt; !outbox.is_empty());
     Ok(())
 }
 
@@ -197,5 +234,5 @@ fn errors_of_sockets_have_a_meaning(rt: HostRuntime) {
     assert!(rt; went_by(ErrorKind::WouldBlock) == Went::Waits);
     assert!(rt; went_by(ErrorKind::Interrupted) == Went::On);
     assert!(rt; went_by(ErrorKind::ConnectionReset) == Went::Over);
-    assert!(rt; even_milliseconds(&Stepping::from(6, 1)) == 7000);
+    assert!(rt; even_milliseconds(&Stepping::of(6, 1)) == 7000);
 }
