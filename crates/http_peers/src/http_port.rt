@@ -1,5 +1,5 @@
 //! HTTP on a port.
-ghost use Rattle.std.specs.Prelude.{ℕ, List};
+ghost use Rattle.std.specs.Prelude.{◌≡◌, ℕ, false, List};
 ghost use Rattle.http_request.specs.Hosts.{texts};
 ghost use Rattle.http_peers.specs.PeersAsk.{PeersAsk};
 
@@ -185,7 +185,9 @@ impl HttpPort {
     }
 
     /// The place that is attended first: the one after that which was replied to last.
-    pub fn first(&self) -> usize {
+    pub fn first(&self) -> usize
+        ensures { result ≡ self.now.first }
+    {
         self.first
     }
 
@@ -196,7 +198,10 @@ impl HttpPort {
     }
 
     /// Takes whether a command was refused since there is no room to keep it.
-    pub fn take_full(&mut self) -> bool {
+    pub fn take_full(&mut self) -> bool
+        ensures taken { result ≡ self.old.is_full }
+        ensures later { self.new.is_full ≡ false }
+    {
         mem::replace(&mut self.is_full, false)
     }
 
@@ -227,7 +232,9 @@ impl HttpPort {
     }
 
     /// Whether a connection may wait that was not accepted.
-    pub fn is_waiting(&self) -> bool {
+    pub fn is_waiting(&self) -> bool
+        ensures { result ≡ self.now.waiting }
+    {
         self.waiting
     }
 

@@ -1,5 +1,5 @@
 //! What is still to be written to a socket.
-ghost use Rattle.std.specs.Prelude.{◌≡◌, ◌==◌, ◌++◌, [], drop, length, nat_le, OnOk};
+ghost use Rattle.std.specs.Prelude.{◌≡◌, ◌==◌, ◌≤◌, ◌++◌, [], drop, length, nat_le, OnOk};
 ghost use Rattle.http_peers.specs.Outbox.{went_of};
 
 use mio::net::TcpStream;
@@ -73,7 +73,7 @@ impl Outbox {
     pub fn is_written(&self) -> bool
         ensures { result ≡ nat_le (length self.now.bytes.items) self.now.written }
     {
-        self.bytes.len() <= self.written
+        self.written >= self.bytes.len()
     }
 
     /// Puts bytes after those that are still to be written.
@@ -89,7 +89,10 @@ impl Outbox {
     }
 
     // Writes what is left once.
-    fn write(&mut self, stream: &TcpStream) -> Went {
+    fn write(&mut self, stream: &TcpStream) -> Went
+        ensures bytes { self.new.bytes ≡ self.old.bytes }
+        ensures written { self.old.written ≤ self.new.written }
+    {
         let mut stream: &TcpStream = stream;
         let Some(rest) = self.bytes.get(self.written..) else {
             return Went::Over;
@@ -106,7 +109,10 @@ impl Outbox {
 
     /// Writes what is left, as far as the socket takes it. On where all of it was written, or where there is more to write
     /// at once.
-    pub fn write_all(&mut self, stream: &TcpStream) -> Went {
+    pub fn write_all(&mut self, stream: &TcpStream) -> Went
+        ensures bytes { self.new.bytes ≡ self.old.bytes }
+        ensures written { self.old.written ≤ self.new.written }
+    {
         for _write in 0..MOST_CALLS {
             if self.is_written() {
                 return Went::On;

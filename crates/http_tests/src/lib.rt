@@ -48,6 +48,8 @@ mod office_requests;
 #[cfg(test)]
 mod openings;
 #[cfg(test)]
+mod peers;
+#[cfg(test)]
 mod pieces;
 #[cfg(test)]
 mod program_commands;
