@@ -11,7 +11,9 @@ mod offices;
 mod reports;
 
 pub use days::JoinedDays;
-pub use earlier::{EarlierRegister, KeptRegister, KeptRegisters, add_kept};
+pub use earlier::{
+    EarlierRegister, HeldRegisters, KeptRegister, KeptRegisters, add_kept, hold_kept,
+};
 pub use files::{JoinedFiles, Unjoined, add_books, no_files};
 pub use keeping::Keeping;
 pub use laws::{both_files_tell_the_joined_days, one_file_tells_its_days};

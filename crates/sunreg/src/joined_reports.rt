@@ -4,7 +4,7 @@ use crate::command_output::CommandOutput;
 use crate::escaped::Escaped;
 use crate::offices::{Files, Opening, open_in};
 use crate::reports::{form_of, range_of};
-use carried_books::{Apart, Unjoined, report_joined};
+use carried_books::{Apart, JoinedFiles, Keeping, Unjoined, report_joined};
 use command_words::FormWords;
 use energy_report::ReportForm;
 use interval_core::DayRange;
@@ -95,16 +95,16 @@ fn say_fault<'a>(rt: &HostRuntime, before: &str, path: &'a str, fault: JoinFault
     }
 }
 
-// Adds what one file tells.
-fn join_in<'a, D: Databases>(
+/// Adds what one file tells.
+pub(crate) fn join_in<'a, D: Databases, K: Keeping>(
     rt: &HostRuntime,
     databases: &D,
-    joined: Option<JoinedOffice>,
+    joined: Option<JoinedOffice<K>>,
     before: &str,
     path: &'a str,
     register: &Name,
     range: DayRange,
-) -> Result<JoinedOffice, Ending<'a>> {
+) -> Result<JoinedOffice<K>, Ending<'a>> {
     match open_in(rt, databases, path) {
         Ok(connection) => match join_stored(rt.alloc(), connection, joined, register, range) {
             Ok(joined) => Ok(joined),
@@ -120,7 +120,7 @@ fn join_all<'a>(
     paths: &[&'a str],
     register: &Name,
     range: DayRange,
-) -> Result<Option<JoinedOffice>, Ending<'a>> {
+) -> Result<Option<JoinedOffice<JoinedFiles>>, Ending<'a>> {
     let files = Files::opened(rt, Opening::ToRead);
     let mut joined = None;
     let mut before = "";
@@ -135,9 +135,13 @@ fn join_all<'a>(
 }
 
 // Prints the report of what files tell.
-fn print_joined(rt: &HostRuntime, joined: JoinedOffice, form: &ReportForm) -> Ending<'static> {
+fn print_joined(
+    rt: &HostRuntime,
+    joined: JoinedOffice<JoinedFiles>,
+    form: &ReportForm,
+) -> Ending<'static> {
     let mut output = CommandOutput::in_pieces(io::writer(rt));
-    let status = report_joined(joined.files, form, &mut output);
+    let status = report_joined(joined.kept, form, &mut output);
     match output.flush() {
         Ok(()) => ending_of(status),
         Err(_) => Ending::Failed(Failure::Streams),
@@ -148,12 +152,12 @@ fn print_joined(rt: &HostRuntime, joined: JoinedOffice, form: &ReportForm) -> En
 fn print_recorded(
     rt: &HostRuntime,
     path: &str,
-    joined: Option<JoinedOffice>,
+    joined: Option<JoinedOffice<JoinedFiles>>,
     form: &ReportForm,
 ) -> Ending<'static> {
     match joined {
         Some(joined) => {
-            if joined.files.is_recorded {
+            if joined.kept.is_recorded {
                 print_joined(rt, joined, form)
             } else {
                 say_refused(rt, path, Refusal::NotFound)

@@ -3,8 +3,14 @@ use Rattle.std.specs.Prelude.{◌≡◌, true, List, [], ◌∷◌, ◌++◌, Op
 use Rattle.interval_core.specs.declared.shares.Share.{Share}
 use Rattle.office_events.specs.declared.facts.Fact.{Fact}
 use Rattle.office_rules.specs.Intervals.{rows_of_register}
+use Rattle.office_books.specs.declared.spans.Span.{Span}
+use Rattle.office_books.specs.declared.spans.Span.TheVariants.{Between}
 use Rattle.carried_books.specs.declared.joining.earlier.EarlierRegister.{EarlierRegister}
 use Rattle.carried_books.specs.declared.joining.files.Unjoined.{Unjoined}
+
+-- no moment is asked for
+abbrev pub no_span : Span
+no_span = Between 0 0
 
 -- A row is kept after those before it, as long as there was memory for each.
 pub record KeepsRow (old : EarlierRegister) (row : Share) (new : EarlierRegister) : Type 0 where

@@ -4,8 +4,8 @@ ghost use Rattle.office_events.specs.declared.facts.Fact.{Fact};
 ghost use Rattle.office_rules.specs.Intervals.{rows_of_register};
 ghost use Rattle.office_books.specs.Ledgers.{Consults};
 ghost use Rattle.office_books.specs.declared.spans.Span.TheVariants.{All};
-ghost use Rattle.carried_books.specs.Joining.Files.{AllJoin};
-ghost use Rattle.carried_books.specs.Joining.Earlier.{AddsRows};
+ghost use Rattle.carried_books.specs.Joining.Files.{AllJoin, Joins};
+ghost use Rattle.carried_books.specs.Joining.Earlier.{AddsRows, no_span};
 
 use crate::joining::files::{JoinedFiles, Unjoined, add_books, no_files};
 use crate::joining::keeping::Keeping;
@@ -13,6 +13,9 @@ use interval_core::{DayRange, Share, Zone};
 use office_books::{Books, BooksFault, RowSink, Span};
 use office_events::{Device, Name, Register};
 use std::alloc::{AllocError, Global};
+
+// No moment is asked for.
+const NO_SPAN: Span = Span::Between { from: 0, till: 0 };
 
 /// The quarter hours that files have of a register, those of the first file and then those of the next, as long as there was memory
 /// for each.
@@ -109,6 +112,23 @@ pub fn add_kept<B: Books>(
     }
 }
 
+/// Holds the books of the file in which an office goes on to those before it: its meters at the register, and whether that is recorded. It
+/// answers why they don't join. The quarter hours are those of the files before. The books are only asked.
+pub fn hold_kept<B: Books>(
+    kept: &mut KeptRegister,
+    books: &mut B,
+) -> Result<Option<Unjoined>, BooksFault>
+    ensures same { kept.new.it ≡ kept.old.it }
+    ensures joins { (known : List Fact) → (B.ledger books.old).holds known
+        → (B.ledger books.new).is_clean
+        → IfOk result
+        (Joins no_span kept.old.it.name known kept.old.files kept.new.files) }
+    ensures reads { Consults (B.ledger books.old) (B.ledger books.new) result }
+{
+    let name = kept.it.name;
+    add_books(&mut kept.files, books, &name, NO_SPAN)
+}
+
 /// What files tell of each of their registers, from the first file on that has it.
 #[derive(Drop)]
 pub struct KeptRegisters {
@@ -137,6 +157,28 @@ fn add_all<B: Books>(
     for place in 0..kept.len() {
         if place < kept.len() {
             match add_kept(&mut kept[place], books) {
+                Err(fault) => return Err(fault),
+                Ok(why) => {
+                    if why.is_some() {
+                        return Ok(why);
+                    }
+                }
+            }
+        }
+    }
+    Ok(None)
+}
+
+// Holds books to the registers that are kept.
+fn hold_all<B: Books>(
+    kept: &mut Vec<KeptRegister>,
+    books: &mut B,
+) -> Result<Option<Unjoined>, BooksFault>
+    ensures { Consults (B.ledger books.old) (B.ledger books.new) result }
+{
+    for place in 0..kept.len() {
+        if place < kept.len() {
+            match hold_kept(&mut kept[place], books) {
                 Err(fault) => return Err(fault),
                 Ok(why) => {
                     if why.is_some() {
@@ -315,5 +357,34 @@ impl Keeping for KeptRegisters {
         _range: DayRange,
     ) -> Result<Option<Unjoined>, BooksFault> {
         add_books_to(self.alloc, self.zone, &mut self.kept, books)
+    }
+}
+
+/// The same, to which the file is held in which an office goes on.
+#[derive(Drop)]
+pub struct HeldRegisters {
+    pub kept: KeptRegisters,
+}
+
+/// Whatever register and range is asked for, a file is held to all, and nothing of it is kept.
+impl Keeping for HeldRegisters {
+    ghost use Rattle.std.specs.Prelude.{◌≡◌};
+
+    ghost keeps = { λ zone range register files held. held.kept.zone ≡ zone };
+    ghost parts = { λ range register facts held why. Unit {0} };
+
+    fn none(alloc: Global, zone: Zone, range: DayRange) -> HeldRegisters {
+        HeldRegisters {
+            kept: KeptRegisters::none(alloc, zone, range),
+        }
+    }
+
+    fn add<B: Books>(
+        &mut self,
+        books: &mut B,
+        _register: &Name,
+        _range: DayRange,
+    ) -> Result<Option<Unjoined>, BooksFault> {
+        hold_all(&mut self.kept.kept, books)
     }
 }
