@@ -1,5 +1,6 @@
 //! What a peer is replied who asks for the energy of a register, of which earlier files tell, too.
-ghost use Rattle.std.specs.Prelude.{◌≡◌, Some, IfSome, length, ◌<◌};
+ghost use Rattle.std.specs.Prelude.{◌≡◌, ◌<◌, IfSome, length, position};
+ghost use Rattle.office_rules.specs.Facts.{is_named};
 ghost use Rattle.http_peers.specs.EnergyOver.{AsksEnergyOver, RepliesEnergyOver};
 
 use carried_books::{EarlierRegister, days_over, report_days};
@@ -64,21 +65,19 @@ pub fn reply_energy_over<B: Books>(
 }
 
 // Whether what is told is of a register of this name, which is `None` where no register can have it.
-fn is_of(it: &EarlierRegister, register: &Option<Name>) -> bool {
+fn is_of(it: &EarlierRegister, register: &Option<Name>) -> bool
+    ensures { result ≡ is_named register.now it.now.name }
+{
     match register {
-        Some(name) => it.name.is(name),
+        Some(name) => name.is(&it.name),
         None => false,
     }
 }
 
-/// The place of a register among those of which earlier files tell.
+/// The first place of a register among those of which earlier files tell.
 pub fn place_among(registers: &[EarlierRegister], register: &Option<Name>) -> Option<usize>
-    ensures { IfSome result (λ place. place < length registers.now) }
+    ensures first { result ≡ position (λ it. is_named register.now it.name) registers.now }
+    ensures within { IfSome result (λ place. place < length registers.now) }
 {
-    for (place, it) in registers.iter().enumerate() {
-        if is_of(it, register) {
-            return Some(place);
-        }
-    }
-    None
+    registers.iter().position(|it| is_of(it, register))
 }

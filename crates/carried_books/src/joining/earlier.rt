@@ -1,5 +1,5 @@
 //! What is kept of the registers of earlier files, over which an office that goes on tells energy, too.
-ghost use Rattle.std.specs.Prelude.{◌≡◌, ◌++◌, [], List, map, IfOk};
+ghost use Rattle.std.specs.Prelude.{◌≡◌, ◌++◌, [], true, List, map, IfOk};
 ghost use Rattle.office_events.specs.declared.facts.Fact.{Fact};
 ghost use Rattle.office_rules.specs.Intervals.{rows_of_register};
 ghost use Rattle.office_books.specs.Ledgers.{Consults};
@@ -31,6 +31,7 @@ impl EarlierRegister {
     pub fn new(alloc: Global, name: Name) -> EarlierRegister
         ensures name { result.name ≡ name }
         ensures none { result.rows.items ≡ [] }
+        ensures whole { result.is_whole ≡ true }
     {
         EarlierRegister {
             name,
