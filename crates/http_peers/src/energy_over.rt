@@ -35,7 +35,14 @@ fn put_energy_over<B: Books>(
         output.old.items output.new.items result }
 {
     accounts_are_one();
-    match days_over(alloc, office, zone, earlier, register, span_around(form.range)) {
+    match days_over(
+        alloc,
+        office,
+        zone,
+        earlier,
+        register,
+        span_around(form.range),
+    ) {
         Err(why) => Ok(Err(why)),
         Ok(days) => match report_days(&days, form, output) {
             ExitStatus::Fine => Ok(Ok(())),

@@ -4,9 +4,9 @@ ghost use Rattle.stored_office.specs.Tasks.Tasks.{IsOf};
 
 use crate::command_output::CommandOutput;
 use crate::copies::open_copy;
+use crate::earlier_files::{but_last, earlier_registers, last_of};
 use crate::escaped::Escaped;
 use crate::onward_clock::OnwardClock;
-use crate::earlier_files::{but_last, earlier_registers, last_of};
 use crate::run_words::sites_of;
 use command_words::Device;
 use interval_core::Zone;

@@ -1,8 +1,8 @@
 //! A run whose books are led in a new file each month or year. Each of its runs ends soon after the period has begun that follows its
 //! own; then the meters are carried into the file of that, and the next run goes on there.
 use crate::backups::is_there;
-use crate::earlier_files::{but_last, earlier_registers, last_of};
 use crate::carries::{NotCarried, carry_open, write_why};
+use crate::earlier_files::{but_last, earlier_registers, last_of};
 use crate::ended;
 use crate::escaped::Escaped;
 use crate::offices::{Files, OWN_HOST, open_in, run_opened};

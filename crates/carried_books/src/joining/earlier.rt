@@ -341,6 +341,7 @@ impl Keeping for KeptRegisters {
     ghost use Rattle.std.specs.Prelude.{◌≡◌};
 
     ghost keeps = { λ zone range register files kept. kept.zone ≡ zone };
+
     ghost parts = { λ range register facts kept why. Unit {0} };
 
     fn none(alloc: Global, zone: Zone, _range: DayRange) -> KeptRegisters {
@@ -372,6 +373,7 @@ impl Keeping for HeldRegisters {
     ghost use Rattle.std.specs.Prelude.{◌≡◌};
 
     ghost keeps = { λ zone range register files held. held.kept.zone ≡ zone };
+
     ghost parts = { λ range register facts held why. Unit {0} };
 
     fn none(alloc: Global, zone: Zone, range: DayRange) -> HeldRegisters {

@@ -26,7 +26,7 @@ returns-in-Ok-in-Fine g c =
     let form = c.args.form.now in
     let P : Span → Type 0 = λ asked. TellsDaysOver ledger a b c.args.zone c.args.earlier.now c.args.register.now asked (Ok c.in-Ok.days) in
     let Q : List DayTotal → Type 0 = λ those.
-        IsTold (report_text form those) Fine c.report_days.result (Some c.args.output.now.items) (Some c.report_days.new.output.items) in
+    IsTold (report_text form those) Fine c.report_days.result (Some c.args.output.now.items) (Some c.report_days.new.output.items) in
     answered ledger a b c.args.zone c.args.earlier.now c.args.register.now form c.args.output.now.items c.report_days.new.output.items c.in-Ok.days
     c.report_days.result c.accounts_are_one.ensures c.in-Ok.ensures.asks (subst P c.span_around.ensures.span c.in-Ok.ensures.days) c.in-Fine.is
     (subst Q c.deref.ensures.value c.report_days.ensures)

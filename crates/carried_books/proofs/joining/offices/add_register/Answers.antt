@@ -21,7 +21,7 @@ returns-in-Ok-clause-rows g c =
     let b = c.meters.new.self in
     let d = c.add_meters_within.new.office in
     let P : List Installation → Type 0 = λ listed.
-        AsksMeters ledger b d listed c.args.span c.args.days.now c.add_meters_within.new.days c.add_meters_within.result in
+    AsksMeters ledger b d listed c.args.span c.args.days.now c.add_meters_within.new.days c.add_meters_within.result in
     register_taken ledger c.args.office.now b d c.args.register.now c.args.span c.in-Ok.meters c.args.days.now c.add_meters_within.new.days
     c.add_meters_within.result c.facts_are_lawful.ensures c.in-Ok.ensures.asks c.in-Ok.ensures.listed
     (subst P c.deref.ensures.value c.add_meters_within.ensures)

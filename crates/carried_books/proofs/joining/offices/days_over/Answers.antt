@@ -1,4 +1,3 @@
-use Rattle.std.proofs.Common.{refl}
 use Rattle.std.specs.declared.alloc.Global.{Global}
 use Rattle.std.specs.declared.vec.Vec.{Vec}
 use Rattle.interval_core.specs.declared.totals.DayTotal.{DayTotal}
@@ -10,7 +9,7 @@ pub returns-in-Ok-clause-days : goal.returns-in-Ok-clause-days
 returns-in-Ok-clause-days g c =
     days_told g.B.Books.ledger c.args.office.now c.add_register.new.office c.args.zone c.args.earlier.now c.args.register.now c.args.span c.new-days.result
     c.add_within.new.days c.add_register.new.days tt c.into_days.result c.new-days.ensures.zone c.new-days.ensures.works
-    (rw (sym c.new-days.ensures.zone) c.new-days.ensures.empty) c.add_within.ensures c.in-Ok.ensures.rows c.into_days.ensures
+    c.new-days.ensures.empty c.add_within.ensures c.in-Ok.ensures.rows c.into_days.ensures
 
 pub returns-in-Ok-clause-asks : goal.returns-in-Ok-clause-asks
 returns-in-Ok-clause-asks g c =

@@ -12,7 +12,7 @@ returns g c = λ zone register files has fits.
     let form = c.args.form.now in
     let days = c.into_rows-days.result.items in
     let P : List DayTotal → Type 0 = λ those.
-        IsTold (report_text form those) Fine c.report_days.result (contents c.args.output.now) (contents c.report_days.new.output) in
+    IsTold (report_text form those) Fine c.report_days.result (contents c.args.output.now) (contents c.report_days.new.output) in
     record {
       text = report_text form days;
       is = is_over zone register files form c.args.joined days c.accounts_are_one.ensures has fits c.into_rows-days.ensures;
