@@ -110,7 +110,7 @@ module _ {B : Type 0} (ledger : B → Ledger) (a b : Office B) (zone : Zone) (ea
 
   -- ---- the reply
 
-  put_as : {E : Type 0} (answer told : Result (Unit {0}) Refusal) (body report from to : List ℕ) → told ≡ answer → OnOk answer (body ≡ report)
+  put_as : (answer told : Result (Unit {0}) Refusal) (body report from to : List ℕ) → told ≡ answer → OnOk answer (body ≡ report)
       → to ≡ with_energy_reply told body from → to ≡ with_energy_reply answer report from
   put_as (Ok done) told body report from to is same puts = puts ∙ ap (λ t. with_energy_reply t body from) is ∙ ap (λ t. with_energy_reply (Ok done) t from) same
   put_as (Err why) told body report from to is same puts = puts ∙ ap (λ t. with_energy_reply t body from) is
@@ -122,12 +122,12 @@ module _ {B : Type 0} (ledger : B → Ledger) (a b : Office B) (zone : Zone) (ea
   pub replied : {E F : Type 0} (had body from to : List ℕ) (told : Result (Unit {0}) Refusal) (result : Result (Unit {0}) E)
       → AsksEnergyOver ledger a b zone earlier register form had body {E = F} (Ok told) → had ≡ []
       → OnOk result (to ≡ with_energy_reply told body from) → RepliesEnergyOver ledger a b zone earlier register form from to result
-  replied {E} had body from to told (Ok done) asked none puts = record {
+  replied had body from to told (Ok done) asked none puts = record {
     answer = asked.answer;
     report = asked.report;
     asks = asked.asks;
     tells = asked.tells;
-    puts = put_as {E = E} asked.answer told body asked.report from to asked.gives (alone asked.answer had body asked.report none asked.holds) puts;
+    puts = put_as asked.answer told body asked.report from to asked.gives (alone asked.answer had body asked.report none asked.holds) puts;
   }
   replied had body from to told (Err why) asked none puts = record {
     answer = asked.answer;
