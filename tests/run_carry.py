@@ -543,6 +543,56 @@ def missing():
     same("missing: no file is made of it", os.listdir(f"{ROOM}/missing"), ["office.db"])
 
 
+def left_empty():
+    """A file of the new month that is empty, as a kill may leave it where the file system knows no second names: it is passed over. One with a log beside it is not."""
+    clock = Clock("empty", moment(2026, 11, 20))
+    path = office("empty", "office.db", "UTC0", clock)
+    folder = os.path.dirname(path)
+    device = Device()
+    run = begin(path, "month", device, clock)
+    holds("empty: it polls", run.wait_for("round answered", 20), run.told())
+    run.end()
+    clock.set(moment(2026, 12, 5))
+    for name in ("office-2026-12.db", "office-2027-01.db"):
+        open(f"{folder}/{name}", "w").close()
+    run = begin(path, "month", device, clock)
+    holds("empty: the month before is carried", run.wait_for(f"sunreg: {folder}/office-2026-11.db: carried 1 meters into {folder}/office-2026-12.db", 20), run.told())
+    holds("empty: and it polls", run.wait_for("round answered", 20), run.told())
+    run.end()
+    same("empty: files", files_of(path), ["office.db", "office-2026-11.db", "office-2026-12.db"])
+    holds_energy("empty", path, clock)
+    open(f"{folder}/office-2027-01.db", "w").close()
+    shutil.copy(f"{folder}/office-2026-12.db-wal", f"{folder}/office-2027-01.db-wal")
+    run = begin(path, "month", device, clock)
+    same("empty: with a log it isn't", run.child.wait(20), 3)
+    same("empty: nothing was removed", sorted(it for it in os.listdir(folder) if "2027" in it), ["office-2027-01.db", "office-2027-01.db-wal"])
+
+
+def second_run():
+    """Who starts a second run over the same files is refused, also all the time while a new file is begun."""
+    end = moment(2026, 12, 1)
+    clock = Clock("second", end - 7200)
+    path = office("second", "office.db", "UTC0", clock)
+    device = Device()
+    clock.set(end - 6)
+    run = begin(path, "month", device, clock)
+    holds("second: it polls", run.wait_for("round answered", 20), run.told())
+    others = []
+    while run.count("office-2026-12.db") == 0 and len(others) < 200:
+        others.append(begin(path, "month", device, clock))
+        if len(others) > 3:
+            others[-4].child.wait(20)
+    holds("second: the first one goes on", run.wait_for("carried 1 meters into", 20, 2) and run.wait_for("listening", 20, 2), run.told())
+    for it in others:
+        it.child.wait(20)
+    time.sleep(2 * EVERY)
+    same("second: others are refused", {it.child.returncode for it in others}, {3})
+    same("second: and carry nothing", sum(it.count("carried 1 meters") for it in others), 0)
+    run.end()
+    same("second: files", files_of(path), ["office.db", "office-2026-11.db", "office-2026-12.db"])
+    holds_energy("second", path, clock)
+
+
 def unread():
     """Standard error is a pipe that is full and that nobody reads: the change is made, and isn't told."""
     end = moment(2026, 12, 1)
@@ -587,6 +637,8 @@ def main():
     full_disk()
     other_length()
     missing()
+    left_empty()
+    second_run()
     unread()
     kills()
 

@@ -25,6 +25,8 @@ mod kept_answers;
 #[cfg(test)]
 mod kept_rows;
 #[cfg(test)]
+mod led_files;
+#[cfg(test)]
 mod links;
 #[cfg(test)]
 mod list_books;

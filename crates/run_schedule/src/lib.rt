@@ -9,8 +9,11 @@ pub use http_peers::{
     Admission, MOST_PEERS, Peers, TurnShare, little_is_held, may_reply, place_at, place_for,
     replies_are_few, turns_go_round,
 };
-pub use periods::{file_of_period, last_round, period_end, period_of_file};
+pub use periods::{
+    LedPeriod, Plan, file_of_period, last_round, next_try, nothing_goes_back, period_end,
+    period_of_file, period_until, plan_of,
+};
 pub use timing::{
-    MOST_EVERY, PEER_SECONDS, Phase, RunTime, SteadyClock, Timing, next_due, next_pause, retry_at,
-    round_until,
+    MOST_EVERY, OnwardTime, PEER_SECONDS, Phase, RunTime, SteadyClock, Timing, next_due,
+    next_pause, retry_at, round_until,
 };

@@ -6,7 +6,7 @@ use crate::ended;
 use crate::escaped::Escaped;
 use crate::offices::{Files, OWN_HOST, open_in, run_opened};
 use crate::onward_clock::OnwardClock;
-use crate::period_files::{Led, Standing, leave_one_name, led_file, path_of};
+use crate::period_files::{Led, leave_one_name, led_file, path_of};
 use crate::run_words::{STANDARD_ERROR, sites_of};
 use command_words::Device;
 use energy_report::{Period, period_name};
@@ -14,22 +14,21 @@ use interval_core::{Day, LAST_MOMENT, Zone, day_of};
 use office_program::NamedFiles;
 use office_running::{Settings, Site, write_without_waiting};
 use office_store::OpenFault;
-use run_schedule::{last_round, next_due, period_end};
+use run_schedule::{Plan, next_try, period_until, plan_of};
 use socket_link::{Clock, SystemClock};
 use sqlite::types::ValueRef;
 use sqlite::{Alter, Connection};
 use std::io::{self, Write};
 use std::process::ExitCode;
-use std::str::from_utf8;
 use std::thread::sleep;
 use std::time::{Duration, Instant};
-use stored_office::{Databases, Ending, Failure, FileFault, ending_of_done, told_zone};
+use stored_office::{CopyFault, Databases, Ending, Failure, FileFault, ending_of_done, told_zone};
 
-/// After how many seconds it is tried again to carry meters.
-const HOUR: u64 = 3600;
-
-/// How often a file is tried that another process has open, and how many milliseconds pass between.
+/// How often a file is tried that another process has open, and one looked for that another may be making; and how many milliseconds
+/// pass between.
 const TRIES: u32 = 100;
+
+const LOOKS: u32 = 30;
 
 const PAUSE: u64 = 100;
 
@@ -103,12 +102,12 @@ struct Asked<'r> {
     settings: Settings<'r>,
 }
 
-// What is done with the file in which books are led.
+// Where books go on, and until which moment where one is told.
 #[derive(Drop)]
-enum Plan {
-    // They go on in it, until a moment where one is told.
+enum Course {
+    // In the file in which they are led.
     Stay(Option<u64>),
-    // It is carried into another at this path.
+    // In another at this path, into which that is carried.
     Carry(String, Option<u64>),
 }
 
@@ -133,63 +132,50 @@ fn latest_entry<S: Alter + Drop>(connection: &mut Connection<S>) -> u64 {
     }
 }
 
-// Until when a run lasts whose period is over from a moment on: a round that is due then belongs to it.
-fn with_last_round(asked: &Asked<'_>, end: u64) -> u64 {
-    end.saturating_add(last_round(asked.settings.every))
-}
-
-fn next_hour(asked: &Asked<'_>, now: u64) -> Option<u64> {
-    if LAST_MOMENT < now {
-        return None;
-    }
-    Some(with_last_round(asked, next_due(HOUR, now)))
-}
-
-// What is done on a day with a file of a zone.
-fn plan_on<'a, S: Alter + Drop>(
+// Where books go on, on a day in a zone.
+fn course_on<'a, S: Alter + Drop>(
     asked: &Asked<'a>,
     led: &Led,
     connection: &mut Connection<S>,
     zone: &Zone,
     day: Day,
     now: u64,
-) -> Result<Plan, Failure<'a>> {
-    let name = period_name(asked.period, day);
-    let text = from_utf8(name.bytes()).unwrap_or("");
-    let until = match period_end(zone, asked.period, day, now) {
-        Some(end) => Some(with_last_round(asked, end)),
-        None => None,
-    };
-    match led.standing(text) {
-        Standing::Current => Ok(Plan::Stay(until)),
-        Standing::Later => {
+) -> Result<Course, Failure<'a>> {
+    let current = period_name(asked.period, day);
+    let every = asked.settings.every;
+    let until = period_until(zone, asked.period, day, every, now);
+    let last_entry = latest_entry(connection);
+    match plan_of(led.period(), current.bytes(), last_entry, now) {
+        Plan::Stay => Ok(Course::Stay(until)),
+        Plan::StayAhead => {
             say_later(asked.rt, led.path.as_str());
-            Ok(Plan::Stay(until))
+            Ok(Course::Stay(until))
         }
-        Standing::Due => {
-            if now < latest_entry(connection) {
-                say_behind(asked.rt, led.path.as_str());
-                return Ok(Plan::Stay(next_hour(asked, now)));
-            }
-            Ok(Plan::Carry(path_of(asked.rt, asked.file, text)?, until))
+        Plan::Wait => {
+            say_behind(asked.rt, led.path.as_str());
+            Ok(Course::Stay(next_try(every, now)))
+        }
+        Plan::Carry => {
+            let to = path_of(asked.rt, asked.file, current.bytes())?;
+            Ok(Course::Carry(to, until))
         }
     }
 }
 
-// What is done at a moment. Past the last of them there are no days.
-fn plan_at<'a, S: Alter + Drop>(
+// Where books go on at a moment. Past the last of them there are no days.
+fn course_at<'a, S: Alter + Drop>(
     asked: &Asked<'a>,
     led: &Led,
     connection: &mut Connection<S>,
     zone: &Zone,
     now: u64,
-) -> Result<Plan, Failure<'a>> {
+) -> Result<Course, Failure<'a>> {
     if LAST_MOMENT < now {
-        return Ok(Plan::Stay(None));
+        return Ok(Course::Stay(None));
     }
     match day_of(zone, now) {
-        Ok(day) => plan_on(asked, led, connection, zone, day, now),
-        Err(_) => Ok(Plan::Stay(None)),
+        Ok(day) => course_on(asked, led, connection, zone, day, now),
+        Err(_) => Ok(Course::Stay(None)),
     }
 }
 
@@ -280,6 +266,30 @@ fn run_at<D: Databases + NamedFiles, C: Clock + Drop>(
     }
 }
 
+fn is_unfinished(why: &NotCarried<'_>) -> bool {
+    matches!(
+        why,
+        NotCarried::Failed(Failure::Uncopied {
+            fault: CopyFault::Unfinished,
+            ..
+        })
+    )
+}
+
+// Whether a new file is there that this process has not made. One whose beginning is there may be another run's, which then has its name
+// in a moment.
+fn is_made(rt: &HostRuntime, to: &str, why: &NotCarried<'_>) -> bool {
+    if is_unfinished(why) {
+        for _look in 0..LOOKS {
+            if is_there(rt, to) {
+                return true;
+            }
+            sleep(rt, Duration::from_millis(PAUSE));
+        }
+    }
+    is_there(rt, to)
+}
+
 // Carries the file at a path into another, and runs over that. Where it can't be carried, books go on where they are, and it is tried
 // again at the next hour.
 fn carry_on<D: Databases + NamedFiles, C: Clock + Drop>(
@@ -296,12 +306,12 @@ fn carry_on<D: Databases + NamedFiles, C: Clock + Drop>(
     match carry_open(rt, databases, connection, to) {
         Ok(count) => say_carried(rt, from, to, count),
         Err(why) => {
-            if !is_there(rt, to) {
+            if !is_made(rt, to, &why) {
                 say_not_carried(rt, from, to, why, NOT_CARRIED);
-                let until = next_hour(asked, clock.now());
+                let until = next_try(asked.settings.every, clock.now());
                 return run_at(asked, databases, from, false, clock, until, left);
             }
-            // (it has its name, which can't be brought to the disk)
+            // (it has its name, which can't be brought to the disk; or another process made it, and has it)
             say_not_carried(rt, from, to, why, NAMED);
         }
     }
@@ -347,13 +357,13 @@ fn turn<D: Databases + NamedFiles, C: Clock + Drop>(
             return Some(ended(rt, &Ending::Failed(Failure::Unopened { path, fault })));
         }
     };
-    let plan = match plan_at(asked, &led, &mut connection, &zone, clock.now()) {
-        Ok(plan) => plan,
+    let course = match course_at(asked, &led, &mut connection, &zone, clock.now()) {
+        Ok(course) => course,
         Err(failure) => return Some(ended(rt, &Ending::Failed(failure))),
     };
-    match plan {
-        Plan::Stay(until) => run_in(asked, databases, path, connection, clock, until, left),
-        Plan::Carry(to, until) => {
+    match course {
+        Course::Stay(until) => run_in(asked, databases, path, connection, clock, until, left),
+        Course::Carry(to, until) => {
             carry_on(
                 asked,
                 databases,

@@ -72,7 +72,7 @@ fn is_year(a: u8, b: u8, c: u8, d: u8) -> bool
 }
 
 // Whether a text has the form of a period's.
-fn spells(period: Period, text: &[u8]) -> bool
+pub(crate) fn spells(period: Period, text: &[u8]) -> bool
     ensures { result ≡ named.spells period text.now }
 {
     match (period, text) {
