@@ -3,6 +3,8 @@
 #![tactic(auto)]
 
 #[cfg(test)]
+mod advice;
+#[cfg(test)]
 mod audits;
 #[cfg(test)]
 mod backups;

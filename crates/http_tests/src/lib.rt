@@ -4,8 +4,6 @@
 #![tactic(auto)]
 
 #[cfg(test)]
-mod advice;
-#[cfg(test)]
 mod answers;
 #[cfg(test)]
 mod asks;

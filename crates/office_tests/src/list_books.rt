@@ -4,7 +4,7 @@ use crate::kept_rows::KeptRows;
 use energy_core::Cause;
 use memory_books::ListBooks;
 use meter_journal::EntryKind;
-use office_books::{Books, Span};
+use office_books::{Books, Span, with_whole_energy};
 use office_events::{EndedPoll, EntryPlace, HeldReading, Installation, Name, Poll, PollRow};
 use poll_core::Outcome;
 use std::alloc::Global;
@@ -143,6 +143,15 @@ fn an_entry_is_told_by_its_neighbours(rt: HostRuntime) {
     assert!(rt; stood_at(&entry_near(&mut books, b"m1", 2), 1000, 1_500_000));
     assert!(rt; entry_near(&mut books, b"m1", 4).is_none());
     assert!(rt; entry_near(&mut books, b"m2", 2).is_none());
+}
+
+#[test]
+fn the_energy_of_the_whole_meter_is_put_in(rt: HostRuntime) {
+    let mut books = books_of(rt.alloc(), &VOIDED).expect(&rt, "a void");
+    let found = entry(&mut books, b"m1", 2).expect(&rt, "an entry");
+    let whole = meter(&mut books, b"m1").expect(&rt, "a meter");
+    let told = with_whole_energy(&found, &whole);
+    assert!(rt; stood_at(&Some(told), 1000, 1_500_000));
 }
 
 // Of two readings of a meter that were held one went too fast, and one shows a counter that does not count.

@@ -1,3 +1,4 @@
+pub mod Advice
 pub mod BooksFound
 pub mod NewOffice
 pub mod Tasks

@@ -1,6 +1,7 @@
 //! The program's commands over an office in a database: over any store, clock, sockets and writer.
 #![tactic(auto)]
 
+mod advice;
 mod audits;
 mod backups;
 mod carries;
@@ -12,6 +13,7 @@ mod runs;
 mod seals;
 mod tasks;
 
+pub use advice::{say_lacks, say_remarks};
 pub use audits::{
     AuditFault, audit_stored, hold_to_earlier, meters_stored, write_audit, write_joins,
 };

@@ -12,7 +12,6 @@ use interval_core::Zone;
 use office_program::NamedFiles;
 use office_running::{Settings, Site};
 use office_store::OpenFault;
-use round_advice::say_remarks;
 use socket_link::{Clock, SystemClock};
 use sqlite::types::ValueRef;
 use sqlite::{Alter, Connection, FileFrom, FileStore, Unknown};
@@ -21,7 +20,7 @@ use std::io::{self, ErrorKind, IsTerminal, Printer, Write};
 use std::os::unix::fs::PermissionsExt;
 use stored_office::{
     Databases, Done, Ending, Failure, FileConnection, FileFault, Task, carry_out_stored,
-    create_stored, ending_of_done, is_bare, is_office, make_file, open_file,
+    create_stored, ending_of_done, is_bare, is_office, make_file, open_file, say_remarks,
 };
 
 /// The host on which HTTP is answered.

@@ -1,7 +1,7 @@
 use Rattle.std.proofs.Common.{ℕ, List, length}
 use Rattle.command_io.specs.Lines.{speaking_lines}
-use Rattle.round_advice.specs.PrintedLines.{Explains}
-use Rattle.round_advice.proofs.printed_lines.put_remarks.Given as goal
+use Rattle.stored_office.specs.Advice.PrintedLines.{Explains}
+use Rattle.stored_office.proofs.advice.printed_lines.put_remarks.Given as goal
 
 abbrev pub invariant-loop-line : goal.invariant-loop-line
 invariant-loop-line l = (whole : List ℕ) → Explains l.device l.lines l.text.items whole

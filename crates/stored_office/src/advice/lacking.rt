@@ -1,10 +1,10 @@
 //! What the device of a round lacks.
 ghost use Rattle.std.specs.Prelude.{◌≡◌, OnOk, false};
 ghost use Rattle.run_status.specs.Advice.Lacks.{LooksUp};
-ghost use Rattle.round_advice.specs.Ends.{is_told};
-ghost use Rattle.round_advice.specs.Lacking.{PutsLacks, with_lacks};
+ghost use Rattle.stored_office.specs.Advice.Ends.{is_told};
+ghost use Rattle.stored_office.specs.Advice.Lacking.{PutsLacks, with_lacks};
 
-use crate::ends::is_told;
+use crate::advice::ends::is_told;
 use office_books::{Books, BooksFault};
 use office_events::Name;
 use office_program::PollEnd;

@@ -1,12 +1,12 @@
 //! What a round printed, line by line.
 ghost use Rattle.std.specs.Prelude.{◌≡◌, OnOk, false};
 ghost use Rattle.command_io.specs.Lines.{speaking_lines};
-ghost use Rattle.round_advice.specs.Ends.{is_told};
-ghost use Rattle.round_advice.specs.PrintedLines as printing;
-ghost use Rattle.round_advice.specs.PrintedLines.{Explains, ExplainsLine};
+ghost use Rattle.stored_office.specs.Advice.Ends.{is_told};
+ghost use Rattle.stored_office.specs.Advice.PrintedLines as printing;
+ghost use Rattle.stored_office.specs.Advice.PrintedLines.{Explains, ExplainsLine};
 
-use crate::ends::is_told;
-use crate::remarks::{Remark, put_remark, remark_in};
+use crate::advice::ends::is_told;
+use crate::advice::remarks::{Remark, put_remark, remark_in};
 use command_io::InputLines;
 use office_events::Name;
 use office_program::PollEnd;

@@ -6,8 +6,8 @@ use Rattle.printed_numbers.specs.declared.kind.Kind.{Kind}
 use Rattle.printed_numbers.specs.declared.kind.Kind.TheVariants as kind
 use Rattle.run_status.specs.Advice.Sentences.{MeansAfter, with_subject}
 use Rattle.script_lines.specs.LineWords.Fields.{AnyName, Number, first_value, nothing_more, ◌>>=◌}
-use Rattle.round_advice.specs.declared.remarks.Remark.{Remark}
-use Rattle.round_advice.specs.declared.remarks.Remark.TheVariants.{Refused, Held}
+use Rattle.stored_office.specs.declared.advice.remarks.Remark.{Remark}
+use Rattle.stored_office.specs.declared.advice.remarks.Remark.TheVariants.{Refused, Held}
 
 -- a number of 32 bits
 abbrev pub small : ℕ → Option ℕ

@@ -1,7 +1,7 @@
 use Rattle.std.proofs.Common.{ℕ, List, refl, sym, subst}
 use Rattle.command_io.specs.Lines.{Line}
-use Rattle.round_advice.specs.PrintedLines.{Explains}
-use Rattle.round_advice.proofs.printed_lines.put_remarks.Goals as goal
+use Rattle.stored_office.specs.Advice.PrintedLines.{Explains}
+use Rattle.stored_office.proofs.advice.printed_lines.put_remarks.Goals as goal
 
 pub loop-line-init : goal.loop-line-init
 loop-line-init c = λ whole h.

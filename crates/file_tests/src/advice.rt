@@ -1,8 +1,14 @@
 //! What is said to people after a round.
-use crate::office::unmetered;
+use crate::day::office_after;
+use interval_core::Zone;
+use memory_books::ListBooks;
 use office_program::PollEnd;
-use round_advice::{say_lacks, say_remarks};
 use std::test::Fail;
+use stored_office::{say_lacks, say_remarks};
+
+// A device, and its register.
+const UNMETERED: &str = "1000 device inv 1 5 1
+1000 register main inv 3 40094 @40096";
 
 // What the device of a name lacks: one that isn't there, and one that has no list and a register without a meter.
 static LACKS: [(&str, &[u8]); 2] = [
@@ -18,7 +24,8 @@ static LACKS: [(&str, &[u8]); 2] = [
 
 #[test]
 fn what_a_device_lacks_is_said(rt: HostRuntime) -> Result<(), Fail> {
-    let mut books = unmetered(rt.alloc())?.into_books();
+    let blank = ListBooks::new(rt.alloc(), Zone::read("UTC0")?);
+    let mut books = office_after(rt.alloc(), blank, UNMETERED)?.into_books();
     for (device, text) in &LACKS {
         let mut said = Vec::new(rt.alloc());
         say_lacks(

@@ -1,5 +1,4 @@
 //! What is said to people beside what a round prints: what its device lacks, and what its refusals and held readings mean.
-#![tactic(auto)]
 
 mod ends;
 mod lacking;

@@ -1,6 +1,6 @@
 //! After which ends of a round more is said.
 ghost use Rattle.std.specs.Prelude.{◌≡◌};
-ghost use Rattle.round_advice.specs.Ends as ends;
+ghost use Rattle.stored_office.specs.Advice.Ends as ends;
 
 use command_io::ExitStatus;
 use office_program::PollEnd;

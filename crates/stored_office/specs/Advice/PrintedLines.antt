@@ -2,9 +2,9 @@
 use Rattle.std.specs.Prelude.{◌≡◌, ℕ, ◌==◌, Bool, true, false, not, List, [], ◌∷◌, Option, Some, None}
 use Rattle.command_io.specs.Lines.{Line}
 use Rattle.script_lines.specs.LineWords.Words.{words_of}
-use Rattle.round_advice.specs.Remarks.{Says, remark_of}
-use Rattle.round_advice.specs.declared.remarks.Remark.{Remark}
-use Rattle.round_advice.specs.declared.remarks.Remark.TheVariants.{Refused, Held}
+use Rattle.stored_office.specs.Advice.Remarks.{Says, remark_of}
+use Rattle.stored_office.specs.declared.advice.remarks.Remark.{Remark}
+use Rattle.stored_office.specs.declared.advice.remarks.Remark.TheVariants.{Refused, Held}
 
 -- That the device or its list isn't there, for which a round is refused as 1, is said as what lacks.
 abbrev pub is_left : Remark → Bool

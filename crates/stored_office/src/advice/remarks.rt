@@ -2,8 +2,8 @@
 ghost use Rattle.std.specs.Prelude.{◌≡◌, OnOk, option_map};
 ghost use Rattle.script_lines.specs.LineWords.Words.{words_of};
 ghost use Rattle.run_status.specs.Advice.Sentences.{with_meaning, with_subject};
-ghost use Rattle.round_advice.specs.Remarks as remarks;
-ghost use Rattle.round_advice.specs.Remarks.{MayMean, Says};
+ghost use Rattle.stored_office.specs.Advice.Remarks as remarks;
+ghost use Rattle.stored_office.specs.Advice.Remarks.{MayMean, Says};
 
 use office_events::Name;
 use printed_numbers::{Kind, Meaning, meaning_of};
