@@ -49,8 +49,7 @@ pub goes_on_by : (stands row : Installation) (one goes both : Bool) → both ≡
     → IsTrue goes ↔ GoesOnAs (installed stands.opening) stands.last stands.ended (installed row.opening)
     → IsTrue both ↔ GoesOn stands row
 goes_on_by stands row one goes both are is asks =
-    let names = bytes_eq-Decides row.opening.meter stands.opening.meter in
-    (
+    let names = bytes_eq-Decides row.opening.meter stands.opening.meter in (
       λ t. let parts = both_true one goes (sym are ∙ t) in record { name = names.0 (sym is ∙ parts.0); goes = asks.0 parts.1 },
       λ h. are ∙ of_both one goes (is ∙ names.1 h.name) (asks.1 h.goes),
     )

@@ -50,6 +50,7 @@ impl Keeping for JoinedFiles {
     ghost use Rattle.carried_books.specs.Joining.Files.{DoesNotJoin, HasJoined};
 
     ghost keeps = { λ zone range. HasJoined zone (span_of range) };
+
     ghost parts = { λ range. DoesNotJoin (span_of range) };
 
     fn none(alloc: Global, zone: Zone, _range: DayRange) -> JoinedFiles {
