@@ -162,9 +162,9 @@ fn periods_have_the_names_of_rows(rt: HostRuntime) {
         assert!(rt; false);
         return;
     };
-    assert!(rt; period_name(Period::Day, day).bytes() == b"2026-03-07");
-    assert!(rt; period_name(Period::Month, day).bytes() == b"2026-03");
-    assert!(rt; period_name(Period::Year, day).bytes() == b"2026");
+    assert!(rt; period_name(Period::Day, day).bytes() == b"2026-03-07".as_slice());
+    assert!(rt; period_name(Period::Month, day).bytes() == b"2026-03".as_slice());
+    assert!(rt; period_name(Period::Year, day).bytes() == b"2026".as_slice());
 }
 
 /// A file, the text of a period, and the file of that.
