@@ -2,3 +2,4 @@ pub mod Days
 pub mod Meters
 pub mod Files
 pub mod Reports
+pub mod Keeping

@@ -2,3 +2,4 @@ pub mod Meters
 pub mod Days
 pub mod Files
 pub mod Reports
+pub mod Keeping

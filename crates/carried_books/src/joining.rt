@@ -3,12 +3,14 @@
 
 mod days;
 mod files;
+mod keeping;
 mod laws;
 mod meters;
 mod reports;
 
 pub use days::JoinedDays;
 pub use files::{JoinedFiles, Unjoined, add_books, no_files};
+pub use keeping::Keeping;
 pub use laws::{both_files_tell_the_joined_days, one_file_tells_its_days};
 pub use meters::Apart;
 pub use reports::report_joined;

@@ -3,7 +3,8 @@ use crate::commands::fill;
 use crate::day::{MONTH, REPORTED};
 use crate::files::{Files, path, remove};
 use carried_books::{
-    Unjoined, both_files_tell_the_joined_days, one_file_tells_its_days, report_joined,
+    JoinedFiles, Keeping, Unjoined, both_files_tell_the_joined_days, one_file_tells_its_days,
+    report_joined,
 };
 use command_io::ExitStatus;
 use energy_report::{EnergyUnit, Format, Period, ReportForm};
@@ -23,15 +24,33 @@ static FORMS: [(Period, EnergyUnit, &[u8]); 2] = [
 ];
 
 /// What a file tells after those before it.
-fn joined<D: Databases>(
+fn joined<D: Databases, K: Keeping>(
     rt: &HostRuntime,
     databases: &D,
     path: &str,
-    before: Option<JoinedOffice>,
-) -> Result<Result<JoinedOffice, JoinFault>, Fail> {
+    before: Option<JoinedOffice<K>>,
+) -> Result<Result<JoinedOffice<K>, JoinFault>, Fail> {
     let connection = databases.open(path)?;
     let register = Name::new(b"main").ok_or("no name")?;
     Ok(join_stored(rt.alloc(), connection, before, &register, ALL))
+}
+
+/// The report of what was kept, and how it ends.
+fn reported(
+    rt: &HostRuntime,
+    office: JoinedOffice<JoinedFiles>,
+    period: Period,
+    unit: EnergyUnit,
+) -> (ExitStatus, Vec<u8>) {
+    let form = ReportForm {
+        range: ALL,
+        period,
+        unit,
+        format: Format::Text,
+    };
+    let mut printed = Vec::new(rt.alloc());
+    let status = report_joined(office.kept, &form, &mut printed);
+    (status, printed)
 }
 
 /// Whether the report of one file alone is that of its days.
@@ -40,14 +59,7 @@ fn is_reported<D: Databases>(rt: &HostRuntime, databases: &D, path: &str) -> Res
         let Ok(office) = joined(rt, databases, path, None)? else {
             return Ok(false);
         };
-        let form = ReportForm {
-            range: ALL,
-            period: *period,
-            unit: *unit,
-            format: Format::Text,
-        };
-        let mut printed = Vec::new(rt.alloc());
-        let status = report_joined(office.files, &form, &mut printed);
+        let (status, printed) = reported(rt, office, *period, *unit);
         if status != ExitStatus::Fine || printed.as_slice() != *wanted {
             return Ok(false);
         }
@@ -78,7 +90,8 @@ fn is_apart_from_itself<D: Databases>(
     databases: &D,
     path: &str,
 ) -> Result<bool, Fail> {
-    let Ok(office) = joined(rt, databases, path, None)? else {
+    let before: Option<JoinedOffice<JoinedFiles>> = None;
+    let Ok(office) = joined(rt, databases, path, before)? else {
         return Ok(false);
     };
     match joined(rt, databases, path, Some(office))? {

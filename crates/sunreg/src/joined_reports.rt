@@ -4,7 +4,8 @@ use crate::command_output::CommandOutput;
 use crate::escaped::Escaped;
 use crate::offices::{Files, Opening, open_in};
 use crate::reports::{form_of, range_of};
-use carried_books::{Apart, Unjoined, report_joined};
+use carried_books::{Apart, JoinedFiles, Keeping, Unjoined, report_joined};
+use command_io::ExitStatus;
 use command_words::FormWords;
 use energy_report::ReportForm;
 use interval_core::DayRange;
@@ -96,15 +97,15 @@ fn say_fault<'a>(rt: &HostRuntime, before: &str, path: &'a str, fault: JoinFault
 }
 
 // Adds what one file tells.
-fn join_in<'a, D: Databases>(
+fn join_in<'a, D: Databases, K: Keeping>(
     rt: &HostRuntime,
     databases: &D,
-    joined: Option<JoinedOffice>,
+    joined: Option<JoinedOffice<K>>,
     before: &str,
     path: &'a str,
     register: &Name,
     range: DayRange,
-) -> Result<JoinedOffice, Ending<'a>> {
+) -> Result<JoinedOffice<K>, Ending<'a>> {
     match open_in(rt, databases, path) {
         Ok(connection) => match join_stored(rt.alloc(), connection, joined, register, range) {
             Ok(joined) => Ok(joined),
@@ -115,12 +116,12 @@ fn join_in<'a, D: Databases>(
 }
 
 // What the files tell of a register, one after the other: one of them is open at a time.
-fn join_all<'a>(
+fn join_all<'a, K: Keeping>(
     rt: &HostRuntime,
     paths: &[&'a str],
     register: &Name,
     range: DayRange,
-) -> Result<Option<JoinedOffice>, Ending<'a>> {
+) -> Result<Option<JoinedOffice<K>>, Ending<'a>> {
     let files = Files::opened(rt, Opening::ToRead);
     let mut joined = None;
     let mut before = "";
@@ -134,27 +135,32 @@ fn join_all<'a>(
     Ok(joined)
 }
 
-// Prints the report of what files tell.
-fn print_joined(rt: &HostRuntime, joined: JoinedOffice, form: &ReportForm) -> Ending<'static> {
-    let mut output = CommandOutput::in_pieces(io::writer(rt));
-    let status = report_joined(joined.files, form, &mut output);
+// How a command ends that printed all it had to.
+fn ended<W: Write + Drop>(output: &mut CommandOutput<W>, status: ExitStatus) -> Ending<'static> {
     match output.flush() {
         Ok(()) => ending_of(status),
         Err(_) => Ending::Failed(Failure::Streams),
     }
 }
 
-// The same of a register that is recorded.
-fn print_recorded(
+// Prints the report of what files tell.
+fn print_report(rt: &HostRuntime, joined: JoinedFiles, form: &ReportForm) -> Ending<'static> {
+    let mut output = CommandOutput::in_pieces(io::writer(rt));
+    let status = report_joined(joined, form, &mut output);
+    ended(&mut output, status)
+}
+
+// The same where the register is recorded in one of them.
+fn report_recorded(
     rt: &HostRuntime,
     path: &str,
-    joined: Option<JoinedOffice>,
+    joined: Option<JoinedOffice<JoinedFiles>>,
     form: &ReportForm,
 ) -> Ending<'static> {
     match joined {
         Some(joined) => {
-            if joined.files.is_recorded {
-                print_joined(rt, joined, form)
+            if joined.kept.is_recorded {
+                print_report(rt, joined.kept, form)
             } else {
                 say_refused(rt, path, Refusal::NotFound)
             }
@@ -171,7 +177,7 @@ fn last_of<'a>(paths: &[&'a str]) -> &'a str {
     }
 }
 
-// Prints the energy of a register, where it is recorded in one of the files.
+// Prints the energy of a register.
 fn report_register<'a>(
     rt: &HostRuntime,
     paths: &[&'a str],
@@ -180,7 +186,7 @@ fn report_register<'a>(
 ) -> Ending<'a> {
     match join_all(rt, paths, register, form.range) {
         Err(ending) => ending,
-        Ok(joined) => print_recorded(rt, last_of(paths), joined, form),
+        Ok(joined) => report_recorded(rt, last_of(paths), joined, form),
     }
 }
 

@@ -1,12 +1,16 @@
 -- Meters that join one after the other.
-use Rattle.std.proofs.Common.{◌≡◌, ℕ, ◌<◌, Bool, true, false, not, List, [], ◌∷◌, length, take, Option, Some, None, inl, inr, refl, sym, subst, ◌∙◌, arith}
-use Rattle.std.specs.Prelude.{All, Contains, is_some}
+use Rattle.std.proofs.Common.{◌≡◌, ◌↔◌, ◌&&◌, ℕ, ◌<◌, Bool, true, false, not, List, [], ◌∷◌, length, take, Option, Some, None, inl, inr, refl, sym, subst, ◌∙◌, arith}
+use Rattle.std.specs.Prelude.{All, Contains, IsTrue, is_some}
 use Rattle.std.specs.List.{find}
 use Rattle.std.proofs.lemmas.Bool.{cases_Bool, cond-false, cond-true}
 use Rattle.std.proofs.lemmas.List.Elements.{All-cons, All-contains_itself, Contains-append_right}
+use Rattle.std.proofs.lemmas.Slice.Eq.{bytes_eq-Decides}
+use Rattle.std.specs.Str.{bytes_eq}
+use Rattle.meter_audit.specs.CarriedFiles.{GoesOnAs}
 use Rattle.office_events.specs.declared.questions.Installation.{Installation}
 use Rattle.carried_books.specs.declared.joining.meters.Apart.{Apart}
-use Rattle.carried_books.specs.Joining.Meters.{AddMeters, AddOrAreApart, AddsMeter, AddsNext, AddsOrIsApart, NoneGoesOn, is_before}
+use Rattle.office_rules.specs.Meters.{installed}
+use Rattle.carried_books.specs.Joining.Meters.{AddMeters, AddOrAreApart, AddsMeter, AddsNext, AddsOrIsApart, GoesOn, NoneGoesOn, is_before}
 
 -- ---- the first that passes a test
 
@@ -29,6 +33,26 @@ find_some p (y ∷ ys) x is = elim (cases_Bool (p y)) [
       let rest = find_some p ys x (sym (cond-false _ _ _ fails) ∙ is) in
       (Contains-append_right (y ∷ []) ys x rest.0, rest.1)
 ]
+
+-- ---- one that goes on
+
+both_true : (a b : Bool) → (a && b) ≡ true → (a ≡ true) × (b ≡ true)
+both_true true b h = (refl, h)
+both_true false b h = absurd (cc h)
+
+of_both : (a b : Bool) → a ≡ true → b ≡ true → (a && b) ≡ true
+of_both true b p q = q
+of_both false b p q = absurd (cc p)
+
+pub goes_on_by : (stands row : Installation) (one goes both : Bool) → both ≡ (one && goes)
+    → one ≡ bytes_eq row.opening.meter stands.opening.meter
+    → IsTrue goes ↔ GoesOnAs (installed stands.opening) stands.last stands.ended (installed row.opening)
+    → IsTrue both ↔ GoesOn stands row
+goes_on_by stands row one goes both are is asks =
+    let names = bytes_eq-Decides row.opening.meter stands.opening.meter in (
+      λ t. let parts = both_true one goes (sym are ∙ t) in record { name = names.0 (sym is ∙ parts.0); goes = asks.0 parts.1 },
+      λ h. are ∙ of_both one goes (is ∙ names.1 h.name) (asks.1 h.goes),
+    )
 
 -- ---- one meter more
 

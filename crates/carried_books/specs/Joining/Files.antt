@@ -127,6 +127,12 @@ Joins span register facts old new (Some (unjoined.Apart apart)) =
 Joins span register facts old new (Some unjoined.OutOfTurn) =
     IsOutOfTurn span register facts old
 
+-- It doesn't join them, so.
+abbrev pub DoesNotJoin : Span → (register : List ℕ) → (facts : List Fact) → (old : JoinedFiles)
+    → Unjoined → Type 0
+DoesNotJoin span register facts old why =
+    (new : JoinedFiles) × Joins span register facts old new (Some why)
+
 -- After files that join, those with this one do.
 abbrev pub AllJoin : Span → (register : List ℕ) → (facts : List Fact) → (old new : JoinedFiles)
     → Option Unjoined → Type 0

@@ -1,32 +1,20 @@
 -- The meters at a register over files of one office, one file after the other: which of them goes on in the next file, and
 -- which follows there. Lists have the meter that was installed first at the head.
-use Rattle.std.specs.Prelude.{◌≡◌, ◌⊎◌, ◌+◌, ◌-◌, ◌^◌, ◌==◌, nat_le, min, Bool, true, false, not, ◌&&◌, List, [], ◌∷◌, ◌++◌, All, Contains, Option, Some, None}
-use Rattle.std.specs.Ordering.{int_eq}
-use Rattle.energy_core.specs.declared.entries.Last.{Last}
-use Rattle.office_events.specs.declared.facts.Opening.{Opening}
+use Rattle.std.specs.Prelude.{◌≡◌, ◌⊎◌, ◌+◌, ◌-◌, ◌^◌, nat_le, min, Bool, true, false, not, ◌&&◌, List, [], ◌∷◌, ◌++◌, All, Contains, Option, Some, None}
+use Rattle.meter_audit.specs.CarriedFiles.{GoesOnAs}
 use Rattle.office_events.specs.declared.questions.Installation.{Installation}
 use Rattle.office_rules.specs.Facts.{same}
+use Rattle.office_rules.specs.Meters.{installed}
 use Rattle.office_books.specs.Rows.{TakesAll, TakesFirst}
 use Rattle.carried_books.specs.declared.joining.meters.Apart.{Apart}
 
 -- ---- two meters
 
--- the same meter, with its range and its ceiling
-abbrev pub is_one : (stands row : Opening) → Bool
-is_one stands row =
-    same row.meter stands.meter
-    && (row.range == stands.range && row.ceiling == stands.ceiling)
-
--- it is opened where a counter stands
-abbrev pub is_opened_at : Last → Opening → Bool
-is_opened_at last opening =
-    opening.at == last.at && (opening.raw == last.raw && int_eq opening.sf last.sf)
-
--- A meter goes on in a later file: it was not closed, and is opened there where it stands.
-abbrev pub goes_on : (stands row : Installation) → Bool
-goes_on stands row =
-    not stands.ended
-    && (is_one stands.opening row.opening && is_opened_at stands.last row.opening)
+-- A meter goes on in a later file as the one of its name there: it was left there as that one is opened, as it is asked of
+-- files that are audited together.
+pub record GoesOn (stands row : Installation) : Type 0 where
+  pub name : row.opening.meter ≡ stands.opening.meter
+  pub goes : GoesOnAs (installed stands.opening) stands.last stands.ended (installed row.opening)
 
 -- It began where it began, and stands where the later file says; its energy is that of both, as a number of 64 bits holds it.
 abbrev pub as_one : (stands row : Installation) → Installation
@@ -51,7 +39,7 @@ pub record IsOne (known : List Installation) (row : Installation) (after : List 
   pub before : List Installation
   pub stands : Installation
   pub known_is : known ≡ before ++ stands ∷ []
-  pub goes : goes_on stands row ≡ true
+  pub goes : GoesOn stands row
   pub after_is : after ≡ before ++ as_one stands row ∷ []
 
 -- All of these were there before this one, which comes after them.
@@ -72,7 +60,7 @@ pub record EndsOtherwise (known : List Installation) (row : Installation) : Type
   pub before : List Installation
   pub stands : Installation
   pub known_is : known ≡ before ++ stands ∷ []
-  pub other : goes_on stands row ≡ false
+  pub other : GoesOn stands row → ⊥
 
 abbrev pub NoneGoesOn : (known : List Installation) → Installation → Type 0
 NoneGoesOn known row = (known ≡ []) ⊎ EndsOtherwise known row

@@ -1,10 +1,13 @@
 //! The meters at a register over files, one file after the other.
-ghost use Rattle.std.specs.Prelude.{◌≡◌, ◌&&◌, not, find, IfOk};
+ghost use Rattle.std.specs.Prelude.{◌≡◌, ◌↔◌, ◌&&◌, IsTrue, not, find, IfOk};
+ghost use Rattle.meter_audit.specs.CarriedFiles.{GoesOnAs};
 ghost use Rattle.carried_books.specs.Joining.Meters as meters;
-ghost use Rattle.carried_books.specs.Joining.Meters.{AddOrAreApart, AddsNext, AddsOrIsApart};
+ghost use Rattle.carried_books.specs.Joining.Meters.{AddOrAreApart, AddsNext, AddsOrIsApart, GoesOn};
 
 use energy_core::Last;
-use office_events::{Installation, Opening};
+use meter_journal::Installed;
+use office_books::installed;
+use office_events::Installation;
 use std::alloc::AllocError;
 
 /// Two meters at a register that don't join: where one stands by the files before, and another that begins in the next one,
@@ -21,29 +24,34 @@ pub(crate) fn both(one: bool, other: bool) -> bool
     one && other
 }
 
-// Whether two openings are of one meter, with the same range and ceiling.
-fn is_one(stands: &Opening, row: &Opening) -> bool
-    ensures { result ≡ meters.is_one stands.now row.now }
+// Whether a counter stands where another does.
+fn is_same(last: &Last, other: &Last) -> bool
+    ensures { IsTrue result ↔ (last.now ≡ other.now) }
 {
-    let has_terms = both(row.range == stands.range, row.ceiling == stands.ceiling);
-    both(row.meter.is(&stands.meter), has_terms)
+    last.at == other.at && last.raw == other.raw && last.sf == other.sf
 }
 
-// Whether a meter is opened where a counter stands.
-fn is_opened_at(last: &Last, opening: &Opening) -> bool
-    ensures { result ≡ meters.is_opened_at last.now opening.now }
+// Whether a meter that was left so goes on as another.
+fn goes_on_as(meter: &Installed, last: &Last, ended: bool, next: &Installed) -> bool
+    ensures { IsTrue result ↔ GoesOnAs meter.now last.now ended next.now }
 {
-    let shows = both(opening.raw == last.raw, opening.sf == last.sf);
-    both(opening.at == last.at, shows)
+    !ended
+        && next.range == meter.range
+        && next.ceiling == meter.ceiling
+        && is_same(&next.opening, last)
 }
 
-// Whether a meter goes on as one of a later file.
+// Whether a meter goes on as the one of its name in a later file.
 fn goes_on(stands: &Installation, row: &Installation) -> bool
-    ensures { result ≡ meters.goes_on stands.now row.now }
+    ensures { IsTrue result ↔ GoesOn stands.now row.now }
 {
-    let is_one = is_one(&stands.opening, &row.opening);
-    let is_there = is_opened_at(&stands.last, &row.opening);
-    both(!stands.ended, both(is_one, is_there))
+    let is_one = row.opening.meter.is(&stands.opening.meter);
+    let stood = installed(&stands.opening);
+    let next = installed(&row.opening);
+    both(
+        is_one,
+        goes_on_as(&stood, &stands.last, stands.ended, &next),
+    )
 }
 
 // The meter of both files.

@@ -3,107 +3,131 @@ use Rattle.std.specs.Prelude.{◌≡◌, ℕ, List, [], ◌∷◌, Option, Some,
 use Rattle.sqlite.specs.Store.{Ghosts}
 use Rattle.sqlite.specs.Held.{Held, state}
 use Rattle.sqlite.specs.State.{HasCleanDisk}
+use Rattle.interval_core.specs.Zone.{HasRule}
+use Rattle.interval_core.specs.declared.day_range.DayRange.{DayRange}
 use Rattle.interval_core.specs.declared.zone.Zone.{Zone}
 use Rattle.office_events.specs.declared.facts.Fact.{Fact}
-use Rattle.office_books.specs.declared.spans.Span.{Span}
 use Rattle.office_books.specs.Ledgers.{Ledger}
 use Rattle.office_store.specs.declared.books.SqlBooks.{SqlBooks}
 use Rattle.stored_office.specs.BooksFound.{ledger_beneath}
-use Rattle.carried_books.specs.Joining.Files.{HasJoined, Joins}
-use Rattle.carried_books.specs.declared.joining.files.JoinedFiles.{JoinedFiles}
+use Rattle.carried_books.specs.declared.joining.keeping.Keeping as keepings
 use Rattle.stored_office.specs.declared.joins.stored.JoinFault.{JoinFault}
 use Rattle.stored_office.specs.declared.joins.stored.JoinFault.TheVariants as fault
 use Rattle.stored_office.specs.declared.joins.stored.JoinedOffice.{JoinedOffice}
 
 -- The days are of the zone whose text this is, where a file was there before.
-abbrev pub IsOfZone : (zone : List ℕ) → Option JoinedOffice → Type 0
+abbrev pub IsOfZone : {K : Type 0} → (zone : List ℕ) → Option (JoinedOffice K) → Type 0
 IsOfZone zone before =
     MatchOption before (Unit {0}) (λ joined. string_bytes joined.zone ≡ zone)
 
--- The first file alone joins; and after files that join, those with this one do.
-abbrev pub JoinsNext : Span → (register : List ℕ) → (facts : List Fact) → Option JoinedOffice
-    → JoinedOffice → Type 0
-JoinsNext span register facts None new =
-    (zone : Zone) × HasJoined zone span register (facts ∷ []) new.files
-JoinsNext span register facts (Some before) new = (zone : Zone) (files : List (List Fact))
-    → HasJoined zone span register files before.files
-    → HasJoined zone span register (facts ∷ files) new.files
+module _ {K : Type 0} (k : keepings.Ghosts K) where
+  -- What is kept before the next file: nothing of any register yet, by the clocks of the zone whose text this is, or what was kept
+  -- of those before.
+  abbrev pub AreBefore : (zone : List ℕ) → DayRange → Option (JoinedOffice K) → K → Type 0
+  AreBefore zone range None kept = (its : Zone) × HasRule zone its
+      × ((register : List ℕ) → k.keeps its range register [] kept)
+  AreBefore zone range (Some before) kept = kept ≡ before.kept
 
--- what is kept before the next file: nothing of a register yet, or what was kept of those before
-abbrev pub AreBefore : Option JoinedOffice → JoinedFiles → Type 0
-AreBefore None files = (zone : Zone)
-    × ((span : Span) (register : List ℕ) → HasJoined zone span register [] files)
-AreBefore (Some before) files = files ≡ before.files
+  -- What is kept then: of the first file alone, by the clocks of that zone, or of those before and this one.
+  abbrev pub JoinsNext : (zone : List ℕ) → DayRange → (register : List ℕ) → (facts : List Fact)
+      → Option (JoinedOffice K) → JoinedOffice K → Type 0
+  JoinsNext zone range register facts None new = (its : Zone) × HasRule zone its
+      × k.keeps its range register (facts ∷ []) new.kept
+  JoinsNext zone range register facts (Some before) new = (its : Zone) (files : List (List Fact))
+      → k.keeps its range register files before.kept
+      → k.keeps its range register (facts ∷ files) new.kept
 
--- Books were only asked, and by what they hold the next file joins those before it; the text of the zone is kept.
-pub record JoinsBooks {B : Type 0} (ledger : B → Ledger) (books : B) (zone : List ℕ) (span : Span)
-    (register : List ℕ) (before : Option JoinedOffice) (new : JoinedOffice) : Type 0 where
-  pub asked : B
-  pub clean : (ledger asked).is_clean → (ledger books).is_clean
-  pub told : string_bytes new.zone ≡ zone
-  pub joins : (known : List Fact) → (ledger books).holds known → (ledger asked).is_clean
-      → JoinsNext span register known before new
+  -- what is kept of files is kept of them and of these facts
+  abbrev pub JoinsOne : DayRange → (register : List ℕ) → (facts : List Fact) → (old new : K)
+      → Type 0
+  JoinsOne range register facts old new = (its : Zone) (files : List (List Fact))
+      → k.keeps its range register files old → k.keeps its range register (facts ∷ files) new
 
--- A file doesn't join what was kept, by its facts.
-abbrev pub IsUnjoined : Span → (register : List ℕ) → (facts : List Fact) → JoinedFiles → JoinFault
-    → Type 0
-IsUnjoined span register facts files (fault.Unjoined why) =
-    (after : JoinedFiles) × Joins span register facts files after (Some why)
-IsUnjoined span register facts files why = Unit {0}
+  -- Books were only asked, and what they hold is kept with what was kept before.
+  pub record JoinsBooks {B : Type 0} (ledger : B → Ledger) (books : B) (range : DayRange)
+      (register : List ℕ) (old new : K) : Type 0 where
+    pub asked : B
+    pub clean : (ledger asked).is_clean → (ledger books).is_clean
+    pub joins : (known : List Fact) → (ledger books).holds known → (ledger asked).is_clean
+        → JoinsOne range register known old new
 
--- So it is with books, and what is kept before them.
-pub record UnjoinsBooks {B : Type 0} (ledger : B → Ledger) (books : B) (span : Span)
-    (register : List ℕ) (before : Option JoinedOffice) (why : JoinFault) : Type 0 where
-  pub asked : B
-  pub clean : (ledger asked).is_clean → (ledger books).is_clean
-  pub files : JoinedFiles
-  pub are : AreBefore before files
-  pub unjoined : (known : List Fact) → (ledger books).holds known → (ledger asked).is_clean
-      → IsUnjoined span register known files why
+  -- facts don't join what is kept
+  abbrev pub Parts : DayRange → (register : List ℕ) → (facts : List Fact) → K → JoinFault → Type 0
+  Parts range register facts kept (fault.Unjoined why) = k.parts range register facts kept why
+  Parts range register facts kept why = Unit {0}
 
-module _ {S : Type 0} (g : Ghosts S) where
-  -- The books are in a database, whose file had these facts.
-  pub record JoinsFrom (old : Held S) (facts : List Fact) (zone : List ℕ) (span : Span)
-      (register : List ℕ) (before : Option JoinedOffice) (new : JoinedOffice) : Type 0 where
-    pub asked : SqlBooks S g
-    pub clean : (ledger_beneath g asked).is_clean → HasCleanDisk (state g old)
-    pub told : string_bytes new.zone ≡ zone
-    pub joins : (ledger_beneath g asked).is_clean → JoinsNext span register facts before new
+  -- So it is with what books hold.
+  pub record PartsBooks {B : Type 0} (ledger : B → Ledger) (books : B) (range : DayRange)
+      (register : List ℕ) (kept : K) (why : JoinFault) : Type 0 where
+    pub asked : B
+    pub clean : (ledger asked).is_clean → (ledger books).is_clean
+    pub parts : (known : List Fact) → (ledger books).holds known → (ledger asked).is_clean
+        → Parts range register known kept why
 
-  -- The office in a database with these facts, for the days of the zone of this text, joins those before it, if the store gave
-  -- back what was written.
-  pub record JoinsOffice (zone : List ℕ) (span : Span) (register : List ℕ) (facts : List Fact)
-      (before : Option JoinedOffice) (new : JoinedOffice) : Type 0 where
-    pub asked : SqlBooks S g
-    pub told : (ledger_beneath g asked).is_clean → string_bytes new.zone ≡ zone
-    pub same : (ledger_beneath g asked).is_clean → IsOfZone zone before
-    pub joins : (ledger_beneath g asked).is_clean → JoinsNext span register facts before new
+  module _ {S : Type 0} (g : Ghosts S) where
+    -- The books are in a database, whose file had these facts.
+    pub record JoinsFile (old : Held S) (range : DayRange) (register : List ℕ)
+        (facts : List Fact) (kept new : K) : Type 0 where
+      pub asked : SqlBooks S g
+      pub clean : (ledger_beneath g asked).is_clean → HasCleanDisk (state g old)
+      pub joins : (ledger_beneath g asked).is_clean → JoinsOne range register facts kept new
 
-  -- Why an office in a database with these facts, for the days of this zone, was not joined to those before it: it was not opened;
-  -- their days are those of another zone; or it doesn't join them, or its books failed.
-  pub record IsRefused (span : Span) (register : List ℕ) (facts : List Fact)
-      (before : Option JoinedOffice) (why : JoinFault) : Type 0 where
-    pub asked : SqlBooks S g
-    pub files : JoinedFiles
-    pub are : AreBefore before files
-    pub unjoined : (ledger_beneath g asked).is_clean → IsUnjoined span register facts files why
+    -- The office in a database with these facts, for the days of the zone of this text, joins those before it, if the store
+    -- gave back what was written.
+    pub record JoinsOffice (old : Held S) (zone : List ℕ) (range : DayRange) (register : List ℕ)
+        (facts : List Fact) (before : Option (JoinedOffice K)) (new : JoinedOffice K) : Type 0 where
+      pub asked : SqlBooks S g
+      pub clean : (ledger_beneath g asked).is_clean → HasCleanDisk (state g old)
+      pub told : (ledger_beneath g asked).is_clean → string_bytes new.zone ≡ zone
+      pub same : (ledger_beneath g asked).is_clean → IsOfZone zone before
+      pub joins : (ledger_beneath g asked).is_clean
+          → JoinsNext zone range register facts before new
 
-  -- what becomes of it where the zone is that of the files before
-  abbrev pub RefusesUnless : Span → (register : List ℕ) → (facts : List Fact)
-      → (before : Option JoinedOffice) → JoinFault → Type 0
-  RefusesUnless span register facts before fault.OtherZone = ⊥
-  RefusesUnless span register facts before (fault.Unjoined why) =
-      IsRefused span register facts before (fault.Unjoined why)
-  RefusesUnless span register facts before why = Unit {0}
+    -- They don't join what is kept.
+    pub record Refuses (old : Held S) (range : DayRange) (register : List ℕ) (facts : List Fact)
+        (kept : K) (why : JoinFault) : Type 0 where
+      pub asked : SqlBooks S g
+      pub clean : (ledger_beneath g asked).is_clean → HasCleanDisk (state g old)
+      pub parts : (ledger_beneath g asked).is_clean → Parts range register facts kept why
 
-  pub record IsElsewhere (zone : List ℕ) (before : Option JoinedOffice) : Type 0 where
-    pub left : Held S
-    pub other : HasCleanDisk (state g left) → IsOfZone zone before → ⊥
+    -- What becomes of it: it is not opened, it doesn't join what is kept, or its books fail.
+    abbrev pub PartsFrom : (old : Held S) → DayRange → (register : List ℕ) → (facts : List Fact)
+        → (kept : K) → JoinFault → Type 0
+    PartsFrom old range register facts kept (fault.Unopened why) = Unit {0}
+    PartsFrom old range register facts kept fault.OtherZone = ⊥
+    PartsFrom old range register facts kept (fault.Unjoined why) =
+        Refuses old range register facts kept (fault.Unjoined why)
+    PartsFrom old range register facts kept (fault.Books why) = Unit {0}
 
-  abbrev pub RefusesOffice : (zone : List ℕ) → Span → (register : List ℕ) → (facts : List Fact)
-      → (before : Option JoinedOffice) → JoinFault → Type 0
-  RefusesOffice zone span register facts before (fault.Unopened why) = Unit {0}
-  RefusesOffice zone span register facts before fault.OtherZone = IsElsewhere zone before
-  RefusesOffice zone span register facts before (fault.Unjoined why) =
-      IsRefused span register facts before (fault.Unjoined why)
-  RefusesOffice zone span register facts before (fault.Books why) = Unit {0}
+    -- Such an office, for the days of this zone, doesn't join what is kept of those before it.
+    pub record IsRefused (old : Held S) (zone : List ℕ) (range : DayRange) (register : List ℕ)
+        (facts : List Fact) (before : Option (JoinedOffice K)) (why : JoinFault) : Type 0 where
+      pub asked : SqlBooks S g
+      pub clean : (ledger_beneath g asked).is_clean → HasCleanDisk (state g old)
+      pub kept : K
+      pub are : (ledger_beneath g asked).is_clean → AreBefore zone range before kept
+      pub parts : (ledger_beneath g asked).is_clean → Parts range register facts kept why
+
+    -- why it is refused where its zone is that of those before
+    abbrev pub RefusesIn : (old : Held S) → (zone : List ℕ) → DayRange → (register : List ℕ)
+        → (facts : List Fact) → (before : Option (JoinedOffice K)) → JoinFault → Type 0
+    RefusesIn old zone range register facts before (fault.Unopened why) = Unit {0}
+    RefusesIn old zone range register facts before fault.OtherZone = ⊥
+    RefusesIn old zone range register facts before (fault.Unjoined why) =
+        IsRefused old zone range register facts before (fault.Unjoined why)
+    RefusesIn old zone range register facts before (fault.Books why) = Unit {0}
+
+    -- Its zone is another than that of those before.
+    pub record IsElsewhere (zone : List ℕ) (before : Option (JoinedOffice K)) : Type 0 where
+      pub left : Held S
+      pub other : HasCleanDisk (state g left) → IsOfZone zone before → ⊥
+
+    -- Why an office in a database with these facts, for the days of this zone, was not joined to those before it: it was not
+    -- opened; their days are those of another zone; it doesn't join them; or its books failed.
+    abbrev pub RefusesOffice : (old : Held S) → (zone : List ℕ) → DayRange → (register : List ℕ)
+        → (facts : List Fact) → (before : Option (JoinedOffice K)) → JoinFault → Type 0
+    RefusesOffice old zone range register facts before (fault.Unopened why) = Unit {0}
+    RefusesOffice old zone range register facts before fault.OtherZone = IsElsewhere zone before
+    RefusesOffice old zone range register facts before (fault.Unjoined why) =
+        IsRefused old zone range register facts before (fault.Unjoined why)
+    RefusesOffice old zone range register facts before (fault.Books why) = Unit {0}

@@ -1,22 +1,28 @@
-use Rattle.std.proofs.Common.{refl}
-use Rattle.stored_office.proofs.JoinsLemmas.Stored.{next_joins}
+use Rattle.std.proofs.Common.{Option, subst}
+use Rattle.carried_books.specs.Joining.Keeping.{KeepsFile, PartsFile}
+use Rattle.carried_books.specs.declared.joining.files.Unjoined.{Unjoined}
 use Rattle.stored_office.proofs.joins.stored.join_books.Goals as goal
 
-pub returns-in-Ok-clause-joins : goal.returns-in-Ok-clause-joins
-returns-in-Ok-clause-joins g c = record {
-  asked = c.join_next.new.books;
-  clean = c.in-Ok.ensures.clean;
-  told = refl;
-  joins = λ known holds clean.
-      next_joins c.args.span c.args.register.now known c.args.before c.files_before-files.result _ c.files_before-files.ensures
-      (c.in-Ok.ensures.joins known holds clean);
+pub returns-in-None-clause-joins : goal.returns-in-None-clause-joins
+returns-in-None-clause-joins g c = record {
+  asked = c.add.new.books;
+  clean = c.in-Ok.ensures.reads.goes.clean;
+  joins = λ known holds clean its files.
+      subst (λ (why : Option Unjoined). KeepsFile (g.K.Keeping.keeps its c.args.range c.args.register.now) known c.args.kept c.add.new.self why)
+      c.in-None.is (c.in-Ok.ensures.joins its known holds clean) files;
+}
+
+pub returns-in-Some-clause-unjoined : goal.returns-in-Some-clause-unjoined
+returns-in-Some-clause-unjoined g c = record {
+  asked = c.add.new.books;
+  clean = c.in-Ok.ensures.reads.goes.clean;
+  parts = λ known holds clean.
+      subst (PartsFile (g.K.Keeping.parts c.args.range c.args.register.now known c.args.kept)) c.in-Some.is (c.in-Ok.ensures.unjoined known holds clean);
 }
 
 pub returns-in-Err-clause-unjoined : goal.returns-in-Err-clause-unjoined
 returns-in-Err-clause-unjoined g c = record {
-  asked = c.join_next.new.books;
-  clean = c.in-Err.ensures.clean;
-  files = c.files_before-files.result;
-  are = c.files_before-files.ensures;
-  unjoined = c.in-Err.ensures.unjoined;
+  asked = c.add.new.books;
+  clean = c.in-Err.ensures.reads.goes.clean;
+  parts = λ known holds clean. tt;
 }
