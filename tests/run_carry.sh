@@ -1,8 +1,8 @@
 #!/bin/sh
 # Has a run of the built program begin a new file each month, and each year, beside a device that counts on, over a clock that is set: at the end of a month in summer, in
-# winter and at new year, under KILLS (30) kills round the change, with a clock that was set back, in folders that can't be written, with a pipe that nobody reads:
+# winter and at new year, under KILLS (30) kills round the change, beside a second run, with a clock that was set back, in folders that can't be written, with a pipe that nobody reads:
 # `tests/run_carry.sh [PROGRAM]`, out/sunreg by default, which `./sunreg-build` makes. `faketime` sets the clock; where this is run as root it is installed by apt (not with
-# PEERS_INSTALL=no). It takes six minutes and ends on 'N passed, M failed'.
+# PEERS_INSTALL=no). It takes some eight minutes and ends on 'N passed, M failed'.
 set -u
 here=$(dirname "$(readlink -f "$0")")
 program=$(readlink -f "${1:-$here/../out/sunreg}")
