@@ -86,7 +86,7 @@ fn said_of_both(
 fn a_meter_goes_on_where_it_stands(rt: HostRuntime) -> Result<(), Fail> {
     let next = new_file(rt.alloc(), b"m1", 1900, 5200);
     let text = said_of_both(rt.alloc(), old_file(rt.alloc()), next)?;
-    assert!(rt; text.as_slice() == b"joined: fine\n");
+    assert!(rt; text.as_slice() == b"joined: fine\n".as_slice());
     Ok(())
 }
 
@@ -96,7 +96,7 @@ fn one_that_begins_elsewhere_is_told(rt: HostRuntime) -> Result<(), Fail> {
     let text = said_of_both(rt.alloc(), old_file(rt.alloc()), next)?;
     assert!(rt;
         text.as_slice()
-            == b"meter m1 begins in new.db at 1901 5201 0, stands in old.db at 1900 5200 0\n1 differences between files\n"
+            == b"meter m1 begins in new.db at 1901 5201 0, stands in old.db at 1900 5200 0\n1 differences between files\n".as_slice()
     );
     Ok(())
 }
@@ -111,6 +111,7 @@ fn one_that_is_missing_is_told(rt: HostRuntime) -> Result<(), Fail> {
 meter m1 is not in new.db, and is open in old.db
 2 differences between files
 "
+                .as_slice()
     );
     Ok(())
 }
@@ -135,7 +136,7 @@ fn a_third_file_goes_on_from_the_second(rt: HostRuntime) -> Result<(), Fail> {
     let next = new_file(rt.alloc(), b"m1", 2800, 5300);
     add(rt.alloc(), &mut joining, next)?;
     let text = said(rt.alloc(), &joining)?;
-    assert!(rt; text.as_slice() == b"joined: fine\n");
+    assert!(rt; text.as_slice() == b"joined: fine\n".as_slice());
     Ok(())
 }
 
@@ -145,7 +146,7 @@ fn a_file_that_is_left_out_is_told(rt: HostRuntime) -> Result<(), Fail> {
     let text = said_of_both(rt.alloc(), old_file(rt.alloc()), next)?;
     assert!(rt;
         text.as_slice()
-            == b"meter m1 begins in new.db at 2800 5300 0, stands in old.db at 1900 5200 0\n1 differences between files\n"
+            == b"meter m1 begins in new.db at 2800 5300 0, stands in old.db at 1900 5200 0\n1 differences between files\n".as_slice()
     );
     Ok(())
 }
@@ -275,7 +276,7 @@ fn another_zone_is_told(rt: HostRuntime) -> Result<(), Fail> {
     let text = said_of_both(rt.alloc(), known, next)?;
     assert!(rt;
         text.as_slice()
-            == b"zone is CET-1 in new.db, and UTC0 in old.db\n1 differences between files\n"
+            == b"zone is CET-1 in new.db, and UTC0 in old.db\n1 differences between files\n".as_slice()
     );
     Ok(())
 }
