@@ -64,17 +64,17 @@ fn said(alloc: Global, joining: &Joining<'_>) -> Result<Vec<u8>, Fail> {
 fn add(
     alloc: Global,
     joining: &mut Joining<'static>,
-    file: Result<FiledOffice<'static>, Fail>,
+    file: FiledOffice<'static>,
 ) -> Result<(), Fail> {
-    joining.join(alloc, file?)?;
+    joining.join(alloc, file)?;
     Ok(())
 }
 
 /// What is said of two files.
 fn said_of_both(
     alloc: Global,
-    old: Result<FiledOffice<'static>, Fail>,
-    next: Result<FiledOffice<'static>, Fail>,
+    old: FiledOffice<'static>,
+    next: FiledOffice<'static>,
 ) -> Result<Vec<u8>, Fail> {
     let mut joining = Joining::new(alloc);
     add(alloc, &mut joining, old)?;
@@ -84,16 +84,16 @@ fn said_of_both(
 
 #[test]
 fn a_meter_goes_on_where_it_stands(rt: HostRuntime) -> Result<(), Fail> {
-    let next = new_file(rt.alloc(), b"m1", 1900, 5200);
-    let text = said_of_both(rt.alloc(), old_file(rt.alloc()), next)?;
+    let next = new_file(rt.alloc(), b"m1", 1900, 5200)?;
+    let text = said_of_both(rt.alloc(), old_file(rt.alloc())?, next)?;
     assert!(rt; text.as_slice() == b"joined: fine\n".as_slice());
     Ok(())
 }
 
 #[test]
 fn one_that_begins_elsewhere_is_told(rt: HostRuntime) -> Result<(), Fail> {
-    let next = new_file(rt.alloc(), b"m1", 1901, 5201);
-    let text = said_of_both(rt.alloc(), old_file(rt.alloc()), next)?;
+    let next = new_file(rt.alloc(), b"m1", 1901, 5201)?;
+    let text = said_of_both(rt.alloc(), old_file(rt.alloc())?, next)?;
     assert!(rt;
         text.as_slice()
             == b"meter m1 begins in new.db at 1901 5201 0, stands in old.db at 1900 5200 0\n1 differences between files\n".as_slice()
@@ -103,8 +103,8 @@ fn one_that_begins_elsewhere_is_told(rt: HostRuntime) -> Result<(), Fail> {
 
 #[test]
 fn one_that_is_missing_is_told(rt: HostRuntime) -> Result<(), Fail> {
-    let next = new_file(rt.alloc(), b"m2", 1899, 0);
-    let text = said_of_both(rt.alloc(), old_file(rt.alloc()), next)?;
+    let next = new_file(rt.alloc(), b"m2", 1899, 0)?;
+    let text = said_of_both(rt.alloc(), old_file(rt.alloc())?, next)?;
     assert!(rt;
         text.as_slice()
             == b"meter m2 begins in new.db at 1899 0 0, meter m1 stands at its register in old.db at 1900 5200 0
@@ -125,15 +125,15 @@ fn next_file(alloc: Global) -> Result<FiledOffice<'static>, Fail> {
 
 fn two_files(alloc: Global) -> Result<Joining<'static>, Fail> {
     let mut joining = Joining::new(alloc);
-    add(alloc, &mut joining, old_file(alloc))?;
-    add(alloc, &mut joining, next_file(alloc))?;
+    add(alloc, &mut joining, old_file(alloc)?)?;
+    add(alloc, &mut joining, next_file(alloc)?)?;
     Ok(joining)
 }
 
 #[test]
 fn a_third_file_goes_on_from_the_second(rt: HostRuntime) -> Result<(), Fail> {
     let mut joining = two_files(rt.alloc())?;
-    let next = new_file(rt.alloc(), b"m1", 2800, 5300);
+    let next = new_file(rt.alloc(), b"m1", 2800, 5300)?;
     add(rt.alloc(), &mut joining, next)?;
     let text = said(rt.alloc(), &joining)?;
     assert!(rt; text.as_slice() == b"joined: fine\n".as_slice());
@@ -142,8 +142,8 @@ fn a_third_file_goes_on_from_the_second(rt: HostRuntime) -> Result<(), Fail> {
 
 #[test]
 fn a_file_that_is_left_out_is_told(rt: HostRuntime) -> Result<(), Fail> {
-    let next = new_file(rt.alloc(), b"m1", 2800, 5300);
-    let text = said_of_both(rt.alloc(), old_file(rt.alloc()), next)?;
+    let next = new_file(rt.alloc(), b"m1", 2800, 5300)?;
+    let text = said_of_both(rt.alloc(), old_file(rt.alloc())?, next)?;
     assert!(rt;
         text.as_slice()
             == b"meter m1 begins in new.db at 2800 5300 0, stands in old.db at 1900 5200 0\n1 differences between files\n".as_slice()
@@ -254,8 +254,8 @@ static CHANGES: [Change; 6] = [
 ];
 
 fn is_said(alloc: Global, old: Had, new: Had, told: &[u8]) -> Result<bool, Fail> {
-    let known = file_of(alloc, "old.db", "UTC0", old);
-    let next = file_of(alloc, "new.db", "UTC0", new);
+    let known = file_of(alloc, "old.db", "UTC0", old)?;
+    let next = file_of(alloc, "new.db", "UTC0", new)?;
     let text = said_of_both(alloc, known, next)?;
     Ok(text.as_slice() == told)
 }
@@ -271,8 +271,8 @@ fn what_changed_is_told(rt: HostRuntime) -> Result<(), Fail> {
 
 #[test]
 fn another_zone_is_told(rt: HostRuntime) -> Result<(), Fail> {
-    let known = file_of(rt.alloc(), "old.db", "UTC0", HAD);
-    let next = file_of(rt.alloc(), "new.db", "CET-1", HAD);
+    let known = file_of(rt.alloc(), "old.db", "UTC0", HAD)?;
+    let next = file_of(rt.alloc(), "new.db", "CET-1", HAD)?;
     let text = said_of_both(rt.alloc(), known, next)?;
     assert!(rt;
         text.as_slice()
