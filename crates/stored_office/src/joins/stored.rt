@@ -53,15 +53,15 @@ fn is_of_zone<K>(zone: &str, before: &Option<JoinedOffice<K>>) -> bool
 fn kept_before<K: Keeping>(
     alloc: Global,
     zone: &str,
-    range: DayRange,
+    range: &DayRange,
     before: Option<JoinedOffice<K>>,
 ) -> Result<K, JoinFault>
-    ensures are { IfOk result (AreBefore K.Keeping zone.now range before) }
+    ensures are { IfOk result (AreBefore K.Keeping zone.now range.now before) }
     ensures fails { IfErr result (λ why. why ≡ JoinFault.Unopened OpenFault.Zone) }
 {
     match before {
         None => match Zone::read(zone) {
-            Ok(zone) => Ok(K::none(alloc, zone, range)),
+            Ok(zone) => Ok(K::none(alloc, zone, *range)),
             Err(_) => Err(JoinFault::Unopened(OpenFault::Zone)),
         },
         Some(joined) => {
@@ -133,7 +133,7 @@ fn join_in_zone<S: Alter + Drop, K: Keeping>(
         → IfErr result (RefusesIn K.Keeping S.Store connection (string_bytes zone) range
         register.now facts before) }
 {
-    match kept_before(alloc, &zone, range, before) {
+    match kept_before(alloc, &zone, &range, before) {
         Err(why) => Err(why),
         Ok(kept) => match join_opened(alloc, connection, kept, register, range) {
             Ok(kept) => Ok(JoinedOffice { zone, kept }),
