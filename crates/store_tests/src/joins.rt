@@ -61,13 +61,14 @@ fn said(alloc: Global, joining: &Joining<'_>) -> Result<Vec<u8>, Fail> {
 }
 
 /// Holds a file to those before it.
-fn add(
+fn with(
     alloc: Global,
-    joining: &mut Joining<'static>,
+    joining: Joining<'static>,
     file: FiledOffice<'static>,
-) -> Result<(), Fail> {
+) -> Result<Joining<'static>, Fail> {
+    let mut joining = joining;
     joining.join(alloc, file)?;
-    Ok(())
+    Ok(joining)
 }
 
 /// What is said of two files.
@@ -76,10 +77,8 @@ fn said_of_both(
     old: FiledOffice<'static>,
     next: FiledOffice<'static>,
 ) -> Result<Vec<u8>, Fail> {
-    let mut joining = Joining::new(alloc);
-    add(alloc, &mut joining, old)?;
-    add(alloc, &mut joining, next)?;
-    said(alloc, &joining)
+    let joining = with(alloc, Joining::new(alloc), old)?;
+    said(alloc, &with(alloc, joining, next)?)
 }
 
 #[test]
@@ -124,17 +123,14 @@ fn next_file(alloc: Global) -> Result<FiledOffice<'static>, Fail> {
 }
 
 fn two_files(alloc: Global) -> Result<Joining<'static>, Fail> {
-    let mut joining = Joining::new(alloc);
-    add(alloc, &mut joining, old_file(alloc)?)?;
-    add(alloc, &mut joining, next_file(alloc)?)?;
-    Ok(joining)
+    let joining = with(alloc, Joining::new(alloc), old_file(alloc)?)?;
+    with(alloc, joining, next_file(alloc)?)
 }
 
 #[test]
 fn a_third_file_goes_on_from_the_second(rt: HostRuntime) -> Result<(), Fail> {
-    let mut joining = two_files(rt.alloc())?;
     let next = new_file(rt.alloc(), b"m1", 2800, 5300)?;
-    add(rt.alloc(), &mut joining, next)?;
+    let joining = with(rt.alloc(), two_files(rt.alloc())?, next)?;
     let text = said(rt.alloc(), &joining)?;
     assert!(rt; text.as_slice() == b"joined: fine\n".as_slice());
     Ok(())
