@@ -121,7 +121,7 @@ fn nothing_is_told_of_the_first_file(rt: HostRuntime) -> Result<(), Fail> {
     let path = path(&rt)?;
     fill(&rt, &Files { rt: &rt }, &path)?;
     let (end, printed) = joined(&rt, &path, &["old.db"])?;
-    assert!(rt; end == Ok(true) && printed.as_slice() == b"joined: fine\n");
+    assert!(rt; end == Ok(true) && printed.as_slice() == b"joined: fine\n".as_slice());
     remove(&rt, &path)
 }
 
