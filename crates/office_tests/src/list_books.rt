@@ -139,8 +139,8 @@ fn stood_at(found: &Option<EntryPlace>, raw: u32, total: u64) -> bool {
 #[test]
 fn an_entry_is_told_by_its_neighbours(rt: HostRuntime) {
     let mut books = books_of(rt.alloc(), &VOIDED).expect(&rt, "a void");
-    assert!(rt; stood_at(&entry(&mut books, b"m1", 2), 1000, 0));
-    assert!(rt; stood_at(&entry_near(&mut books, b"m1", 2), 1000, 1_500_000));
+    assert!(rt; stood_at(&entry(&mut books, b"m1", 2), 0, 0));
+    assert!(rt; stood_at(&entry_near(&mut books, b"m1", 2), 0, 1_500_000));
     assert!(rt; entry_near(&mut books, b"m1", 4).is_none());
     assert!(rt; entry_near(&mut books, b"m2", 2).is_none());
 }
@@ -151,7 +151,7 @@ fn the_energy_of_the_whole_meter_is_put_in(rt: HostRuntime) {
     let found = entry(&mut books, b"m1", 2).expect(&rt, "an entry");
     let whole = meter(&mut books, b"m1").expect(&rt, "a meter");
     let told = with_whole_energy(&found, &whole);
-    assert!(rt; stood_at(&Some(told), 1000, 1_500_000));
+    assert!(rt; stood_at(&Some(told), 0, 1_500_000));
 }
 
 // Of two readings of a meter that were held one went too fast, and one shows a counter that does not count.
