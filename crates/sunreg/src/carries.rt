@@ -37,13 +37,35 @@ fn unwritable(to: &str) -> Failure<'_> {
 #[derive(Drop)]
 pub(crate) enum NotCarried<'a> {
     Failed(Failure<'a>),
-    Ended(CarryEnd),
+    /// The office in the file at this path refused something, or failed.
+    Refused { path: &'a str, why: Refusal },
+    /// A meter of the file at this path had no entry yet.
+    NotYet { path: &'a str, meter: Name },
+}
+
+// Why an office was not carried into a new one.
+fn not_carried<'a>(from: &'a str, to: &'a str, fault: CarryFault) -> NotCarried<'a> {
+    match fault {
+        CarryFault::Old(why) => NotCarried::Refused { path: from, why },
+        CarryFault::New(why) => NotCarried::Refused { path: to, why },
+        CarryFault::NotYet(meter) => NotCarried::NotYet { path: from, meter },
+    }
+}
+
+// The same, or why one of them was not opened.
+fn not_ended<'a>(from: &'a str, to: &'a str, end: CarryEnd) -> NotCarried<'a> {
+    match end {
+        CarryEnd::Unopened(fault) => NotCarried::Failed(Failure::Unopened { path: from, fault }),
+        CarryEnd::Unmade(fault) => NotCarried::Failed(Failure::Unmade { path: to, fault }),
+        CarryEnd::Ended(fault) => not_carried(from, to, fault),
+    }
 }
 
 // Carries the meters of a database into the part of a new file.
 fn carry_into_part<'a, D: Databases>(
     rt: &HostRuntime,
     databases: &D,
+    from: &'a str,
     old: Connection<D::Store>,
     to: &'a str,
     part: &Pair,
@@ -52,7 +74,7 @@ fn carry_into_part<'a, D: Databases>(
     match databases.make(part.file.as_str()) {
         Ok(new) => match carry_stored(rt.alloc(), old, new, until) {
             Ok(count) => Ok(count),
-            Err(end) => Err(NotCarried::Ended(end)),
+            Err(end) => Err(not_ended(from, to, end)),
         },
         Err(fault) => {
             let failure = Failure::File { path: to, fault };
@@ -103,12 +125,13 @@ fn finish<'a>(rt: &HostRuntime, to: &'a str, part: &Pair) -> Result<(), Failure<
 fn carry_whole<'a, D: Databases>(
     rt: &HostRuntime,
     databases: &D,
+    from: &'a str,
     old: Connection<D::Store>,
     to: &'a str,
     part: &Pair,
     until: Option<u64>,
 ) -> Result<u64, NotCarried<'a>> {
-    let count = match carry_into_part(rt, databases, old, to, part, until) {
+    let count = match carry_into_part(rt, databases, from, old, to, part, until) {
         Ok(count) => count,
         Err(why) => return Err(why),
     };
@@ -118,11 +141,12 @@ fn carry_whole<'a, D: Databases>(
     }
 }
 
-/// Carries the meters of an open database into a new file, as they stand at its end, and answers how many they are. Of a carry that
-/// fails nothing is left.
+/// Carries the meters of a database, that of the file at a path, into a new file, as they stand at its end, and answers how many they are.
+/// Of a carry that fails nothing is left.
 pub(crate) fn carry_open<'a, D: Databases>(
     rt: &HostRuntime,
     databases: &D,
+    from: &'a str,
     old: Connection<D::Store>,
     to: &'a str,
 ) -> Result<u64, NotCarried<'a>> {
@@ -133,7 +157,7 @@ pub(crate) fn carry_open<'a, D: Databases>(
     if make_part(rt, part.file.as_str()).is_err() {
         return Err(NotCarried::Failed(unwritable(to)));
     }
-    let carried = carry_whole(rt, databases, old, to, &part, None);
+    let carried = carry_whole(rt, databases, from, old, to, &part, None);
     if carried.is_err() {
         remove(rt, &part);
     }
@@ -161,7 +185,7 @@ fn write_refusal<W: Write>(errors: &mut W, path: &str, why: Refusal) -> io::Resu
 }
 
 // Which meter of a file has no entry yet.
-fn write_not_yet<W: Write>(errors: &mut W, path: &str, meter: Name) -> io::Result<()> {
+fn write_not_yet<W: Write>(errors: &mut W, path: &str, meter: &Name) -> io::Result<()> {
     let name = from_utf8(meter.as_bytes()).unwrap_or("a meter");
     write!(
         errors,
@@ -169,52 +193,12 @@ fn write_not_yet<W: Write>(errors: &mut W, path: &str, meter: Name) -> io::Resul
     )
 }
 
-fn write_fault<W: Write>(
-    errors: &mut W,
-    from: &str,
-    to: &str,
-    fault: CarryFault,
-) -> io::Result<()> {
-    match fault {
-        CarryFault::Old(why) => write_refusal(errors, from, why),
-        CarryFault::New(why) => write_refusal(errors, to, why),
-        CarryFault::NotYet(meter) => write_not_yet(errors, from, meter),
-    }
-}
-
-fn write_end<W: Write>(errors: &mut W, from: &str, to: &str, end: CarryEnd) -> io::Result<()> {
-    match end {
-        CarryEnd::Unopened(fault) => {
-            let failure = Failure::Unopened { path: from, fault };
-            write!(errors, "sunreg: {failure}\n")
-        }
-        CarryEnd::Unmade(fault) => {
-            let failure = Failure::Unmade { path: to, fault };
-            write!(errors, "sunreg: {failure}\n")
-        }
-        CarryEnd::Ended(fault) => write_fault(errors, from, to, fault),
-    }
-}
-
 /// Writes why meters were not carried from one file into another: a sentence in a line.
-pub(crate) fn write_why<W: Write>(
-    errors: &mut W,
-    from: &str,
-    to: &str,
-    why: NotCarried<'_>,
-) -> io::Result<()> {
+pub(crate) fn write_why<W: Write>(errors: &mut W, why: &NotCarried<'_>) -> io::Result<()> {
     match why {
         NotCarried::Failed(failure) => write!(errors, "sunreg: {failure}\n"),
-        NotCarried::Ended(end) => write_end(errors, from, to, end),
-    }
-}
-
-// The refusal of a fault, of either office.
-fn refusal_of(fault: CarryFault) -> Option<Refusal> {
-    match fault {
-        CarryFault::Old(why) => Some(why),
-        CarryFault::New(why) => Some(why),
-        CarryFault::NotYet(_) => None,
+        NotCarried::Refused { path, why } => write_refusal(errors, *path, *why),
+        NotCarried::NotYet { path, meter } => write_not_yet(errors, *path, meter),
     }
 }
 
@@ -233,37 +217,19 @@ pub(crate) fn say_refused(rt: &HostRuntime, path: &str, why: Refusal) -> Ending<
     Ending::Refused
 }
 
-// Prints a refusal, and says why an office was not carried into a new one.
-fn say_fault<'a>(rt: &HostRuntime, from: &'a str, to: &'a str, fault: CarryFault) -> Ending<'a> {
-    if let Some(why) = refusal_of(fault) {
-        if print_refusal(rt, why).is_err() {
-            return Ending::Failed(Failure::Streams);
-        }
-    }
+// Says which meter has no entry yet.
+fn say_not_yet(rt: &HostRuntime, path: &str, meter: &Name) -> Ending<'static> {
     let mut errors = Escaped::new(rt.stderr());
-    let _said = write_fault(&mut errors, from, to, fault);
+    let _said = write_not_yet(&mut errors, path, meter);
     Ending::Refused
 }
 
-// How a carry ended that came to no new file.
-fn say_ended<'a>(rt: &HostRuntime, from: &'a str, to: &'a str, end: CarryEnd) -> Ending<'a> {
-    match end {
-        CarryEnd::Unopened(fault) => Ending::Failed(Failure::Unopened { path: from, fault }),
-        CarryEnd::Unmade(fault) => Ending::Failed(Failure::Unmade { path: to, fault }),
-        CarryEnd::Ended(fault) => say_fault(rt, from, to, fault),
-    }
-}
-
 // How a carry ended, of which nothing is left.
-fn ending_of_none<'a>(
-    rt: &HostRuntime,
-    from: &'a str,
-    to: &'a str,
-    why: NotCarried<'a>,
-) -> Ending<'a> {
+fn ending_of_none<'a>(rt: &HostRuntime, why: NotCarried<'a>) -> Ending<'a> {
     match why {
         NotCarried::Failed(failure) => Ending::Failed(failure),
-        NotCarried::Ended(end) => say_ended(rt, from, to, end),
+        NotCarried::Refused { path, why } => say_refused(rt, path, why),
+        NotCarried::NotYet { path, meter } => say_not_yet(rt, path, &meter),
     }
 }
 
@@ -277,7 +243,7 @@ fn carry_in<'a, D: Databases>(
     until: Option<u64>,
 ) -> Result<u64, NotCarried<'a>> {
     match open_in(rt, databases, from) {
-        Ok(old) => carry_whole(rt, databases, old, to, part, until),
+        Ok(old) => carry_whole(rt, databases, from, old, to, part, until),
         Err(failure) => Err(NotCarried::Failed(failure)),
     }
 }
@@ -293,7 +259,7 @@ fn carry_into<'a>(
     let files = Files::opened(rt, Opening::Copied);
     let ending = match carry_in(rt, &files, from, to, part, until) {
         Ok(count) => return say_carried(rt, count),
-        Err(why) => ending_of_none(rt, from, to, why),
+        Err(why) => ending_of_none(rt, why),
     };
     remove(rt, part);
     ending

@@ -104,10 +104,10 @@ fn join_in<'a, D: Databases, K: Keeping>(
     before: &str,
     path: &'a str,
     register: &Name,
-    range: DayRange,
+    range: &DayRange,
 ) -> Result<JoinedOffice<K>, Ending<'a>> {
     match open_in(rt, databases, path) {
-        Ok(connection) => match join_stored(rt.alloc(), connection, joined, register, range) {
+        Ok(connection) => match join_stored(rt.alloc(), connection, joined, register, *range) {
             Ok(joined) => Ok(joined),
             Err(fault) => Err(say_fault(rt, before, path, fault)),
         },
@@ -120,7 +120,7 @@ fn join_all<'a, K: Keeping>(
     rt: &HostRuntime,
     paths: &[&'a str],
     register: &Name,
-    range: DayRange,
+    range: &DayRange,
 ) -> Result<Option<JoinedOffice<K>>, Ending<'a>> {
     let files = Files::opened(rt, Opening::ToRead);
     let mut joined = None;
@@ -184,7 +184,7 @@ fn report_register<'a>(
     register: &Name,
     form: &ReportForm,
 ) -> Ending<'a> {
-    match join_all(rt, paths, register, form.range) {
+    match join_all(rt, paths, register, &form.range) {
         Err(ending) => ending,
         Ok(joined) => report_recorded(rt, last_of(paths), joined, form),
     }

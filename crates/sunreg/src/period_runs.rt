@@ -84,10 +84,10 @@ fn say_behind(rt: &HostRuntime, path: &str) {
     }
 }
 
-// Says why a file was not carried into another, and what comes of that.
-fn say_not_carried(rt: &HostRuntime, from: &str, to: &str, why: NotCarried<'_>, comes: &str) {
+// Says why a file was not carried, and what comes of that.
+fn say_not_carried(rt: &HostRuntime, from: &str, why: &NotCarried<'_>, comes: &str) {
     let mut lines = Vec::new(rt.alloc());
-    let _written = write_why(&mut lines, from, to, why);
+    let _written = write_why(&mut lines, why);
     let _written = write!(lines, "sunreg: {from}: {comes}\n");
     say(rt, lines.as_slice());
 }
@@ -303,16 +303,16 @@ fn carry_on<D: Databases + NamedFiles, C: Clock + Drop>(
     left: Option<u64>,
 ) -> Option<ExitCode> {
     let rt = asked.rt;
-    match carry_open(rt, databases, connection, to) {
+    match carry_open(rt, databases, from, connection, to) {
         Ok(count) => say_carried(rt, from, to, count),
         Err(why) => {
             if !is_made(rt, to, &why) {
-                say_not_carried(rt, from, to, why, NOT_CARRIED);
+                say_not_carried(rt, from, &why, NOT_CARRIED);
                 let until = next_try(asked.settings.every, clock.now());
                 return run_at(asked, databases, from, false, clock, until, left);
             }
             // (it has its name, which can't be brought to the disk; or another process made it, and has it)
-            say_not_carried(rt, from, to, why, NAMED);
+            say_not_carried(rt, from, &why, NAMED);
         }
     }
     run_at(asked, databases, to, true, clock, until, left)

@@ -40,6 +40,15 @@ pub(crate) fn form_of(words: &FormWords<'_>, range: DayRange) -> ReportForm {
     }
 }
 
+// The form of a statement that is asked for, on a range of days.
+fn statement_of(words: &FormWords<'_>, range: DayRange) -> StatementForm {
+    StatementForm {
+        range,
+        unit: words.unit.unwrap_or(EnergyUnit::MilliwattHours),
+        format: words.format.unwrap_or(Format::Text),
+    }
+}
+
 // Carries out the report that a task is.
 fn report_by<'a>(rt: &HostRuntime, path: &'a str, task: Task<'_>) -> Ending<'a> {
     let files = Files::opened(rt, Opening::ToRead);
@@ -60,19 +69,15 @@ pub(crate) fn report<'a>(
         Ok(range) => range,
         Err(ending) => return ending,
     };
-    let form = form_of(words, range);
     if words.statement {
-        let form = StatementForm {
-            range,
-            unit: form.unit,
-            format: form.format,
-        };
+        let form = statement_of(words, range);
         let task = Task::Statement {
             register,
             form: &form,
         };
         return report_by(rt, path, task);
     }
+    let form = form_of(words, range);
     let task = Task::ReportRange {
         register,
         form: &form,
