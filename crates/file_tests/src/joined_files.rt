@@ -84,19 +84,39 @@ fn is_apart(fault: &JoinFault) -> bool {
     }
 }
 
+/// Why a file doesn't join what was kept before it.
+fn fault_of(joined: Result<JoinedOffice<JoinedFiles>, JoinFault>) -> Option<JoinFault> {
+    match joined {
+        Ok(office) => {
+            drop(office);
+            None
+        }
+        Err(fault) => Some(fault),
+    }
+}
+
+/// Whether a file doesn't join what was kept of itself.
+fn is_apart_after<D: Databases>(
+    rt: &HostRuntime,
+    databases: &D,
+    path: &str,
+    office: JoinedOffice<JoinedFiles>,
+) -> Result<bool, Fail> {
+    match fault_of(joined(rt, databases, path, Some(office))?) {
+        Some(fault) => Ok(is_apart(&fault)),
+        None => Ok(false),
+    }
+}
+
 /// Whether a file doesn't join itself.
 fn is_apart_from_itself<D: Databases>(
     rt: &HostRuntime,
     databases: &D,
     path: &str,
 ) -> Result<bool, Fail> {
-    let before: Option<JoinedOffice<JoinedFiles>> = None;
-    let Ok(office) = joined(rt, databases, path, before)? else {
-        return Ok(false);
-    };
-    match joined(rt, databases, path, Some(office))? {
-        Ok(_) => Ok(false),
-        Err(fault) => Ok(is_apart(&fault)),
+    match joined(rt, databases, path, None)? {
+        Ok(office) => is_apart_after(rt, databases, path, office),
+        Err(_fault) => Ok(false),
     }
 }
 

@@ -224,15 +224,6 @@ fn say_not_yet(rt: &HostRuntime, path: &str, meter: &Name) -> Ending<'static> {
     Ending::Refused
 }
 
-// How a carry ended, of which nothing is left.
-fn ending_of_none<'a>(rt: &HostRuntime, why: NotCarried<'a>) -> Ending<'a> {
-    match why {
-        NotCarried::Failed(failure) => Ending::Failed(failure),
-        NotCarried::Refused { path, why } => say_refused(rt, path, why),
-        NotCarried::NotYet { path, meter } => say_not_yet(rt, path, &meter),
-    }
-}
-
 // Carries the meters of the file at a path.
 fn carry_in<'a, D: Databases>(
     rt: &HostRuntime,
@@ -259,7 +250,11 @@ fn carry_into<'a>(
     let files = Files::opened(rt, Opening::Copied);
     let ending = match carry_in(rt, &files, from, to, part, until) {
         Ok(count) => return say_carried(rt, count),
-        Err(why) => ending_of_none(rt, why),
+        Err(why) => match why {
+            NotCarried::Failed(failure) => Ending::Failed(failure),
+            NotCarried::Refused { path, why } => say_refused(rt, path, why),
+            NotCarried::NotYet { path, meter } => say_not_yet(rt, path, &meter),
+        },
     };
     remove(rt, part);
     ending
