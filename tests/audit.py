@@ -1,7 +1,7 @@
 """Audits of files: audit.py PROGRAM; tests/audit.sh calls it.
 
 Files that are fine: one that the program wrote, and one whose quarter hours Python computes. Then what is printed of changes to the second,
-files that are none, and seals, whose text Python makes too. Then one change at a time, in a random row and column of a copy: each is told (status 1) or refused as the file is
+files that are none, seals, whose text Python makes too, and files of one office that was carried twice. Then one change at a time, in a random row and column of a copy: each is told (status 1) or refused as the file is
 opened (status 3), but for those that docs/AUDIT.md lists. Each time audit_rows.py says which of these it is, and in which lines.
 """
 import collections
@@ -29,6 +29,7 @@ LISTED |= {("polls", it) for it in ("unit", "started", "tid", "function", "addre
 IN_ONE_QUARTER = {("entries", "raw"), ("voids", "place"), ("voids", "gone"), ("voids", "added")}
 VOIDED = {("entries", "raw"), ("entries", "rolls")}
 KINDS = {1: "opening", 2: "reading", 3: "manual", 4: "closing", 5: "reset", 6: "rescale"}
+FILES = ["first.db", "second.db", "third.db"]
 LIST = "name,function,area,address,type,scale\nwh,3,0,40094,acc32,\n"
 SITE = "1 device inv 1 5 1\n2 list inv @inv.csv\n3 register main inv 3 40094 0\n4 install main m1 65530 0 100000 65536\n"
 counts = {"passed": 0, "failed": 0}
@@ -49,6 +50,11 @@ def audit(db, *words):
     took.append(time.monotonic() - begun)
     said = [it for it in done.stderr.decode().splitlines() if "it had no log beside it" not in it]
     return done.returncode, done.stdout.decode().splitlines(), said
+
+
+def audit_all(dbs, *words):
+    """The same of several files."""
+    return audit(dbs[0], *(word for it in dbs[1:] for word in ("--db", it)), *words)
 
 
 def enter(db, lines):
@@ -370,6 +376,116 @@ def seals(entries):
     same("both at once", audit("python.db", "--seal", "--against", "seal.txt")[:2], (2, []))
 
 
+# ---- several files
+
+
+def carry(source, to, *words):
+    """Carries an office into a new file, and brings what stands in its log into it."""
+    done = subprocess.run([PROGRAM, "carry", "--from", source, "--to", to, *words], capture_output=True, text=True, stdin=subprocess.DEVNULL)
+    same(f"carried into {to}", (done.returncode, done.stdout.split()[:1]), (0, ["carried"]))
+
+
+def by_carries():
+    """The files of an office that was carried twice: a meter that turned over in the second and was exchanged there, and one that was read by hand."""
+    subprocess.run([PROGRAM, "create", "--db", "first.db", "--zone", "UTC0"], check=True)
+    enter("first.db", SITE + "5 register side inv 3 40194 0\n6 install side far 100 0 100000\n")
+    for raw in (65533, 65535):
+        read("first.db", raw)
+    enter("first.db", "7 manual side 120 0\n")
+    carry("first.db", "second.db")
+    read("second.db", 3)
+    enter("second.db", "8 exchange main 5 0 m2 20 0 100000\n")
+    enter("second.db", "9 manual side 130 0\n")
+    carry("second.db", "third.db")
+    enter("third.db", "10 manual main 25 0\n")
+    for db in FILES:
+        whole(db)
+
+
+def wanted_of(dbs):
+    """What Python tells of files, the oldest first."""
+    opened = [(db, sqlite3.connect(db)) for db in dbs]
+    found = audit_rows.audit_of_all(opened)
+    for _, books in opened:
+        books.close()
+    return found
+
+
+def holds(what, dbs, last):
+    """Holds the audit of files to what Python tells of them, and the end of its last line to what is wanted."""
+    status, lines, _ = audit_all(dbs)
+    same(what, (status, lines), wanted_of(dbs))
+    same(f"{what}: the last line", lines[-1], last)
+
+
+def copy_of(source, to):
+    """A copy of a whole file."""
+    shutil.copyfile(source, to)
+    return to
+
+
+def several(seed):
+    """Audits of the files of one office: as they are, in other orders, with one left out, with what was changed in one, and changes at random."""
+    by_carries()
+    before = [pathlib.Path(it).read_bytes() for it in FILES]
+    holds("files that go on", FILES, "joined: fine")
+    same("their bytes stay", [pathlib.Path(it).read_bytes() for it in FILES], before)
+    holds("two of them", FILES[:2], "joined: fine")
+    holds("in another order", FILES[::-1], "6 differences between files")
+    holds("one is left out", FILES[::2], "2 differences between files")
+    holds("one stands twice by other names", ["first.db", "./first.db"], "2 differences between files")
+    status, lines, said = audit_all(["first.db", "second.db", "first.db"])
+    same("one stands twice", (status, lines, said), (2, [], ["error: invalid value 'first.db' for '--db <FILE>': it stands twice"]))
+    for words in (("--seal",), ("--against", "seal.txt")):
+        status, lines, said = audit_all(FILES, *words)
+        same(f"no seal of several: {words[0]}", (status, lines, said[:1]), (2, [], [f"error: the argument '{words[0]}' cannot be used with several '--db'"]))
+    # (a void of the last reading takes the meter back, one of a reading before it doesn't)
+    for what, place, last in (("the last reading is voided after the carry", 3, "1 differences between files"), ("one before it is voided", 2, "joined: fine")):
+        changed_old = copy_of("first.db", f"void{place}.db")
+        enter(changed_old, f"11 void m1 {place}\n")
+        whole(changed_old)
+        holds(what, [changed_old, *FILES[1:]], last)
+    books = sqlite3.connect("first.db")
+    (moment,) = books.execute("SELECT moment FROM entries WHERE meter = 'm1' AND place = 2").fetchone()
+    books.close()
+    carry("first.db", "until.db", "--until", str(moment))
+    whole("until.db")
+    holds("carried up to a moment", ["first.db", "until.db"], "2 differences between files")
+    for what, command, last in (
+        ("another zone", "UPDATE meta SET zone = 'UTC1'", "2 differences between files"),
+        ("a meter of another name", "UPDATE {0} SET meter = 'm9' WHERE meter = 'm1'", "1 differences between files"),
+        ("a file that isn't fine", "UPDATE installations SET total = total + 1 WHERE meter = 'm1'", None),
+    ):
+        books = copied("second.db")
+        with books:
+            for table in ("installations", "ranges", "entries", "intervals", "voids", "holds") if "{0}" in command else ("",):
+                books.execute(command.format(table))
+        books.close()
+        dbs = ["first.db", "changed.db", "third.db"]
+        holds(what, dbs, wanted_of(dbs)[1][-1] if last is None else last)
+    told, by_joins, refused, tried = 0, 0, 0, 0
+    listed = collections.Counter()
+    while tried < int(os.environ.get("JOINS", "200")):
+        source = random.choice(FILES)
+        made = change(source)
+        if made is None:
+            continue
+        tried += 1
+        *of, _, text, wanted = made
+        dbs = ["changed.db" if it == source else it for it in FILES]
+        status, lines, _ = audit_all(dbs)
+        what = f"seed {seed}, {source} of three: {text}"
+        same(what, (status, lines), wanted_of(dbs))
+        if status == 0:
+            same(f"{what} is listed", tuple(of) in LISTED | IN_ONE_QUARTER, True)
+            listed[".".join(of)] += 1
+        told += wanted[0] == 1
+        by_joins += status == 1 and wanted[0] == 0
+        refused += status == 3
+    kept = ", ".join(f"{name} {count}" for name, count in sorted(listed.items()))
+    print(f"of {tried} changes in one of three files {told} were told by its own audit, {by_joins} by the files together, {refused} refused as it was opened, and {sum(listed.values())} are of those that the page lists: {kept or 'none'} (seed {seed})")
+
+
 def main():
     seed = int(os.environ.get("SEED", time.time_ns() % 100_000))
     random.seed(seed)
@@ -392,6 +508,7 @@ def main():
         printed(entries, intervals)
         no_books()
         seals(entries)
+        several(seed)
         changes(seed)
         os.chdir("/")
     print(f"an audit took {sum(took) / len(took) * 1000:.0f} ms, {max(took) * 1000:.0f} ms at most")

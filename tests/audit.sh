@@ -1,8 +1,9 @@
 #!/usr/bin/env bash
 # Holds `sunreg audit` to files that are fine and to single changes in them, by sqlite3: `tests/audit.sh [PROGRAM]`, out/sunreg by default,
-# which `./sunreg-build` makes. CHANGES says how many changes are tried at random, 1000 by default, and SEED which. tests/audit.py says more.
-# It needs python3 and sqlite3, is no part of the gate, and takes some 15 s and what the audits take, which it tells: a minute where each
-# takes 40 ms (reckoned, not measured). It ends on 'N passed, M failed'.
+# which `./sunreg-build` makes. CHANGES says how many changes are tried at random, 1000 by default, JOINS how many in one of three files that go on
+# from each other, 200 by default, and SEED which. tests/audit.py says more. It needs python3 and sqlite3, is no part of the gate, and takes some
+# 30 s and what the audits take, which it tells: a minute and a half where each takes 40 ms (reckoned, not measured). It ends on
+# 'N passed, M failed'.
 set -u
 here=$(dirname "$(readlink -f "$0")")
 program=${1:-$here/../out/sunreg}

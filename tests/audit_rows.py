@@ -1,5 +1,7 @@
 """What an audit of a file tells, by Python and sqlite3: tests/audit.py holds the program to it. It is written from docs/AUDIT.md, docs/SCHEMA.md and
 the definitions of energy_core and meter_audit, and stands on nothing of the program."""
+import collections
+
 OPENING, READING, _MANUAL, CLOSING, RESET, RESCALE = range(1, 7)
 LATEST, GREATEST_PLACE, SHOWN, MOST_ENERGY = 4_102_444_800, 2**62, 2**32 - 1, 4 * 10**18
 LONGEST = 3000  # quarter hours that a step may touch
@@ -212,3 +214,68 @@ def audit_of(books):
     entries, intervals = (sum(books.execute(f"SELECT count(*) FROM {table} WHERE meter = ?", (row[1],)).fetchone()[0] for row in rows) for table in ("entries", "intervals"))
     polls = books.execute("SELECT count(*) FROM polls").fetchone()[0]
     return 0, [f"fine: {len(rows)} meters, {entries} entries, {intervals} intervals, {polls} polls"]
+
+
+# ---- several files
+
+# what a file has of a meter: where it was opened, and where it stands at the end
+Filed = collections.namedtuple("Filed", "file name register range ceiling opening last total ended")
+
+
+def filed_of(file, books):
+    """The zone of a file, and its meters."""
+    meters = []
+    for _, name, register, ceiling, ended, *last, total in books.execute("SELECT * FROM installations ORDER BY place").fetchall():
+        (range_,) = books.execute('SELECT "range" FROM ranges WHERE meter = ?', (name,)).fetchone()
+        opening = books.execute("SELECT moment, raw, sf FROM entries WHERE meter = ? AND place = 1", (name,)).fetchone()
+        meters.append(Filed(file, name, register, range_, ceiling, list(opening), last, total, ended))
+    return books.execute("SELECT zone FROM meta").fetchone()[0], meters
+
+
+def join_of(new, known):
+    """What is told of a meter of the next file, in a list, where these are the meters of the files before it, the latest first."""
+    stand = lambda it: " ".join(map(str, it))
+    before = [it for it in known if it.name == new.name]
+    if not before:
+        beyond = [it for it in known if it.register == new.register and new.opening[0] < it.last[0]]
+        return [f"begins in {new.file} at {stand(new.opening)}, meter {it.name} stands at its register in {it.file} at {stand(it.last)}" for it in beyond[:1]]
+    old = before[0]
+    if old.ended:
+        return [f"is in {new.file}, and was closed in {old.file}"]
+    for what in ("register", "range", "ceiling"):
+        if getattr(new, what) != getattr(old, what):
+            return [f"{what} is {getattr(new, what)} in {new.file}, and {getattr(old, what)} in {old.file}"]
+    if new.opening != old.last:
+        return [f"begins in {new.file} at {stand(new.opening)}, stands in {old.file} at {stand(old.last)}"]
+    return [f"has more energy in all files up to {new.file} than a meter may have"] if sum(it.total for it in [new, *before]) > MOST_ENERGY else []
+
+
+def joins_of(files):
+    """The status of files that are fine by themselves, the oldest first, and what is told of them: (name, connection) of each."""
+    told, known, before = [], [], None
+    for file, books in files:
+        zone, meters = filed_of(file, books)
+        if before:
+            told += [f"zone is {zone} in {file}, and {before[1]} in {before[0]}"] if zone != before[1] else []
+            told += [f"meter {new.name} {it}" for new in meters for it in join_of(new, known)]
+            names = {it.name for it in meters}
+            told += [f"meter {old.name} is not in {file}, and is open in {old.file}" for old in before[2] if not old.ended and old.name not in names]
+        known, before = meters + known, (file, zone, meters)
+    if not told:
+        return 0, ["joined: fine"]
+    return 1, [*told[:100], *([f"and {len(told) - 100} more"] if len(told) > 100 else []), f"{len(told)} differences between files"]
+
+
+def audit_of_all(files):
+    """The status of an audit of several files, and its lines."""
+    lines, are_fine = [], True
+    for file, books in files:
+        status, told = audit_of(books)
+        lines += [f"file {file}", *told]
+        if status == 3:
+            return 3, lines
+        are_fine = are_fine and status == 0
+    if not are_fine:
+        return 1, lines
+    status, told = joins_of(files)
+    return status, lines + told

@@ -455,74 +455,114 @@ def large_meter():
 ALL_ROWS = head("GET", "/meters/m1/intervals", [])
 
 
-def asks_on(port, until, sizes):
-    """Asks for all rows again and again, and reads them; how many bytes each reply had."""
-    room = bytearray(65536)
-    while time.monotonic() < until:
-        size = 0
-        try:
-            with socket.create_connection(("127.0.0.1", port), timeout=60) as stream:
-                stream.sendall(ALL_ROWS)
-                while count := stream.recv_into(room):
-                    size += count
-            sizes.append(size)
-        except OSError:
-            time.sleep(0.1)
+def readers(port, peers, seconds):
+    """A process of so many peers that ask for all rows again and again, and read them."""
+    script = os.path.join(os.path.dirname(os.path.realpath(__file__)), "bad_day_readers.py")
+    child = subprocess.Popen([sys.executable, script, str(port), str(peers), str(seconds)], stdin=subprocess.DEVNULL, stdout=subprocess.PIPE, text=True)
+    CHILDREN.append(child)
+    return child
 
 
-def asks_and_reads_nothing(port):
-    stream = socket.create_connection(("127.0.0.1", port), timeout=60)
-    stream.sendall(ALL_ROWS)
+def asks_and_reads_nothing(port, request=ALL_ROWS):
+    """A peer that asks and reads nothing, and has next to no room for what comes."""
+    stream = socket.socket()
+    stream.setsockopt(socket.SOL_SOCKET, socket.SO_RCVBUF, 4096)
+    stream.settimeout(60)
+    stream.connect(("127.0.0.1", port))
+    stream.sendall(request)
     return stream
 
 
-def latest_round(joined, every, until):
-    """How many seconds late the latest of a device's rounds began, of those that were due till then: one at each multiple of so many seconds."""
+def late_rounds(joined, every, until):
+    """How many seconds late each of a device's rounds began, of those that were due till then: one at each multiple of so many seconds."""
     if not joined:
-        return float("inf")
+        return [float("inf")]
     # (the run's seconds may begin a little before the clock's, since both are told in milliseconds)
     first = int(joined[0] + 0.05) // every * every
-    return max(min((at - due for at in joined if at > due - 0.05), default=until - due) for due in range(first, int(until), every))
+    return [min((at - due for at in joined if at > due - 0.05), default=until - due) for due in range(first, int(until), every)]
 
 
-def most_memory(child):
-    """The most memory that a process has had, in MB."""
+def memory_of(child):
+    """How much memory a process has now, in MB."""
     with open(f"/proc/{child.pid}/status") as file:
-        return next(int(line.split()[1]) for line in file if line.startswith("VmHWM:")) / 1024
+        return next(int(line.split()[1]) for line in file if line.startswith("VmRSS:")) / 1024
+
+
+def most_memory(child, until):
+    """The most memory that a process has till then, in MB, looked at ten times a second."""
+    most = memory_of(child)
+    while time.monotonic() < until:
+        time.sleep(0.1)
+        most = max(most, memory_of(child))
+    return most
+
+
+def body_of(reply):
+    return reply.split("\r\n\r\n", 1)[1]
 
 
 def large_questions():
     """A device answers in 0.4 s at a timeout of 2 s, so within a second at least, while 64 peers read all rows of a meter of two years again and again, and 80
-    ask for them and read nothing. A turn replies to one such question: it takes 0.1 s or so, and two turns pass till a device that is due is asked. So a round
-    that begins a second late is far too late, and so is one that isn't begun. Each reply is held until its peer has it: 64 of 1.8 MB, each in a piece of
-    memory of 2 MB, or 3 while it grows."""
+    ask for them and read nothing. A turn tells pieces of such replies for 20 ms, and two turns pass till a device that is due is asked. So a round
+    that begins a second late is far too late, and so is one that isn't begun; how many began 50 ms late is printed, which few do unless the machine has more
+    to do than it can. Of each reply one piece is held, of 1,000 rows: so memory grows by less than 64 KiB for each of 64 places. What one reply takes while it
+    is made, and what the file's pages take, is there before, since one peer has asked for all rows."""
     db = large_meter()
     if db is None:
         return
     device, port = Meter(after=0.4), free_port()
     device.raw = 5000 + 1000000 * 24
-    run = Process("run", "--db", db, "--listen", str(port), "--every", "2", "--devices", f"inv=127.0.0.1:{device.port}", "--for", "45")
+    run = Process("run", "--db", db, "--listen", str(port), "--every", "2", "--devices", f"inv=127.0.0.1:{device.port}", "--for", "80")
     holds("run listens", run.wait_for(f"listening {port}"), run.said)
-    sizes, until = [], time.monotonic() + 30
-    for _ in range(64):
-        threading.Thread(target=asks_on, args=(port, until, sizes), daemon=True).start()
+    exchange(port, ALL_ROWS)
+    time.sleep(5)
+    before, until = memory_of(run.child), time.monotonic() + 30
+    reading = readers(port, 64, 30)
     silent = [asks_and_reads_nothing(port) for _ in range(80)]
-    time.sleep(max(0, until - time.monotonic()))
-    late, memory = latest_round(device.joined, 2, time.time() - 2), most_memory(run.child)
-    run.child.wait(90)
+    grown = (most_memory(run.child, until) - before) * 1024 / 64
+    late = late_rounds(device.joined, 2, time.time() - 2)
     for stream in silent:
         stream.close()
+    told = json.loads(reading.communicate(timeout=90)[0])
+    sizes, ends = told["sizes"], told["ends"]
+    pieces_of_one_moment(port)
+    run.child.wait(90)
     print(
-        f"bad_day: {len(sizes)} replies of up to {max(sizes, default=0)} bytes were read; the latest round began {late:.3f} s late, and the process had "
-        f"{memory:.0f} MB at most", flush=True,
+        f"bad_day: {len(sizes)} replies of up to {max(sizes, default=0)} bytes were read; of {len(late)} rounds the latest began {max(late):.3f} s late, and "
+        f"{sum(it > 0.05 for it in late)} more than 50 ms; the process, which had {before:.1f} MB, grew by {grown:.1f} KiB a peer at most", flush=True,
     )
     polls = polls_of(db)
     holds("many rows were read", sizes and max(sizes) > 1000000, sizes[:5])
-    holds("rounds begin in time", late < 1, late)
+    same("each reply has its end", [end for end in ends if not end.startswith("end 7")], [])
+    holds("rounds begin in time", max(late) < 1, late)
     hold_deadlines("large questions", device, polls, 2)
     same("no poll was silent", [poll for poll in polls[:-1] if poll[2] != ANSWERED], [])
-    holds("no more is kept than the replies", memory < 64 * 3 + 100, memory)
+    holds("memory grows by 64 KiB a peer at most", grown < 64, grown)
     run.end()
+
+
+def pieces_of_one_moment(port):
+    """A reply is of one moment, however it is asked and whatever comes meanwhile; a void cuts it, or comes behind it."""
+    time.sleep(11)
+    all_rows = body_of(exchange(port, ALL_ROWS)).splitlines()
+    ranged = exchange(port, head("GET", "/meters/m1/intervals/0/9999999999", []))
+    size = int(ranged.split("Content-Length: ")[1].split("\r\n")[0])
+    same("a range tells its size", len(body_of(ranged)), size)
+    same("and all rows", body_of(ranged).splitlines()[:70000], all_rows[:70000])
+    same("as many as it says", all_rows[-1], f"end {len(all_rows) - 1}")
+    stream = asks_and_reads_nothing(port, head("GET", "/meters/m1/intervals/0/9999999999", []))
+    reply = stream.recv(4096)
+    reading = next(line.split()[0] for line in body_of(exchange(port, head("GET", "/meters/m1/entries/1", []))).splitlines() if " reading " in line)
+    same("a reading is voided", post(port, 900, "/meters/m1/void", {"place": int(reading)}), "200")
+    with contextlib.suppress(OSError):
+        while more := stream.recv(65536):
+            reply += more
+    stream.close()
+    told = body_of(reply.decode())
+    size = int(reply.split(b"Content-Length: ")[1].split(b"\r\n")[0])
+    rows = told.splitlines() if len(told) == size else told.splitlines()[:-1]
+    holds("a reply is whole, or is cut", len(told) <= size, (len(told), size))
+    same("and never has other rows", rows[:70000], all_rows[: min(len(rows), 70000)])
 
 
 def stuffed_pipes(db):

@@ -266,6 +266,10 @@ run report --db new.db --register spare
 same 'a register without a meter' "$status $(cat out)" '0 end 0'
 run carry --from new.db --to third.db
 same 'it is carried too' "$status $(cat out err)" '0 carried 3 meters'
+run audit --db old.db --db new.db --db third.db
+same 'the three go on from each other' "$status $(tail -n 1 out)$(cat err)" '0 joined: fine'
+run audit --db old.db --db past.db
+same 'one of a moment before does not' "$status $(tail -n 1 out)$(cat err)" '1 3 differences between files'
 
 # An office without meters, and one without devices.
 run create --db bare.db --zone UTC0

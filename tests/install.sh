@@ -144,6 +144,15 @@ unit_ends() {
     same 'status 1' "$(ends 1)" 'once failed'
     same 'status 2' "$(ends 2)" 'once failed'
     same 'status 3' "$(ends 3)" 'again active'
+    [ "$is_built" = yes ] || return
+    # a new file each month
+    sed -i 's/^MORE=.*/MORE=--carry month/' /etc/default/sunreg
+    systemctl reset-failed sunreg 2> "$ROOM/said"
+    systemctl start sunreg 2> "$ROOM/said"
+    same 'the month has a file' "$(waits 10 curl -sf http://127.0.0.1:8080/status && stat -c '%U %G %a' "/var/lib/sunreg/office-$(date -u +%Y-%m).db")" 'sunreg sunreg 600'
+    systemctl restart sunreg
+    same 'it goes on in that' "$(waits 10 curl -sf http://127.0.0.1:8080/status && find /var/lib/sunreg -name 'office-*.db' | wc -l) $(systemctl is-active sunreg)" '1 active'
+    systemctl stop sunreg
 }
 
 # typing: what is done once systemd runs

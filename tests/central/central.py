@@ -486,6 +486,44 @@ def reads_a_part(shards):
     same("nothing differs behind parts", shards.lines("SELECT * FROM energy.differences"), [])
 
 
+def keeps_files_before(shards):
+    """An office that goes on in a new file, as `carry` makes it: what was copied of the one before stays, and the new one is copied under another name."""
+    mocks = Mocks(["east"])
+    office = mocks.offices["east"]
+    filled(office, 300)
+    sites = write_list("east", {"east": (mocks.url("east"), [])})
+    copy = lambda *words: shards.collect(sites, *words)
+    copy()
+    compare("a file", shards, mocks.sites())
+    kept, end = shards.energy(), office.meters["main-1"].at
+
+    def begun(at, quarters):
+        """A new file, of meters that were carried at a moment, and as many quarter hours since."""
+        mocks.offices["east"] = new = mock.Office()
+        for register in ("main", "roof"):
+            meter = new.add(f"{register}-1", register, at)
+            for k in range(quarters):
+                meter.read(at - at % 900 + 900 * k, 50 + k)
+        return new
+
+    for what, at, quarters, words in (
+        ("a new file", end, 4, []), ("one whose total is the old one's, and more", end, 3000, []), ("one that was begun within a quarter hour", end - 400, 2, []), ("a new file, and all is read", end, 4, ["--whole"]),
+    ):
+        begun(at, quarters)
+        status, said, faults = copy(*words)
+        wanted = [f"collect: east: the meter main-1 begins at {at} in a new file of its office: give that another name in LIST from there on"]
+        same(what, (status, said, faults), (1, ["1 sites 1 failed 0 meters 0 rows 0 days"], wanted))
+        same(f"{what}: what was copied stays", shards.energy() == kept, True)
+    new = begun(end, 4)
+    new.has_lists = True
+    mocks.offices["east-2"] = mocks.offices.pop("east")
+    later = write_list("east-2", {"east-2": (mocks.url("east-2"), [])})
+    same("a new file under another name", shards.collect(later)[::2], (0, []))
+    both = {"east-2": mocks.sites()["east-2"]}
+    rows, days = (sorted(set(got) - set(of)) for got, of in zip(shards.energy(), kept))
+    same("its rows stand beside", (rows, days), tuple(sorted(of) for of in energy_of(both)))
+
+
 def tells_faults(shards, mocks):
     """Sites that don't answer as an office does: they are named, nothing of them is taken, and the others are copied."""
     north, south = mocks.offices["north"], mocks.offices["south"]
@@ -1069,6 +1107,8 @@ def main():
         by_postgres(mocks)
         drop_all(shards)
         reads_a_part(shards)
+        drop_all(shards)
+        keeps_files_before(shards)
     if "failures" in parts:
         drop_all(shards)
         fails_at_each_call(shards)

@@ -1,15 +1,16 @@
 -- The command that the words spell.
-use Rattle.std.specs.Prelude.{ℕ, Bool, ◌&&◌, is_some, List, [], Option, Some, None, codes, map, option_map, if◌then◌else◌}
+use Rattle.std.specs.Prelude.{ℕ, Bool, true, false, ◌&&◌, is_some, length, nat_lt, List, [], Option, Some, None, codes, map, option_map, if◌then◌else◌}
 use Rattle.std.specs.Str.{bytes_eq}
 use Rattle.clap.specs.Words.{Row, Text}
 use Rattle.energy_report.specs.Words.{format_of, period_of, unit_of}
 use Rattle.energy_report.specs.declared.form.EnergyUnit.{EnergyUnit}
 use Rattle.energy_report.specs.declared.form.Format.{Format}
 use Rattle.energy_report.specs.declared.form.Period.{Period}
+use Rattle.energy_report.specs.declared.form.Period.TheVariants.{Month, Year}
 use Rattle.command_words.specs.Values.Devices.{Place, devices_in, place_of}
 use Rattle.command_words.specs.Values.Given.{given}
 use Rattle.command_words.specs.ClapTable.Table.{texts}
-use Rattle.command_words.specs.Options.{if_some, is_set, number_at, number_if, number_or, or_else, text_at, text_or, texts_at}
+use Rattle.command_words.specs.Options.{if_some, is_set, number_at, number_if, number_or, or_else, several_at, text_at, text_or, texts_at}
 use Rattle.command_words.specs.declared.line.CommandLine.{CommandLine}
 use Rattle.command_words.specs.declared.line.CommandLine.TheVariants as line
 use Rattle.command_words.specs.declared.line.FormWords.{FormWords}
@@ -41,14 +42,15 @@ pub data Line : Type 0 where
   Serve : (db : Text) (port connections : ℕ) (hosts : List Text) → Line
   Round : (db device host : Text) (port : ℕ) → Line
   Report : (db register : Text) (form : Form) → Line
+  ReportFiles : (files : List Text) (register : Text) (form : Form) → Line
   Backup : (db to : Text) → Line
   Carry : (from to : Text) (until : Option ℕ) → Line
-  Audit : (db : Text) (seal : Seal) → Line
+  Audit : (dbs : List Text) (seal : Seal) → Line
   Scan : (host : Text) (port unit timeout : ℕ) (list : Bool) (setup : Option Text) → Line
   StandIn : (host : Text) (port connections : ℕ) → Line
   Loop : (zone : Text) → Line
   Run : (db : Text) (listen every : ℕ) (devices : List Place) (lasts : Option ℕ)
-      (hosts : List Text) (most_kept : Option ℕ) (verbose : Bool) → Line
+      (carry : Option Period) (hosts : List Text) (most_kept : Option ℕ) (verbose : Bool) → Line
   Explain : (what number : Text) → Line
   Completions : Line
 
@@ -78,16 +80,18 @@ seen (line.Serve db port connections hosts) =
     Serve db.now port connections (texts hosts.items)
 seen (line.Round db device host port) = Round db.now device.now host.now port
 seen (line.Report db register form) = Report db.now register.now (seen_form form)
+seen (line.ReportFiles files register form) =
+    ReportFiles (texts files.items) register.now (seen_form form)
 seen (line.Backup db to) = Backup db.now to.now
 seen (line.Carry from to until) = Carry from.now to.now until
-seen (line.Audit db seal) = Audit db.now (seen_sealing seal)
+seen (line.Audit dbs seal) = Audit (texts dbs.items) (seen_sealing seal)
 seen (line.Scan host port unit timeout list setup) =
     Scan host.now port unit timeout list (option_map (λ text. text.now) setup)
 seen (line.StandIn host port connections) = StandIn host.now port connections
 seen (line.Loop zone) = Loop zone.now
-seen (line.Run db listen every devices lasts hosts most_kept verbose) =
-    Run db.now listen every (map place_of devices.items) lasts (texts hosts.items) most_kept
-    verbose
+seen (line.Run db listen every devices lasts carry hosts most_kept verbose) =
+    Run db.now listen every (map place_of devices.items) lasts carry (texts hosts.items)
+    most_kept verbose
 seen (line.Explain what number) = Explain what.now number.now
 seen line.Completions = Completions
 
@@ -153,11 +157,17 @@ form_in rows =
       statement = statement;
     }))))
 
+-- several files are reported as one
+abbrev pub report_of : (db : Text) → (files : List Text) → (register : Text) → Form → Line
+report_of db files register form =
+    if nat_lt 1 (length files) then ReportFiles files register form else Report db register form
+
 abbrev pub report_in : List Row → Option Line
 report_in rows =
     given (db_in rows) (λ db.
     given (text_at (codes "register") rows) (λ register.
-    given (form_in rows) (λ form. Some (Report db register form))))
+    given (form_in rows) (λ form.
+    Some (report_of db (texts_at (codes "db") rows) register form))))
 
 abbrev pub backup_in : List Row → Option Line
 backup_in rows =
@@ -178,10 +188,21 @@ sealing_of prints (Some file) = if prints then None else Some (Against file)
 abbrev pub sealing_in : List Row → Option Seal
 sealing_in rows = sealing_of (is_set (codes "seal") rows) (text_at (codes "against") rows)
 
+-- something is asked of a seal
+abbrev pub asks_seal : Seal → Bool
+asks_seal Nothing = false
+asks_seal Print = true
+asks_seal (Against file) = true
+
+-- a seal is of one file
+abbrev pub one_sealed : (dbs : List Text) → Seal → Option Line
+one_sealed dbs seal =
+    if asks_seal seal && nat_lt 1 (length dbs) then None else Some (Audit dbs seal)
+
 abbrev pub audit_in : List Row → Option Line
 audit_in rows =
-    given (db_in rows) (λ db.
-    given (sealing_in rows) (λ seal. Some (Audit db seal)))
+    given (several_at (codes "db") rows) (λ dbs.
+    given (sealing_in rows) (λ seal. one_sealed dbs seal))
 
 -- of a list and lines to set a device up only one is printed
 abbrev pub one_of : (list : Bool) (setup : Option Text) → Line → Option Line
@@ -215,6 +236,12 @@ enter_in rows =
     given (devices_if rows) (λ devices.
     Some (Enter db caller devices (is_set (codes "only-read") rows)))))
 
+-- by which periods a run begins a new file
+abbrev pub carried_by : Text → Option Period
+carried_by word =
+    if bytes_eq word (codes "month") then Some Month
+    else (if bytes_eq word (codes "year") then Some Year else None)
+
 abbrev pub run_in : List Row → Option Line
 run_in rows =
     given (db_in rows) (λ db.
@@ -222,9 +249,10 @@ run_in rows =
     given (number_at 86400 (codes "every") rows) (λ every.
     given (number_if 4000000000 (codes "for") rows) (λ lasts.
     given (devices_at rows) (λ devices.
+    given (if_some carried_by (text_at (codes "carry") rows)) (λ carry.
     given (number_if 1000000 (codes "most-kept") rows) (λ most_kept.
-    Some (Run db listen every devices lasts (hosts_in rows) most_kept
-    (is_set (codes "verbose") rows))))))))
+    Some (Run db listen every devices lasts carry (hosts_in rows) most_kept
+    (is_set (codes "verbose") rows)))))))))
 
 abbrev pub explain_in : List Row → Option Line
 explain_in rows =

@@ -1,5 +1,5 @@
 -- The values that `clap` found of a command's options, and what reading them answers.
-use Rattle.std.specs.Prelude.{◌≡◌, ℕ, Bool, List, [], Option, Some, None, false, Result, MatchResult, ⊤, codes, unwrap_or, option_map}
+use Rattle.std.specs.Prelude.{◌≡◌, ℕ, Bool, List, [], ◌∷◌, Option, Some, None, false, Result, MatchResult, ⊤, codes, unwrap_or, option_map}
 use Rattle.std.specs.Str.{bytes_eq}
 use Rattle.std.specs.Option.{option_map_or}
 use Rattle.clap.specs.Words.{Row, Text, all_of, first_of, found_of, rows_of}
@@ -40,6 +40,14 @@ number_or otherwise most id rows = or_else otherwise (number_up_to most) (text_a
 abbrev pub texts_at : Text → List Row → List Text
 texts_at id rows = unwrap_or (all_of id rows) []
 
+-- of one that must stand, and may several times
+abbrev pub any_of : List Text → Option (List Text)
+any_of [] = None
+any_of (text ∷ texts) = Some (text ∷ texts)
+
+abbrev pub several_at : Text → List Row → Option (List Text)
+several_at id rows = any_of (texts_at id rows)
+
 abbrev pub text_or : Text → Text → List Row → Text
 text_or otherwise id rows = unwrap_or (text_at id rows) otherwise
 
@@ -55,6 +63,7 @@ IsDue (fault.Both one other) due = None ≡ due
 IsDue (fault.Choice option value choices word) due = None ≡ due
 IsDue (fault.Command name) due = None ≡ due
 IsDue (fault.Shell word) due = None ≡ due
+IsDue (fault.Alone option other) due = None ≡ due
 IsDue (fault.Device part fault) due = None ≡ due
 
 -- what reading answers of the value that is due, which `seen` compares

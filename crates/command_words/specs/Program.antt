@@ -1,7 +1,7 @@
 -- The program's commands and options.
 use Rattle.std.specs.Prelude.{ℕ, List, [], ◌∷◌, codes}
 use Rattle.clap.specs.Words.{App}
-use Rattle.command_words.specs.ClapTable.Table.{command_with, flag, lettered_flag, optional_option, program_with, repeated_option, required_option, word}
+use Rattle.command_words.specs.ClapTable.Table.{command_with, flag, lettered_flag, optional_option, program_with, repeated_option, required_option, several_option, word}
 
 -- the code of `n`
 abbrev pub letter_n : ℕ
@@ -28,7 +28,7 @@ commands =
     (required_option (codes "db") ∷ required_option (codes "device")
     ∷ optional_option (codes "host") ∷ required_option (codes "port") ∷ [])
     ∷ command_with (codes "report")
-    (required_option (codes "db") ∷ required_option (codes "register")
+    (several_option (codes "db") ∷ required_option (codes "register")
     ∷ optional_option (codes "from") ∷ optional_option (codes "till") ∷ optional_option (codes "by")
     ∷ optional_option (codes "unit") ∷ optional_option (codes "format")
     ∷ flag (codes "statement") ∷ [])
@@ -43,7 +43,7 @@ later_commands =
     (required_option (codes "from") ∷ required_option (codes "to")
     ∷ optional_option (codes "until") ∷ [])
     ∷ command_with (codes "audit")
-    (required_option (codes "db") ∷ flag (codes "seal") ∷ optional_option (codes "against") ∷ [])
+    (several_option (codes "db") ∷ flag (codes "seal") ∷ optional_option (codes "against") ∷ [])
     ∷ command_with (codes "stand-in")
     (optional_option (codes "host") ∷ required_option (codes "port")
     ∷ required_option (codes "connections") ∷ [])
@@ -51,8 +51,9 @@ later_commands =
     ∷ command_with (codes "run")
     (required_option (codes "db") ∷ required_option (codes "listen")
     ∷ required_option (codes "every") ∷ required_option (codes "devices")
-    ∷ optional_option (codes "for") ∷ repeated_option (codes "host-name")
-    ∷ optional_option (codes "most-kept") ∷ flag (codes "verbose") ∷ [])
+    ∷ optional_option (codes "for") ∷ optional_option (codes "carry")
+    ∷ repeated_option (codes "host-name") ∷ optional_option (codes "most-kept")
+    ∷ flag (codes "verbose") ∷ [])
     ∷ command_with (codes "explain") (word (codes "what") ∷ word (codes "number") ∷ [])
     ∷ command_with (codes "completions") (word (codes "shell") ∷ [])
     ∷ []

@@ -1,11 +1,12 @@
 //! Values that are one of a few words.
 ghost use Rattle.std.specs.Prelude.{codes};
 ghost use Rattle.energy_report.specs.Words.{format_of, period_of, unit_of};
+ghost use Rattle.command_words.specs.Lines.{carried_by};
 ghost use Rattle.command_words.specs.Options.{Reads, if_some, rows_in, text_at};
 
 use crate::faults::ValueFault;
 use crate::options::text_if;
-use crate::table::{FORMATS, PERIODS, UNITS};
+use crate::table::{CARRIES, FORMATS, PERIODS, UNITS};
 use clap::ArgMatches;
 use energy_report::{EnergyUnit, Format, Period};
 
@@ -22,6 +23,26 @@ pub fn period_if<'a>(found: &ArgMatches<'a>) -> Result<Option<Period>, ValueFaul
             option: "by",
             value: "PERIOD",
             choices: PERIODS,
+            word,
+        }),
+    }
+}
+
+/// By which periods a run begins a new file.
+pub fn carry_if<'a>(found: &ArgMatches<'a>) -> Result<Option<Period>, ValueFault<'a>>
+    ensures { Reads (λ period. period)
+        (if_some carried_by (text_at (codes "carry") (rows_in found.now))) result }
+{
+    let Some(word) = text_if(found, "carry") else {
+        return Ok(None);
+    };
+    match word {
+        "month" => Ok(Some(Period::Month)),
+        "year" => Ok(Some(Period::Year)),
+        _ => Err(ValueFault::Choice {
+            option: "carry",
+            value: "PERIOD",
+            choices: CARRIES,
             word,
         }),
     }

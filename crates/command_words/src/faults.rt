@@ -37,6 +37,11 @@ pub enum ValueFault<'a> {
     Shell {
         word: &'a str,
     },
+    /// An option stands beside several of another, and may beside one alone.
+    Alone {
+        option: &'a str,
+        other: &'a str,
+    },
     /// A part of the list is no device of it.
     Device {
         part: &'a str,
@@ -100,6 +105,10 @@ impl<'a> Display for ValueFault<'a> {
             ValueFault::Shell { word } => write!(
                 f,
                 "error: invalid value '{word}' for '<SHELL>': there are completions for bash alone"
+            )?,
+            ValueFault::Alone { option, other } => write!(
+                f,
+                "error: the argument '--{option}' cannot be used with several '--{other}'"
             )?,
             ValueFault::Device { part, fault } => {
                 write!(

@@ -71,6 +71,12 @@ pub enum CommandLine<'a> {
         register: &'a str,
         form: FormWords<'a>,
     },
+    /// The same over several files, the oldest first.
+    ReportFiles {
+        files: Vec<&'a str>,
+        register: &'a str,
+        form: FormWords<'a>,
+    },
     /// A whole copy of an office's file.
     Backup {
         db: &'a str,
@@ -82,9 +88,10 @@ pub enum CommandLine<'a> {
         to: &'a str,
         until: Option<u32>,
     },
-    /// Whether the rows of a file are those of lawful journals and polls, and whether it still has what a seal pins.
+    /// Whether the rows of a file are those of lawful journals and polls, and whether it still has what a seal pins. Of several
+    /// files, the oldest first, whether they also go on from each other; a seal is of one.
     Audit {
-        db: &'a str,
+        dbs: Vec<&'a str>,
         seal: Sealing<'a>,
     },
     /// The SunSpec models of a live device: listed, as a point list, or as the lines that set the device up under a name.
@@ -113,6 +120,8 @@ pub enum CommandLine<'a> {
         every: u32,
         devices: Vec<Device<'a>>,
         lasts: Option<u32>,
+        /// By which periods it begins a new file.
+        carry: Option<Period>,
         host_names: Vec<&'a str>,
         /// How many megabytes of requests may be kept.
         most_kept: Option<u32>,

@@ -1,16 +1,20 @@
 //! The command of what was found.
+ghost use Rattle.std.specs.Prelude.{◌≡◌, is_some};
 ghost use Rattle.clap.specs.Words.{subcommand_rows_of};
+ghost use Rattle.command_words.specs.ClapTable.Table.{texts};
 ghost use Rattle.command_words.specs.Values.Devices.{devices_in, places_of};
-ghost use Rattle.command_words.specs.Lines.{audit_in, backup_in, carry_in, command_in, completions_in, create_in};
+ghost use Rattle.command_words.specs.Lines.{asks_seal, audit_in, backup_in, carry_in, command_in, completions_in, create_in};
 ghost use Rattle.command_words.specs.Lines.{devices_at, devices_if};
-ghost use Rattle.command_words.specs.Lines.{enter_in, explain_in, form_in, line_in, report_in, round_in, run_in, scan_in, seen};
+ghost use Rattle.command_words.specs.Lines.{enter_in, explain_in, form_in, line_in, one_sealed, report_in, round_in, run_in, scan_in, seen};
 ghost use Rattle.command_words.specs.Lines.{sealing_in, seen_form, seen_sealing, serve_in, stand_in_in};
 ghost use Rattle.command_words.specs.Options.{Reads, rows_in};
 
-use crate::choices::{format_if, period_if, unit_if};
+use crate::choices::{carry_if, format_if, period_if, unit_if};
 use crate::faults::ValueFault;
 use crate::line::{CommandLine, FormWords, Sealing};
-use crate::options::{is_set, number, number_if, number_or, text, text_if, text_or, texts};
+use crate::options::{
+    is_set, number, number_if, number_or, several, text, text_if, text_or, texts,
+};
 use crate::table::{
     CONNECTIONS, EVERY, FIRST_UNIT, HOST, HOST_NAME, LASTS, LISTEN, MOST_KEPT, PATIENCE, PORT,
     TIMEOUT, UNIT, UNTIL, ZONE,
@@ -79,12 +83,20 @@ fn form<'a>(found: &ArgMatches<'a>) -> Result<FormWords<'a>, ValueFault<'a>>
     })
 }
 
-fn report_line<'a>(found: &ArgMatches<'a>) -> Result<CommandLine<'a>, ValueFault<'a>>
+fn report_line<'a>(alloc: Global, found: &ArgMatches<'a>) -> Result<CommandLine<'a>, ValueFault<'a>>
     ensures { Reads seen (report_in (rows_in found.now)) result }
 {
     let db = text(found, "db")?;
     let register = text(found, "register")?;
     let form = form(found)?;
+    let files = texts(alloc, found, "db")?;
+    if files.len() > 1 {
+        return Ok(CommandLine::ReportFiles {
+            files,
+            register,
+            form,
+        });
+    }
     Ok(CommandLine::Report { db, register, form })
 }
 
@@ -130,12 +142,39 @@ fn sealing<'a>(found: &ArgMatches<'a>) -> Result<Sealing<'a>, ValueFault<'a>>
     Ok(Sealing::Against(seal))
 }
 
-fn audit_line<'a>(found: &ArgMatches<'a>) -> Result<CommandLine<'a>, ValueFault<'a>>
+// The option that asks something of a seal, if one does.
+fn seal_option(seal: Sealing<'_>) -> Option<&'static str>
+    ensures { is_some result ≡ asks_seal (seen_sealing seal.entry) }
+{
+    match seal {
+        Sealing::Nothing => None,
+        Sealing::Print => Some("seal"),
+        Sealing::Against(_) => Some("against"),
+    }
+}
+
+// An audit of these files. A seal is of one.
+fn audit_of<'a>(dbs: Vec<&'a str>, seal: Sealing<'a>) -> Result<CommandLine<'a>, ValueFault<'a>>
+    ensures { Reads seen (one_sealed (texts dbs.entry.items) (seen_sealing seal.entry)) result }
+{
+    let Some(option) = seal_option(seal) else {
+        return Ok(CommandLine::Audit { dbs, seal });
+    };
+    if dbs.len() > 1 {
+        return Err(ValueFault::Alone {
+            option,
+            other: "db",
+        });
+    }
+    Ok(CommandLine::Audit { dbs, seal })
+}
+
+fn audit_line<'a>(alloc: Global, found: &ArgMatches<'a>) -> Result<CommandLine<'a>, ValueFault<'a>>
     ensures { Reads seen (audit_in (rows_in found.now)) result }
 {
-    let db = text(found, "db")?;
+    let dbs = several(alloc, found, "db")?;
     let seal = sealing(found)?;
-    Ok(CommandLine::Audit { db, seal })
+    audit_of(dbs, seal)
 }
 
 fn scan_line<'a>(found: &ArgMatches<'a>) -> Result<CommandLine<'a>, ValueFault<'a>>
@@ -225,6 +264,7 @@ fn run_line<'a>(alloc: Global, found: &ArgMatches<'a>) -> Result<CommandLine<'a>
     let every = number(found, EVERY)?;
     let lasts = number_if(found, LASTS)?;
     let devices = devices(alloc, found)?;
+    let carry = carry_if(found)?;
     let host_names = texts(alloc, found, HOST_NAME)?;
     let most_kept = number_if(found, MOST_KEPT)?;
     Ok(CommandLine::Run {
@@ -233,6 +273,7 @@ fn run_line<'a>(alloc: Global, found: &ArgMatches<'a>) -> Result<CommandLine<'a>
         every,
         devices,
         lasts,
+        carry,
         host_names,
         most_kept,
         verbose: is_set(found, "verbose"),
@@ -275,7 +316,7 @@ fn command_line<'a>(
         "create" => create_line(found),
         "serve" => serve_line(alloc, found),
         "round" => round_line(found),
-        "report" => report_line(found),
+        "report" => report_line(alloc, found),
         "stand-in" => stand_in_line(found),
         "loop" => Ok(CommandLine::Loop {
             zone: text_or(found, "zone", ZONE),
@@ -285,7 +326,7 @@ fn command_line<'a>(
         "enter" => enter_line(alloc, found),
         "backup" => backup_line(found),
         "carry" => carry_line(found),
-        "audit" => audit_line(found),
+        "audit" => audit_line(alloc, found),
         "explain" => explain_line(found),
         "completions" => completions_line(found),
         _ => Err(ValueFault::Command { name }),

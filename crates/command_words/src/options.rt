@@ -4,7 +4,7 @@ ghost use Rattle.clap.specs.Words.{all_of};
 ghost use Rattle.command_words.specs.ClapTable.Table.{texts};
 ghost use Rattle.command_words.specs.Values.Numbers.{number_up_to};
 ghost use Rattle.command_words.specs.Options.{Reads, is_set, number_at, number_if, number_or, rows_in};
-ghost use Rattle.command_words.specs.Options.{text_at, text_or, texts_at};
+ghost use Rattle.command_words.specs.Options.{several_at, text_at, text_or, texts_at};
 
 use crate::faults::ValueFault;
 use crate::table::NumberOption;
@@ -123,6 +123,22 @@ pub fn texts<'a>(
         Ok(values) => Ok(values),
         Err(_) => Err(ValueFault::Memory),
     }
+}
+
+// The texts of an option that must stand, and may several times.
+pub fn several<'a>(
+    alloc: Global,
+    found: &ArgMatches<'a>,
+    option: &'static str,
+) -> Result<Vec<&'a str>, ValueFault<'a>>
+    ensures { Reads (λ values. texts values.items)
+        (several_at option.now (rows_in found.now)) result }
+{
+    let values = texts(alloc, found, option)?;
+    if values.is_empty() {
+        return Err(ValueFault::Missing { option });
+    }
+    Ok(values)
 }
 
 // Whether a flag stands.

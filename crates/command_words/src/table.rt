@@ -82,6 +82,9 @@ pub const PERIODS: &[&str] = &["day", "month", "year"];
 
 pub const UNITS: &[&str] = &["mwh", "kwh"];
 
+/// By which periods a run begins a new file.
+pub const CARRIES: &[&str] = &["month", "year"];
+
 pub const FORMATS: &[&str] = &["text", "csv", "json"];
 
 /// The unit where none is given.
@@ -94,6 +97,12 @@ const DB: OptionText<'static> = OptionText {
     name: "db",
     value: Value::Required("FILE"),
     help: "The office's file",
+};
+
+const DBS: OptionText<'static> = OptionText {
+    name: "db",
+    value: Value::Several("FILE"),
+    help: "The office's file; of an office that was carried several, oldest first",
 };
 
 const NEW_DB: OptionText<'static> = OptionText {
@@ -247,7 +256,7 @@ const REPORT: CommandText<'static> = CommandText {
     about: "Prints a register's energy by days, months or years",
     after: "Example:\n  sunreg report --db office.db --register main --by month --unit kwh --format csv",
     options: &[
-        DB,
+        DBS,
         REGISTER,
         OptionText {
             name: "from",
@@ -326,7 +335,7 @@ const AUDIT: CommandText<'static> = CommandText {
     about: "Checks an office's rows against one another; it only reads",
     after: "Example: sunreg audit --db office.db --seal > seal.txt",
     options: &[
-        DB,
+        DBS,
         OptionText {
             name: "seal",
             value: Value::Absent,
@@ -409,6 +418,14 @@ const RUN: CommandText<'static> = CommandText {
             name: "for",
             value: Value::Optional("SECONDS"),
             help: "Ends after this long, 1 to 4000000000",
+        },
+        OptionText {
+            name: "carry",
+            value: Value::Chosen {
+                shown: "PERIOD",
+                choices: CARRIES,
+            },
+            help: "Begins a new file each month or year: month or year",
         },
         ASKED_NAME,
         OptionText {

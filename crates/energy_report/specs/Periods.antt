@@ -1,8 +1,9 @@
 -- Which civil days fall in one period of the calendar.
-use Rattle.std.specs.Prelude.{Bool, ◌&&◌, pos}
+use Rattle.std.specs.Prelude.{◌≡◌, ◌↔◌, ℤ, ◌≤ℤ◌, Bool, true, ◌&&◌, pos}
 use Rattle.std.specs.Ordering.{int_eq}
+use Rattle.jiff_core.specs.Calendar.{days_from_civil}
 use Rattle.jiff_core.specs.declared.civil.date.Date.{Date}
-use Rattle.jiff.specs.Words.{epoch_day}
+use Rattle.jiff.specs.Words.{epoch_day, month_length}
 use Rattle.energy_report.specs.declared.form.Period.{Period}
 use Rattle.energy_report.specs.declared.form.Period.TheVariants as period
 
@@ -12,3 +13,15 @@ is_same period.Day one other = int_eq (epoch_day one) (epoch_day other)
 is_same period.Month one other =
     int_eq one.year other.year && int_eq (pos one.month) (pos other.month)
 is_same period.Year one other = int_eq one.year other.year
+
+-- the last day of the period in which a day falls, counted from 1970-01-01
+abbrev pub last_day : Period → Date → ℤ
+last_day period.Day day = epoch_day day
+last_day period.Month day = days_from_civil day.year day.month (month_length day)
+last_day period.Year day = days_from_civil day.year 12 31
+
+-- Of the days from one on, those up to the last of its period fall in that, and no others.
+abbrev pub PeriodsEndWithTheirLastDay : Type 0
+PeriodsEndWithTheirLastDay = (period : Period) (day other : Date)
+    → epoch_day day ≤ℤ epoch_day other
+    → (is_same period day other ≡ true) ↔ (epoch_day other ≤ℤ last_day period day)

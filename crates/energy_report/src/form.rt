@@ -1,5 +1,7 @@
 //! The form of a report.
 ghost use Rattle.std.specs.Prelude.{◌≡◌};
+ghost use Rattle.jiff.specs.Words.{epoch_day};
+ghost use Rattle.energy_report.specs.Periods as periods;
 ghost use Rattle.energy_report.specs.Periods.{is_same};
 ghost use Rattle.energy_report.specs.Words.{period_of, unit_of, format_of, plain_form};
 
@@ -85,6 +87,17 @@ impl Period {
             Period::Day => one == other,
             Period::Month => one.year() == other.year() && one.month() == other.month(),
             Period::Year => one.year() == other.year(),
+        }
+    }
+
+    /// The last day of the period in which a day falls.
+    pub fn last_day(self, day: Day) -> Day
+        ensures { epoch_day result ≡ periods.last_day self day }
+    {
+        match self {
+            Period::Day => day,
+            Period::Month => day.last_of_month(),
+            Period::Year => day.last_of_year(),
         }
     }
 }

@@ -1,5 +1,6 @@
 //! Laws of reports. Each function's clause is a law over all values; its body is empty.
 ghost use Rattle.energy_report.specs.Laws.{PlainReportsAreListsOfDays, RangesAddUp, RowsAddUp, RowsAreShown, RowsAreWhole};
+ghost use Rattle.energy_report.specs.Periods.{PeriodsEndWithTheirLastDay};
 
 /// By whatever period, the energy of the rows is that of the days in the range, and so is their count of intervals.
 pub fn rows_add_up()
@@ -19,6 +20,11 @@ pub fn ranges_add_up()
 /// Of days in their order a row has all that fall in its period.
 pub fn rows_are_whole()
     ensures { RowsAreWhole }
+{}
+
+/// A period goes on up to its last day, and no longer.
+pub fn periods_end_with_their_last_day()
+    ensures { PeriodsEndWithTheirLastDay }
 {}
 
 /// Without a range, by days and in mWh as text, a report is the list of the days.

@@ -21,12 +21,14 @@ pub use form::{EnergyUnit, Format, Period, ReportForm, StatementForm};
 pub use held_counts::{HeldCount, HeldCounts};
 pub use held_within::HeldWithin;
 pub use laws::{
-    plain_reports_are_lists_of_days, ranges_add_up, rows_add_up, rows_are_shown, rows_are_whole,
+    periods_end_with_their_last_day, plain_reports_are_lists_of_days, ranges_add_up, rows_add_up,
+    rows_are_shown, rows_are_whole,
 };
 pub use meter_statement::{MeterStatement, was_there};
 pub use report_rows::ReportRows;
 pub use row::Row;
 pub use row_lines::RowLines;
+pub use row_text::period_name;
 pub use spelled_day::read_day;
 pub use spelled_range::{RangeFault, read_range};
 pub use statement_text::write_statement;

@@ -157,6 +157,15 @@ fn count_width(period: Period) -> usize
 
 // ---- periods
 
+/// The text of the period in which a day falls, as rows have it: `2026-11-25`, `2026-11` or `2026`.
+pub fn period_name(period: Period, day: Day) -> Line
+    ensures { result ≡ text.period_text period day }
+{
+    let mut line = Line::new();
+    push_period(&mut line, period, day);
+    line
+}
+
 fn push_period(line: &mut Line, period: Period, day: Day)
     requires { length line.old ≤ 64 }
     ensures bytes { line.new ≡ line.old ++ text.period_text period day }

@@ -157,6 +157,12 @@ impl Books for FailingBooks {
         self.failures.noted(found)
     }
 
+    fn entry_near(&mut self, meter: &Name, place: u64) -> Result<Option<EntryPlace>, BooksFault> {
+        self.called()?;
+        let found = self.books.entry_near(meter, place);
+        self.failures.noted(found)
+    }
+
     fn entries(
         &mut self,
         meter: &Name,

@@ -2,7 +2,10 @@
 use crate::commands::fill;
 use crate::files::{Files, path, remove};
 use std::test::Fail;
-use stored_office::{AuditFault, Databases, audit_stored, write_audit};
+use stored_office::{
+    AuditFault, Databases, Joining, audit_stored, hold_to_earlier, meters_stored, told_zone,
+    write_audit, write_joins,
+};
 
 /// Whether all is fine, or why there is no audit; and what is printed.
 type Audited = (Result<bool, AuditFault>, Vec<u8>);
@@ -78,5 +81,60 @@ fn foreign_tables_are_not_audited(rt: HostRuntime) -> Result<(), Fail> {
     make_foreign(&Files { rt: &rt }, &path)?;
     let (end, printed) = audit(&rt, &Files { rt: &rt }, &path)?;
     assert!(rt; end == Err(AuditFault::NotOurs) && printed.is_empty());
+    remove(&rt, &path)
+}
+
+// Holds the office in a file to those before it, under a name.
+fn join<'a, D: Databases>(
+    rt: &HostRuntime,
+    databases: &D,
+    path: &str,
+    name: &'a str,
+    joining: &mut Joining<'a>,
+) -> Result<(), Fail> {
+    let mut connection = databases.open(path)?;
+    let Ok(meters) = meters_stored(rt.alloc(), &mut connection, name) else {
+        return Err(Fail::from("no meters"));
+    };
+    let Ok(zone) = told_zone(&mut connection) else {
+        return Err(Fail::from("no zone"));
+    };
+    match hold_to_earlier(rt.alloc(), joining, name, zone, meters) {
+        Ok(()) => Ok(()),
+        Err(_) => Err(Fail::from("not joined")),
+    }
+}
+
+// What is printed of the file of the day as one of these names after the other, and whether nothing differs.
+fn joined(rt: &HostRuntime, path: &str, names: &[&'static str]) -> Result<Audited, Fail> {
+    let mut joining = Joining::new(rt.alloc());
+    for name in names {
+        join(rt, &Files { rt }, path, *name, &mut joining)?;
+    }
+    let mut printed = Vec::new(rt.alloc());
+    let end = write_joins(rt.alloc(), joining.lines.as_slice(), &mut printed);
+    Ok((end, printed))
+}
+
+#[test]
+fn nothing_is_told_of_the_first_file(rt: HostRuntime) -> Result<(), Fail> {
+    let path = path(&rt)?;
+    fill(&rt, &Files { rt: &rt }, &path)?;
+    let (end, printed) = joined(&rt, &path, &["old.db"])?;
+    assert!(rt; end == Ok(true) && printed.as_slice() == b"joined: fine\n".as_slice());
+    remove(&rt, &path)
+}
+
+static TWICE: &[u8] = b"meter m1 is in new.db, and was closed in old.db
+meter m2 begins in new.db at 2800 0 0, stands in old.db at 3700 45 0
+2 differences between files
+";
+
+#[test]
+fn a_file_that_does_not_go_on_is_told(rt: HostRuntime) -> Result<(), Fail> {
+    let path = path(&rt)?;
+    fill(&rt, &Files { rt: &rt }, &path)?;
+    let (end, printed) = joined(&rt, &path, &["old.db", "new.db"])?;
+    assert!(rt; end == Ok(false) && printed.as_slice() == TWICE);
     remove(&rt, &path)
 }

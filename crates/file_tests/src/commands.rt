@@ -9,7 +9,7 @@ use office_store::{OpenFault, SqlBooks};
 use socket_link::FixedClock;
 use std::alloc::{AllocError, Global};
 use std::test::Fail;
-use stored_office::{Databases, Done, Task, carry_out_stored, create_stored};
+use stored_office::{Databases, Done, Task, carry_out_stored, create_stored, told_zone};
 
 /// How a report ends, and what it prints.
 type Report = (Result<ExitStatus, OpenFault>, Vec<u8>);
@@ -191,6 +191,22 @@ pub(crate) fn is_made_once<D: Databases>(
         }
     }
     Ok(true)
+}
+
+/// Whether an office tells its zone, and a database without tables none.
+pub(crate) fn is_told_with_its_zone<D: Databases>(
+    rt: &HostRuntime,
+    databases: &D,
+    path: &str,
+) -> Result<bool, Fail> {
+    let bare = told_zone(&mut databases.make(path)?);
+    let made = create(rt, databases, path, "CET-1CEST,M3.5.0,M10.5.0/3")?;
+    let told = told_zone(&mut databases.open(path)?);
+    let is_told = match told {
+        Ok(zone) => zone.as_str() == "CET-1CEST,M3.5.0,M10.5.0/3",
+        Err(_) => false,
+    };
+    Ok(bare.is_err() && made.is_none() && is_told)
 }
 
 /// Whether it is reported by months in kWh.

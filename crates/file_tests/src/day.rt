@@ -45,16 +45,26 @@ fn event_of(alloc: Global, line: &str) -> Result<(u64, Event), Fail> {
     }
 }
 
-/// Books that day, in an office over these books.
-pub(crate) fn book_day<B: Books>(alloc: Global, books: B) -> Result<(), Fail> {
+/// An office over these books to which the events of these lines came.
+pub(crate) fn office_after<B: Books>(
+    alloc: Global,
+    books: B,
+    lines: &str,
+) -> Result<Office<B>, Fail> {
     let Ok(mut office) = Office::open(alloc, books, 0) else {
         return Err(Fail::from("not opened"));
     };
-    for line in DAY.lines() {
+    for line in lines.lines() {
         let (at, event) = event_of(alloc, line)?;
         if office.feed(at, &event).is_err() {
             return Err(Fail::from("refused"));
         }
     }
+    Ok(office)
+}
+
+/// Books that day, in an office over these books.
+pub(crate) fn book_day<B: Books>(alloc: Global, books: B) -> Result<(), Fail> {
+    let _office = office_after(alloc, books, DAY)?;
     Ok(())
 }

@@ -153,7 +153,7 @@ const SOCKETS: [(Failure<'static>, &str); 8] = [
 ];
 
 // What stands after the name of a file that was not audited.
-const UNAUDITED: [(AuditFault, &str); 8] = [
+const UNAUDITED: [(AuditFault, &str); 9] = [
     (
         AuditFault::NotOurs,
         "it holds no office, or one of a later program: give the office's file, or its copy",
@@ -165,6 +165,10 @@ const UNAUDITED: [(AuditFault, &str); 8] = [
     (
         AuditFault::Unsealable,
         "a row has a value or a name that no seal can have: sunreg audit without --seal tells which",
+    ),
+    (
+        AuditFault::NoText,
+        "a name in it, or its zone, is no text: give the office's file, or its copy",
     ),
     (
         AuditFault::NoSeal,

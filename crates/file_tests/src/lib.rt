@@ -3,6 +3,8 @@
 #![tactic(auto)]
 
 #[cfg(test)]
+mod advice;
+#[cfg(test)]
 mod audits;
 #[cfg(test)]
 mod backups;
@@ -17,6 +19,8 @@ mod failures;
 #[cfg(test)]
 mod files;
 #[cfg(test)]
+mod joined_files;
+#[cfg(test)]
 mod made_files;
 #[cfg(test)]
 mod said;
@@ -26,3 +30,5 @@ mod statuses;
 mod stored;
 #[cfg(test)]
 mod task_ends;
+#[cfg(test)]
+mod unwaited_lines;

@@ -38,6 +38,10 @@ fn wrong_words_are_said(rt: HostRuntime) -> Result<(), Fail> {
             "error: invalid value 'seal.txt' for '--against <SEAL>': no seal, as sunreg audit --seal prints it\n",
         ),
         (
+            Ending::Twice("o.db"),
+            "error: invalid value 'o.db' for '--db <FILE>': it stands twice\n",
+        ),
+        (
             Ending::NoZone("nowhere"),
             "error: invalid value 'nowhere' for '--zone <TEXT>': no POSIX time zone, as UTC0 or CET-1CEST,M3.5.0,M10.5.0/3\n",
         ),

@@ -21,6 +21,7 @@ fn each_ending_has_its_status(rt: HostRuntime) -> Result<(), Fail> {
         ),
         (Ending::Backward, 2),
         (Ending::NoSeal("seal.txt"), 2),
+        (Ending::Twice("o.db"), 2),
         (Ending::Failed(Failure::Memory), 3),
     ];
     for (ending, status) in &endings {

@@ -4,7 +4,7 @@ use Rattle.std.specs.Prelude.{codes}
 use Rattle.std.specs.Fmt.{digits}
 use Rattle.matchit.proofs.OnLiterals.{matchit_on_literals}
 use Rattle.interval_core.specs.declared.shares.Share.{Share}
-use Rattle.http_commands.specs.declared.fault.CommandFault.TheVariants.{Malformed, Negative, Faulty}
+use Rattle.http_answer.specs.declared.commands.fault.CommandFault.TheVariants.{Malformed, Negative, Faulty}
 use Rattle.http_request.specs.HeadTests.{Start}
 use Rattle.http_request.specs.Routing.Routes.{routes}
 use Rattle.office_events.specs.declared.answers.CommandKind.TheVariants as kind

@@ -1,3 +1,4 @@
+pub mod FewRows
 pub mod FaultRows
 pub mod Replying
 pub mod Examples

@@ -1,7 +1,7 @@
 -- The reply to a request: the tests of its head in their order, then what its body gives, then what the office answers.
 use Rattle.std.specs.Prelude.{ℕ, List, ◌++◌, if◌then◌else◌, Option, Some, None, Result, Ok, Err}
-use Rattle.http_commands.specs.declared.fault.CommandFault.{CommandFault}
-use Rattle.http_commands.specs.declared.fault.CommandFault.TheVariants.{Malformed, Negative, Faulty, Memory}
+use Rattle.http_answer.specs.declared.commands.fault.CommandFault.{CommandFault}
+use Rattle.http_answer.specs.declared.commands.fault.CommandFault.TheVariants.{Malformed, Negative, Faulty, Memory}
 use Rattle.http_answer.specs.Sending.Bodies.{fault_text, refused_text}
 use Rattle.http_answer.specs.Sending.Replies.{json_reply, text_head}
 use Rattle.http_request.specs.HeadTests.{Start, head_fault}

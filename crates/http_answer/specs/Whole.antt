@@ -1,8 +1,8 @@
 -- The reply to the bytes that were read, if these hold a whole request or a bad head; else nothing is.
 use Rattle.std.specs.Prelude.{◌≡◌, ◌≢◌, ◌⊎◌, ℕ, false, List, Some, None, Result, Err, if◌then◌else◌}
-use Rattle.http_commands.specs.Given.{Gives}
-use Rattle.http_commands.specs.declared.fault.CommandFault.{CommandFault}
-use Rattle.http_commands.specs.declared.fault.CommandFault.TheVariants.{Memory}
+use Rattle.http_answer.specs.Commands.Given.{Gives}
+use Rattle.http_answer.specs.declared.commands.fault.CommandFault.{CommandFault}
+use Rattle.http_answer.specs.declared.commands.fault.CommandFault.TheVariants.{Memory}
 use Rattle.http_request.specs.Head.Heads.{IsBadHead, is_past_limits}
 use Rattle.http_request.specs.declared.head.head.Head.{Head}
 use Rattle.http_request.specs.HeadTests.{Start, head_fault, start_at}

@@ -1,7 +1,7 @@
 //! The body of the reply to a list whose rows have faults.
 ghost use Rattle.std.specs.Prelude.{◌≡◌, ◌≤◌, ◌+◌, ◌*◌, ◌++◌, length, codes, decimal, All};
 ghost use Rattle.point_list.specs.Faults.{fault_number};
-ghost use Rattle.http_commands.specs.Few.{AreFew};
+ghost use Rattle.http_answer.specs.Commands.Few.{AreFew};
 ghost use Rattle.http_answer.specs.Faults.{faults_text, more_rows};
 
 use crate::sending::Text;

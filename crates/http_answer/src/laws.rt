@@ -1,7 +1,7 @@
 //! Laws: which reply answers what was read.
 ghost use Rattle.std.specs.Prelude.{◌≡◌, ◌≢◌, Ok, Err};
-ghost use Rattle.http_commands.specs.Given.{Gives};
-ghost use Rattle.http_commands.specs.declared.fault.CommandFault.TheVariants.{Memory};
+ghost use Rattle.http_answer.specs.Commands.Given.{Gives};
+ghost use Rattle.http_answer.specs.declared.commands.fault.CommandFault.TheVariants.{Memory};
 ghost use Rattle.http_request.specs.Asking.{TestsHead};
 ghost use Rattle.http_request.specs.HeadTests.{start_at};
 ghost use Rattle.http_request.specs.declared.ask.Ask.TheVariants.{Command as AskedCommand, Question};
@@ -12,7 +12,7 @@ ghost use Rattle.http_answer.specs.Replies.{fault, question_reply, reply_bytes};
 ghost use Rattle.http_answer.specs.Requests.{name_asked};
 ghost use Rattle.http_answer.specs.Whole.{IsReply, reply_to_command};
 
-use http_commands::CommandFault;
+use crate::commands::CommandFault;
 use http_request::{Found, Head, HeadState, Posted, Route, Status};
 use matchit::Router;
 use office_events::Command;

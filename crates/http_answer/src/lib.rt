@@ -1,6 +1,8 @@
-//! Replies to requests: what they tell of an office's answers, and when each is the reply.
+//! What the body of a request asks for, and the replies to requests: what they tell of an office's answers, and when
+//! each is the reply.
 #![tactic(auto)]
 
+mod commands;
 mod faults;
 mod kinds;
 mod laws;
@@ -11,6 +13,11 @@ mod rows;
 mod sending;
 mod statuses;
 
+pub use commands::{
+    BodyFault, CloseBody, CommandFault, DeviceBody, ExchangeBody, InstallBody, ManualBody,
+    RegisterBody, RescaleBody, ResetBody, Scale, VoidBody, body_of, close_in, command_in,
+    device_in, exchange_in, install_in, manual_in, register_in, rescale_in, reset_in, void_in,
+};
 pub use faults::faults_body;
 pub use kinds::{done_body, kind_answered};
 pub use laws::{commands_are_replied_to, faults_are_replied_to, questions_are_replied_to};

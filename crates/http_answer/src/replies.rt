@@ -1,17 +1,17 @@
 //! Replies that are put to an outlet. None takes memory.
 ghost use Rattle.std.specs.Prelude.{Err};
-ghost use Rattle.http_commands.specs.Few.{HasFewRows};
+ghost use Rattle.http_answer.specs.Commands.Few.{HasFewRows};
 ghost use Rattle.http_answer.specs.Sending.Sending.{Puts};
 ghost use Rattle.http_answer.specs.Replies.{fault, fault_said, refused, reply_bytes, row_reply};
 ghost use Rattle.http_answer.specs.Kinds.{done_text};
 ghost use Rattle.http_answer.specs.Rows.{meter_text, poll_text};
 
+use crate::commands::CommandFault;
 use crate::faults::faults_body;
 use crate::kinds::done_body;
 use crate::rows::{meter_body, poll_body};
 use crate::sending::{ReplyWriter, fault_body, put_json, refused_body};
 use crate::statuses::status_of;
-use http_commands::CommandFault;
 use http_request::Status;
 use mb_wire::Link;
 use office_events::{CommandKind, Installation, PollRow, Refusal};

@@ -1,9 +1,8 @@
 //! The JSON of requests and replies.
-use http_answer::{fault_body, refused_body};
-use http_commands::{
+use http_answer::{
     BodyFault, CloseBody, DeviceBody, ExchangeBody, InstallBody, ManualBody, RescaleBody,
-    ResetBody, Scale, VoidBody, body_of, close_in, device_in, exchange_in, install_in, manual_in,
-    register_in, rescale_in, reset_in, void_in,
+    ResetBody, Scale, VoidBody, body_of, close_in, device_in, exchange_in, fault_body, install_in,
+    manual_in, refused_body, register_in, rescale_in, reset_in, void_in,
 };
 use http_request::Status;
 use std::alloc::Global;

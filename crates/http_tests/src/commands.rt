@@ -1,5 +1,5 @@
 //! The commands that bodies ask for.
-use http_commands::{CommandFault, command_in};
+use http_answer::{CommandFault, command_in};
 use http_request::Route;
 use office_events::{
     AddDevice, AddRegister, Close, Command, Exchange, GivenScale, Install, Manual, Name, Rescale,

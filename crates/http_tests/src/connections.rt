@@ -19,11 +19,11 @@ struct Client {
     reply: &'static [u8],
 }
 
-// The meter `m1` is exchanged for `m2`.
-const REQUEST: &[u8] =
+/// The meter `m1` is exchanged for `m2`.
+pub(crate) const REQUEST: &[u8] =
     b"POST /registers/main/exchange HTTP/1.1\r\nContent-Length: 68\r\nOffice-Caller: desk\r\nOffice-Request: 7\r\n\r\n{\"ceiling\":100000,\"last\":5300,\"meter\":\"m2\",\"raw\":0,\"rolls\":0,\"sf\":0}";
 
-const REPLY: &[u8] =
+pub(crate) const REPLY: &[u8] =
     b"HTTP/1.1 200 OK\r\nContent-Type: application/json\r\nContent-Length: 19\r\nConnection: close\r\n\r\n{\"done\":\"exchange\"}";
 
 // Clients ask one after the other: the second repeats the first, and the third asks for another last value under the same number.
@@ -126,19 +126,28 @@ fn are_replied(alloc: Global, streams: &mut [TcpStream], clients: &[Client]) -> 
     Ok(true)
 }
 
-// The energy of `m1`, where it was ended.
-fn energy_of_ended(office: &mut Office<ListBooks>) -> Option<u64> {
+/// The energy of `m1`, where it was ended.
+pub(crate) fn energy_of_ended(office: &mut Office<ListBooks>) -> Option<u64> {
     match office.meter(&Name::new(b"m1")) {
         Ok(row) if row.ended => Some(row.total),
         _ => None,
     }
 }
 
-// A clock by which so many seconds pass each time that it is read.
+/// A clock by which so many seconds pass each time that it is read.
 #[derive(Drop)]
-struct Stepping {
+pub(crate) struct Stepping {
     seconds: Cell<u64>,
     step: u64,
+}
+
+impl Stepping {
+    pub(crate) fn of(seconds: u64, step: u64) -> Stepping {
+        Stepping {
+            seconds: Cell::new(seconds),
+            step,
+        }
+    }
 }
 
 impl std::rt::Clock for Stepping {
@@ -159,10 +168,7 @@ fn are_served(rt: &HostRuntime, clients: &[Client; 3], step: u64) -> Result<bool
     let listener = TcpListener::bind(rt, "127.0.0.1:0")?;
     let mut streams = streams_of(rt, &listener, clients)?;
     let mut clock = FixedClock::new(&[2800]);
-    let time = Stepping {
-        seconds: Cell::new(7),
-        step,
-    };
+    let time = Stepping::of(7, step);
     let served = serve_named_on(
         &time,
         rt.alloc(),

@@ -1,5 +1,5 @@
 //! What faults of requests say to a person.
-use http_commands::{BodyFault, CommandFault};
+use http_answer::{BodyFault, CommandFault};
 use http_request::TakeFault;
 use point_list::{FaultyRow, FaultyRows, RowFault};
 use std::alloc::Global;

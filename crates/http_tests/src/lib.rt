@@ -4,8 +4,6 @@
 #![tactic(auto)]
 
 #[cfg(test)]
-mod advice;
-#[cfg(test)]
 mod answers;
 #[cfg(test)]
 mod asks;
@@ -47,6 +45,10 @@ mod office;
 mod office_requests;
 #[cfg(test)]
 mod openings;
+#[cfg(test)]
+mod peers;
+#[cfg(test)]
+mod pieces;
 #[cfg(test)]
 mod program_commands;
 #[cfg(test)]

@@ -141,6 +141,10 @@ impl<B: Books> Books for KeptBooks<B> {
         self.books.entry(meter, place)
     }
 
+    fn entry_near(&mut self, meter: &Name, place: u64) -> Result<Option<EntryPlace>, BooksFault> {
+        self.books.entry_near(meter, place)
+    }
+
     fn entries(
         &mut self,
         meter: &Name,

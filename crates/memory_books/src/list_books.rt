@@ -199,6 +199,11 @@ impl Books for ListBooks {
         Ok(self.tables.entry(meter, place))
     }
 
+    fn entry_near(&mut self, meter: &Name, place: u64) -> Result<Option<EntryPlace>, BooksFault> {
+        self.ready()?;
+        Ok(self.tables.entry_near(meter, place))
+    }
+
     fn entries(
         &mut self,
         meter: &Name,

@@ -32,7 +32,7 @@ came_voided : (meter : Installed) (es : List Entry) (stands : Bool) (k : EntryKi
 came_voided meter es true k e h is = absurd (let f : true ≡ false = is in cc)
 came_voided meter es false k e h is = h
 
-alone_ended : (meter : Installed) (rows : List EntryRow) → AllFit meter rows → is_ended rows ≡ has_closing (entering (standing rows))
+pub alone_ended : (meter : Installed) (rows : List EntryRow) → AllFit meter rows → is_ended rows ≡ has_closing (entering (standing rows))
 alone_ended meter [] h = refl
 alone_ended meter (row ∷ rows) h =
     let rest : is_ended rows ≡ has_closing (entering (standing rows)) = alone_ended meter rows h.1 in

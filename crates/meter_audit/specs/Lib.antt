@@ -6,3 +6,4 @@ pub mod Laws
 pub mod Going
 pub mod Carried
 pub mod CarriedTables
+pub mod CarriedFiles

@@ -3,8 +3,10 @@
 ghost use Rattle.meter_audit.specs.Carried.{CarriesGoOn, CarriesCountOnce, CarriedJournalsFit};
 ghost use Rattle.meter_audit.specs.Carried.{LaterLinesAreCarried};
 ghost use Rattle.meter_audit.specs.CarriedTables.{CarriedTablesAreOne, CarriedTablesAreFine};
+ghost use Rattle.meter_audit.specs.CarriedFiles.{FilesAreOneHistory};
 
 use interval_core::shares_add_up;
+use meter_journal::interval_rows_add_up;
 
 /// The rows, the steps, the energy and the interval rows of both files are those of one journal, and the counter stands where
 /// that ends.
@@ -43,3 +45,11 @@ pub fn carried_tables_are_one()
 pub fn carried_tables_are_fine()
     ensures { CarriedTablesAreFine }
 {}
+
+/// Files of which each is fine, and in each of which the meter goes on where the one before left it, tell together what one
+/// lawful journal comes to: where the counter stands, the energy, the interval rows, and whether the meter has ended.
+pub fn files_are_one_history()
+    ensures { FilesAreOneHistory }
+{
+    interval_rows_add_up();
+}

@@ -13,7 +13,7 @@ mod standing;
 
 pub use carried::{
     carried_journals_fit, carried_tables_are_fine, carried_tables_are_one, carries_count_once,
-    carries_go_on, later_lines_are_carried,
+    carries_go_on, files_are_one_history, later_lines_are_carried,
 };
 pub use checks::{Check, begin, pass};
 pub use faults::RowFault;

@@ -7,3 +7,4 @@ pub mod SettledSlots
 pub mod Moments
 pub mod Happened
 pub mod Moving
+pub mod Unreached

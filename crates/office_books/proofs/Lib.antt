@@ -3,5 +3,6 @@ pub mod Handing
 pub mod Listing
 pub mod Planning
 pub mod Pieces
+pub mod Within
 mod Examples
 mod HoldExamples

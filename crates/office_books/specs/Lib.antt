@@ -8,3 +8,4 @@ pub mod Spans
 pub mod Entries
 pub mod Holds
 pub mod Plans
+pub mod Near

@@ -43,6 +43,7 @@ pub trait Books: Drop {
     ghost use Rattle.office_rules.specs.Intervals.{rows_of_meter, rows_of_register};
     ghost use Rattle.office_books.specs.Entries.{entries_from, installations_of};
     ghost use Rattle.office_books.specs.Holds.{holds_of, holds_within};
+    ghost use Rattle.office_books.specs.Near.{TellsNear};
     ghost use Rattle.office_books.specs.Ledgers as ledgers;
     ghost use Rattle.office_books.specs.Ledgers.{Ledger, Finds, OnlyReads};
     ghost use Rattle.office_books.specs.Sound.{ReadsInstallation, ReadsPlace};
@@ -137,6 +138,13 @@ pub trait Books: Drop {
     fn entry(&mut self, meter: &Name, place: u64) -> Result<Option<EntryPlace>, BooksFault>
         ensures found { Finds (ledger self.old) (ledger self.new) result
             (λ known row. row ≡ entry_at known meter.now place) }
+        ensures reads { ReadsPlace (ledger self.old) (ledger self.new) result };
+
+    /// The same, as the rows around the entry tell it: with the energy of the whole meter in place of that before the entry,
+    /// which is no more.
+    fn entry_near(&mut self, meter: &Name, place: u64) -> Result<Option<EntryPlace>, BooksFault>
+        ensures found { Finds (ledger self.old) (ledger self.new) result
+            (λ known row. TellsNear known meter.now place row) }
         ensures reads { ReadsPlace (ledger self.old) (ledger self.new) result };
 
     /// The entries of a meter from a place on, voided ones too, in their order: at most so many. The opening has the place 1.

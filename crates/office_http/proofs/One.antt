@@ -1,6 +1,6 @@
 -- A request has one reply.
 use Rattle.std.proofs.Common.{◌≡◌, ◌∙◌, ℕ, false, List, Option, Some, None, Result, inl, inr, refl, sym, ap, subst}
-use Rattle.http_commands.specs.declared.fault.CommandFault.{CommandFault}
+use Rattle.http_answer.specs.declared.commands.fault.CommandFault.{CommandFault}
 use Rattle.http_request.specs.HeadTests.{Start, head_fault}
 use Rattle.http_request.specs.Routing.Routes.{routes}
 use Rattle.http_request.specs.Routing.Targets.{is_question, name_in, route_in}

@@ -14,7 +14,7 @@ use Rattle.office_core.specs.Standing.{Stands, books_in, is_stopped}
 use Rattle.office_core.specs.Taking.{Ends, IsAnswer, LeavesEvent, failures_of}
 use Rattle.office_core.specs.declared.office.Office.{Office as Run}
 use Rattle.office_core.proofs.Taken.{outside_more}
-use Rattle.http_commands.specs.declared.fault.CommandFault.{CommandFault}
+use Rattle.http_answer.specs.declared.commands.fault.CommandFault.{CommandFault}
 use Rattle.http_request.specs.Routing.Routes.{routes}
 use Rattle.http_answer.specs.Kinds.{done_text}
 use Rattle.http_answer.specs.Offices.{Office}

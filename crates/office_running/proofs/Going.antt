@@ -1,12 +1,8 @@
 -- The steps of a run, and its turns.
 use Rattle.std.proofs.Common.{◌≡◌, ◌⊎◌, inl, inr, ℕ, true, false, Bool, List, [], ◌∷◌, ◌++◌, Option, Some, None, Result, refl, sym, ap, ◌∙◌, subst, append_assoc}
 use Rattle.std.specs.Prelude.{max, position, slice_get, if◌then◌else◌}
-use Rattle.std.specs.declared.alloc.Global.{Global}
-use Rattle.std.specs.declared.vec.Vec.{Vec}
-use Rattle.energy_report.specs.declared.form.ReportForm.{ReportForm}
 use Rattle.office_events.specs.declared.answers.Answer.{Answer}
 use Rattle.office_events.specs.declared.events.Event.{Event}
-use Rattle.office_events.specs.declared.facts.Fact.{Fact}
 use Rattle.office_events.specs.declared.refusals.Refusal.{Refusal}
 use Rattle.office_rules.specs.History.{History, Opened}
 use Rattle.office_rules.specs.Refusals.{with_answer}
@@ -17,11 +13,11 @@ use Rattle.office_core.specs.EventRun.{Answered}
 use Rattle.office_core.specs.Standing.{After, Stands, books_in}
 use Rattle.office_core.specs.Taking.{Ends}
 use Rattle.office_core.specs.declared.office.Office.{Office}
-use Rattle.office_core.specs.declared.site.SiteRow.{SiteRow}
-use Rattle.office_http.specs.Connections.Connections.{ServesOne}
-use Rattle.office_http.specs.Connections.Named.{MayAsk}
-use Rattle.office_http.specs.Serving as http
-use Rattle.office_http.proofs.ConnectionsLemmas.Served.{handled}
+use Rattle.http_peers.specs.PeersAsk as peers
+use Rattle.http_peers.specs.PeersAsk.{PeersAsk}
+use Rattle.office_http.specs.Connections.Connections as connections
+use Rattle.office_http.specs.Connections.Connections.{Connection}
+use Rattle.office_http.specs.Serving.{with_asked}
 use Rattle.office_rounds.specs.Passing as rounds
 use Rattle.office_rounds.specs.FedEvents as telling
 use Rattle.office_rounds.specs.Driver.Going as driver
@@ -38,15 +34,6 @@ use Rattle.office_rounds.specs.declared.driver.device_events.DeviceEvent.TheVari
 use Rattle.office_program.specs.Texts.OpenedOffice.{Opens}
 use Rattle.office_program.specs.Texts.Passing.{Lasts}
 use Rattle.run_status.specs.Advice.Lacks.{LooksUp}
-use Rattle.run_http.specs.Answer as asking
-use Rattle.run_http.specs.declared.answer.PeerReply.{PeerReply}
-use Rattle.run_http.specs.declared.answer.PeerReply.TheVariants.{Open, Replied, Failed}
-use Rattle.http_request.specs.Hosts.{may_ask_in}
-use Rattle.http_request.specs.declared.head.head.HeadState.{HeadState}
-use Rattle.run_http.specs.RegisterReplies.{RepliesEnergy}
-use Rattle.run_http.specs.StatusRoute.{IsFor, IsRunRoute}
-use Rattle.run_http.specs.MeterReplies.{RepliesRows}
-use Rattle.run_http.specs.SiteReply.{RepliesSite}
 use Rattle.office_running.specs.Runs.{AreAt, BooksRun, Goes, IsOfRound, ReadsClock, RunsOn, Step, Fed, Asks, TakesTurns, history_with, latest_of, steps_of, with_step}
 
 -- ---- At one moment
@@ -196,67 +183,35 @@ goes_fed names ledger at e answer old new feeds ends is = record {
   zone = ends.zone;
 }
 
--- ---- A request of a peer
+-- ---- What peers ask
 
-may_of : (may : Bool) (bytes : List ℕ) (head_state : HeadState) → IsRunRoute may bytes head_state None → may ≡ true
-may_of true bytes head_state is = refl
-may_of false bytes head_state is = cc is
+abbrev of_connections : (names : List (List ℕ)) → List (Connection names) → List (Step names)
+of_connections names [] = []
+of_connections names (one ∷ earlier) = Asks one ∷ of_connections names earlier
 
--- what is left to the office may ask
-pub may_ask_of : (names : List (List ℕ)) (request : List ℕ) → IsFor names request None → (left read : List ℕ) → request ≡ read ++ left → MayAsk names read
-may_ask_of names request for left read is = record {
-  tested = request;
-  same = inr (record { rest = left; is = is });
-  head_state = for.head_state;
-  finds = for.looks;
-  may = may_of (may_ask_in names request for.head_state) request for.head_state for.asks;
-}
+after_connections : (names : List (List ℕ)) (past : History) (asked : List (Connection names))
+    → history_with past (of_connections names asked) ≡ connections.history_with past asked
+after_connections names past [] = refl
+after_connections names past (one ∷ earlier) = ap (λ h. with_asked h one.at one.asked) (after_connections names past earlier)
 
-asked_once : {B : Type 0} (names : List (List ℕ)) (ledger : B → Ledger) (at : ℕ) (old new : Office B) (request : List ℕ) (asked : PeerReply)
-    → ((left read : List ℕ) → request ≡ read ++ left → MayAsk names read)
-    → asking.Asks ledger at old new request asked → After ledger old new (λ past. ServesOne names at ledger past new)
-asked_once names ledger at old new request Open may h = handled names ledger at old new _ _ (may h.1.left) h.1.handles
-asked_once names ledger at old new request (Replied reply) may (inl h) = handled names ledger at old new _ _ (may h.left) h.handles
-asked_once names ledger at old new request (Replied reply) may (inr h) = handled names ledger at old new _ _ (may h.left) h.handles
-asked_once names ledger at old new request Failed may (reply, inl h) = handled names ledger at old new _ _ (may h.left) h.handles
-asked_once names ledger at old new request Failed may (reply, inr (inl h)) = handled names ledger at old new _ _ (may h.left) h.handles
-asked_once names ledger at old new request Failed may (reply, inr (inr h)) = handled names ledger at old new _ _ (may h.left) h.handles
+each_asked : (names : List (List ℕ)) (at : ℕ) (asked : List (Connection names)) → peers.AreAt at asked → AreAt at (of_connections names asked)
+each_asked names at [] h = tt
+each_asked names at (one ∷ earlier) h = (h.0, each_asked names at earlier h.1)
 
-pub goes_asked : {B : Type 0} (names : List (List ℕ)) (ledger : B → Ledger) (at : ℕ) (old new : Office B) (request : List ℕ) (asked : PeerReply)
-    → ((left read : List ℕ) → request ≡ read ++ left → MayAsk names read)
-    → asking.Asks ledger at old new request asked → http.Lasts ledger old new → Goes names at ledger old new
-goes_asked names ledger at old new request asked may asks lasts = record {
+pub goes_asked : {B : Type 0} (names : List (List ℕ)) (at : ℕ) (ledger : B → Ledger) (old new : Office B) → PeersAsk names at ledger old new
+    → Goes names at ledger old new
+goes_asked names at ledger old new ask = record {
   stands = λ past stands clean.
-      let served = asked_once names ledger at old new request asked may asks past stands clean in
-      record { steps = Asks served.connection ∷ []; each = (served.moment, tt); stands = served.stands };
-  clean = lasts.clean;
-  zone = lasts.zone;
-}
-
--- A question of the run itself leaves the office as it was.
-pub goes_looked : {B E : Type 0} (names : List (List ℕ)) (ledger : B → Ledger) (at : ℕ) (old new : Office B)
-    (reply : Result (Vec SiteRow Global) Refusal → List ℕ → List ℕ) (from to : List ℕ) (result : Result (Unit {0}) E)
-    → RepliesSite ledger old new reply from to result → Goes names at ledger old new
-goes_looked names ledger at old new reply from to result replies = record {
-  stands = λ past stands clean. record { steps = []; each = tt; stands = replies.asks.stands past stands };
-  clean = replies.asks.clean;
-  zone = replies.asks.zone;
-}
-
-pub goes_rows : {B T E : Type 0} (names : List (List ℕ)) (ledger : B → Ledger) (at : ℕ) (old new : Office B) (says : List Fact → Option (List T))
-    (text : List T → List ℕ) (from to : List ℕ) (result : Result (Unit {0}) E) → RepliesRows ledger old new says text from to result → Goes names at ledger old new
-goes_rows names ledger at old new says text from to result replies = record {
-  stands = λ past stands clean. record { steps = []; each = tt; stands = replies.asks.stands past stands };
-  clean = replies.asks.clean;
-  zone = replies.asks.zone;
-}
-
-pub goes_energy : {B E : Type 0} (names : List (List ℕ)) (ledger : B → Ledger) (at : ℕ) (old new : Office B) (register : Option (List ℕ)) (form : ReportForm)
-    (from to : List ℕ) (result : Result (Unit {0}) E) → RepliesEnergy ledger old new register form from to result → Goes names at ledger old new
-goes_energy names ledger at old new register form from to result replies = record {
-  stands = λ past stands clean. record { steps = []; each = tt; stands = replies.asks.stands past stands };
-  clean = replies.asks.clean;
-  zone = replies.asks.zone;
+      let after = ask.stands past stands clean in
+      record {
+        steps = of_connections names after.connections;
+        each = each_asked names at after.connections after.each;
+        stands =
+            let P : History → Type 0 = λ h. Stands ledger h new in
+            subst P (sym (after_connections names past after.connections)) after.stands;
+      };
+  clean = ask.clean;
+  zone = ask.zone;
 }
 
 -- ---- Turns

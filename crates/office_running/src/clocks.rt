@@ -3,29 +3,10 @@ ghost use Rattle.std.specs.Prelude.{◌≡◌};
 ghost use Rattle.office_running.specs.Runs.{ReadsClock};
 
 use crate::voice::Voice;
+use http_peers::even_milliseconds;
 use run_schedule::{RunTime, SteadyClock};
 use socket_link::Clock;
 use std::time::{SystemTime, UNIX_EPOCH};
-
-/// When something comes.
-#[derive(Clone, Copy)]
-pub(crate) struct Now {
-    /// The seconds of the run's time, by which it waits.
-    pub(crate) time: u64,
-    /// The moment at which it comes to the office, in seconds since 1970-01-01 UTC.
-    pub(crate) moment: u64,
-}
-
-/// What the clock tells that nobody sets, in milliseconds. Where it can't be read no time passes.
-pub(crate) fn even_milliseconds<R: std::rt::Clock>(rt: &R) -> u64 {
-    match rt.monotonic() {
-        Ok(since) => since
-            .as_secs()
-            .saturating_mul(1000)
-            .saturating_add(u64::from(since.subsec_millis())),
-        Err(_) => 0,
-    }
-}
 
 // How many milliseconds of the second have passed, by the clock of the moments.
 fn part_of_second<R: std::rt::Clock>(rt: &R) -> u64 {

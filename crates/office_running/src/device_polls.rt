@@ -2,10 +2,10 @@
 ghost use Rattle.std.specs.Prelude.{ℕ, List};
 ghost use Rattle.office_running.specs.Runs.{Goes};
 
-use crate::clocks::Now;
 use crate::devices::{Seen, Slot};
 use crate::settings::Site;
 use crate::voice::{Standing, Voice};
+use http_peers::Now;
 use mio::{Registry, Token};
 use office_books::Books;
 use office_core::Office;

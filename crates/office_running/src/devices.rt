@@ -1,9 +1,9 @@
 //! The connections to devices.
 ghost use Rattle.std.specs.Prelude.{◌≤◌, ◌<◌, ◌^◌};
 
-use crate::outbox::{Outbox, Went, went_by};
 use crate::settings::Site;
 use crate::voice::Standing;
+use http_peers::{Outbox, Went, went_by};
 use mio::net::TcpStream;
 use mio::{Interest, Registry, Token};
 use poll_core::Closing;

@@ -3,15 +3,16 @@ ghost use Rattle.std.specs.Prelude.{◌≡◌, ℕ, List};
 ghost use Rattle.http_request.specs.Hosts.{texts};
 ghost use Rattle.office_running.specs.Runs.{Goes, ReadsClock, RunsOn, TakesTurns, TurnsFrom};
 
-use crate::clocks::{Now, read_clock, read_time, time_from, to_next_second};
+use crate::clocks::{read_clock, read_time, time_from, to_next_second};
 use crate::device_polls::Polling;
 use crate::fault::RunFault;
-use crate::http_port::Serving;
 use crate::leftovers::{Left, print_left};
 use crate::outlet::Outlet;
 use crate::settings::{Settings, Site};
 use crate::voice::Voice;
-use mio::{Events, Poll, Token};
+use http_peers::{HttpPort, KeptRoom, Now, PORT_TOKEN, RunTold};
+use mio::net::TcpListener;
+use mio::{Events, Interest, Poll, Registry, Token};
 use office_books::Books;
 use office_core::Office;
 use office_rounds::DeviceEvent;
@@ -21,22 +22,35 @@ use run_status::DeviceLack;
 use socket_link::Clock;
 use std::alloc::{AllocError, Global};
 use std::io::{ErrorKind, Write};
-use std::net::Net;
+use std::net::{Net, SocketAddr};
 use std::os::fd::RawFd;
 use std::time::Duration;
 
 /// The token of the first device.
-const FIRST_DEVICE: usize = MOST_PEERS + 1;
+const FIRST_DEVICE: usize = PORT_TOKEN + 1;
 
 /// After how many milliseconds it is tried again to accept a connection.
 const RETRY: u64 = 100;
+
+// When a run ends: by its time, or by the clock that tells the moments.
+#[derive(Clone, Copy)]
+struct End {
+    time: u64,
+    moment: u64,
+}
+
+impl End {
+    fn has_come(self, now: Now) -> bool {
+        self.time <= now.time || self.moment <= now.moment
+    }
+}
 
 /// The process: its sockets, and what is told of it.
 #[derive(Drop)]
 struct Running {
     poll: Poll,
     polling: Polling,
-    serving: Serving,
+    port: HttpPort,
     voice: Voice,
     /// The lines of what happens, and what is said to people.
     lines: Outlet,
@@ -71,6 +85,27 @@ fn descriptors_of(settings: &Settings<'_>) -> (Option<RawFd>, Option<RawFd>) {
     }
 }
 
+// Opens a port, and has the registry tell when a connection waits there.
+fn listen<R: Net>(rt: &R, registry: &Registry, addr: SocketAddr) -> Result<TcpListener, RunFault> {
+    let Ok(mut listener) = TcpListener::bind(rt, addr) else {
+        return Err(RunFault::Port);
+    };
+    match registry.register(&mut listener, Token(PORT_TOKEN), Interest::READABLE) {
+        Ok(()) => Ok(listener),
+        Err(_) => Err(RunFault::Sockets),
+    }
+}
+
+// The port of a listener, with room to keep as much of what is asked as the settings leave.
+fn port_of(
+    alloc: Global,
+    listener: TcpListener,
+    settings: &Settings<'_>,
+) -> Result<HttpPort, AllocError> {
+    let room = KeptRoom::new(settings.most_kept, settings.kept);
+    HttpPort::new(alloc, listener, room)
+}
+
 impl Running {
     // Opens the port. Each device rests until it is due.
     fn open<R: Net>(
@@ -87,11 +122,11 @@ impl Running {
         let polling = Polling::new(alloc, sites, settings.every, time)?;
         let voice = voice_of(alloc, sites, lacks, settings.verbose)?;
         let (output, errors) = descriptors_of(settings);
-        let serving = Serving::open(rt, alloc, poll.registry(), settings)?;
+        let listener = listen(rt, poll.registry(), settings.listen)?;
         Ok(Running {
             poll,
             polling,
-            serving,
+            port: port_of(alloc, listener, settings)?,
             voice,
             lines: Outlet::open(rt, alloc, output),
             sayings: Outlet::open(rt, alloc, errors),
@@ -107,7 +142,7 @@ impl Running {
         output: &mut W,
         errors: &mut E,
     ) -> Result<(), RunFault> {
-        if self.serving.take_full() {
+        if self.port.take_full() {
             self.voice.say_full();
         }
         self.sayings.put(now.moment, &self.voice.take_said());
@@ -121,7 +156,7 @@ impl Running {
 
     // What is to be done once a second, but for the office.
     fn begin_second<R: Net>(&mut self, rt: &R, now: Now) {
-        self.serving.sweep(now.time);
+        self.port.sweep(now.time);
         self.polling.begin_all(rt, self.poll.registry(), FIRST_DEVICE, &mut self.voice, now);
     }
 
@@ -148,12 +183,15 @@ impl Running {
     )
         ensures { Goes (texts names.now) now.moment B.ledger office.old office.new }
     {
-        self.serving.accept(self.poll.registry(), now.time);
-        let first = self.serving.first();
+        self.port.accept(self.poll.registry(), now.time);
+        let first = self.port.first();
         for step in 0..MOST_PEERS {
             let place = place_at(first, step);
-            self.serving
-                .attend(rt, place, names, office, &self.voice, now);
+            let told = RunTold {
+                monitor: &self.voice.monitor,
+                lacks: &self.voice.lacks,
+            };
+            self.port.attend(rt, place, names, office, &told, now);
         }
     }
 
@@ -203,7 +241,7 @@ impl Running {
     )
         ensures { Goes (texts names.now) now.moment B.ledger office.old office.new }
     {
-        self.serving.begin_turn();
+        self.port.begin_turn();
         self.tick(rt, office, now);
         self.attend_devices(rt, names, events, office, now);
         self.attend_peers(rt, names, office, now);
@@ -232,12 +270,12 @@ impl Running {
         events: &mut Events<Global>,
         office: &mut Office<B>,
         now: Now,
-        until: u64,
+        end: End,
     ) -> bool
         ensures { Goes (texts names.now) now.moment B.ledger office.old office.new }
     {
         self.go_on(rt, names, events, office, now);
-        if now.time < until {
+        if !end.has_come(now) {
             return false;
         }
         self.end_rounds(office, now);
@@ -246,14 +284,14 @@ impl Running {
 
     // How many milliseconds to wait for the sockets: none where a second has passed in this turn.
     fn patience<R: std::rt::Clock>(&self, rt: &R, time: &mut RunTime) -> u64 {
-        if self.polling.is_ready() || self.serving.is_ready() {
+        if self.polling.is_ready() || self.port.is_ready() {
             return 0;
         }
         let second = to_next_second(rt, time);
         if self.time < time.seconds() {
             return 0;
         }
-        if self.serving.is_waiting() {
+        if self.port.is_waiting() {
             second.min(RETRY)
         } else {
             second
@@ -273,7 +311,7 @@ impl Running {
         for event in &*events {
             let Token(token) = event.token();
             if token < FIRST_DEVICE {
-                self.serving.mark(token);
+                self.port.mark(token);
             } else {
                 self.polling.mark(token - FIRST_DEVICE);
             }
@@ -334,13 +372,13 @@ impl Running {
         time: &mut RunTime,
         events: &mut Events<Global>,
         now: Now,
-        until: u64,
+        end: End,
         output: &mut W,
         errors: &mut E,
     ) -> Result<bool, RunFault>
         ensures { Goes (texts names.now) now.moment B.ledger office.old office.new }
     {
-        let is_over = self.act(rt, names, events, office, now, until);
+        let is_over = self.act(rt, names, events, office, now, end);
         self.rest(rt, time, events, now, output, errors, is_over)?;
         Ok(is_over)
     }
@@ -382,7 +420,7 @@ impl Running {
         steady: &mut SteadyClock,
         time: &mut RunTime,
         events: &mut Events<Global>,
-        until: u64,
+        end: End,
         output: &mut W,
         errors: &mut E,
     ) -> Result<(), RunFault>
@@ -395,7 +433,7 @@ impl Running {
                 time: self.time,
                 moment,
             };
-            let is_over = self.turn(rt, names, office, time, events, now, until, output, errors)?;
+            let is_over = self.turn(rt, names, office, time, events, now, end, output, errors)?;
             if is_over {
                 return Ok(());
             }
@@ -406,10 +444,13 @@ impl Running {
 }
 
 // When a run ends that begins now.
-fn end_of(settings: &Settings<'_>, now: u64) -> u64 {
-    match settings.lasts {
-        Some(seconds) => now.saturating_add(seconds),
-        None => u64::MAX,
+fn end_of(settings: &Settings<'_>, now: u64) -> End {
+    End {
+        time: match settings.lasts {
+            Some(seconds) => now.saturating_add(seconds),
+            None => u64::MAX,
+        },
+        moment: settings.ends.unwrap_or(u64::MAX),
     }
 }
 
@@ -459,7 +500,7 @@ fn run_from<R: Net + std::rt::Clock, B: Books, C: Clock, W: Write, E: Write>(
     let mut events = Events::with_capacity(alloc, sockets)?;
     let begun = time.seconds();
     let mut running = open(rt, alloc, left, lacks, settings, sites, begun, output)?;
-    let until = end_of(settings, begun);
+    let end = end_of(settings, begun);
     running.turns(
         rt,
         settings.host_names,
@@ -468,7 +509,7 @@ fn run_from<R: Net + std::rt::Clock, B: Books, C: Clock, W: Write, E: Write>(
         &mut steady,
         &mut time,
         &mut events,
-        until,
+        end,
         output,
         errors,
     )

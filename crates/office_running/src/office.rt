@@ -24,9 +24,9 @@ pub struct Ran<B> {
     pub end: Result<(), RunFault>,
 }
 
-/// Opens an office over books, polls its devices on a schedule and answers HTTP on a port, until the time is up. It prints
-/// up to which moment the books go and how many polls are lost, and `listening PORT` once the port is open; then a line an
-/// event, as far as these can be written without waiting for a reader: others are dropped and counted. On errors it says once
+/// Opens an office over books, polls its devices on a schedule and answers HTTP on a port, until the time is up, or the moment
+/// has come at which it ends. It prints up to which moment the books go and how many polls are lost, and `listening PORT` once
+/// the port is open; then a line an event, as far as these can be written without waiting for a reader: others are dropped and counted. On errors it says once
 /// what a device lacks, and what each refusal and each held reading means. A clock that is set back is told once, and what comes
 /// then comes at the latest moment. All that the office is fed comes at moments of the clock, in seconds since 1970-01-01 UTC.
 pub fn run_office<R: Net + std::rt::Clock, B: Books, C: Clock, W: Write, E: Write>(

@@ -132,3 +132,16 @@ impl Outlet {
         Ok(())
     }
 }
+
+/// Writes lines as far as nobody has to be waited for who reads what stands behind a descriptor. What can't be written now is dropped.
+pub fn write_without_waiting<R: Net, W: Write>(
+    rt: &R,
+    alloc: Global,
+    descriptor: Option<RawFd>,
+    lines: &[u8],
+    output: &mut W,
+) -> io::Result<()> {
+    let mut outlet = Outlet::open(rt, alloc, descriptor);
+    outlet.put(0, lines);
+    outlet.write(output)
+}

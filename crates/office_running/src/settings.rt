@@ -26,6 +26,8 @@ pub struct Settings<'n> {
     pub every: u64,
     /// How long the process runs; without an end where that is `None`.
     pub lasts: Option<u64>,
+    /// The moment of the clock at which the process ends too, in seconds since 1970-01-01 UTC; none where that is `None`.
+    pub ends: Option<u64>,
     /// By which names HTTP may be asked, besides those of this machine alone.
     pub host_names: &'n [&'n str],
     /// How many bytes of requests were kept in the books when they were opened, and how many may be at most: a command for which

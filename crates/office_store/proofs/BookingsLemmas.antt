@@ -7,7 +7,6 @@ pub mod Moves
 pub mod Booking
 pub mod Rolling
 pub mod Finding
-pub mod Around
 pub mod Exchanging
 pub mod Later
 pub mod Left

@@ -92,6 +92,11 @@ impl<S: Alter + Drop> Books for SqlBooks<S> {
         answered(&mut self.failures, found)
     }
 
+    fn entry_near(&mut self, meter: &Name, place: u64) -> Result<Option<EntryPlace>, BooksFault> {
+        let found = store_queries::entry_near(self.alloc, &mut self.connection, meter, place);
+        answered(&mut self.failures, found)
+    }
+
     fn entries(
         &mut self,
         meter: &Name,

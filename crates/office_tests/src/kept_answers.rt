@@ -28,6 +28,8 @@ enum Step {
     Registers(usize),
     /// The latest meter at the register `main`, its energy in mWh, and whether it was closed.
     Stands(&'static [u8], u64, bool),
+    /// The energy in mWh of a meter whose second entry is told by the rows around it.
+    Told(&'static [u8], u64),
     /// So many polls were started.
     Started(u64),
     /// The poll 1 waits, or has ended.
@@ -40,7 +42,7 @@ static ENDED: EndedPoll = EndedPoll {
     outcome: Outcome::Silent,
 };
 
-static STEPS: [Step; 32] = [
+static STEPS: [Step; 33] = [
     Step::Books(&[Booked::Device, Booked::Register]),
     Step::Reads(0),
     Step::Lists(LIST),
@@ -73,10 +75,11 @@ static STEPS: [Step; 32] = [
     Step::Books(&[Booked::Ended(ENDED)]),
     Step::Waits(false),
     Step::Started(1),
+    Step::Told(b"old", 1_600_000),
 ];
 
 // What the books beneath were asked: each step but those whose answer was kept.
-const CALLS: u64 = 22;
+const CALLS: u64 = 23;
 
 fn one(alloc: Global, fact: Fact) -> Option<Vec<Fact>> {
     let mut facts = Vec::new(alloc);
@@ -140,6 +143,16 @@ fn stands<B: Books>(
     }
 }
 
+fn is_told<B: Books>(books: &mut B, meter: &[u8], total: u64) -> Result<bool, BooksFault> {
+    let Some(meter) = Name::new(meter) else {
+        return Ok(false);
+    };
+    match books.entry_near(&meter, 2)? {
+        Some(found) => Ok(found.row.place == 2 && found.before.total == total),
+        None => Ok(false),
+    }
+}
+
 fn waits<B: Books>(books: &mut B, waits: bool) -> Result<bool, BooksFault> {
     match books.poll(1)? {
         Some(row) => Ok(row.poll.number == 1 && row.ended.is_none() == waits),
@@ -159,6 +172,7 @@ fn told<B: Books>(alloc: Global, books: &mut B, step: Step) -> Result<bool, Book
         Step::Reads(count) => has_reads(books, &device, count),
         Step::Registers(count) => has_registers(books, &device, count),
         Step::Stands(meter, total, ended) => stands(books, &main, meter, total, ended),
+        Step::Told(meter, total) => is_told(books, meter, total),
         Step::Started(count) => Ok(books.poll_count()? == count),
         Step::Waits(still) => waits(books, still),
     }

@@ -25,6 +25,8 @@ mod kept_answers;
 #[cfg(test)]
 mod kept_rows;
 #[cfg(test)]
+mod led_files;
+#[cfg(test)]
 mod links;
 #[cfg(test)]
 mod list_books;
@@ -42,6 +44,8 @@ mod offices;
 mod parts;
 #[cfg(test)]
 mod peers;
+#[cfg(test)]
+mod periods;
 #[cfg(test)]
 mod planned_lists;
 #[cfg(test)]

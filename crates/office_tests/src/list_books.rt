@@ -4,7 +4,7 @@ use crate::kept_rows::KeptRows;
 use energy_core::Cause;
 use memory_books::ListBooks;
 use meter_journal::EntryKind;
-use office_books::{Books, Span};
+use office_books::{Books, Span, with_whole_energy};
 use office_events::{EndedPoll, EntryPlace, HeldReading, Installation, Name, Poll, PollRow};
 use poll_core::Outcome;
 use std::alloc::Global;
@@ -57,6 +57,10 @@ fn installation(books: &mut ListBooks, register: &[u8]) -> Option<Installation> 
 
 fn entry(books: &mut ListBooks, meter: &[u8], place: u64) -> Option<EntryPlace> {
     books.entry(&Name::new(meter)?, place).ok()?
+}
+
+fn entry_near(books: &mut ListBooks, meter: &[u8], place: u64) -> Option<EntryPlace> {
+    books.entry_near(&Name::new(meter)?, place).ok()?
 }
 
 // The meter went 2,000 counts, 2 kWh, and was closed; a second one stands in its place.
@@ -121,6 +125,33 @@ fn a_void_gives_way(rt: HostRuntime) {
     assert!(rt; is_voided(&entry(&mut books, b"m1", 3), 1_500_000));
     assert!(rt; entry(&mut books, b"m1", 4).is_none());
     assert!(rt; books.latest() == Ok(9000));
+}
+
+// Whether the counter stood there before an entry, and the meter has so much energy, in mWh.
+fn stood_at(found: &Option<EntryPlace>, raw: u32, total: u64) -> bool {
+    match found {
+        Some(place) => place.before.last.raw == raw && place.before.total == total,
+        None => false,
+    }
+}
+
+/// An entry is told with the energy of the whole meter.
+#[test]
+fn an_entry_is_told_by_its_neighbours(rt: HostRuntime) {
+    let mut books = books_of(rt.alloc(), &VOIDED).expect(&rt, "a void");
+    assert!(rt; stood_at(&entry(&mut books, b"m1", 2), 0, 0));
+    assert!(rt; stood_at(&entry_near(&mut books, b"m1", 2), 0, 1_500_000));
+    assert!(rt; entry_near(&mut books, b"m1", 4).is_none());
+    assert!(rt; entry_near(&mut books, b"m2", 2).is_none());
+}
+
+#[test]
+fn the_energy_of_the_whole_meter_is_put_in(rt: HostRuntime) {
+    let mut books = books_of(rt.alloc(), &VOIDED).expect(&rt, "a void");
+    let found = entry(&mut books, b"m1", 2).expect(&rt, "an entry");
+    let whole = meter(&mut books, b"m1").expect(&rt, "a meter");
+    let told = with_whole_energy(&found, &whole);
+    assert!(rt; stood_at(&Some(told), 0, 1_500_000));
 }
 
 // Of two readings of a meter that were held one went too fast, and one shows a counter that does not count.

@@ -15,7 +15,7 @@ struct Case {
     answer: Refusal,
 }
 
-static CASES: [Case; 24] = [
+static CASES: [Case; 25] = [
     Case {
         line: "2000 device inv 1 5 1",
         look_ups: 0,
@@ -108,6 +108,11 @@ static CASES: [Case; 24] = [
     },
     Case {
         line: "2000 void m1 1",
+        look_ups: 1,
+        answer: Refusal::NotVoidable,
+    },
+    Case {
+        line: "2000 void m1 3",
         look_ups: 1,
         answer: Refusal::NotVoidable,
     },

@@ -2,3 +2,4 @@
 pub mod StayingEntries
 pub mod StayingShares
 pub mod StayingRows
+pub mod Parts

@@ -3,3 +3,5 @@ pub mod Rows
 pub mod Voids
 pub mod Spelled
 pub mod Energy
+pub mod Asked
+pub mod Pieces

@@ -4,6 +4,8 @@ pub mod MeterTargets
 pub mod Answer
 pub mod SiteReply
 pub mod MetricsReply
+pub mod OfficeRequests
+pub mod Pieces
 pub mod MeterReplies
 pub mod Voids
 pub mod RegisterTargets

@@ -78,13 +78,16 @@ pub record IsFor (names : List (List ℕ)) (bytes : List ℕ) (route : Option Ru
   pub looks : Looks bytes head_state
   pub asks : IsRunRoute (may_ask_in names bytes head_state) bytes head_state route
 
--- the status and the headers of each reply
-abbrev pub with_start : HttpStatus → (kind body : List ℕ) → List ℕ → List ℕ
-with_start status kind body text =
+-- the status and the headers of each reply, whose body has so many bytes
+abbrev pub with_start_of : HttpStatus → (kind : List ℕ) → (size : ℕ) → List ℕ → List ℕ
+with_start_of status kind size text =
     text ++ codes "HTTP/1.1 " ++ decimal (number_of_status status) ++ codes " "
     ++ reason_of_status status
-    ++ codes "\r\nContent-Type: " ++ kind ++ codes "\r\nContent-Length: " ++ decimal (length body)
+    ++ codes "\r\nContent-Type: " ++ kind ++ codes "\r\nContent-Length: " ++ decimal size
     ++ codes "\r\nConnection: close"
+
+abbrev pub with_start : HttpStatus → (kind body : List ℕ) → List ℕ → List ℕ
+with_start status kind body text = with_start_of status kind (length body) text
 
 abbrev pub with_reply : HttpStatus → (kind body : List ℕ) → List ℕ → List ℕ
 with_reply status kind body text =

@@ -8,11 +8,14 @@ mod laws;
 mod meter_replies;
 mod meter_targets;
 mod metrics;
+mod office_requests;
+mod pieces;
 mod register_meters;
 mod register_replies;
 mod register_targets;
 mod reply_link;
 mod route;
+mod row_sizes;
 mod site;
 mod texts;
 mod voids;
@@ -21,6 +24,11 @@ pub use answer::{PeerReply, ask};
 pub use laws::{entries_come_after, rows_before_stay};
 pub use meter_replies::{MOST_ENTRIES, reply_entries, reply_intervals};
 pub use metrics::reply_metrics;
+pub use office_requests::{all_rows_asked, may_void};
+pub use pieces::{
+    RowsLeft, are_many, begin_all_intervals, begin_intervals, end_rows, has_more, pieces_are_whole,
+    tell_rows, text_stays,
+};
 pub use register_meters::reply_meters;
 pub use register_replies::reply_energy;
 pub use route::{RunRoute, StatusRoute, reply_status, run_route};

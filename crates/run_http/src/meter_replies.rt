@@ -19,8 +19,8 @@ use std::alloc::{AllocError, Global};
 /// The most entries that a reply tells.
 pub const MOST_ENTRIES: u32 = 4096;
 
-// Asks the office for the quarter hours of a meter.
-fn ask_intervals<B: Books>(
+/// Asks the office for the quarter hours of a meter.
+pub(crate) fn ask_intervals<B: Books>(
     alloc: Global,
     office: &mut Office<B>,
     meter: &Option<Name>,

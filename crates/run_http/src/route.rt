@@ -137,16 +137,29 @@ pub fn run_route(names: &[&str], request: &[u8]) -> Option<RunRoute>
     }
 }
 
-// Puts the status and the headers of each reply, for a body of a kind.
-fn put_start(text: &mut Vec<u8>, status: Status, kind: &[u8], body: &[u8]) -> Result<(), AllocError>
+/// Puts the status and the headers of each reply, for a body of a kind that has so many bytes.
+pub(crate) fn put_start_of(
+    text: &mut Vec<u8>,
+    status: Status,
+    kind: &[u8],
+    size: usize,
+) -> Result<(), AllocError>
     ensures { OnOk result (text.new.items
-        ≡ texts.with_start status kind.now body.now text.old.items) }
+        ≡ texts.with_start_of status kind.now size text.old.items) }
 {
     put_number(text, b"HTTP/1.1 ", u64::from(status.number()))?;
     put_word(text, b" ", status.reason())?;
     put_word(text, b"\r\nContent-Type: ", kind)?;
-    put_number(text, b"\r\nContent-Length: ", body.len() as u64)?;
+    put_number(text, b"\r\nContent-Length: ", size as u64)?;
     put(text, b"\r\nConnection: close")
+}
+
+// Puts those of a body.
+fn put_start(text: &mut Vec<u8>, status: Status, kind: &[u8], body: &[u8]) -> Result<(), AllocError>
+    ensures { OnOk result (text.new.items
+        ≡ texts.with_start status kind.now body.now text.old.items) }
+{
+    put_start_of(text, status, kind, body.len())
 }
 
 /// Puts a reply with a body of a kind.

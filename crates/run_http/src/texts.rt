@@ -7,6 +7,7 @@ mod metrics;
 mod register_lines;
 mod site;
 
+pub(crate) use meter_lines::{put_end, put_share, put_share_lines};
 pub use meter_lines::{put_entries, put_shares, put_voids};
 pub use metrics::put_metrics;
 pub use register_lines::put_register_meters;

@@ -1,2 +1,3 @@
 pub mod Oldest
 pub mod TurnShares
+pub mod HeldReplies

@@ -1,11 +1,13 @@
 //! The places of the connections that are served at once.
 
 mod choice;
+mod held_replies;
 mod peers;
 mod place;
 mod turn_share;
 
 pub use choice::place_for;
+pub use held_replies::{little_is_held, may_reply};
 pub use peers::{Admission, MOST_PEERS, Peers};
 pub use place::Place;
 pub use turn_share::{TurnShare, place_at, replies_are_few, turns_go_round};

@@ -3,6 +3,7 @@
 
 mod grid;
 mod limits;
+mod onward_time;
 mod pauses;
 mod run_time;
 mod steady_clock;
@@ -10,6 +11,7 @@ mod timing;
 
 pub use grid::next_due;
 pub use limits::{CONNECT_SECONDS, LEAST_ROUND, MOST_EVERY, PEER_SECONDS, round_until, until};
+pub use onward_time::OnwardTime;
 pub use pauses::{MOST_PAUSE, next_pause, retry_at};
 pub use run_time::RunTime;
 pub use steady_clock::{ClockReading, SteadyClock};

@@ -108,6 +108,7 @@ Options:
       --every <SECONDS>   From one round of a device to its next, 1 to 86400
       --devices <LIST>    1 to 64 of NAME=HOST:PORT, joined by commas
       --for <SECONDS>     Ends after this long, 1 to 4000000000
+      --carry <PERIOD>    Begins a new file each month or year: month or year
       --host-name <NAME>  Another name that Host may say; may stand several times
       --most-kept <MB>    Answers commands 503 past so many megabytes of kept ones, 1 to 1000000
       --verbose           Prints more of what goes on

@@ -2,7 +2,7 @@
 use command_words::{CommandLine, Device, FormWords, Sealing, command_of};
 use energy_report::{EnergyUnit, Format, Period};
 
-const RIGHT: [(&[&str], CommandLine<'static>); 27] = [
+const RIGHT: [(&[&str], CommandLine<'static>); 24] = [
     // no word is replay
     (&[], CommandLine::Replay { zone: "UTC0" }),
     (&["replay"], CommandLine::Replay { zone: "UTC0" }),
@@ -235,27 +235,6 @@ const RIGHT: [(&[&str], CommandLine<'static>); 27] = [
             until: Some(4_294_967_295),
         },
     ),
-    (
-        &["audit", "--db", "o.db"],
-        CommandLine::Audit {
-            db: "o.db",
-            seal: Sealing::Nothing,
-        },
-    ),
-    (
-        &["audit", "--db", "o.db", "--seal"],
-        CommandLine::Audit {
-            db: "o.db",
-            seal: Sealing::Print,
-        },
-    ),
-    (
-        &["audit", "--against", "seal.txt", "--db", "o.db"],
-        CommandLine::Audit {
-            db: "o.db",
-            seal: Sealing::Against("seal.txt"),
-        },
-    ),
     // what is no number is told by the table of meanings, and not here
     (
         &["explain", "refused", "12"],
@@ -295,6 +274,38 @@ fn a_stand_in_is_at_this_host_where_none_is_given(rt: HostRuntime) {
     assert!(rt; command_of(rt.alloc(), &words) == Ok(expected));
 }
 
+/// The words of audits, their files, and what they have to do with a seal.
+static AUDITS: [(&[&str], &[&str], Sealing<'static>); 4] = [
+    (&["audit", "--db", "o.db"], &["o.db"], Sealing::Nothing),
+    (
+        &["audit", "--db", "o.db", "--seal"],
+        &["o.db"],
+        Sealing::Print,
+    ),
+    (
+        &["audit", "--against", "seal.txt", "--db", "o.db"],
+        &["o.db"],
+        Sealing::Against("seal.txt"),
+    ),
+    (
+        &["audit", "--db=old.db", "--db", "o.db"],
+        &["old.db", "o.db"],
+        Sealing::Nothing,
+    ),
+];
+
+#[test]
+fn an_audit_takes_its_files_and_its_seal(rt: HostRuntime) {
+    for (words, files, asked) in &AUDITS {
+        match command_of(rt.alloc(), words) {
+            Ok(CommandLine::Audit { dbs, seal }) => {
+                assert!(rt; dbs.as_slice() == *files && seal == *asked, "{words:?}");
+            }
+            _ => panic!(rt; "no audit"),
+        }
+    }
+}
+
 static RUN: [&str; 9] = [
     "run",
     "--db",
@@ -307,7 +318,7 @@ static RUN: [&str; 9] = [
     "inv=192.0.2.7:502",
 ];
 
-static RUN_ALL: [&str; 13] = [
+static RUN_ALL: [&str; 15] = [
     "run",
     "--verbose",
     "--db=o.db",
@@ -317,6 +328,8 @@ static RUN_ALL: [&str; 13] = [
     "inv=meter.lan:502,b=[::1]:1",
     "--for",
     "3600",
+    "--carry",
+    "month",
     "--host-name=a.example",
     "--most-kept",
     "100",
@@ -358,6 +371,35 @@ fn an_entering_asks_and_reads_no_counter_where_nothing_more_is_given(rt: HostRun
             assert!(rt; devices.is_empty());
         }
         _ => panic!(rt; "no enter"),
+    }
+}
+
+static REPORT_FILES: [&str; 8] = [
+    "report",
+    "--db=2026.db",
+    "--register",
+    "main",
+    "--db",
+    "o.db",
+    "--statement",
+    "--",
+];
+
+#[test]
+fn a_report_takes_its_files_in_their_order(rt: HostRuntime) {
+    match command_of(rt.alloc(), &REPORT_FILES) {
+        Ok(
+            CommandLine::ReportFiles {
+                files,
+                register,
+                form,
+            },
+        ) => {
+            let names = ["2026.db", "o.db"];
+            assert!(rt; files.as_slice() == names.as_slice());
+            assert!(rt; register == "main" && form.statement);
+        }
+        _ => panic!(rt; "no report"),
     }
 }
 
@@ -451,11 +493,13 @@ fn run_goes_on_where_no_end_is_given(rt: HostRuntime) {
                 every,
                 devices,
                 lasts,
+                carry,
                 host_names,
                 most_kept,
                 verbose,
             },
         ) => {
+            assert!(rt; carry == None);
             assert!(rt; host_names.is_empty() && most_kept == None);
             assert!(rt; db == "o.db" && listen == 8080 && every == 60);
             assert!(rt; lasts == None && !verbose);
@@ -472,6 +516,7 @@ fn run_takes_an_end_and_verbose(rt: HostRuntime) {
             CommandLine::Run {
                 devices,
                 lasts,
+                carry,
                 host_names,
                 most_kept,
                 verbose,
@@ -479,10 +524,33 @@ fn run_takes_an_end_and_verbose(rt: HostRuntime) {
             },
         ) => {
             assert!(rt; most_kept == Some(100));
+            assert!(rt; carry == Some(Period::Month));
             assert!(rt; host_names.as_slice() == ["a.example"].as_slice());
             assert!(rt; lasts == Some(3600) && verbose);
             assert!(rt; devices.as_slice() == ALL_DEVICES.as_slice());
         }
+        _ => panic!(rt; "no run"),
+    }
+}
+
+static RUN_BY_YEARS: [&str; 11] = [
+    "run",
+    "--db",
+    "o.db",
+    "--listen",
+    "8080",
+    "--every",
+    "60",
+    "--devices",
+    "inv=192.0.2.7:502",
+    "--carry",
+    "year",
+];
+
+#[test]
+fn run_takes_a_file_each_year(rt: HostRuntime) {
+    match command_of(rt.alloc(), &RUN_BY_YEARS) {
+        Ok(CommandLine::Run { carry, .. }) => assert!(rt; carry == Some(Period::Year)),
         _ => panic!(rt; "no run"),
     }
 }

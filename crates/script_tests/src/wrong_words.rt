@@ -1,7 +1,7 @@
 //! Words that spell no command.
 use command_words::{WordsFault, command_of};
 
-static WRONG: [&[&str]; 52] = [
+static WRONG: [&[&str]; 56] = [
     &["bogus"],
     &[""],
     &["Plan"],
@@ -36,6 +36,7 @@ static WRONG: [&[&str]; 52] = [
     &["round", "--db", "x", "--port", "1"],
     &["round", "--db", "x", "--device", "d"],
     &["report", "--db", "x"],
+    &["report", "--register", "r"],
     &["report", "--db", "x", "--register", "r", "--by", "week"],
     &["report", "--db", "x", "--register", "r", "--unit", "wh"],
     &["report", "--db", "x", "--register", "r", "--format", "xml"],
@@ -68,11 +69,26 @@ static WRONG: [&[&str]; 52] = [
     &["audit"],
     &["audit", "--db", "x", "--against"],
     &["audit", "--db", "x", "--seal", "--against", "s"],
+    &["audit", "--db", "x", "--db", "y", "--seal"],
+    &["audit", "--against", "s", "--db", "x", "--db", "y"],
     &["explain", "refused"],
     &["explain", "refused", "1", "2"],
     &["completions"],
     &["completions", "zsh"],
     &["run", "--db", "x", "--listen", "1", "--every", "1"],
+    &[
+        "run",
+        "--db",
+        "x",
+        "--listen",
+        "1",
+        "--every",
+        "1",
+        "--devices",
+        "a=h:1",
+        "--carry",
+        "day",
+    ],
 ];
 
 #[test]
@@ -114,6 +130,21 @@ fn another_shell_is_named(rt: HostRuntime) {
         panic!(rt; "not wrong");
     };
     assert!(rt; text.as_str() == SHELL_TEXT);
+}
+
+static TWO_SEALED: [&str; 6] = ["audit", "--db", "x", "--db", "y", "--seal"];
+
+static TWO_SEALED_TEXT: &str = "error: the argument '--seal' cannot be used with several '--db'
+
+For more information, try '--help'.
+";
+
+#[test]
+fn two_files_have_no_seal(rt: HostRuntime) {
+    let Err(WordsFault::Wrong(text)) = command_of(rt.alloc(), &TWO_SEALED) else {
+        panic!(rt; "not wrong");
+    };
+    assert!(rt; text.as_str() == TWO_SEALED_TEXT);
 }
 
 static WEEK: [&str; 7] = ["report", "--db", "x", "--register", "r", "--by", "week"];

@@ -2,6 +2,7 @@
 use Rattle.std.specs.Prelude.{◌≡◌, ℕ, ℤ, ◌+◌, ◌≤◌, IsTrue, true, false, List, [], ◌∷◌, length, map, Vec, Option, Some, None}
 use Rattle.std.specs.List.{find}
 use Rattle.mb_wire.specs.declared.span.ReadFunction.{ReadFunction}
+use Rattle.energy_core.specs.declared.entries.Last.{Last}
 use Rattle.energy_core.specs.declared.entries.Entry.{Entry}
 use Rattle.energy_core.specs.declared.entries.Entry.TheVariants as entry
 use Rattle.energy_core.specs.Account.{moment_of, last_of}
@@ -206,6 +207,15 @@ opening_row opening =
       after = 0;
       sf = opening.sf;
     }
+
+-- where the counter stands after an entry: at what it was set to, if it was
+abbrev pub raw_after : EntryKind → EntryRow → ℕ
+raw_after kind.Reset e = e.after
+raw_after kind.Rescale e = e.after
+raw_after _ e = e.raw
+
+abbrev pub counter_after : EntryRow → Last
+counter_after e = record { at = e.moment; raw = raw_after e.kind e; sf = e.sf }
 
 abbrev pub entered : (meter : List ℕ) → EntryRow → Entered
 entered meter row = record { meter = meter; entry = row }

@@ -18,7 +18,7 @@ pub use meter_rows::register_meter_rows;
 pub use names::{name, text};
 pub use points::points_at;
 pub use rows::{
-    begun_row, device_row, entry_row, hold_row, is_scale, is_sound_opening, last_row, opening_row,
-    outcome_row, poll_row, register_row,
+    begun_row, counter_after, device_row, entry_row, hold_row, is_scale, is_sound_opening,
+    last_row, opening_row, outcome_row, poll_row, register_row,
 };
 pub use voids::{drop_rows_from, entry_at, place_after, place_before, take_step};

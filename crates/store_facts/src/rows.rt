@@ -63,6 +63,24 @@ pub fn last_row(last: Last, total: u64) -> LastRow
     }
 }
 
+/// Where the counter stands after an entry.
+pub fn counter_after(entry: &EntryRow) -> Last
+    ensures { result ≡ rows.counter_after entry.now }
+{
+    let raw = match entry.kind {
+        store_tables::EntryKind::Opening
+        | store_tables::EntryKind::Reading
+        | store_tables::EntryKind::Manual
+        | store_tables::EntryKind::Closing => entry.raw,
+        store_tables::EntryKind::Reset | store_tables::EntryKind::Rescale => entry.after,
+    };
+    Last {
+        at: entry.moment,
+        raw,
+        sf: entry.sf,
+    }
+}
+
 fn kind(kind: EntryKind) -> store_tables::EntryKind
     ensures { result ≡ rows.kind_as kind }
 {

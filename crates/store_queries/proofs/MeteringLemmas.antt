@@ -9,5 +9,7 @@ pub mod Shapes
 pub mod Journals
 pub mod Entering
 pub mod Marked
+pub mod Around
+pub mod Near
 pub mod RegisterMeters
 pub mod Listing

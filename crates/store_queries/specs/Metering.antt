@@ -3,3 +3,4 @@ pub mod Looking
 pub mod RegisterMeters
 pub mod Meters
 pub mod Entries
+pub mod Around

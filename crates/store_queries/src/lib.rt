@@ -9,6 +9,6 @@ pub use finding::{
     registers, repeat,
 };
 pub use metering::{
-    entry, holds, installation, installation_count, intervals, meter, meter_entries, meters_at,
-    register_intervals,
+    entry, entry_near, holds, installation, installation_count, intervals, meter, meter_entries,
+    meters_at, register_intervals,
 };

@@ -1,5 +1,6 @@
 //! Look-ups of meters over the tables of the books.
 
+mod around;
 mod entries;
 mod held_readings;
 mod installations;
@@ -11,6 +12,7 @@ mod register_meters;
 mod rows;
 mod streams;
 
+pub use around::entry_near;
 pub use entries::entry;
 pub use held_readings::holds;
 pub use listing::meter_entries;

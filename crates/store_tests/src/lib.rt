@@ -26,6 +26,8 @@ mod held_readings;
 #[cfg(test)]
 mod interval_rows;
 #[cfg(test)]
+mod joins;
+#[cfg(test)]
 mod latest;
 #[cfg(test)]
 mod lookups;

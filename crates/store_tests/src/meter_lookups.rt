@@ -10,8 +10,8 @@ use sqlite::{Connection, MemStore};
 use std::alloc::Global;
 use std::test::Fail;
 use store_queries::{
-    entry, installation, installation_count, intervals, meter, meter_entries, meters_at,
-    register_intervals,
+    entry, entry_near, installation, installation_count, intervals, meter, meter_entries,
+    meters_at, register_intervals,
 };
 use store_tables::RowFault;
 
@@ -97,6 +97,15 @@ fn closing() -> EntryRow {
     row(4, EntryKind::Closing, last(2800, 5300), true)
 }
 
+/// The closing, which comes after the reading that stands, with the energy of the whole meter; nothing follows it.
+fn last_of_m1() -> Option<EntryPlace> {
+    Some(EntryPlace {
+        before: standing(last(1900, 5200), 300_000)?,
+        row: closing(),
+        next: None,
+    })
+}
+
 fn entry_of_m1(
     alloc: Global,
     conn: &mut Connection<MemStore>,
@@ -115,6 +124,31 @@ fn entries_are_found_with_what_was_before(rt: HostRuntime) -> Result<(), Fail> {
     let third = before_closing((1900, 5200, 200_000), third);
     for (place, found) in [(2, second), (3, third), (5, None)] {
         let entry = entry_of_m1(rt.alloc(), &mut conn, place);
+        assert!(rt; entry == Ok(found), "{place}");
+    }
+    Ok(())
+}
+
+fn entry_near_m1(
+    alloc: Global,
+    conn: &mut Connection<MemStore>,
+    place: u64,
+) -> Result<Option<EntryPlace>, RowFault> {
+    ready(conn)?;
+    entry_near(alloc, conn, &name(b"m1")?, place)
+}
+
+/// The meter has gone 300 counts of 1 Wh in whole.
+#[test]
+fn entries_are_told_by_the_rows_around(rt: HostRuntime) -> Result<(), Fail> {
+    let mut conn = two_meters(rt.alloc())?;
+    let second = row(2, EntryKind::Reading, last(1900, 5200), true);
+    let third = row(3, EntryKind::Reading, last(2000, 5250), false);
+    let second = before_closing((1000, 5000, 300_000), second);
+    let third = before_closing((1900, 5200, 300_000), third);
+    let fourth = last_of_m1();
+    for (place, found) in [(2, second), (3, third), (4, fourth), (1, None), (5, None)] {
+        let entry = entry_near_m1(rt.alloc(), &mut conn, place);
         assert!(rt; entry == Ok(found), "{place}");
     }
     Ok(())

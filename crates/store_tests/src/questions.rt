@@ -56,6 +56,7 @@ fn ask_meters<B: Books>(books: &mut B, names: &AskedNames) -> bool {
         && look(books.meters(&names.main))
         && look(books.installation_count())
         && look(books.entry(&names.m1, 2))
+        && look(books.entry_near(&names.m1, 2))
         && look(books.entries(&names.m1, 1, 9))
         && look(books.intervals(&names.m1, Span::All, &mut NoRows))
         && look(books.register_intervals(&names.main, Span::All, &mut NoRows))

@@ -1,8 +1,9 @@
+pub mod Advice
 pub mod BooksFound
 pub mod NewOffice
 pub mod Tasks
 pub mod Ends
 pub mod Files
 pub mod Backups
-pub mod Carrying
 pub mod Carries
+pub mod Joins

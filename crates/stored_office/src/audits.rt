@@ -1,5 +1,5 @@
 //! The audit of an office in a database.
-ghost use Rattle.std.specs.Prelude.{◌≡◌, ◌↔◌, ◌⊎◌, [], false, Err, IsTrue, IfOk, IfErr, OnOk};
+ghost use Rattle.std.specs.Prelude.{◌≡◌, ◌↔◌, ◌⊎◌, ◌++◌, [], false, Err, Some, IsTrue, IfOk, IfErr, OnOk, option_map, string_bytes};
 ghost use Rattle.std.specs.Io.KnownBytes.{Appends};
 ghost use Rattle.sqlite.specs.Held.{state};
 ghost use Rattle.sqlite.specs.State.{HasCleanDisk};
@@ -9,6 +9,9 @@ ghost use Rattle.store_files.specs.Layouts.{IsNamedAs};
 ghost use Rattle.table_audit.specs.Looking.{HoldsTables, OnlyLooks};
 ghost use Rattle.table_audit.specs.Polls.{TellsTables};
 ghost use Rattle.table_audit.specs.Texts.{with_findings};
+ghost use Rattle.table_seals.specs.Filing.{FilesMeters, HasUnfiledMeter};
+ghost use Rattle.table_seals.specs.Joins.{after_next, joins_after, known_as, known_of};
+ghost use Rattle.table_seals.specs.JoinTexts.{joined_text, lines_of, texts_of};
 
 use sqlite::{Alter, Connection, Error, ErrorCode};
 use std::alloc::Global;
@@ -17,6 +20,7 @@ use store_files::{Layout, layout_of};
 use store_tables::RowFault;
 use sun_points::Sink;
 use table_audit::{Findings, audit_tables, put_findings};
+use table_seals::{FiledMeter, FiledOffice, Joining, filed_meters, put_joins};
 
 /// Why there is no audit.
 #[derive(Clone, Copy, Debug, PartialEq, Eq)]
@@ -27,6 +31,8 @@ pub enum AuditFault {
     Earlier,
     /// A row has a value that can't be read, or a name that is no word.
     Unsealable,
+    /// A name, or the zone, is no text.
+    NoText,
     /// A text is that of no seal.
     NoSeal,
     /// The file of a seal can't be read.
@@ -102,6 +108,83 @@ pub fn write_audit<W: Write>(
     }
     match output.take_text(text.as_slice()) {
         Ok(()) => Ok(findings.is_fine()),
+        Err(_) => Err(AuditFault::Output),
+    }
+}
+
+/// The meters of an office in a database, each kept under the name by which its file is told, so that the next file is held to
+/// them. Nothing is written to it.
+pub fn meters_stored<'a, S: Alter>(
+    alloc: Global,
+    connection: &mut Connection<S>,
+    file: &'a str,
+) -> Result<Vec<FiledMeter<'a>>, AuditFault>
+    ensures foreign { ((layout : TheLayout) → ¬ IsNamedAs connection.old.schema layout)
+        → result ≡ Err AuditFault.NotOurs }
+    ensures looks { connection.old.in_transaction ≡ false
+        → OnlyLooks S.Store connection.old connection.new }
+    ensures tells { HasCleanDisk (state S.Store connection.new) → (content : Content)
+        → HoldsTables S.Store connection.old content
+        → IfOk result (λ meters. FilesMeters file.now content (Some meters)) }
+    ensures unread { HasCleanDisk (state S.Store connection.new) → (content : Content)
+        → HoldsTables S.Store connection.old content → result ≡ Err AuditFault.NoText
+        → HasUnfiledMeter file.now content }
+{
+    check_ours(connection)?;
+    match filed_meters(alloc, connection, file) {
+        Ok(Some(meters)) => Ok(meters),
+        Ok(None) => Err(AuditFault::NoText),
+        Err(fault) => Err(fault_of(fault)),
+    }
+}
+
+/// Holds a file to those before it, by its zone and its meters: after the lines so far one for each way in which it doesn't go on from
+/// them. Where memory is wanting, some lines may lack, and what was kept is gone.
+pub fn hold_to_earlier<'a>(
+    alloc: Global,
+    joining: &mut Joining<'a>,
+    file: &'a str,
+    zone: String,
+    meters: Vec<FiledMeter<'a>>,
+) -> Result<(), AuditFault>
+    ensures lines { OnOk result (texts_of joining.new.lines.items
+        ≡ texts_of joining.old.lines.items
+        ++ lines_of (joins_after (option_map known_of joining.old.known)
+        (known_as file.now (string_bytes zone) meters.entry.items))) }
+    ensures known { OnOk result (option_map known_of joining.new.known
+        ≡ Some (after_next (option_map known_of joining.old.known)
+        (known_as file.now (string_bytes zone) meters.entry.items))) }
+    ensures fault { IfErr result (λ fault. fault ≡ AuditFault.Memory) }
+{
+    let latest = meters.len();
+    let next = FiledOffice {
+        file,
+        zone,
+        meters,
+        latest,
+    };
+    match joining.join(alloc, next) {
+        Ok(()) => Ok(()),
+        Err(_) => Err(AuditFault::Memory),
+    }
+}
+
+/// Writes what is told of files that are to go on from each other, by these lines, and answers whether nothing differs.
+pub fn write_joins<W: Write>(
+    alloc: Global,
+    lines: &[Vec<u8>],
+    output: &mut W,
+) -> Result<bool, AuditFault>
+    ensures fine { IfOk result (λ fine. IsTrue fine ↔ (lines.now ≡ [])) }
+    ensures told { OnOk result (Appends (W.contents output.old) (W.contents output.new)
+        (joined_text lines.now)) }
+{
+    let mut said = Vec::new(alloc);
+    if put_joins(&mut said, lines).is_err() {
+        return Err(AuditFault::Memory);
+    }
+    match output.take_text(said.as_slice()) {
+        Ok(()) => Ok(lines.is_empty()),
         Err(_) => Err(AuditFault::Output),
     }
 }

@@ -4,3 +4,4 @@ mod stored;
 mod zones;
 
 pub use stored::{CarryEnd, carry_stored};
+pub use zones::told_zone;

@@ -1,13 +1,15 @@
-//! The audit of an office's file, and seals of what is recorded in it.
+//! The audit of an office's files, and seals of what is recorded in one.
 use crate::offices::{Files, Opening, open_in};
 use command_words::Sealing;
+use office_store::OpenFault;
 use sqlite::{Alter, Connection};
 use std::fs::File;
-use std::io::{self, Read};
+use std::io::{self, Read, Write};
 use std::str::from_utf8;
 use stored_office::{
-    AuditFault, Databases, Ending, Failure, audit_stored, check_stored_seal, seal_stored,
-    write_audit, write_checked, write_seal,
+    AuditFault, Databases, Ending, Failure, Joining, audit_stored, check_stored_seal,
+    hold_to_earlier, meters_stored, seal_stored, told_zone, write_audit, write_checked,
+    write_joins, write_seal,
 };
 
 /// The most bytes that are read of a seal. One of 4,096 meters, each with a thousand voids, has fewer.
@@ -117,4 +119,106 @@ pub(crate) fn audit<'a>(rt: &HostRuntime, path: &'a str, seal: Sealing<'a>) -> E
             ended(audit_in(rt, &Files::opened(rt, Opening::Copied), path, seal))
         }
     }
+}
+
+// ---- several files
+
+// Why a file's zone wasn't told.
+fn zone_fault(fault: OpenFault) -> AuditFault {
+    match fault {
+        OpenFault::NotOurs => AuditFault::NotOurs,
+        OpenFault::Zone => AuditFault::NoText,
+        OpenFault::Store => AuditFault::Store,
+        OpenFault::Memory => AuditFault::Memory,
+    }
+}
+
+// Holds a file to those before it.
+fn join_next<'a, S: Alter>(
+    rt: &HostRuntime,
+    connection: &mut Connection<S>,
+    file: &'a str,
+    joining: &mut Joining<'a>,
+) -> Result<(), AuditFault> {
+    let meters = meters_stored(rt.alloc(), connection, file)?;
+    match told_zone(connection) {
+        Ok(zone) => hold_to_earlier(rt.alloc(), joining, file, zone, meters),
+        Err(fault) => Err(zone_fault(fault)),
+    }
+}
+
+// Audits the tables of one of several files, and tells whether they are fine. Only where they are, and those before were, it is held
+// to these.
+fn audit_next<'a, S: Alter>(
+    rt: &HostRuntime,
+    connection: &mut Connection<S>,
+    file: &'a str,
+    so_far: bool,
+    joining: &mut Joining<'a>,
+) -> Result<bool, AuditFault> {
+    let fine = audit_over(rt, connection, Sealing::Nothing)?;
+    if fine && so_far {
+        join_next(rt, connection, file, joining)?;
+    }
+    Ok(fine && so_far)
+}
+
+// Does so with the database at a path, under a line that names it.
+fn audit_file<'a, D: Databases>(
+    rt: &HostRuntime,
+    databases: &D,
+    path: &'a str,
+    so_far: bool,
+    joining: &mut Joining<'a>,
+) -> Result<bool, Failure<'a>> {
+    if write!(io::writer(rt), "file {path}\n").is_err() {
+        return Err(Failure::Streams);
+    }
+    let mut connection = open_in(rt, databases, path)?;
+    match audit_next(rt, &mut connection, path, so_far, joining) {
+        Ok(fine) => Ok(fine),
+        Err(AuditFault::Output) => Err(Failure::Streams),
+        Err(fault) => Err(Failure::Unaudited { path, fault }),
+    }
+}
+
+// Audits the files at these paths, one after the other, and tells whether all are fine, and go on from each other.
+fn audit_files<'a, D: Databases>(
+    rt: &HostRuntime,
+    databases: &D,
+    paths: &[&'a str],
+) -> Result<bool, Failure<'a>> {
+    let mut joining = Joining::new(rt.alloc());
+    let mut fine = true;
+    for path in paths {
+        fine = audit_file(rt, databases, *path, fine, &mut joining)?;
+    }
+    if !fine {
+        return Ok(false);
+    }
+    let mut output = io::writer(rt);
+    match write_joins(rt.alloc(), joining.lines.as_slice(), &mut output) {
+        Ok(joined) => Ok(joined),
+        Err(AuditFault::Memory) => Err(Failure::Memory),
+        Err(_) => Err(Failure::Streams),
+    }
+}
+
+// The first of these paths that stands twice.
+fn twice<'a>(paths: &[&'a str]) -> Option<&'a str> {
+    for (index, path) in paths.iter().enumerate() {
+        if paths[..index].iter().any(|other| *other == *path) {
+            return Some(*path);
+        }
+    }
+    None
+}
+
+/// Tells whether the rows of each of an office's files are those of lawful journals and polls, and whether the files, the oldest first,
+/// go on from each other. Nothing is written to them, and one is open at a time.
+pub(crate) fn audit_several<'a>(rt: &HostRuntime, paths: &[&'a str]) -> Ending<'a> {
+    if let Some(path) = twice(paths) {
+        return Ending::Twice(path);
+    }
+    ended(audit_files(rt, &Files::opened(rt, Opening::Copied), paths))
 }

@@ -1,16 +1,22 @@
 //! One whole file of the office in a file, also beside a running one.
 use crate::copies::{Pair, copy_settled, pair_at, remove};
 use sqlite::Unknown;
+use std::alloc::AllocError;
 use std::fs::{self, File};
 use std::io::{self, ErrorKind};
 use stored_office::{CopyFault, Ending, Failure, whole_file};
 
-// Whether there is anything of this name.
-fn is_there(rt: &HostRuntime, path: &str) -> bool {
+/// Whether there is anything of this name.
+pub(crate) fn is_there(rt: &HostRuntime, path: &str) -> bool {
     match fs::symlink_metadata(rt, path) {
         Ok(_) => true,
         Err(error) => error.kind() != ErrorKind::NotFound,
     }
+}
+
+/// How a file is called until it is whole.
+pub(crate) fn part_name(rt: &HostRuntime, to: &str) -> Result<String, AllocError> {
+    format!(in rt.alloc(); "{to}.part")
 }
 
 /// What the copy is called until it is whole, where neither it nor the copy's name nor that of its log is taken.
@@ -18,7 +24,7 @@ pub(crate) fn part_of<'a>(rt: &HostRuntime, to: &'a str) -> Result<Pair, Failure
     let alloc = rt.alloc();
     let (Ok(own_log), Ok(file), Ok(log)) = (
         format!(in alloc; "{to}-wal"),
-        format!(in alloc; "{to}.part"),
+        part_name(rt, to),
         format!(in alloc; "{to}.part-wal"),
     ) else {
         return Err(Failure::Memory);

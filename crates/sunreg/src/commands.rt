@@ -1,11 +1,14 @@
 //! The commands, over the streams and sockets of the process.
-use crate::audits::audit;
+use crate::audits::{audit, audit_several};
 use crate::backups::backup;
 use crate::carries::carry;
 use crate::completions::completions;
+use crate::ended;
 use crate::entering::enter;
 use crate::explain::explain;
+use crate::joined_reports::report_files;
 use crate::offices::{Files, OWN_HOST, create, over_office, run};
+use crate::period_runs::run_by_periods;
 use crate::reports::report;
 use crate::run_words::settings_of;
 use crate::scans::{Target, scan};
@@ -17,12 +20,13 @@ use script_run::{Loopback, SetupParts, loop_text, replay, set_up};
 use std::io;
 use std::io::Write;
 use std::net::TcpListener;
+use std::process::ExitCode;
 use stored_office::{Ending, Failure, Task, ending_of, ending_of_done};
 use sunspec_text::{chain_text, plan_text};
 
-/// Carries a command out.
-pub(crate) fn carry_out<'a>(rt: &HostRuntime, line: &CommandLine<'a>) -> Ending<'a> {
-    match line {
+/// Carries a command out, says how it ended, and answers the exit status.
+pub(crate) fn carry_out(rt: &HostRuntime, line: &CommandLine<'_>) -> ExitCode {
+    let ending = match line {
         CommandLine::Replay { zone } => run_script(rt, *zone),
         CommandLine::Loop { zone } => run_loop(rt, *zone),
         CommandLine::Plan => print_plan(rt),
@@ -77,12 +81,18 @@ pub(crate) fn carry_out<'a>(rt: &HostRuntime, line: &CommandLine<'a>) -> Ending<
             ending_of_done(over_office(rt, &Files::of(rt), *db, task), *host, *port)
         }
         CommandLine::Report { db, register, form } => report(rt, *db, *register, form),
+        CommandLine::ReportFiles {
+            files,
+            register,
+            form,
+        } => report_files(rt, files.as_slice(), *register, form),
         CommandLine::Run {
             db,
             listen,
             every,
             devices,
             lasts,
+            carry,
             host_names,
             most_kept,
             verbose,
@@ -95,7 +105,10 @@ pub(crate) fn carry_out<'a>(rt: &HostRuntime, line: &CommandLine<'a>) -> Ending<
                 *most_kept,
                 *verbose,
             );
-            run(rt, *db, devices, &settings)
+            match carry {
+                Some(period) => return run_by_periods(rt, *db, devices, &settings, *period),
+                None => run(rt, *db, devices, &settings),
+            }
         }
         CommandLine::Enter {
             db,
@@ -105,10 +118,14 @@ pub(crate) fn carry_out<'a>(rt: &HostRuntime, line: &CommandLine<'a>) -> Ending<
         } => enter(rt, *db, *caller, devices, *only_read),
         CommandLine::Backup { db, to } => backup(rt, *db, *to),
         CommandLine::Carry { from, to, until } => carry(rt, *from, *to, *until),
-        CommandLine::Audit { db, seal } => audit(rt, *db, *seal),
+        CommandLine::Audit { dbs, seal } => match dbs.as_slice() {
+            [db] => audit(rt, *db, *seal),
+            several => audit_several(rt, several),
+        },
         CommandLine::Explain { what, number } => explain(rt, *what, *number),
         CommandLine::Completions => completions(rt),
-    }
+    };
+    ended(rt, &ending)
 }
 
 fn run_script<'a>(rt: &HostRuntime, zone: &'a str) -> Ending<'a> {

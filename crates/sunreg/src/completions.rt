@@ -22,7 +22,10 @@ complete -F _sunreg sunreg
 // What the help shows for an option's value, where it has one.
 fn value_of<'a>(value: Value<'a>) -> Option<&'a str> {
     match value {
-        Value::Required(shown) | Value::Optional(shown) | Value::Repeated(shown) => Some(shown),
+        Value::Required(shown)
+        | Value::Optional(shown)
+        | Value::Repeated(shown)
+        | Value::Several(shown) => Some(shown),
         Value::Absent | Value::Letter(_) | Value::Chosen { .. } | Value::Word { .. } => None,
     }
 }
@@ -98,6 +101,7 @@ fn write_option<W: Write>(option: &OptionText<'_>, output: &mut W) -> io::Result
         | Value::Optional(_)
         | Value::Chosen { .. }
         | Value::Repeated(_)
+        | Value::Several(_)
         | Value::Absent => write!(output, "--{} ", option.name),
     }
 }

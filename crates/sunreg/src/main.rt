@@ -16,7 +16,11 @@ mod counters;
 mod entering;
 mod escaped;
 mod explain;
+mod joined_reports;
 mod offices;
+mod onward_clock;
+mod period_files;
+mod period_runs;
 mod reports;
 mod run_words;
 mod scans;
@@ -52,7 +56,7 @@ fn main(rt: HostRuntime) -> ExitCode {
         say_waiting(&rt);
     }
     match command_of(rt.alloc(), &texts) {
-        Ok(line) => ended(&rt, &carry_out(&rt, &line)),
+        Ok(line) => carry_out(&rt, &line),
         Err(WordsFault::Help(text)) => ended(&rt, &print_help(&rt, text.as_str())),
         Err(WordsFault::Version) => ended(&rt, &version(&rt)),
         Err(WordsFault::Wrong(text)) => ended(&rt, &Ending::Wrong(text)),

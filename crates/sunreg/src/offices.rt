@@ -5,14 +5,14 @@ ghost use Rattle.stored_office.specs.Tasks.Tasks.{IsOf};
 use crate::command_output::CommandOutput;
 use crate::copies::open_copy;
 use crate::escaped::Escaped;
+use crate::onward_clock::OnwardClock;
 use crate::run_words::sites_of;
 use command_words::Device;
 use interval_core::Zone;
 use office_program::NamedFiles;
 use office_running::{Settings, Site};
 use office_store::OpenFault;
-use round_advice::say_remarks;
-use socket_link::SystemClock;
+use socket_link::{Clock, SystemClock};
 use sqlite::types::ValueRef;
 use sqlite::{Alter, Connection, FileFrom, FileStore, Unknown};
 use std::fs::{self, Permissions};
@@ -20,7 +20,7 @@ use std::io::{self, ErrorKind, IsTerminal, Printer, Write};
 use std::os::unix::fs::PermissionsExt;
 use stored_office::{
     Databases, Done, Ending, Failure, FileConnection, FileFault, Task, carry_out_stored,
-    create_stored, ending_of_done, is_bare, is_office, make_file, open_file,
+    create_stored, ending_of_done, is_bare, is_office, make_file, open_file, say_remarks,
 };
 
 /// The host on which HTTP is answered.
@@ -246,23 +246,24 @@ pub(crate) fn over_office<'a, D: Databases + NamedFiles>(
     ensures same { IfOk result (IsOf task.entry) }
 {
     let connection = open_in(rt, surroundings, path)?;
-    over_connection(rt, surroundings, path, connection, task)
+    let mut clock = OnwardClock::of(SystemClock::new(rt));
+    over_connection(rt, surroundings, path, connection, task, &mut clock)
 }
 
-// The same over a connection to it.
-fn over_connection<'a, D: Databases + NamedFiles>(
+// The same over a connection to it, by a clock.
+fn over_connection<'a, D: Databases + NamedFiles, C: Clock>(
     rt: &HostRuntime,
     surroundings: &D,
     path: &'a str,
     connection: Connection<D::Store>,
     task: Task<'_>,
+    clock: &mut C,
 ) -> Result<Done, Failure<'a>>
     ensures same { IfOk result (IsOf task.entry) }
 {
     let Ok(mut output) = output_of(rt, task) else {
         return Err(Failure::Memory);
     };
-    let mut clock = SystemClock::new(rt);
     let mut errors = rt.stderr();
     let done = carry_out_stored(
         rt,
@@ -270,7 +271,7 @@ fn over_connection<'a, D: Databases + NamedFiles>(
         connection,
         task,
         surroundings,
-        &mut clock,
+        clock,
         &mut output,
         &mut errors,
     );
@@ -325,7 +326,7 @@ fn kept_in<S: Alter + Drop>(connection: &mut Connection<S>) -> u64 {
     }
 }
 
-// Runs over the database at a path. What it keeps of requests is counted once, before its books are opened.
+// Runs over the database at a path.
 fn run_over<'a, D: Databases + NamedFiles>(
     rt: &HostRuntime,
     surroundings: &D,
@@ -333,14 +334,38 @@ fn run_over<'a, D: Databases + NamedFiles>(
     sites: &[Site],
     settings: &Settings<'_>,
 ) -> Result<Done, Failure<'a>> {
-    let mut connection = open_in(rt, surroundings, path)?;
+    let connection = open_in(rt, surroundings, path)?;
+    let mut clock = OnwardClock::of(SystemClock::new(rt));
+    run_opened(
+        rt,
+        surroundings,
+        path,
+        connection,
+        sites,
+        settings,
+        &mut clock,
+    )
+}
+
+/// Runs over a connection to the database at a path, by a clock. What it keeps of requests is counted once, before its books are
+/// opened.
+pub(crate) fn run_opened<'a, D: Databases + NamedFiles, C: Clock>(
+    rt: &HostRuntime,
+    surroundings: &D,
+    path: &'a str,
+    connection: Connection<D::Store>,
+    sites: &[Site],
+    settings: &Settings<'_>,
+    clock: &mut C,
+) -> Result<Done, Failure<'a>> {
+    let mut connection = connection;
     let mut settings = *settings;
     settings.kept = kept_in(&mut connection);
     let task = Task::Run {
         settings: &settings,
         sites,
     };
-    over_connection(rt, surroundings, path, connection, task)
+    over_connection(rt, surroundings, path, connection, task, clock)
 }
 
 /// Polls devices on a schedule and answers HTTP, as the settings say.

@@ -14,8 +14,8 @@ fn is_plain(words: &FormWords<'_>) -> bool {
     !has_range && !has_layout
 }
 
-// The range that is asked for.
-fn range_of<'a>(words: &FormWords<'a>) -> Result<DayRange, Ending<'a>> {
+/// The range that is asked for.
+pub(crate) fn range_of<'a>(words: &FormWords<'a>) -> Result<DayRange, Ending<'a>> {
     match read_range(words.from, words.till) {
         Ok(range) => Ok(range),
         Err(RangeFault::From) => Err(Ending::NoDay {
@@ -27,6 +27,25 @@ fn range_of<'a>(words: &FormWords<'a>) -> Result<DayRange, Ending<'a>> {
             word: words.till.unwrap_or(""),
         }),
         Err(RangeFault::Backward) => Err(Ending::Backward),
+    }
+}
+
+/// The form that is asked for, on a range of days.
+pub(crate) fn form_of(words: &FormWords<'_>, range: DayRange) -> ReportForm {
+    ReportForm {
+        range,
+        period: words.period.unwrap_or(Period::Day),
+        unit: words.unit.unwrap_or(EnergyUnit::MilliwattHours),
+        format: words.format.unwrap_or(Format::Text),
+    }
+}
+
+// The form of a statement that is asked for, on a range of days.
+fn statement_of(words: &FormWords<'_>, range: DayRange) -> StatementForm {
+    StatementForm {
+        range,
+        unit: words.unit.unwrap_or(EnergyUnit::MilliwattHours),
+        format: words.format.unwrap_or(Format::Text),
     }
 }
 
@@ -50,26 +69,15 @@ pub(crate) fn report<'a>(
         Ok(range) => range,
         Err(ending) => return ending,
     };
-    let unit = words.unit.unwrap_or(EnergyUnit::MilliwattHours);
-    let format = words.format.unwrap_or(Format::Text);
     if words.statement {
-        let form = StatementForm {
-            range,
-            unit,
-            format,
-        };
+        let form = statement_of(words, range);
         let task = Task::Statement {
             register,
             form: &form,
         };
         return report_by(rt, path, task);
     }
-    let form = ReportForm {
-        range,
-        period: words.period.unwrap_or(Period::Day),
-        unit,
-        format,
-    };
+    let form = form_of(words, range);
     let task = Task::ReportRange {
         register,
         form: &form,

@@ -8,7 +8,7 @@ use stored_office::Failure;
 /// The descriptors that each program has (POSIX, unistd.h).
 const STANDARD_OUTPUT: i32 = 1;
 
-const STANDARD_ERROR: i32 = 2;
+pub(crate) const STANDARD_ERROR: i32 = 2;
 
 /// The bytes of a megabyte.
 const MEGABYTE: u64 = 1_000_000;
@@ -29,6 +29,7 @@ pub(crate) fn settings_of<'n>(
             Some(seconds) => Some(u64::from(seconds)),
             None => None,
         },
+        ends: None,
         host_names,
         kept: 0,
         most_kept: match most_kept {

@@ -25,6 +25,6 @@ pub use poll_queries::{last_poll, run_rows};
 pub use poll_rows::{OutcomeRow, PollRow, RUN, RunRows};
 pub use polls::audit_tables;
 pub use queries::{installations, meter_rows};
-pub use reading::{entries, places, range};
+pub use reading::{entries, installation, places, range};
 pub use rows::MeterRows;
 pub use texts::put_findings;

@@ -167,7 +167,7 @@ fn last(row: &Row) -> Result<LastRow, RowFault>
 }
 
 /// The numbers of an installation.
-pub(crate) fn installation(row: &Row) -> Result<InstallationRow, RowFault>
+pub fn installation(row: &Row) -> Result<InstallationRow, RowFault>
     ensures { result ≡ installation_in row.now }
 {
     let place = whole(row, 0, 1, GREATEST_PLACE)?;

@@ -11,3 +11,7 @@ pub mod PollFound
 pub mod PollsStaying
 pub mod SealedTables
 pub mod FollowingPolls
+pub mod FiledMeters
+pub mod Joined
+pub mod JoinedFiles
+pub mod JoinedTables

@@ -9,3 +9,7 @@ pub mod Checking
 pub mod Reading
 pub mod Lines
 pub mod Laws
+pub mod Filing
+pub mod Joins
+pub mod JoinTexts
+pub mod JoinLaws

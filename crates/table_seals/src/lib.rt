@@ -1,8 +1,16 @@
-//! Seals of what the tables of a file record, and whether another file, or the same one years later, still has that.
+//! Seals of what the tables of a file record, whether another file, or the same one years later, still has that, and whether the
+//! next file goes on where one ends.
 #![tactic(auto)]
 
 mod checking;
 mod checks;
+mod filed;
+mod filing;
+mod join_faults;
+mod join_laws;
+mod join_lines;
+mod joining;
+mod joins;
 mod laws;
 mod parsing;
 mod poll_sealing;
@@ -15,6 +23,14 @@ mod texts;
 
 pub use checking::check_seal;
 pub use checks::{Checked, put_checked};
+pub use filed::{FiledMeter, FiledOffice};
+pub use filing::filed_meters;
+pub use join_faults::JoinFault;
+pub use join_laws::{
+    filed_meters_are_told, joined_files_are_lawful, joined_files_are_one, joined_meters_go_on,
+};
+pub use join_lines::put_joins;
+pub use joining::Joining;
 pub use laws::{first_entries_stay, polls_stay, voids_stay};
 pub use parsing::{NoSeal, read_seal};
 pub use sealing::seal_tables;

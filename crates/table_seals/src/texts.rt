@@ -35,7 +35,7 @@ pub(crate) fn put_number(text: &mut Vec<u8>, before: &[u8], number: u64) -> Resu
     put(text, buffer.format(number).as_bytes())
 }
 
-fn put_scale(text: &mut Vec<u8>, before: &[u8], sf: i16) -> Result<(), AllocError>
+pub(crate) fn put_scale(text: &mut Vec<u8>, before: &[u8], sf: i16) -> Result<(), AllocError>
     ensures { OnOk result (text.new.items ≡ text.old.items ++ before.now ++ signed_decimal sf) }
 {
     let mut buffer = Buffer::new();

@@ -15,7 +15,8 @@ use Rattle.command_words.specs.declared.clap_table.tables.Value.TheVariants as v
 abbrev pub long_rule : Text → Rule
 long_rule name = record (new_rule name) { long = Some name }
 
--- one that must stand, one that may lack, one that may stand several times, and one without a value
+-- one that must stand, one that may lack, one that may stand several times, one that must stand and may several times, and one
+-- without a value
 abbrev pub required_option : Text → Rule
 required_option name = record (long_rule name) { value_names = 1; required = true }
 
@@ -24,6 +25,11 @@ optional_option name = record (long_rule name) { value_names = 1 }
 
 abbrev pub repeated_option : Text → Rule
 repeated_option name = record (long_rule name) { value_names = 1; action = Some Append }
+
+-- one that must stand, and may stand several times
+abbrev pub several_option : Text → Rule
+several_option name =
+    record (long_rule name) { value_names = 1; required = true; action = Some Append }
 
 abbrev pub flag : Text → Rule
 flag name = record (long_rule name) { action = Some SetTrue }
@@ -60,6 +66,7 @@ rule_by name (value.Required shown) = required_option name
 rule_by name (value.Optional shown) = optional_option name
 rule_by name (value.Chosen shown choices) = optional_option name
 rule_by name (value.Repeated shown) = repeated_option name
+rule_by name (value.Several shown) = several_option name
 rule_by name value.Absent = flag name
 rule_by name (value.Letter letter) = lettered_flag letter name
 rule_by name (value.Word shown choices) = word name

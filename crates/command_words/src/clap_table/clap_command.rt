@@ -23,6 +23,11 @@ fn argument<'a>(alloc: Global, option: OptionText<'a>) -> Arg<'a>
             .long(option.name)
             .value_name(shown)
             .action(ArgAction::Append),
+        Value::Several(shown) => argument
+            .long(option.name)
+            .value_name(shown)
+            .action(ArgAction::Append)
+            .required(true),
         Value::Absent => argument.long(option.name).action(ArgAction::SetTrue),
         Value::Letter(letter) => argument
             .long(option.name)

@@ -14,6 +14,8 @@ pub enum Value<'a> {
     },
     /// The option may lack, or stand several times; each time it has a value.
     Repeated(&'a str),
+    /// The option must stand, and may stand several times; each time it has a value.
+    Several(&'a str),
     /// The option is a flag, which has no value and may lack.
     Absent,
     /// So it is, and has a letter too: `-n`.

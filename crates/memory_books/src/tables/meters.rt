@@ -2,6 +2,7 @@
 ghost use Rattle.std.specs.Prelude.{◌≡◌, List, [], IfOk, OnOk, OnErr, IfSome};
 ghost use Rattle.office_events.specs.declared.facts.Fact.{Fact};
 ghost use Rattle.office_books.specs.Entries.{entries_from};
+ghost use Rattle.office_books.specs.Near.{TellsNear};
 ghost use Rattle.office_books.specs.Rows.{TakesAll};
 ghost use Rattle.office_rules.specs.Ranges.{IsSound};
 ghost use Rattle.office_rules.specs.Intervals.{rows_of_meter};
@@ -15,8 +16,8 @@ use crate::tables::meter::Meter;
 use crate::tables::places::named;
 use crate::tables::table::Table;
 use interval_core::Share;
-use meter_journal::journals_are_kept;
-use office_books::{MeterEntry, RowSink, Span, is_sound};
+use meter_journal::{journals_are_kept, places_were_kept};
+use office_books::{MeterEntry, RowSink, Span, is_sound, with_whole_energy};
 use office_events::{BookedEntry, EntryPlace, Fact, Installation, Name, Opening, VoidedEntry};
 use office_rules::{
     entries_move_on, holds_change_nothing, installations_are_in_range, journals_fit,
@@ -107,6 +108,23 @@ impl Meters {
             return None;
         };
         meter.placed(place)
+    }
+
+    /// The same, with the energy of the whole meter in place of that before the entry.
+    pub(crate) fn entry_near(&self, name: &Name, place: u64) -> Option<EntryPlace>
+        ensures found { (known : List Fact) → AreLawful known → AreMeters self.now known
+            → TellsNear known name.now place result }
+        ensures sound { IfSome result (λ found. IsSound found.before) }
+    {
+        journals_are_kept();
+        places_were_kept();
+        let Some(whole) = self.row(name) else {
+            return None;
+        };
+        let Some(found) = self.entry(name, place) else {
+            return None;
+        };
+        Some(with_whole_energy(&found, &whole))
     }
 
     /// The entries of a meter from a place on, so many at most.

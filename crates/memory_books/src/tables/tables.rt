@@ -8,6 +8,7 @@ ghost use Rattle.office_books.specs.Repeats.{repeat_of};
 ghost use Rattle.office_rules.specs.Ranges.{IsSound};
 ghost use Rattle.office_books.specs.Entries.{entries_from, installations_of};
 ghost use Rattle.office_books.specs.Rows.{TakesAll};
+ghost use Rattle.office_books.specs.Near.{TellsNear};
 ghost use Rattle.office_books.specs.Plans.{read_count_of, reads_from};
 ghost use Rattle.office_rules.specs.Intervals.{rows_of_meter, rows_of_register};
 ghost use Rattle.office_rules.specs.Lawful.{AreLawful};
@@ -247,6 +248,15 @@ impl Tables {
         ensures sound { IfSome result (λ found. IsSound found.before) }
     {
         self.meters.table.entry(meter, place)
+    }
+
+    /// The same, with the energy of the whole meter in place of that before the entry.
+    pub fn entry_near(&self, meter: &Name, place: u64) -> Option<EntryPlace>
+        ensures found { (known : List Fact) → AreLawful known → AreWhole self.now known
+            → TellsNear known meter.now place result }
+        ensures sound { IfSome result (λ found. IsSound found.before) }
+    {
+        self.meters.table.entry_near(meter, place)
     }
 
     /// The entries of a meter from a place on, so many at most.

@@ -1,7 +1,8 @@
 -- A worked example, computed from the definitions.
-use Rattle.std.proofs.Common.{◌≡◌, ℕ, pos, true, [], ◌∷◌, Some, None, refl, arith}
+use Rattle.std.proofs.Common.{◌≡◌, ℕ, pos, true, List, [], ◌∷◌, map, Some, None, refl, ap, arith}
 use Rattle.std.proofs.lemmas.Int.{ints}
 use Rattle.energy_core.specs.declared.entries.Entry.TheVariants as entry
+use Rattle.energy_core.specs.declared.entries.Last.{Last}
 use Rattle.energy_core.specs.Value.{unit_of}
 use Rattle.interval_core.specs.declared.shares.Share.{Share}
 use Rattle.meter_journal.specs.declared.lines.EntryKind.TheVariants as kind
@@ -10,7 +11,10 @@ use Rattle.meter_journal.specs.declared.lines.Installed.{Installed}
 use Rattle.meter_journal.specs.Books.{IsWellInstalled, total_in, interval_rows}
 use Rattle.meter_journal.specs.Fitting.{AreFitting}
 use Rattle.meter_journal.specs.Journal.{Journal, Line, Entered, Voided}
+use Rattle.meter_audit.specs.declared.rows.TableRow.{TableRow}
 use Rattle.meter_audit.specs.Carried.{carried, joined_journal, StaysWithin}
+use Rattle.meter_audit.specs.CarriedFiles.{GoesOnAs, InFile, told_by_all}
+use Rattle.meter_audit.specs.Fitting.{Tables, tables_of}
 use Rattle.meter_audit.proofs.CarriedLemmas.Fitting.{carried_journals_fit}
 
 -- of a counter of 32 bits that counts Wh, at no more than 100 kW
@@ -108,3 +112,43 @@ void_of_both_fits = carried_journals_fit house old (Voided 2 ∷ new) well_insta
 void_intervals : interval_rows house (joined_journal old (Voided 2 ∷ new)) ≡ share 900 177777 ∷ share 1800 140404 ∷ share 2700 81819 ∷ []
 unfolding unit_of
 void_intervals = refl
+
+-- ---- three files
+
+abbrev file : Installed → List EntryRow → InFile
+file meter rows = record { meter = meter; tables = tables_of meter rows }
+
+abbrev first : InFile
+first = file house (row 3 2500 5300 ∷ row 2 1900 5200 ∷ [])
+
+abbrev second : InFile
+second = file (installed 2500 5300) (row 3 3600 5400 ∷ row 2 2600 5310 ∷ [])
+
+abbrev third : InFile
+third = file (installed 3600 5400) (row 2 4500 5500 ∷ [])
+
+second_goes_on : GoesOnAs house first.tables.last first.tables.ended second.meter
+second_goes_on = record { unended = refl; range = refl; ceiling = refl; opening = refl }
+
+third_goes_on : GoesOnAs second.meter second.tables.last second.tables.ended third.meter
+third_goes_on = record { unended = refl; range = refl; ceiling = refl; opening = refl }
+
+-- one file is left out
+third_not_after_first : GoesOnAs house first.tables.last first.tables.ended third.meter → ⊥
+third_not_after_first h = let at : 3600 ≡ 2500 = ap (λ (l : Last). l.at) h.opening in omega (arith, at)
+
+abbrev told_by_three : Tables
+told_by_three = told_by_all first.tables (second ∷ third ∷ [])
+
+three_total : told_by_three.total ≡ 500000
+unfolding unit_of
+three_total = refl
+
+-- The meter is carried in the quarter hour from 1800, and at the end of another one.
+three_intervals : told_by_three.intervals ≡ share 900 177777 ∷ share 1800 141223 ∷ share 2700 81000 ∷ share 3600 100000 ∷ []
+unfolding unit_of
+three_intervals = refl
+
+-- the openings of the later files are no entries
+three_places : map (λ (told : TableRow). told.place) told_by_three.entries ≡ 6 ∷ 5 ∷ 4 ∷ 3 ∷ 2 ∷ 1 ∷ []
+three_places = refl

@@ -307,7 +307,7 @@ next_over meter count place rows old a (Some n) under before follow room free le
 
 -- ---- journals
 
-ended_over : (count : ℕ) (lines more : Journal) → is_ended lines ≡ false → is_ended (map (moved_line count) more ++ lines) ≡ is_ended more
+pub ended_over : (count : ℕ) (lines more : Journal) → is_ended lines ≡ false → is_ended (map (moved_line count) more ++ lines) ≡ is_ended more
 ended_over count lines [] h = h
 ended_over count lines (Entered k e ∷ more) h = ap (λ b. cond (is_closing k) true b) (ended_over count lines more h)
 ended_over count lines (Held reading c ∷ more) h = ended_over count lines more h

@@ -1,5 +1,5 @@
 //! What an event settles on the slots of an office.
-ghost use Rattle.std.specs.Prelude.{◌≡◌, ℕ, ◌≤◌, [], List, map, Some, OnOk};
+ghost use Rattle.std.specs.Prelude.{◌≡◌, ℕ, ◌≤◌, [], List, map, Some, OnOk, is_some};
 ghost use Rattle.office_rules.specs.Facts.{moment_limit};
 ghost use Rattle.office_rules.specs.Sessions as sessions;
 ghost use Rattle.office_rules.specs.Sessions.{slot_after};
@@ -8,6 +8,7 @@ ghost use Rattle.office_booking.specs.Sessions.Keeping.{KeepsSlot, KeepsSlots};
 ghost use Rattle.office_books.specs.Ledgers.{Consults};
 ghost use Rattle.office_booking.specs.Settling.Drafts.{IsIdle};
 ghost use Rattle.office_booking.specs.Settling.Settling.{AddsOfSlot, AddsOfSlots, IsSettling, SettleNothing, MayReach, MayReachAll};
+ghost use Rattle.office_booking.specs.Settling.Settling.{happening_on};
 
 use crate::sessions::{Slot, is_named};
 use crate::settling::drafts::Draft;
@@ -23,6 +24,20 @@ fn connects(event: &Event, device: &Device) -> bool
     match event {
         Event::Connected(given) => is_named(given, device),
         _ => false,
+    }
+}
+
+/// Whether the event reaches the session of the device.
+fn reaches(event: &Event, device: &Device) -> bool
+    ensures { (at : ℕ) → result ≡ is_some (happening_on at event.now device.now) }
+{
+    match event {
+        Event::Bytes(given, _) => is_named(given, device),
+        Event::Tick => true,
+        Event::Gone(given, _) => is_named(given, device),
+        Event::Connected(_) => false,
+        Event::Command(_) => false,
+        Event::Asked(_) => false,
     }
 }
 
@@ -57,6 +72,10 @@ fn settle_slot<B: Books>(
 {
     if connects(event, &slot.device) {
         *slot = connected(&slot.device);
+        return Ok(());
+    }
+    // (a session is large, so those of other devices stay where they are)
+    if !reaches(event, &slot.device) {
         return Ok(());
     }
     let Some(mut session) = slot.session.take() else {

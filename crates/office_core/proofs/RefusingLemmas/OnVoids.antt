@@ -1,14 +1,13 @@
 -- Why a void is refused, told by what is at its place.
-use Rattle.std.proofs.Common.{◌≡◌, List, Option, refl, sym, ap}
+use Rattle.std.proofs.Common.{◌≡◌, List, refl, sym, ap}
 use Rattle.office_events.specs.declared.commands.VoidEntry.{VoidEntry}
 use Rattle.office_events.specs.declared.commands.Command.TheVariants as command
 use Rattle.office_events.specs.declared.facts.Fact.{Fact}
-use Rattle.office_events.specs.declared.questions.EntryPlace.{EntryPlace}
 use Rattle.office_events.specs.declared.refusals.Refusal.{Refusal}
 use Rattle.office_events.specs.declared.refusals.Refusal.TheVariants as refusal
 use Rattle.office_events.specs.declared.refusals.StoreCause.TheVariants as store
 use Rattle.office_rules.specs.Sessions.{Slot}
-use Rattle.office_rules.specs.Refusals.{reasons, is_not_voidable, is_held_for, verdict_at}
+use Rattle.office_rules.specs.Refusals.{reasons, is_held_for}
 use Rattle.office_core.specs.declared.refusing.arrivals.Arrival.{Arrival}
 use Rattle.office_core.specs.declared.refusing.voids.Spot.{Spot}
 use Rattle.office_core.specs.Refusing.Reasons.{speaks_against, refusal_under}
@@ -20,8 +19,8 @@ voids_for : (slots : List Slot) (facts : List Fact) (arrival : Arrival) (c : Voi
 voids_for slots facts arrival c found h refusal.NotFound = h.there
 voids_for slots facts arrival c found h refusal.ClockBack = sym (or_false arrival.is_back)
 voids_for slots facts arrival c found h refusal.Limit = sym (or_false arrival.is_beyond)
-voids_for slots facts arrival c found h refusal.NotVoidable = ap is_not_voidable h.entry
-voids_for slots facts arrival c found h (refusal.NotPlausible why) = ap (λ (o : Option EntryPlace). is_held_for why (verdict_at o)) h.entry
+voids_for slots facts arrival c found h refusal.NotVoidable = h.voidable
+voids_for slots facts arrival c found h (refusal.NotPlausible why) = ap (is_held_for why) h.verdict
 voids_for slots facts arrival c found h (refusal.Store store.Refused) = refl
 voids_for slots facts arrival c found h _ = refl
 

@@ -15,9 +15,9 @@ use Rattle.office_events.specs.declared.questions.EntryPlace.{EntryPlace}
 use Rattle.office_events.specs.declared.questions.Installation.{Installation}
 use Rattle.office_rules.specs.Facts.{opening_of}
 use Rattle.office_rules.specs.Meters.{opened, journal_of, rows_of, place_in, entry_at, installation_of, meter_of}
-use Rattle.office_rules.specs.Refusals.{has_place}
+use Rattle.office_rules.specs.Refusals.{has_place, is_not_voidable, verdict_at}
 use Rattle.office_core.specs.declared.refusing.voids.Spot.TheVariants as spot
-use Rattle.office_core.specs.Refusing.Spots.{IsAt}
+use Rattle.office_core.specs.Refusing.Spots.{IsAt, IsJudgedAs}
 
 rolled_place : (last : Last) (row : EntryRow) → (rolled last row).place ≡ row.place
 rolled_place last row = elim (cases_Bool (row.stands && is_reading row.kind)) [
@@ -117,7 +117,8 @@ no_place_0 facts (Some o) = refl
 pub nothing_at_0 : (facts : List Fact) (given : Option (List ℕ)) (place : ℕ) → place ≡ 0 → IsAt facts given place spot.Nothing
 nothing_at_0 facts given place is = record {
   there = no_place_0 facts (option_and_then (opening_of facts) given) ∙ ap (λ n. not (has_place facts n (option_and_then (opening_of facts) given))) (sym is);
-  entry = no_entry facts given place (omega (arith, is));
+  voidable = ap is_not_voidable (no_entry facts given place (omega (arith, is)));
+  verdict = ap verdict_at (no_entry facts given place (omega (arith, is)));
 }
 
 opened_there : (facts : List Fact) (opening : Option Opening) (row : Installation) → option_map (installation_of facts) opening ≡ Some row
@@ -129,18 +130,21 @@ pub opening_at_1 : (facts : List Fact) (m : List ℕ) (place : ℕ) (row : Insta
     → IsAt facts (Some m) place spot.Opening
 opening_at_1 facts m place row is found = record {
   there = opened_there facts (opening_of facts m) row found ∙ ap (λ n. not (has_place facts n (opening_of facts m))) (sym is);
-  entry = no_entry facts (Some m) place (omega (arith, is));
+  voidable = ap is_not_voidable (no_entry facts (Some m) place (omega (arith, is)));
+  verdict = ap verdict_at (no_entry facts (Some m) place (omega (arith, is)));
 }
 
-pub nothing_at : (facts : List Fact) (m : List ℕ) (place : ℕ) → 2 ≤ place → entry_at facts m place ≡ None → IsAt facts (Some m) place spot.Nothing
-nothing_at facts m place high found = record {
-  there = ap (λ o. not (is_some o)) (sym found) ∙ ap not (entry_there facts (Some m) place high);
-  entry = sym found;
+pub nothing_at : (facts : List Fact) (m : List ℕ) (place : ℕ) → 2 ≤ place → IsJudgedAs (entry_at facts m place) None → IsAt facts (Some m) place spot.Nothing
+nothing_at facts m place high judged = record {
+  there = ap not judged.there ∙ ap not (entry_there facts (Some m) place high);
+  voidable = judged.voidable;
+  verdict = judged.verdict;
 }
 
-pub entry_at_place : (facts : List Fact) (m : List ℕ) (place : ℕ) (row : EntryPlace) → 2 ≤ place → entry_at facts m place ≡ Some row
+pub entry_at_place : (facts : List Fact) (m : List ℕ) (place : ℕ) (row : EntryPlace) → 2 ≤ place → IsJudgedAs (entry_at facts m place) (Some row)
     → IsAt facts (Some m) place (spot.Entry row)
-entry_at_place facts m place row high found = record {
-  there = ap (λ o. not (is_some o)) (sym found) ∙ ap not (entry_there facts (Some m) place high);
-  entry = sym found;
+entry_at_place facts m place row high judged = record {
+  there = ap not judged.there ∙ ap not (entry_there facts (Some m) place high);
+  voidable = judged.voidable;
+  verdict = judged.verdict;
 }

@@ -1,7 +1,8 @@
 -- What is at a place of a meter: the opening has the place 1, and the entries those from 2 on.
-use Rattle.std.specs.Prelude.{◌≡◌, ℕ, Bool, true, false, not, List, Option, Some, None}
+use Rattle.std.specs.Prelude.{◌≡◌, ℕ, Bool, true, false, not, List, Option, Some, None, is_some}
 use Rattle.std.specs.List.{find}
 use Rattle.std.specs.Option.{option_and_then}
+use Rattle.energy_core.specs.declared.verdicts.Cause.TheVariants as cause
 use Rattle.office_events.specs.declared.facts.Fact.{Fact}
 use Rattle.office_events.specs.declared.questions.EntryPlace.{EntryPlace}
 use Rattle.office_events.specs.declared.refusals.Refusal.{Refusal}
@@ -25,12 +26,25 @@ entry_in spot.Nothing = None
 entry_in spot.Opening = None
 entry_in (spot.Entry place) = Some place
 
--- this is at the place of the meter
+-- the entry after the one at a place, judged by the energy before that, would pass the limit of a meter
+abbrev pub is_full : Option EntryPlace → Bool
+is_full found = is_held_for cause.TotalFull (verdict_at found)
+
+-- One is there where the other is, it may be voided where the other may, and the next entry is judged alike after both.
+pub record IsJudgedAs (own found : Option EntryPlace) : Type 0 where
+  pub there : is_some found ≡ is_some own
+  pub voidable : is_not_voidable found ≡ is_not_voidable own
+  pub verdict : verdict_at found ≡ verdict_at own
+
+-- this is at the place of the meter, and its entry, if it is one, is judged as the facts have it
 pub record IsAt (facts : List Fact) (meter : Option (List ℕ)) (place : ℕ)
     (found : Spot) : Type 0 where
   pub there : is_nothing found
       ≡ not (has_place facts place (option_and_then (opening_of facts) meter))
-  pub entry : entry_in found ≡ option_and_then (λ m. entry_at facts m place) meter
+  pub voidable : is_not_voidable (entry_in found)
+      ≡ is_not_voidable (option_and_then (λ m. entry_at facts m place) meter)
+  pub verdict : verdict_at (entry_in found)
+      ≡ verdict_at (option_and_then (λ m. entry_at facts m place) meter)
 
 -- the meter's numbers before the entry are in their ranges
 abbrev pub IsSoundSpot : Spot → Type 0

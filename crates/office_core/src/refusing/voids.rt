@@ -1,6 +1,7 @@
 //! Why an entry is not voided.
 ghost use Rattle.std.specs.Prelude.{◌≡◌, IfOk, IfSome, Some};
 ghost use Rattle.office_events.specs.declared.commands.Command.TheVariants as command;
+ghost use Rattle.office_rules.specs.Meters.{entry_at};
 ghost use Rattle.office_rules.specs.Refusals.{verdict_between, verdict_at};
 ghost use Rattle.office_books.specs.Ledgers.{Finds, OnlyReads};
 ghost use Rattle.office_rules.specs.Ranges.{IsSound};
@@ -9,7 +10,7 @@ ghost use Rattle.office_core.specs.Refusing.Asking.{IsOfEvent};
 ghost use Rattle.office_core.specs.Refusing.Spots as spots;
 
 use crate::refusing::arrivals::Arrival;
-use energy_core::{Entry, Reading, Verdict};
+use energy_core::{Cause, Entry, Reading, Verdict};
 use meter_journal::is_voidable;
 use office_books::{Books, BooksFault, verdict_at};
 use office_events::{EntryPlace, Installation, Name, Refusal, VoidEntry};
@@ -22,6 +23,41 @@ enum Spot {
     Opening,
     /// An entry after it.
     Entry(EntryPlace),
+}
+
+/// Whether the entry after the one at a place, judged by its energy, would pass the limit of a meter.
+fn is_full(found: &Option<EntryPlace>) -> bool
+    requires { IfSome found.now (λ p. IsSound p.before) }
+    ensures { result ≡ spots.is_full found.now }
+{
+    let Some(place) = found else {
+        return false;
+    };
+    match verdict(place) {
+        Some(Verdict::Held(cause)) => Cause::TotalFull.number() == cause.number(),
+        Some(Verdict::Accepted { .. }) => false,
+        None => false,
+    }
+}
+
+/// The entry of a meter at a place, if there is one, with an energy before it by which the next is judged as by its own. The
+/// whole energy of the meter is asked for first, since the rows around the entry tell that; that before it takes all rows,
+/// and matters only where the whole is so great that the limit might be passed.
+fn entry_of<B: Books>(
+    books: &mut B,
+    meter: &Name,
+    place: u64,
+) -> Result<Option<EntryPlace>, BooksFault>
+    ensures found { Finds (B.ledger books.old) (B.ledger books.new) result
+        (λ known found. spots.IsJudgedAs (entry_at known meter.now place) found) }
+    ensures reads { OnlyReads (B.ledger books.old) (B.ledger books.new) result }
+    ensures sound { IfOk result (λ found. IfSome found (λ p. IsSound p.before)) }
+{
+    let near = books.entry_near(meter, place)?;
+    if is_full(&near) {
+        return books.entry(meter, place);
+    }
+    Ok(near)
 }
 
 /// What is at a place of the meter of a name. The opening has the place 1.
@@ -43,7 +79,7 @@ fn spot_at<B: Books>(books: &mut B, given: &Option<Name>, place: u64) -> Result<
             Some(_) => Ok(Spot::Opening),
         };
     }
-    match books.entry(meter, place)? {
+    match entry_of(books, meter, place)? {
         None => Ok(Spot::Nothing),
         Some(entry) => Ok(Spot::Entry(entry)),
     }

@@ -2,10 +2,10 @@
 use Rattle.std.proofs.Common.{◌≡◌, ◌∙◌, ◌≢◌, ◌⊎◌, ℕ, List, Option, Some, Result, Ok, Err, inl, inr, refl, sym, ap, subst}
 use Rattle.serde_json.specs.Data.{Data}
 use Rattle.serde_json.specs.Read.{read}
-use Rattle.http_commands.specs.Commands.{command_of}
-use Rattle.http_commands.specs.Given.{Gives, GivesJson, GivesList, IsBody, IsJson, IsListBody, IsNoJson, told}
-use Rattle.http_commands.specs.declared.fault.CommandFault.{CommandFault}
-use Rattle.http_commands.specs.declared.fault.CommandFault.TheVariants.{Malformed, Negative, Faulty, Memory}
+use Rattle.http_answer.specs.Commands.Commands.{command_of}
+use Rattle.http_answer.specs.Commands.Given.{Gives, GivesJson, GivesList, IsBody, IsJson, IsListBody, IsNoJson, told}
+use Rattle.http_answer.specs.declared.commands.fault.CommandFault.{CommandFault}
+use Rattle.http_answer.specs.declared.commands.fault.CommandFault.TheVariants.{Malformed, Negative, Faulty, Memory}
 use Rattle.http_request.specs.declared.routing.routes.Route.{Route}
 use Rattle.http_request.specs.declared.routing.routes.Route.TheVariants as route
 use Rattle.office_events.specs.declared.commands.Command.{Command}

@@ -1,8 +1,8 @@
 -- When a request asks nothing of an office.
 use Rattle.std.proofs.Common.{◌≡◌, ◌∙◌, ◌≢◌, ℕ, true, false, List, Some, None, Result, Ok, Err, refl, sym, ap, subst}
-use Rattle.http_commands.specs.Given.{Gives}
-use Rattle.http_commands.specs.declared.fault.CommandFault.{CommandFault}
-use Rattle.http_commands.specs.declared.fault.CommandFault.TheVariants.{Memory}
+use Rattle.http_answer.specs.Commands.Given.{Gives}
+use Rattle.http_answer.specs.declared.commands.fault.CommandFault.{CommandFault}
+use Rattle.http_answer.specs.declared.commands.fault.CommandFault.TheVariants.{Memory}
 use Rattle.http_request.specs.Head.Heads.{IsBadHead}
 use Rattle.http_request.specs.declared.head.head.Head.{Head}
 use Rattle.http_request.specs.declared.head.head.HeadState.{HeadState}

@@ -1,8 +1,8 @@
 -- What is wanted of an office.
 use Rattle.std.proofs.Common.{◌≡◌, ◌∙◌, ◌≢◌, ℕ, List, Option, Result, Ok, Err, inr, refl, sym, ap, subst}
-use Rattle.http_commands.specs.Given.{Gives}
-use Rattle.http_commands.specs.declared.fault.CommandFault.{CommandFault}
-use Rattle.http_commands.specs.declared.fault.CommandFault.TheVariants.{Memory}
+use Rattle.http_answer.specs.Commands.Given.{Gives}
+use Rattle.http_answer.specs.declared.commands.fault.CommandFault.{CommandFault}
+use Rattle.http_answer.specs.declared.commands.fault.CommandFault.TheVariants.{Memory}
 use Rattle.http_request.specs.declared.head.head.Head.{Head}
 use Rattle.http_request.specs.Asking.{TestsHead}
 use Rattle.http_request.specs.HeadTests.{start_at}

@@ -1,8 +1,8 @@
 -- What a body gives is one.
 use Rattle.std.specs.Prelude.{◌≡◌, ◌≢◌, ℕ, List, Option, Result, Err}
-use Rattle.http_commands.specs.Given.{Gives}
-use Rattle.http_commands.specs.declared.fault.CommandFault.{CommandFault}
-use Rattle.http_commands.specs.declared.fault.CommandFault.TheVariants.{Memory}
+use Rattle.http_answer.specs.Commands.Given.{Gives}
+use Rattle.http_answer.specs.declared.commands.fault.CommandFault.{CommandFault}
+use Rattle.http_answer.specs.declared.commands.fault.CommandFault.TheVariants.{Memory}
 use Rattle.http_request.specs.declared.routing.routes.Route.{Route}
 use Rattle.office_events.specs.declared.commands.Command.{Command}
 

@@ -1,9 +1,9 @@
 -- What the bytes that were read want of an office.
 use Rattle.std.specs.Prelude.{◌≡◌, ◌⊎◌, ℕ, true, List, Ok, Err}
-use Rattle.http_commands.specs.Given.{Gives}
-use Rattle.http_commands.specs.Few.{HasFewRows}
-use Rattle.http_commands.specs.declared.fault.CommandFault.{CommandFault}
-use Rattle.http_commands.specs.declared.fault.CommandFault.TheVariants.{Memory}
+use Rattle.http_answer.specs.Commands.Given.{Gives}
+use Rattle.http_answer.specs.Commands.Few.{HasFewRows}
+use Rattle.http_answer.specs.declared.commands.fault.CommandFault.{CommandFault}
+use Rattle.http_answer.specs.declared.commands.fault.CommandFault.TheVariants.{Memory}
 use Rattle.http_request.specs.HeadTests.{Start}
 use Rattle.http_request.specs.Routing.Routes.{Table}
 use Rattle.http_request.specs.Routing.Targets.{is_question, name_in, name_of}

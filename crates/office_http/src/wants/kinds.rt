@@ -1,5 +1,5 @@
 //! What a request wants.
-use http_commands::CommandFault;
+use http_answer::CommandFault;
 use http_request::{Found, Status};
 use office_events::Asked;
 

@@ -9,10 +9,9 @@ ghost use Rattle.office_http.specs.Wants.Wanting.{HasFewFaults, Wants};
 use crate::wants::kinds::Want;
 use crate::wants::laws::bodies_give_one_command;
 use http_answer::{
-    asked, commands_are_replied_to, faults_are_replied_to, kept_request, name_asked,
-    questions_are_replied_to,
+    CommandFault, asked, command_in, commands_are_replied_to, faults_are_replied_to, kept_request,
+    name_asked, questions_are_replied_to,
 };
-use http_commands::{CommandFault, command_in};
 use http_request::{
     Ask, Found, Head, HeadState, Posted, Route, a_command_tells_its_size, ask_in, body_in,
 };

@@ -40,12 +40,12 @@ use Rattle.store_tables.specs.declared.meters.rows.LastRow.{LastRow}
 use Rattle.store_tables.specs.Meters.Rows.{HasRange}
 use Rattle.store_tables.specs.Entries.Rows.{Entered, Voided, is_of}
 use Rattle.store_tables.specs.declared.entries.rows.EntryRow as stored
-use Rattle.store_facts.specs.Rows.{placed, installed_row, last_row, ranged, voided, rolls_of, raw_of, entry_row, entered_rows, entries_at}
+use Rattle.store_facts.specs.Rows.{counter_after, placed, installed_row, last_row, ranged, voided, rolls_of, raw_of, entry_row, entered_rows, entries_at}
 use Rattle.store_facts.specs.Tables.{AreOf}
 use Rattle.store_facts.proofs.Standing.{stands_found, range_found}
 use Rattle.store_queries.proofs.MeteringLemmas.Shapes.{HasShape, IsPlain, plain}
 use Rattle.store_facts.specs.Voids.Places.{AreVoided, names}
-use Rattle.office_store.specs.Bookings.Corrections.{counter_after, IsReadingOf, RejoinsNext, Corrects, energy_out, energy_put, gone_from}
+use Rattle.office_store.specs.Bookings.Corrections.{IsReadingOf, RejoinsNext, Corrects, energy_out, energy_put, gone_from}
 use Rattle.office_store.specs.Bookings.MeterState.{counter_of, stands_at}
 use Rattle.office_store.specs.Bookings.Places.{StandsThere}
 use Rattle.office_store.specs.Bookings.Surroundings.{HasEntry, IsAround}
@@ -53,7 +53,7 @@ use Rattle.office_store.specs.declared.bookings.corrections.Correction.{Correcti
 use Rattle.office_store.specs.declared.bookings.corrections.Rejoined.{Rejoined}
 use Rattle.office_store.specs.declared.bookings.corrections.Rollover.{Rollover}
 use Rattle.office_store.specs.declared.bookings.surroundings.Surroundings.{Surroundings}
-use Rattle.office_store.proofs.BookingsLemmas.Around.{AtRow, IsNextRow, AreStruck, names_are, entries_at_rows, stands_after_row, stood_around, next_around, none_next, all_places, all_of_meter, opening_alone, told_of, none_told}
+use Rattle.store_queries.proofs.MeteringLemmas.Around.{AtRow, IsNextRow, AreStruck, names_are, entries_at_rows, stands_after_row, stood_around, next_around, none_next, all_places, all_of_meter, opening_alone, told_of, none_told}
 use Rattle.office_store.proofs.BookingsLemmas.Left.{HasRolls, IsLeft, next_out, next_put}
 use Rattle.office_store.proofs.BookingsLemmas.Rolling as rolling
 

@@ -11,22 +11,12 @@ use Rattle.store_tables.specs.Limits.{greatest_place, latest_moment}
 use Rattle.store_tables.specs.Meters.Rows.{IsSoundLast, greatest_total}
 use Rattle.store_tables.specs.declared.meters.rows.LastRow.{LastRow}
 use Rattle.store_tables.specs.declared.entries.rows.EntryRow.{EntryRow}
-use Rattle.store_tables.specs.declared.entries.rows.EntryKind.{EntryKind}
 use Rattle.store_tables.specs.declared.entries.rows.EntryKind.TheVariants as kind
-use Rattle.store_facts.specs.Rows.{rolls_of}
+use Rattle.store_facts.specs.Rows.{counter_after, rolls_of}
 use Rattle.office_store.specs.declared.bookings.corrections.Correction.{Correction}
 use Rattle.office_store.specs.declared.bookings.corrections.Rejoined.{Rejoined}
 use Rattle.office_store.specs.declared.bookings.surroundings.Surroundings.{Surroundings}
 use Rattle.office_store.specs.Bookings.MeterState.{counter_of, stands_at}
-
--- where the counter stands after an entry: at what it was set to, if it was
-abbrev pub raw_after : EntryKind → EntryRow → ℕ
-raw_after kind.Reset e = e.after
-raw_after kind.Rescale e = e.after
-raw_after _ e = e.raw
-
-abbrev pub counter_after : EntryRow → Last
-counter_after e = record { at = e.moment; raw = raw_after e.kind e; sf = e.sf }
 
 -- the entry is a reading, and this is its step
 pub record IsReadingOf (row : EntryRow) (e : Entry) : Type 0 where

@@ -5,7 +5,7 @@ ghost use Rattle.meter_journal.specs.Journal.{with_rolls};
 ghost use Rattle.store_tables.specs.Limits.{latest_moment};
 ghost use Rattle.store_tables.specs.Meters.Rows.{IsSoundLast, greatest_total};
 ghost use Rattle.store_facts.specs.Rows.{rolls_of};
-ghost use Rattle.office_store.specs.Bookings.Corrections.{counter_after, IsReadingOf, CanBeShared};
+ghost use Rattle.office_store.specs.Bookings.Corrections.{IsReadingOf, CanBeShared};
 ghost use Rattle.office_store.specs.Bookings.Corrections.{CanBeRejoined, CanBeBooked, Rejoins};
 ghost use Rattle.office_store.specs.Bookings.Corrections.{RejoinsNext, energy_out, energy_put};
 ghost use Rattle.office_store.specs.Bookings.Corrections.{StandsAt, gone_from, Corrects};
@@ -13,7 +13,7 @@ ghost use Rattle.office_store.specs.Bookings.Corrections.{StandsAt, gone_from, C
 use crate::bookings::meter_entries::is_sound;
 use crate::bookings::surroundings::Surroundings;
 use energy_core::{Entry, Last, MAX_TOTAL, Ranged, Step, Terms};
-use store_facts::{is_scale, last_row};
+use store_facts::{counter_after, is_scale, last_row};
 use store_tables::{EntryKind, EntryRow, GREATEST_PLACE, LATEST_MOMENT, LastRow, RowFault};
 
 /// How many times the counter went past its range before the entry at a place.
@@ -39,23 +39,6 @@ pub struct Correction {
     pub next: Option<Rejoined>,
     pub last: LastRow,
     pub from: u64,
-}
-
-/// Where the counter stands after an entry.
-fn after_entry(entry: &EntryRow) -> Last
-    ensures { result ≡ counter_after entry.now }
-{
-    let raw = match entry.kind {
-        EntryKind::Opening | EntryKind::Reading | EntryKind::Manual | EntryKind::Closing => {
-            entry.raw
-        }
-        EntryKind::Reset | EntryKind::Rescale => entry.after,
-    };
-    Last {
-        at: entry.moment,
-        raw,
-        sf: entry.sf,
-    }
 }
 
 /// The step of a reading. No other entry is voided, nor comes after one that is.
@@ -227,8 +210,8 @@ pub fn correct(found: &Surroundings) -> Result<Correction, RowFault>
     ensures sound { IfOk result CanBeBooked }
 {
     let range = found.standing.range;
-    let before = after_entry(&found.near.before);
-    let voided = after_entry(&found.near.entry);
+    let before = counter_after(&found.near.before);
+    let voided = counter_after(&found.near.entry);
     let entry = reading(&found.near.entry)?;
     let out = step_from(range, &before, &entry)?;
     let next = rejoin_next(range, &before, &voided, &found.near.next)?;

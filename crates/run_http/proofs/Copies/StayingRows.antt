@@ -197,7 +197,7 @@ stays_before law further facts o place h there le void =
           ∙ ap (λ rs. rows_before from (rows_of_meter facts o.meter) ++ rows_within (Between from till) rs) (sym rows_later);
     }
 
-own_name : (facts : List Fact) (meter : List ℕ) (o : Opening) → opening_of facts meter ≡ Some o → o.meter ≡ meter
+pub own_name : (facts : List Fact) (meter : List ℕ) (o : Opening) → opening_of facts meter ≡ Some o → o.meter ≡ meter
 own_name facts meter o there = same_text o.meter meter (find_passes (λ (p : Opening). same p.meter meter) (openings_in facts) o there)
 
 pub rows_before_stay : SharesAddUp → RowsBeforeStay

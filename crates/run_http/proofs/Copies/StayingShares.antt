@@ -21,11 +21,11 @@ use Rattle.office_books.specs.declared.spans.Span.TheVariants.{Between}
 use Rattle.run_http.specs.Copies.{rows_before, quarter_of}
 
 -- none starts before a moment
-abbrev StartFrom : (moment : ℕ) → List Share → Type 0
+abbrev pub StartFrom : (moment : ℕ) → List Share → Type 0
 StartFrom moment [] = Unit {0}
 StartFrom moment (share ∷ shares) = (moment ≤ share.start) × StartFrom moment shares
 
-not_before : (moment start : ℕ) → moment ≤ start → nat_lt start moment ≡ false
+pub not_before : (moment start : ℕ) → moment ≤ start → nat_lt start moment ≡ false
 not_before moment start le = grind (arith, nat_tests, le)
 
 none_before : (moment : ℕ) (shares : List Share) → StartFrom moment shares → rows_before moment shares ≡ []
@@ -95,7 +95,7 @@ before_earlier moment from (row ∷ rows) le =
 
 -- ---- rows in order are those before a moment, and then the others
 
-none_start : (moment start : ℕ) (rows : List Share) → moment ≤ start → Above start rows → StartFrom moment rows
+pub none_start : (moment start : ℕ) (rows : List Share) → moment ≤ start → Above start rows → StartFrom moment rows
 none_start moment start [] le h = tt
 none_start moment start (row ∷ rows) le h = (omega (arith, le, h.0), none_start moment start rows le h.1)
 

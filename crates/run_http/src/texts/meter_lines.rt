@@ -19,8 +19,8 @@ pub(crate) fn put_end(text: &mut Vec<u8>, count: usize) -> Result<(), AllocError
     put(text, b"\n")
 }
 
-// Puts the line of a quarter hour.
-fn put_share(text: &mut Vec<u8>, row: &Share) -> Result<(), AllocError>
+/// Puts the line of a quarter hour.
+pub(crate) fn put_share(text: &mut Vec<u8>, row: &Share) -> Result<(), AllocError>
     ensures { OnOk result (text.new.items ≡ text.old.items ++ share_line row.now) }
 {
     put_number(text, b"", row.start)?;
@@ -28,8 +28,8 @@ fn put_share(text: &mut Vec<u8>, row: &Share) -> Result<(), AllocError>
     put(text, b"\n")
 }
 
-// Puts a line for each quarter hour.
-fn put_share_lines(text: &mut Vec<u8>, rows: &[Share]) -> Result<(), AllocError>
+/// Puts a line for each quarter hour.
+pub(crate) fn put_share_lines(text: &mut Vec<u8>, rows: &[Share]) -> Result<(), AllocError>
     ensures { OnOk result (text.new.items ≡ text.old.items ++ flat_map share_line rows.now) }
 {
     for row in rows {

@@ -45,7 +45,7 @@ scale_is : (stands : Bool) (sf new : ℤ) → (stands ≡ false → false ≡ tr
 scale_is true sf new read there = there refl
 scale_is false sf new read there = absurd (let e = read refl in cc)
 
-back_by : (sf : ℤ) (last : Last) (place : ℕ) (k : EntryKind) (e : Entry) (stands : Bool) → HasShape k e → (stands ≡ false → is_read k e ≡ true) → (stands ≡ true → sf ≡ (after last e).sf)
+pub back_by : (sf : ℤ) (last : Last) (place : ℕ) (k : EntryKind) (e : Entry) (stands : Bool) → HasShape k e → (stands ≡ false → is_read k e ≡ true) → (stands ≡ true → sf ≡ (after last e).sf)
     → row_from (entry_row sf (record { place = place; kind = k; entry = e; stands = stands })) stands ≡ Some (record { place = place; kind = k; entry = e; stands = stands })
 back_by sf last place kind.Reading (entry.Step at raw rolls) stands h read there = refl
 back_by sf last place kind.Manual (entry.Step at raw rolls) stands h read there = refl
@@ -109,7 +109,7 @@ module _ (o : Opening) (vs : List Voided) where
     pub reading : row.stands ≡ false → is_read row.kind row.entry ≡ true
     pub stands : not (list_any (names row.place) vs) ≡ row.stands
 
-  one_back : (row : EntryRow) (rows : List EntryRow) → IsTold row → row_among vs (entered o.meter (entry_row (scale_after o (row ∷ rows)) row)) ≡ Some row
+  pub one_back : (row : EntryRow) (rows : List EntryRow) → IsTold row → row_among vs (entered o.meter (entry_row (scale_after o (row ∷ rows)) row)) ≡ Some row
   one_back row rows h =
       let last = last_of (opened o) (entries_in rows) in
       let scale : row.stands ≡ true → scale_after o (row ∷ rows) ≡ (after last row.entry).sf = λ on. ap (λ es. (last_of (opened o) es).sf) (entries_standing row rows on) in

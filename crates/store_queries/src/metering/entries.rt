@@ -31,7 +31,7 @@ fn entries<S: Alter>(conn: &mut Connection<S>, meter: &str) -> Result<Vec<Row>, 
 }
 
 /// The voids of a meter's entries.
-fn voids<S: Alter>(conn: &mut Connection<S>, meter: &str) -> Result<Vec<Row>, RowFault>
+pub(crate) fn voids<S: Alter>(conn: &mut Connection<S>, meter: &str) -> Result<Vec<Row>, RowFault>
     requires { conn.old.in_transaction ≡ false }
     ensures { Finds S.Store conn.old conn.new result
         (λ facts rows. ShowsVoids meter.now facts rows.items) HasReadableJournals }

@@ -47,7 +47,7 @@ fn change(kind: meter_journal::EntryKind, row: store_tables::EntryRow, stands: b
 }
 
 /// The row of an entry. The opening has none.
-fn entry_row(row: store_tables::EntryRow, stands: bool) -> Option<EntryRow>
+pub(crate) fn entry_row(row: store_tables::EntryRow, stands: bool) -> Option<EntryRow>
     ensures { result ≡ row_from row stands }
 {
     match row.kind {
@@ -61,7 +61,7 @@ fn entry_row(row: store_tables::EntryRow, stands: bool) -> Option<EntryRow>
 }
 
 /// Whether one of these voids names a place.
-fn is_voided(voids: &[Row], place: u64) -> Result<bool, RowFault>
+pub(crate) fn is_voided(voids: &[Row], place: u64) -> Result<bool, RowFault>
     ensures told { IfOk result (TellsVoided voids.now place) }
     ensures fault { IfErr result (IsFaultOfVoids voids.now) }
 {

@@ -16,9 +16,9 @@ use Rattle.office_store.specs.Laws.Files.{HasFactsIn}
 use Rattle.office_store.specs.Database.{HasFile, HoldsAlone}
 use Rattle.office_store.specs.declared.books.SqlBooks.{SqlBooks}
 use Rattle.stored_office.specs.BooksFound.{ledger_beneath}
-use Rattle.stored_office.specs.Carrying.Carried.{Carries, OnlyAsked}
-use Rattle.stored_office.specs.Carrying.Feeding.{Passes}
-use Rattle.stored_office.specs.declared.carrying.faults.CarryFault.{CarryFault}
+use Rattle.carried_books.specs.Carrying.Carried.{Carries, OnlyAsked}
+use Rattle.carried_books.specs.Carrying.Feeding.{Passes}
+use Rattle.carried_books.specs.declared.carrying.faults.CarryFault.{CarryFault}
 use Rattle.stored_office.specs.Carries.GoingOn.{GoesOn, GoesOnFrom, GoesOnIn, IsCarriedInto}
 use Rattle.stored_office.specs.Carries.ToldZone.{TellsZone}
 

@@ -11,10 +11,10 @@ use Rattle.office_core.specs.Standing.{StandsIfClean}
 use Rattle.office_store.specs.declared.books.SqlBooks.{SqlBooks}
 use Rattle.stored_office.specs.BooksFound.{ledger_beneath}
 use Rattle.stored_office.specs.NewOffice.{IsMade}
-use Rattle.stored_office.specs.Carrying.Carried.{OfOld}
-use Rattle.stored_office.specs.Carrying.Feeding.{history_with}
-use Rattle.stored_office.specs.Carrying.Plans.{AreCarried}
-use Rattle.stored_office.specs.declared.carrying.commands.TimedCommand.{TimedCommand}
+use Rattle.carried_books.specs.Carrying.Carried.{OfOld}
+use Rattle.carried_books.specs.Carrying.Feeding.{history_with}
+use Rattle.carried_books.specs.Carrying.Plans.{AreCarried}
+use Rattle.carried_books.specs.declared.carrying.commands.TimedCommand.{TimedCommand}
 
 -- all that a new office accepted that was opened at moment 0 and given these commands
 abbrev pub set_up_by : List TimedCommand → History

@@ -3,7 +3,7 @@ use Rattle.std.specs.Prelude.{ℕ, ◌<◌}
 use Rattle.command_io.specs.declared.status.ExitStatus.{ExitStatus}
 use Rattle.command_io.specs.declared.status.ExitStatus.TheVariants as status
 use Rattle.stored_office.specs.declared.ends.ending.Ending.{Ending}
-use Rattle.stored_office.specs.declared.ends.ending.Ending.TheVariants.{Fine, Refused, Wrong, NoText, NoZone, NoDay, Backward, NoSeal, Failed}
+use Rattle.stored_office.specs.declared.ends.ending.Ending.TheVariants.{Fine, Refused, Wrong, NoText, NoZone, NoDay, Backward, NoSeal, Twice, Failed}
 use Rattle.stored_office.specs.declared.ends.failure.Failure.{Failure}
 use Rattle.stored_office.specs.declared.ends.failure.Failure.TheVariants.{Streams}
 
@@ -17,6 +17,7 @@ ending_number (NoZone zone) = 2
 ending_number (NoDay option word) = 2
 ending_number Backward = 2
 ending_number (NoSeal file) = 2
+ending_number (Twice file) = 2
 ending_number (Failed failure) = 3
 
 -- What is told on standard error: what is neither fine nor refused.

@@ -10,7 +10,7 @@ ghost use Rattle.stored_office.specs.BooksFound.{HasPast};
 ghost use Rattle.stored_office.specs.Carries.GoingOn.{GoesOn, GoesOnFrom, GoesOnIn, IsCarriedInto};
 
 use crate::carries::zones::told_zone;
-use crate::carrying::{CarryFault, carry_books};
+use carried_books::{CarryFault, carry_books};
 use office_books::Books;
 use office_core::Office;
 use office_store::{OpenFault, SqlBooks};

@@ -24,6 +24,8 @@ pub enum Ending<'a> {
     Backward,
     /// The file for the option has no seal.
     NoSeal(&'a str),
+    /// The file for the option stands twice.
+    Twice(&'a str),
     Failed(Failure<'a>),
 }
 
@@ -37,6 +39,7 @@ impl<'a> Ending<'a> {
             Ending::Refused => 1,
             Ending::Wrong(_) | Ending::NoText | Ending::NoZone(_) => 2,
             Ending::NoDay { .. } | Ending::Backward | Ending::NoSeal(_) => 2,
+            Ending::Twice(_) => 2,
             Ending::Failed(_) => 3,
         }
     }
@@ -74,6 +77,10 @@ pub fn say<W: Write>(ending: &Ending<'_>, errors: &mut W)
         Ending::NoSeal(file) => write!(
             errors,
             "error: invalid value '{file}' for '--against <SEAL>': no seal, as sunreg audit --seal prints it\n"
+        ),
+        Ending::Twice(file) => write!(
+            errors,
+            "error: invalid value '{file}' for '--db <FILE>': it stands twice\n"
         ),
         Ending::Failed(failure) => write!(errors, "failed\nsunreg: {failure}\n"),
     };

@@ -7,6 +7,7 @@ ghost use Rattle.office_program.specs.Entering.Lines.{telling_of};
 ghost use Rattle.stored_office.specs.BooksFound.{HasPast};
 ghost use Rattle.stored_office.specs.Tasks.Tasks.{IsOf, Does};
 
+use crate::advice::say_lacks;
 use command_io::ExitStatus;
 use energy_report::{ReportForm, StatementForm};
 use kept_books::KeptBooks;
@@ -16,7 +17,6 @@ use office_program::{
 };
 use office_running::{RunFault, Settings, Site, run_office};
 use office_store::{OpenFault, SqlBooks};
-use round_advice::say_lacks;
 use socket_link::Clock;
 use sqlite::{Alter, Connection};
 use std::alloc::Global;

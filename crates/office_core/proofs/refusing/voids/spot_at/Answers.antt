@@ -1,5 +1,6 @@
 use Rattle.std.proofs.Common.{◌≤◌, List, ℕ, Option, sym, subst, ◌∙◌, arith}
-use Rattle.office_core.specs.Refusing.Spots.{IsAt}
+use Rattle.office_rules.specs.Meters.{entry_at}
+use Rattle.office_core.specs.Refusing.Spots.{IsAt, IsJudgedAs}
 use Rattle.office_core.specs.declared.refusing.voids.Spot.TheVariants as spot
 use Rattle.office_core.proofs.RefusingLemmas.Places.{nothing_at_0, opening_at_1, nothing_at, entry_at_place}
 use Rattle.office_core.proofs.refusing.voids.spot_at.Goals as goal
@@ -16,10 +17,10 @@ pub returns-in-None-2-clause-found : goal.returns-in-None-2-clause-found
 returns-in-None-2-clause-found g c known holds clean =
     let high : 2 ≤ c.args.place = omega (arith, c.if-place-eq0.false, c.if-place-eq1.false) in
     subst (λ (given : Option (List ℕ)). IsAt known given c.args.place spot.Nothing) (sym c.in-Some.is)
-    (nothing_at known _ c.args.place high (sym (c.in_ok-entry.ensures.found known holds clean) ∙ c.in-None-2.is))
+    (nothing_at known _ c.args.place high (subst (IsJudgedAs (entry_at known _ c.args.place)) c.in-None-2.is (c.in_ok-entry_of.ensures.found known holds clean)))
 
 pub returns-in-Some-3-clause-found : goal.returns-in-Some-3-clause-found
 returns-in-Some-3-clause-found g c known holds clean =
     let high : 2 ≤ c.args.place = omega (arith, c.if-place-eq0.false, c.if-place-eq1.false) in
     subst (λ (given : Option (List ℕ)). IsAt known given c.args.place (spot.Entry c.in-Some-3.entry)) (sym c.in-Some.is)
-    (entry_at_place known _ c.args.place c.in-Some-3.entry high (sym (c.in_ok-entry.ensures.found known holds clean) ∙ c.in-Some-3.is))
+    (entry_at_place known _ c.args.place c.in-Some-3.entry high (subst (IsJudgedAs (entry_at known _ c.args.place)) c.in-Some-3.is (c.in_ok-entry_of.ensures.found known holds clean)))

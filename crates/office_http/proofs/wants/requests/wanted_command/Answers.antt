@@ -1,5 +1,5 @@
 use Rattle.std.proofs.Common.{rules, ◌∙◌, ◌≢◌, Err, ap, drop, sym, take}
-use Rattle.http_commands.specs.declared.fault.CommandFault.TheVariants.{Memory}
+use Rattle.http_answer.specs.declared.commands.fault.CommandFault.TheVariants.{Memory}
 use Rattle.http_request.specs.HeadTests.{start_at}
 use Rattle.http_request.specs.Tests.{post_headers_of}
 use Rattle.http_answer.specs.Replies.{asked_with}

@@ -1,0 +1,180 @@
+"""What a file a month costs over years: chain.py PROGRAM [MONTHS]
+
+bench/growth.sh --chain calls it. Polls are put into a file by SQL, and the program carries its meters into the next month's. The first, the middle and the last month are made in full, with all
+meters, each carried from a file in which they stand as they do then; all months one after the other, with one meter, since each of them is opened for a report over all.
+"""
+import datetime
+import os
+import pathlib
+import resource
+import shutil
+import subprocess
+import sys
+
+from growth import each, opening, told
+from sites import QUARTER, fill, machine, places, query
+
+METERS = 64
+# In Wh, in each quarter hour.
+STEP = 50
+
+
+def beginning(month):
+    """When a month begins, counted from the year 0, in UTC."""
+    return int(datetime.datetime(month // 12, month % 12 + 1, 1, tzinfo=datetime.timezone.utc).timestamp())
+
+
+def quarters(month):
+    return (beginning(month + 1) - beginning(month)) // QUARTER
+
+
+def name_of(month):
+    return f"office-{month // 12}-{month % 12 + 1:02}.db"
+
+
+def site_lines(meters, at, raw):
+    """A site of meters that were installed at a moment, with this counter."""
+    made = []
+    for n in range(meters):
+        made += [
+            f"INSERT INTO devices VALUES ({n + 1}, 'd{n}', 1, 5, 1);",
+            f"INSERT INTO points VALUES ('d{n}', 1, 'WH', 3, 0, 40094, 'acc32', '');",
+            f"INSERT INTO registers VALUES ({n + 1}, 'r{n}', 'd{n}', 3, 40094, 0, 0);",
+            f"INSERT INTO installations VALUES ({n + 1}, 'm{n}', 'r{n}', 100000, 0, {at}, {raw}, 0, 0);",
+            f"INSERT INTO ranges VALUES ('m{n}', 4294967296);",
+            f"INSERT INTO entries VALUES ('m{n}', 1, 1, {at}, {raw}, 0, 0, 0);",
+        ]
+    return made
+
+
+def month_lines(meters, month, raw):
+    """A month's polls of each device, by which meters go on from this counter, and their rows."""
+    begin, count = beginning(month), quarters(month)
+    made = []
+    for n in range(meters):
+        made += [
+            f"INSERT INTO entries {each(count)} SELECT 'm{n}', n + 2, 2, {begin} + {QUARTER} * (n + 1), {raw} + {STEP} * (n + 1), 0, 0, 0 FROM t;",
+            f"INSERT INTO intervals {each(count)} SELECT 'm{n}', {begin} + {QUARTER} * n, {1000 * STEP} FROM t;",
+        ]
+    return made + [
+        f"UPDATE installations SET last_moment = {begin + QUARTER * count}, last_raw = {raw + STEP * count}, total = {1000 * STEP * count};",
+        f"INSERT INTO polls {each(count * meters)} SELECT n + 1, 'd' || (n % {meters}), 1, {begin} + {QUARTER} * (n / {meters} + 1), n % 65536, 3, 40094, 2 FROM t;",
+        f"INSERT INTO outcomes {each(count * meters)} SELECT n + 1, {begin} + {QUARTER} * (n / {meters} + 1), 1, 0 FROM t;",
+    ]
+
+
+def timed(words):
+    """The seconds that a call takes, of the processor, and what it prints."""
+    before = resource.getrusage(resource.RUSAGE_CHILDREN)
+    done = subprocess.run(words, capture_output=True, text=True)
+    after = resource.getrusage(resource.RUSAGE_CHILDREN)
+    return after.ru_utime + after.ru_stime - before.ru_utime - before.ru_stime, done
+
+
+def carried(program, meters, old, new):
+    cost, done = timed([program, "carry", "--from", old, "--to", new])
+    if (done.returncode, done.stdout) != (0, f"carried {meters} meters\n"):
+        sys.exit(f"chain.py: {old} is not carried: {done.stdout}{done.stderr}")
+    return cost
+
+
+def begun(program, meters, month, raw, room):
+    """The file of a month, carried from one in which meters stand at this counter."""
+    before, db = str(room / "before.db"), str(room / name_of(month))
+    fill(before, site_lines(meters, beginning(month), raw))
+    query(before, "PRAGMA journal_mode = WAL")
+    carried(program, meters, before, db)
+    for it in room.glob("before.db*"):
+        it.unlink()
+    return db
+
+
+def put(db, lines):
+    subprocess.run(["sqlite3", "-bail", db], input="BEGIN;" + "\n".join(lines) + "COMMIT;", text=True, check=True)
+
+
+def fine(program, files):
+    words = [program, "audit"]
+    for it in files:
+        words += ["--db", it]
+    cost, done = timed(words)
+    if done.returncode != 0:
+        sys.exit(f"chain.py: {files[0]}..: {done.stdout}{done.stderr}")
+    return cost
+
+
+def measure_month(program, first, at, room):
+    """One month of all meters: what its file takes to open, and to be carried into the next."""
+    month = first + at - 1
+    raw = STEP * sum(quarters(it) for it in range(first, month))
+    db = begun(program, METERS, month, raw, room)
+    put(db, month_lines(METERS, month, raw))
+    fine(program, [db])
+    copy, after = str(room / "opened.db"), str(room / "next.db")
+    shutil.copy(db, copy)
+    took, cost, memory = opening(program, copy)
+    spent = carried(program, METERS, db, after)
+    rows = 4 * METERS * quarters(month) + METERS
+    print(f"| {at} | {rows:,} | {os.path.getsize(db) / 1e6:.1f} MB | {told(took)} | {told(cost)} | {memory:.0f} MB | {told(spent)} |", flush=True)
+    for it in room.iterdir():
+        it.unlink()
+
+
+def chain(program, first, months, room):
+    """The files of all months, of one meter, each carried from the one before."""
+    files, raw, carrying = [], 0, 0.0
+    for month in range(first, first + months):
+        db = str(room / name_of(month))
+        if files:
+            carrying += carried(program, 1, files[-1], db)
+        else:
+            db = begun(program, 1, month, raw, room)
+        put(db, month_lines(1, month, raw))
+        raw += STEP * quarters(month)
+        files.append(db)
+    return files, carrying
+
+
+def report(program, files):
+    """What a report by months over files takes of the processor, and the energy that it tells."""
+    words = [program, "report", "--register", "r0", "--by", "month"]
+    for it in files:
+        words += ["--db", it]
+    cost, done = timed(words)
+    if done.returncode != 0:
+        sys.exit(f"chain.py: a report over {len(files)} files: {done.stderr or done.stdout}")
+    lines = done.stdout.splitlines()[:-1]
+    return cost, lines
+
+
+def measure_chain(program, first, months, room):
+    files, carrying = chain(program, first, months, room)
+    size, count = sum(os.path.getsize(it) for it in files), sum(quarters(it) for it in range(first, first + months))
+    alone = [report(program, [it]) for it in files]
+    cost, lines = report(program, files)
+    if lines != [line for _, of in alone for line in of] or len(lines) != months:
+        sys.exit(f"chain.py: the report over all files has other lines than those of each: {lines[:3]}")
+    energy = sum(int(line.split()[2]) for line in lines)
+    if energy != 1000 * STEP * count:
+        sys.exit(f"chain.py: the report over all files tells {energy} mWh")
+    each_alone = sum(it for it, _ in alone)
+    print(f"one meter, {months} files of {size / 1e6 / months:.2f} MB: carried in {told(carrying)} together, of the processor")
+    print(f"a report by months over all of them takes {told(cost)} of the processor; reports on each alone {told(each_alone)}, so it takes {1000 * (cost - each_alone):+.0f} ms beside its openings")
+    print(f"an audit over all of them takes {told(fine(program, files))} of the processor")
+
+
+def main():
+    program, months = os.path.abspath(sys.argv[1]), int(sys.argv[2]) if len(sys.argv) > 2 else 120
+    room = places()["tmpfs"]
+    machine(program)
+    now = datetime.datetime.now(datetime.timezone.utc)
+    first = 12 * now.year + now.month - 1 - months
+    print(f"{METERS} meters, each polled each quarter hour:")
+    print("| Month | Rows | File | Opening | of the processor | Memory | Carried into the next, of the processor |\n|" + "---|" * 7, flush=True)
+    for at in sorted({1, (months + 1) // 2, months}):
+        measure_month(program, first, at, room)
+    measure_chain(program, first, months, room)
+
+
+if __name__ == "__main__":
+    main()

@@ -1,0 +1,5 @@
+pub mod Days
+pub mod Meters
+pub mod Files
+pub mod Reports
+pub mod Keeping

@@ -1,0 +1,2 @@
+pub mod CarryingLemmas
+pub mod JoiningLemmas

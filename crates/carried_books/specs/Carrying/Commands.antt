@@ -1,0 +1,98 @@
+-- The commands by which an office is set up as another stands.
+use Rattle.std.specs.Prelude.{ℕ, List, [], ◌∷◌, ◌++◌, map, Some}
+use Rattle.std.specs.Option.{option_map, option_to_list}
+use Rattle.std.specs.List.{flat_map}
+use Rattle.mb_wire.specs.Spans.{code_of}
+use Rattle.read_plan.specs.PlannedLists.{Planned}
+use Rattle.office_events.specs.declared.commands.Command.{Command}
+use Rattle.office_events.specs.declared.commands.Command.TheVariants as command
+use Rattle.office_events.specs.declared.commands.GivenScale.{GivenScale}
+use Rattle.office_events.specs.declared.commands.GivenScale.TheVariants as given
+use Rattle.office_events.specs.declared.facts.Device.{Device}
+use Rattle.office_events.specs.declared.facts.Fact.{Fact}
+use Rattle.office_events.specs.declared.facts.Opening.{Opening}
+use Rattle.office_events.specs.declared.facts.Register.{Register}
+use Rattle.office_events.specs.declared.facts.ScaleSource.{ScaleSource}
+use Rattle.office_events.specs.declared.facts.ScaleSource.TheVariants as source
+use Rattle.office_rules.specs.Facts.{latest_in, list_of, registers_of}
+use Rattle.carried_books.specs.declared.carrying.commands.TimedCommand.{TimedCommand}
+
+-- a command at a moment
+abbrev pub timed : (at : ℕ) → Command → TimedCommand
+timed at c = record { at = at; command = c }
+
+-- ---- what each row was made by
+
+abbrev pub device_command : Device → Command
+device_command device = command.AddDevice (record {
+  name = Some device.name;
+  unit = device.unit;
+  timeout = device.timeout;
+  window = device.window;
+})
+
+abbrev pub list_command : (device : List ℕ) → Planned → Command
+list_command device list = command.PutList (record { device = Some device; list = list })
+
+abbrev pub scale_given : ScaleSource → GivenScale
+scale_given (source.Fixed sf) = given.Fixed sf
+scale_given (source.Register address) = given.Register address
+
+abbrev pub register_command : Register → Command
+register_command register = command.AddRegister (record {
+  name = Some register.name;
+  device = Some register.device;
+  function = code_of register.function;
+  address = register.address;
+  scale = scale_given register.scale;
+})
+
+abbrev pub install_command : Opening → Command
+install_command opening = command.Install (record {
+  register = Some opening.register;
+  meter = Some opening.meter;
+  raw = opening.raw;
+  sf = opening.sf;
+  ceiling = opening.ceiling;
+  range = opening.range;
+})
+
+-- ---- a device, its list where it has one, and its registers, all at one moment
+
+abbrev pub add_device : (at : ℕ) → Device → TimedCommand
+add_device at device = timed at (device_command device)
+
+abbrev pub put_list : (at : ℕ) → (device : List ℕ) → Planned → TimedCommand
+put_list at device list = timed at (list_command device list)
+
+abbrev pub put_lists : (at : ℕ) → List Fact → Device → List TimedCommand
+put_lists at facts device =
+    option_to_list (option_map (put_list at device.name) (list_of facts device.name))
+
+abbrev pub add_register : (at : ℕ) → Register → TimedCommand
+add_register at register = timed at (register_command register)
+
+abbrev pub add_registers : (at : ℕ) → List Fact → Device → List TimedCommand
+add_registers at facts device = map (add_register at) (registers_of facts device.name)
+
+abbrev pub set_up_device : (at : ℕ) → List Fact → Device → List TimedCommand
+set_up_device at facts device =
+    add_device at device ∷ (put_lists at facts device ++ add_registers at facts device)
+
+abbrev pub set_up_devices : (at : ℕ) → List Fact → List Device → List TimedCommand
+set_up_devices at facts devices = flat_map (set_up_device at facts) devices
+
+-- ---- a meter, at the moment of its opening
+
+abbrev pub install : Opening → TimedCommand
+install opening = timed opening.at (install_command opening)
+
+-- Devices are set up at the moment of the first opening, or where there is none, at the latest that is recorded.
+abbrev pub first_moment : List Fact → List Opening → ℕ
+first_moment facts [] = latest_in facts
+first_moment facts (opening ∷ openings) = opening.at
+
+-- The commands for these devices, and after them for these openings.
+abbrev pub commands_for : List Fact → List Device → List Opening → List TimedCommand
+commands_for facts devices openings =
+    set_up_devices (first_moment facts openings) facts devices ++ map install openings

@@ -1,0 +1,57 @@
+-- The meters that are open, and each opened anew where it stood.
+use Rattle.std.specs.Prelude.{◌≡◌, ℕ, List, map, Contains, Option, Some, None}
+use Rattle.std.specs.Option.{option_map, option_to_list}
+use Rattle.std.specs.List.{flat_map}
+use Rattle.energy_core.specs.declared.entries.Last.{Last}
+use Rattle.office_events.specs.declared.facts.Device.{Device}
+use Rattle.office_events.specs.declared.facts.Fact.{Fact}
+use Rattle.office_events.specs.declared.facts.Opening.{Opening}
+use Rattle.office_events.specs.declared.facts.Register.{Register}
+use Rattle.office_events.specs.declared.questions.Installation.{Installation}
+use Rattle.office_rules.specs.Facts.{registers_of}
+use Rattle.office_rules.specs.Meters.{open_at}
+use Rattle.carried_books.specs.Carrying.Standings.{last_until}
+use Rattle.carried_books.specs.declared.carrying.openings.Openings.{Openings}
+use Rattle.carried_books.specs.declared.carrying.openings.Openings.TheVariants.{All, NotYet}
+
+-- ---- the meters that are open: the devices and the registers of each in the order in which they were added
+
+abbrev pub open_at_register : List Fact → Register → List Installation
+open_at_register facts register = option_to_list (open_at facts register.name)
+
+abbrev pub open_at_registers : List Fact → List Register → List Installation
+open_at_registers facts registers = flat_map (open_at_register facts) registers
+
+abbrev pub open_at_device : List Fact → Device → List Installation
+open_at_device facts device = open_at_registers facts (registers_of facts device.name)
+
+abbrev pub open_at_devices : List Fact → List Device → List Installation
+open_at_devices facts devices = flat_map (open_at_device facts) devices
+
+-- ---- their openings
+
+-- the same meter at the same register, with its range and its ceiling, opened where it stood
+abbrev pub opened_at : Opening → Last → Opening
+opened_at opening last = record opening { at = last.at; raw = last.raw; sf = last.sf }
+
+-- A meter is opened anew at its last entry up to a moment that stands, if it has one.
+abbrev pub opening_until : List Fact → (until : Option ℕ) → Installation → Option Opening
+opening_until facts until row =
+    option_map (opened_at row.opening) (last_until facts until row.opening.meter)
+
+-- these are the openings of these meters, one for each
+abbrev pub AreOpeningsOf : List Fact → (until : Option ℕ) → List Installation → List Opening
+    → Type 0
+AreOpeningsOf facts until rows openings = map (opening_until facts until) rows ≡ map Some openings
+
+-- one of these meters, which has this name, has no such entry
+pub record IsNotYet (facts : List Fact) (until : Option ℕ) (rows : List Installation)
+    (meter : List ℕ) : Type 0 where
+  pub row : Installation
+  pub among : Contains rows row
+  pub name : row.opening.meter ≡ meter
+  pub none : opening_until facts until row ≡ None
+
+abbrev pub AreOpened : List Fact → (until : Option ℕ) → List Installation → Openings → Type 0
+AreOpened facts until rows (All openings) = AreOpeningsOf facts until rows openings.items
+AreOpened facts until rows (NotYet meter) = IsNotYet facts until rows meter

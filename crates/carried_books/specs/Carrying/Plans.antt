@@ -1,0 +1,48 @@
+-- The commands by which an office is carried into a new one.
+use Rattle.std.specs.Prelude.{◌≡◌, ℕ, ◌≤◌, List, length, reverse, Option}
+use Rattle.std.specs.List.{AllPairs}
+use Rattle.std.specs.List.Sorted.{IsPermutation}
+use Rattle.office_events.specs.declared.facts.Device.{Device}
+use Rattle.office_events.specs.declared.facts.Fact.{Fact}
+use Rattle.office_events.specs.declared.facts.Opening.{Opening}
+use Rattle.office_events.specs.declared.questions.Installation.{Installation}
+use Rattle.office_rules.specs.Facts.{devices_in}
+use Rattle.carried_books.specs.Carrying.Commands.{commands_for}
+use Rattle.carried_books.specs.Carrying.Openings.{AreOpeningsOf, IsNotYet, open_at_devices}
+use Rattle.carried_books.specs.declared.carrying.commands.TimedCommand.{TimedCommand}
+use Rattle.carried_books.specs.declared.carrying.plans.Plan.{Plan}
+use Rattle.carried_books.specs.declared.carrying.plans.Plan.TheVariants.{Ready, NotYet}
+
+-- the devices, in the order in which they were added, and the meters that are open at their registers
+abbrev pub devices_of : List Fact → List Device
+devices_of facts = reverse (devices_in facts)
+
+abbrev pub open_meters : List Fact → List Installation
+open_meters facts = open_at_devices facts (devices_of facts)
+
+-- The commands set up these devices, and then install the meters of these openings in the order of their moments, so many.
+pub record AreCommandsFor (facts : List Fact) (devices : List Device) (opened : List Opening)
+    (commands : List TimedCommand) (meters : ℕ) : Type 0 where
+  pub openings : List Opening
+  pub same : IsPermutation opened openings
+  pub ordered : AllPairs (λ (a b : Opening). a.at ≤ b.at) openings
+  pub are : commands ≡ commands_for facts devices openings
+  pub count : meters ≡ length openings
+
+-- By these commands an office with these facts is carried: each device with its list and its registers, and each meter that
+-- is open, opened anew at its last entry up to a moment that stands. They install so many meters.
+pub record AreCarried (facts : List Fact) (until : Option ℕ) (commands : List TimedCommand)
+    (meters : ℕ) : Type 0 where
+  pub opened : List Opening
+  pub each : AreOpeningsOf facts until (open_meters facts) opened
+  pub so : AreCommandsFor facts (devices_of facts) opened commands meters
+
+abbrev pub IsPlanFor : List Fact → List Device → List Opening → Plan → Type 0
+IsPlanFor facts devices opened (Ready commands meters) =
+    AreCommandsFor facts devices opened commands.items meters
+IsPlanFor facts devices opened (NotYet meter) = ⊥
+
+-- Such commands, or a meter that is open has no entry up to the moment that stands.
+abbrev pub IsPlan : List Fact → (until : Option ℕ) → Plan → Type 0
+IsPlan facts until (Ready commands meters) = AreCarried facts until commands.items meters
+IsPlan facts until (NotYet meter) = IsNotYet facts until (open_meters facts) meter

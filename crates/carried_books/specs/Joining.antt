@@ -1,0 +1,5 @@
+pub mod Meters
+pub mod Days
+pub mod Files
+pub mod Reports
+pub mod Keeping

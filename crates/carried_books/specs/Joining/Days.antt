@@ -1,0 +1,60 @@
+-- A sink that adds the interval rows of one file after the other up to civil days.
+use Rattle.std.specs.Prelude.{◌≡◌, ◌⊎◌, ℕ, ◌+◌, ◌<◌, ◌^◌, List, [], ◌∷◌, ◌++◌, Contains, Option, Some, None, MatchOption}
+use Rattle.interval_core.specs.Account.{energy_of, starts_of}
+use Rattle.interval_core.specs.Fold.{FoldState, HasTaken}
+use Rattle.interval_core.specs.declared.day.DayFault.{DayFault}
+use Rattle.interval_core.specs.declared.day.DayFault.TheVariants as fault
+use Rattle.interval_core.specs.declared.limits.TheConstants.{LAST_MOMENT}
+use Rattle.interval_core.specs.declared.shares.Share.{Share}
+use Rattle.interval_core.specs.declared.zone.Zone.{Zone}
+use Rattle.carried_books.specs.declared.joining.days.JoinedDays.{JoinedDays}
+
+-- ---- rows out of turn
+
+-- The row starts before one of these, or past the last moment.
+abbrev pub IsOutOfTurn : List Share → Share → Type 0
+IsOutOfTurn rows row =
+    ((earlier : ℕ) × Contains (starts_of rows) earlier × (row.start < earlier))
+    ⊎ (LAST_MOMENT < row.start)
+
+-- One of these rows is out of turn after those before it.
+pub record AreOutOfTurn (rows : List Share) : Type 0 where
+  pub before : List Share
+  pub row : Share
+  pub after : List Share
+  pub are : rows ≡ before ++ row ∷ after
+  pub is : IsOutOfTurn before row
+
+-- ---- rows that were added up
+
+-- The sum of all their energy has a number of 128 bits.
+abbrev pub HasNumber : List Share → Type 0
+HasNumber rows = energy_of rows < 2 ^ 128
+
+-- The rows are added up, or one was out of turn, or there was no memory.
+abbrev pub AddUp : Option DayFault → Zone → List Share → FoldState → Type 0
+AddUp None zone rows fold = HasTaken zone rows fold
+AddUp (Some fault.Zone) zone rows fold = AreOutOfTurn rows
+AddUp (Some fault.Memory) zone rows fold = Unit {0}
+
+-- So it is with a sink that was given these rows.
+abbrev pub HasAdded : JoinedDays → List Share → Type 0
+HasAdded sink rows = HasNumber rows → AddUp sink.fault sink.zone rows sink.fold
+
+-- ---- one row more
+
+abbrev pub AddsUp : Option DayFault → Zone → List Share → Share → FoldState → Type 0
+AddsUp None zone rows row fold = HasTaken zone (rows ++ row ∷ []) fold
+AddsUp (Some fault.Zone) zone rows row fold = IsOutOfTurn rows row
+AddsUp (Some fault.Memory) zone rows row fold = Unit {0}
+
+-- It is added up after those before it, or is out of turn, or there is no memory.
+pub record AddsRow (old : JoinedDays) (row : Share) (new : JoinedDays) : Type 0 where
+  pub zone : new.zone ≡ old.zone
+  pub added : (rows : List Share) → HasTaken old.zone rows old.fold
+      → energy_of rows + row.mwh < 2 ^ 128
+      → AddsUp new.fault old.zone rows row new.fold
+
+-- The sink takes a row: it is dropped, where something failed before.
+abbrev pub TakesShare : JoinedDays → Share → JoinedDays → Type 0
+TakesShare old row new = MatchOption old.fault (AddsRow old row new) (λ fault. new ≡ old)

@@ -1,0 +1,63 @@
+-- The report of a register over files of one office, on a range of days, in a form.
+use Rattle.std.specs.Prelude.{◌≡◌, ◌↔◌, ℕ, List, [], ◌∷◌, ◌++◌, map, Option, Some}
+use Rattle.std.specs.declared.io.Write as writers
+use Rattle.command_io.specs.declared.status.ExitStatus.{ExitStatus}
+use Rattle.command_io.specs.declared.status.ExitStatus.TheVariants.{Fine}
+use Rattle.energy_report.specs.Texts.{report_text}
+use Rattle.energy_report.specs.declared.form.ReportForm.{ReportForm}
+use Rattle.interval_core.specs.Days.{AreAccounts, DayAccount, account_of}
+use Rattle.interval_core.specs.declared.shares.Share.{Share}
+use Rattle.interval_core.specs.declared.day_range.DayRange.{DayRange}
+use Rattle.interval_core.specs.declared.totals.DayTotal.{DayTotal}
+use Rattle.interval_core.specs.declared.zone.Zone.{Zone}
+use Rattle.meter_audit.specs.Carried.{AreCountedOnce}
+use Rattle.office_core.specs.DayRange.{AreDaysWithin, accounts_within, span_of}
+use Rattle.office_events.specs.declared.facts.Fact.{Fact}
+use Rattle.office_program.specs.Texts.EndTexts.{IsTold}
+use Rattle.carried_books.specs.Joining.Days.{HasNumber}
+use Rattle.carried_books.specs.Joining.Files.{HasJoined, rows_over}
+use Rattle.carried_books.specs.declared.joining.files.JoinedFiles.{JoinedFiles}
+
+-- These are, of the days of the rows that all files have of a register, those that the range has.
+pub record AreDaysOver (zone : Zone) (register : List ℕ) (files : List (List Fact))
+    (range : DayRange) (days : List DayAccount) : Type 0 where
+  pub all : List DayAccount
+  pub are : AreAccounts zone (rows_over register files) all
+  pub asked : days ≡ accounts_within range all
+
+-- The rows of the register's days in the range, by the clocks of the zone, in the form that was asked for.
+abbrev pub IsReportOver : Zone → (register : List ℕ) → (files : List (List Fact)) → ReportForm
+    → (text : List ℕ) → Type 0
+IsReportOver zone register files form text = (days : List DayTotal)
+    × AreDaysOver zone register files form.range (map account_of days)
+    × (text ≡ report_text form days)
+
+-- It was printed, or a part of it, since a write failed.
+pub record PrintsOver (zone : Zone) (register : List ℕ) (files : List (List Fact))
+    (form : ReportForm) (status : ExitStatus) (had holds : Option (List ℕ)) : Type 0 where
+  pub text : List ℕ
+  pub is : IsReportOver zone register files form text
+  pub told : IsTold text Fine status had holds
+
+-- So it is of files that join, by what was kept of them, where the sum of all their energy has a number of 128 bits.
+abbrev pub ReportsJoined : {W : Type 0} → writers.Ghosts W → JoinedFiles → ReportForm
+    → (had holds : W) → ExitStatus → Type 0
+ReportsJoined w joined form had holds status =
+    (zone : Zone) (register : List ℕ) (files : List (List Fact))
+    → HasJoined zone (span_of form.range) register files joined
+    → HasNumber (rows_over register files)
+    → PrintsOver zone register files form status (w.contents had) (w.contents holds)
+
+-- Of one file alone these are the days of its register.
+abbrev pub OneFileTellsItsDays : Type 0
+OneFileTellsItsDays = (zone : Zone) (register : List ℕ) (facts : List Fact) (range : DayRange)
+    (days : List DayAccount)
+    → AreDaysOver zone register (facts ∷ []) range days
+    ↔ AreDaysWithin zone facts (Some register) range days
+
+-- The rows that the old file and the new one have of a meter that is carried from the one into the other come to the days of
+-- its journal in both: to those that one file tells that was never carried.
+abbrev pub BothFilesTellTheJoinedDays : Type 0
+BothFilesTellTheJoinedDays = (zone : Zone) (old new both : List Share) (accounts : List DayAccount)
+    → AreCountedOnce old new both
+    → AreAccounts zone (old ++ new) accounts → AreAccounts zone both accounts

@@ -1,0 +1,216 @@
+//! The commands by which an office is set up as another stands.
+ghost use Rattle.std.specs.Prelude.{◌≡◌, ◌++◌, ◌∷◌, [], map, OnOk};
+ghost use Rattle.office_books.specs.Ledgers.{Consults, Finds};
+ghost use Rattle.carried_books.specs.Carrying.Adding.{Adds};
+ghost use Rattle.carried_books.specs.Carrying.Commands as commands;
+
+use office_books::{Books, BooksFault};
+use office_events::{
+    AddDevice, AddRegister, Command, Device, GivenScale, Install, Name, Opening, PlannedList,
+    PutList, Register, ScaleSource,
+};
+use std::alloc::{AllocError, Global};
+
+/// A command, and the moment at which it is given.
+#[derive(Drop)]
+pub struct TimedCommand {
+    pub at: u64,
+    pub command: Command,
+}
+
+// ---- what each row was made by
+
+fn add_device(at: u64, device: &Device) -> TimedCommand
+    ensures { result ≡ commands.add_device at device.now }
+{
+    TimedCommand {
+        at,
+        command: Command::AddDevice(AddDevice {
+            name: Some(device.name),
+            unit: device.unit as u64,
+            timeout: device.timeout.seconds(),
+            window: device.window.polls() as u64,
+        }),
+    }
+}
+
+fn put_list(at: u64, device: &Name, list: PlannedList) -> TimedCommand
+    ensures { result ≡ commands.put_list at device.now list }
+{
+    TimedCommand {
+        at,
+        command: Command::PutList(PutList {
+            device: Some(*device),
+            list,
+        }),
+    }
+}
+
+fn scale_given(scale: ScaleSource) -> GivenScale
+    ensures { result ≡ commands.scale_given scale }
+{
+    match scale {
+        ScaleSource::Fixed(sf) => GivenScale::Fixed(sf as i64),
+        ScaleSource::Register(address) => GivenScale::Register(address as u64),
+    }
+}
+
+fn add_register(at: u64, register: &Register) -> TimedCommand
+    ensures { result ≡ commands.add_register at register.now }
+{
+    TimedCommand {
+        at,
+        command: Command::AddRegister(AddRegister {
+            name: Some(register.name),
+            device: Some(register.device),
+            function: register.function.code() as u64,
+            address: register.address as u64,
+            scale: scale_given(register.scale),
+        }),
+    }
+}
+
+fn install(opening: &Opening) -> TimedCommand
+    ensures { result ≡ commands.install opening.now }
+{
+    TimedCommand {
+        at: opening.at,
+        command: Command::Install(Install {
+            register: Some(opening.register),
+            meter: Some(opening.meter),
+            raw: opening.raw as u64,
+            sf: opening.sf as i64,
+            ceiling: opening.ceiling,
+            range: opening.range,
+        }),
+    }
+}
+
+// ---- devices
+
+// Adds the list of a device, if it has one.
+fn add_list<B: Books>(
+    added: &mut Vec<TimedCommand>,
+    books: &mut B,
+    at: u64,
+    device: &Device,
+) -> Result<(), BooksFault>
+    ensures adds { Adds (B.ledger books.old) (B.ledger books.new)
+        (λ known. commands.put_lists at known device.now) added.old.items added.new.items result }
+    ensures reads { Consults (B.ledger books.old) (B.ledger books.new) result }
+{
+    if let Some(list) = books.list(&device.name)? {
+        added.push(put_list(at, &device.name, list))?;
+    }
+    Ok(())
+}
+
+// Adds these registers.
+fn add_each(
+    added: &mut Vec<TimedCommand>,
+    at: u64,
+    registers: &[Register],
+) -> Result<(), AllocError>
+    ensures { OnOk result
+        (added.new.items ≡ added.old.items ++ map (commands.add_register at) registers.now) }
+{
+    for register in registers {
+        added.push(add_register(at, register))?;
+    }
+    Ok(())
+}
+
+// Adds the registers of a device.
+fn add_registers<B: Books>(
+    added: &mut Vec<TimedCommand>,
+    books: &mut B,
+    at: u64,
+    device: &Device,
+) -> Result<(), BooksFault>
+    ensures adds { Adds (B.ledger books.old) (B.ledger books.new)
+        (λ known. commands.add_registers at known device.now) added.old.items added.new.items
+        result }
+    ensures reads { Consults (B.ledger books.old) (B.ledger books.new) result }
+{
+    let registers = books.registers(&device.name)?;
+    add_each(added, at, &registers)?;
+    Ok(())
+}
+
+// Adds a device with its list and its registers.
+fn set_up_device<B: Books>(
+    added: &mut Vec<TimedCommand>,
+    books: &mut B,
+    at: u64,
+    device: &Device,
+) -> Result<(), BooksFault>
+    ensures adds { Adds (B.ledger books.old) (B.ledger books.new)
+        (λ known. commands.set_up_device at known device.now) added.old.items added.new.items
+        result }
+    ensures reads { Consults (B.ledger books.old) (B.ledger books.new) result }
+{
+    added.push(add_device(at, device))?;
+    add_list(added, books, at, device)?;
+    add_registers(added, books, at, device)
+}
+
+// Adds these devices.
+fn set_up_devices<B: Books>(
+    added: &mut Vec<TimedCommand>,
+    books: &mut B,
+    at: u64,
+    devices: &[Device],
+) -> Result<(), BooksFault>
+    ensures adds { Adds (B.ledger books.old) (B.ledger books.new)
+        (λ known. commands.set_up_devices at known devices.now) added.old.items added.new.items
+        result }
+    ensures reads { Consults (B.ledger books.old) (B.ledger books.new) result }
+{
+    for device in devices {
+        set_up_device(added, books, at, device)?;
+    }
+    Ok(())
+}
+
+// ---- meters
+
+// Adds these meters.
+fn add_installs(added: &mut Vec<TimedCommand>, openings: &[Opening]) -> Result<(), AllocError>
+    ensures { OnOk result
+        (added.new.items ≡ added.old.items ++ map commands.install openings.now) }
+{
+    for opening in openings {
+        added.push(install(opening))?;
+    }
+    Ok(())
+}
+
+// When devices are set up: at the first opening, or where there is none, at the latest moment that is recorded.
+fn first_moment<B: Books>(books: &mut B, openings: &[Opening]) -> Result<u64, BooksFault>
+    ensures found { Finds (B.ledger books.old) (B.ledger books.new) result
+        (λ known at. at ≡ commands.first_moment known openings.now) }
+    ensures reads { Consults (B.ledger books.old) (B.ledger books.new) result }
+{
+    match openings {
+        [] => books.latest(),
+        [opening, ..] => Ok(opening.at),
+    }
+}
+
+/// The commands by which these devices are set up as books know them, and after them these meters.
+pub fn commands_for<B: Books>(
+    alloc: Global,
+    books: &mut B,
+    devices: &[Device],
+    openings: &[Opening],
+) -> Result<Vec<TimedCommand>, BooksFault>
+    ensures found { Finds (B.ledger books.old) (B.ledger books.new) result
+        (λ known v. v.items ≡ commands.commands_for known devices.now openings.now) }
+    ensures reads { Consults (B.ledger books.old) (B.ledger books.new) result }
+{
+    let at = first_moment(books, openings)?;
+    let mut added = Vec::new(alloc);
+    set_up_devices(&mut added, books, at, devices)?;
+    add_installs(&mut added, openings)?;
+    Ok(added)
+}

@@ -1,0 +1,126 @@
+//! Where a meter stood at its last entry up to a moment.
+ghost use Rattle.std.specs.Prelude.{◌≡◌, ◌++◌, ◌∷◌, [], List};
+ghost use Rattle.office_books.specs.Entries.{all_entries};
+ghost use Rattle.office_books.specs.Ledgers.{Consults, Finds};
+ghost use Rattle.office_books.specs.declared.entries.MeterEntry.{MeterEntry as Listed};
+ghost use Rattle.carried_books.specs.Carrying.Standings as standings;
+
+use energy_core::{Entry, Last};
+use office_books::{Books, BooksFault, MeterEntry};
+use office_events::Name;
+
+// How many entries are asked for at a time, and how often at most: places are numbers of 64 bits.
+const PIECE: u32 = 65536;
+
+const MOST_PIECES: u64 = 281_474_976_710_655;
+
+// Whether a moment is not after the one up to which entries count.
+fn is_until(until: Option<u64>, at: u64) -> bool
+    ensures { result ≡ standings.is_until until at }
+{
+    match until {
+        Some(until) => at <= until,
+        None => true,
+    }
+}
+
+// Where the counter stood after an entry that stands.
+fn shown(entry: &MeterEntry) -> Last
+    ensures { result ≡ standings.shown_by entry.now }
+{
+    match entry {
+        MeterEntry::Opening(last) => *last,
+        MeterEntry::Later { row, sf } => match row.entry {
+            Entry::Step { at, raw, .. } => Last { at, raw, sf: *sf },
+            Entry::Change { at, after, .. } => Last {
+                at,
+                raw: after,
+                sf: *sf,
+            },
+        },
+    }
+}
+
+// Whether an entry stands.
+fn stands(entry: &MeterEntry) -> bool
+    ensures { result ≡ standings.stands entry.now }
+{
+    match entry {
+        MeterEntry::Opening(_) => true,
+        MeterEntry::Later { row, .. } => row.stands,
+    }
+}
+
+// Whether an entry stands, and counts up to the moment.
+fn counts(until: Option<u64>, entry: &MeterEntry) -> bool
+    ensures { result ≡ standings.counts until entry.now }
+{
+    stands(entry) && is_until(until, shown(entry).at)
+}
+
+// Where the counter stood after one more entry.
+fn last_with(found: Option<Last>, until: Option<u64>, entry: &MeterEntry) -> Option<Last>
+    ensures { (before : List Listed) → found ≡ standings.last_among until before
+        → result ≡ standings.last_among until (before ++ entry.now ∷ []) }
+{
+    if counts(until, entry) {
+        Some(shown(entry))
+    } else {
+        found
+    }
+}
+
+// Where it stood after these entries more.
+fn last_after(found: Option<Last>, until: Option<u64>, entries: &[MeterEntry]) -> Option<Last>
+    ensures { (before : List Listed) → found ≡ standings.last_among until before
+        → result ≡ standings.last_among until (before ++ entries.now) }
+{
+    let mut last = found;
+    for entry in entries {
+        last = last_with(last, until, entry);
+    }
+    last
+}
+
+// Where a meter stood at its last entry up to a moment. Its entries are asked for piece by piece.
+fn last_in_pieces<B: Books>(
+    books: &mut B,
+    meter: &Name,
+    until: Option<u64>,
+) -> Result<Option<Last>, BooksFault>
+    ensures found { Finds (B.ledger books.old) (B.ledger books.new) result
+        (λ known last. last ≡ standings.last_until known until meter.now) }
+    ensures reads { Consults (B.ledger books.old) (B.ledger books.new) result }
+{
+    let mut last = None;
+    for turn in 0..MOST_PIECES {
+        let piece = books.entries(meter, turn * 65536 + 1, PIECE)?;
+        last = last_after(last, until, &piece);
+        if piece.len() < 65536 {
+            return Ok(last);
+        }
+    }
+    Err(BooksFault::Memory)
+}
+
+/// Where a meter stood at its last entry that stands, up to a moment where one is given.
+pub fn last_until<B: Books>(
+    books: &mut B,
+    meter: &Name,
+    until: Option<u64>,
+) -> Result<Option<Last>, BooksFault>
+    ensures found { Finds (B.ledger books.old) (B.ledger books.new) result
+        (λ known last. last ≡ standings.last_until known until meter.now) }
+    ensures reads { Consults (B.ledger books.old) (B.ledger books.new) result }
+{
+    match books.meter(meter)? {
+        None => Ok(None),
+        Some(row) => {
+            if is_until(until, row.last.at) {
+                Ok(Some(row.last))
+            } else {
+                last_in_pieces(books, meter, until)
+            }
+        }
+    }
+}

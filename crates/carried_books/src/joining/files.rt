@@ -1,0 +1,168 @@
+//! What files of one office tell of a register, one file after the other.
+ghost use Rattle.std.specs.Prelude.{◌≡◌, ℕ, List, [], IfOk};
+ghost use Rattle.office_events.specs.declared.facts.Fact.{Fact};
+ghost use Rattle.office_rules.specs.Intervals.{rows_of_register};
+ghost use Rattle.office_books.specs.Entries.{installations_of};
+ghost use Rattle.office_books.specs.Ledgers.{Consults, Finds};
+ghost use Rattle.office_books.specs.Spans.{rows_within};
+ghost use Rattle.office_books.specs.declared.spans.Span.{Span as Asked};
+ghost use Rattle.carried_books.specs.Joining.Files as files;
+ghost use Rattle.carried_books.specs.Joining.Files.{AddDays, AddsRows, AllJoin, HasJoined, Joins};
+ghost use Rattle.carried_books.specs.Joining.Meters.{AddOrAreApart};
+
+use crate::joining::days::JoinedDays;
+use crate::joining::meters::{Apart, add_meters, both};
+use interval_core::{DayFault, Zone};
+use office_books::{Books, BooksFault, Span};
+use office_events::{Installation, Name};
+use std::alloc::Global;
+
+/// Why a file doesn't join those before it.
+#[derive(Clone, Copy, Debug, PartialEq, Eq)]
+pub enum Unjoined {
+    /// The register isn't recorded there, though it is in an earlier file.
+    NotRecorded,
+    /// A meter at the register begins there neither where one before it stands nor after it.
+    Apart(Apart),
+    /// A quarter hour comes after a later one.
+    OutOfTurn,
+}
+
+/// What files tell of a register, one after the other: whether it is recorded, the meters at it, and its days.
+#[derive(Drop)]
+pub struct JoinedFiles {
+    pub is_recorded: bool,
+    pub meters: Vec<Installation>,
+    pub days: JoinedDays,
+}
+
+/// No files yet. No memory is taken.
+pub fn no_files(alloc: Global, zone: Zone) -> JoinedFiles
+    ensures { (span : Asked) (register : List ℕ) → HasJoined zone span register [] result }
+{
+    JoinedFiles {
+        is_recorded: false,
+        meters: Vec::new(alloc),
+        days: JoinedDays::new(alloc, zone),
+    }
+}
+
+// Whether a register is recorded.
+fn is_recorded<B: Books>(books: &mut B, register: &Name) -> Result<bool, BooksFault>
+    ensures found { Finds (B.ledger books.old) (B.ledger books.new) result
+        (λ known is. is ≡ files.is_recorded register.now known) }
+    ensures reads { Consults (B.ledger books.old) (B.ledger books.new) result }
+{
+    match books.register(register) {
+        Ok(row) => Ok(row.is_some()),
+        Err(fault) => Err(fault),
+    }
+}
+
+// Adds the meters at a register.
+fn join_meters<B: Books>(
+    meters: &mut Vec<Installation>,
+    books: &mut B,
+    register: &Name,
+) -> Result<Option<Apart>, BooksFault>
+    ensures adds { (known : List Fact) → (B.ledger books.old).holds known
+        → (B.ledger books.new).is_clean
+        → IfOk result (AddOrAreApart meters.old.items (installations_of known register.now)
+        meters.new.items) }
+    ensures reads { Consults (B.ledger books.old) (B.ledger books.new) result }
+{
+    match books.meters(register) {
+        Ok(listed) => match add_meters(meters, &listed) {
+            Ok(apart) => Ok(apart),
+            Err(_) => Err(BooksFault::Memory),
+        },
+        Err(fault) => Err(fault),
+    }
+}
+
+// Adds those quarter hours of a register that are asked for.
+fn join_days<B: Books>(
+    days: &mut JoinedDays,
+    books: &mut B,
+    register: &Name,
+    span: Span,
+) -> Result<Option<Unjoined>, BooksFault>
+    ensures adds { (known : List Fact) → (B.ledger books.old).holds known
+        → (B.ledger books.new).is_clean
+        → IfOk result (AddDays (rows_within span (rows_of_register known register.now))
+        days.old days.new) }
+    ensures reads { Consults (B.ledger books.old) (B.ledger books.new) result }
+{
+    match books.register_intervals(register, span, days) {
+        Err(fault) => Err(fault),
+        Ok(()) => match days.fault() {
+            None => Ok(None),
+            Some(DayFault::Zone) => Ok(Some(Unjoined::OutOfTurn)),
+            Some(DayFault::Memory) => Err(BooksFault::Memory),
+        },
+    }
+}
+
+// Adds the meters at a register, and its quarter hours.
+fn add_rows<B: Books>(
+    joined: &mut JoinedFiles,
+    books: &mut B,
+    register: &Name,
+    span: Span,
+) -> Result<Option<Unjoined>, BooksFault>
+    ensures adds { (known : List Fact) → (B.ledger books.old).holds known
+        → (B.ledger books.new).is_clean
+        → IfOk result (AddsRows span register.now known joined.old joined.new) }
+    ensures reads { Consults (B.ledger books.old) (B.ledger books.new) result }
+{
+    match join_meters(&mut joined.meters, books, register) {
+        Err(fault) => Err(fault),
+        Ok(apart) => match apart {
+            Some(apart) => Ok(Some(Unjoined::Apart(apart))),
+            None => join_days(&mut joined.days, books, register, span),
+        },
+    }
+}
+
+// Adds what the books of a file tell.
+fn add_file<B: Books>(
+    joined: &mut JoinedFiles,
+    books: &mut B,
+    register: &Name,
+    span: Span,
+) -> Result<Option<Unjoined>, BooksFault>
+    ensures joins { (known : List Fact) → (B.ledger books.old).holds known
+        → (B.ledger books.new).is_clean
+        → IfOk result (Joins span register.now known joined.old joined.new) }
+    ensures reads { Consults (B.ledger books.old) (B.ledger books.new) result }
+{
+    match is_recorded(books, register) {
+        Err(fault) => Err(fault),
+        Ok(is_recorded) => {
+            if both(joined.is_recorded, !is_recorded) {
+                return Ok(Some(Unjoined::NotRecorded));
+            }
+            joined.is_recorded = is_recorded;
+            add_rows(joined, books, register, span)
+        }
+    }
+}
+
+/// Adds what the books of the next file tell of a register: its meters, and those of its quarter hours that are asked for. It
+/// answers why the file doesn't join those before it. The books are only asked.
+pub fn add_books<B: Books>(
+    joined: &mut JoinedFiles,
+    books: &mut B,
+    register: &Name,
+    span: Span,
+) -> Result<Option<Unjoined>, BooksFault>
+    ensures joins { (known : List Fact) → (B.ledger books.old).holds known
+        → (B.ledger books.new).is_clean
+        → IfOk result (Joins span register.now known joined.old joined.new) }
+    ensures all { (known : List Fact) → (B.ledger books.old).holds known
+        → (B.ledger books.new).is_clean
+        → IfOk result (AllJoin span register.now known joined.old joined.new) }
+    ensures reads { Consults (B.ledger books.old) (B.ledger books.new) result }
+{
+    add_file(joined, books, register, span)
+}

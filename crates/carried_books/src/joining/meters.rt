@@ -1,0 +1,140 @@
+//! The meters at a register over files, one file after the other.
+ghost use Rattle.std.specs.Prelude.{◌≡◌, ◌↔◌, ◌&&◌, IsTrue, not, find, IfOk};
+ghost use Rattle.meter_audit.specs.CarriedFiles.{GoesOnAs};
+ghost use Rattle.carried_books.specs.Joining.Meters as meters;
+ghost use Rattle.carried_books.specs.Joining.Meters.{AddOrAreApart, AddsNext, AddsOrIsApart, GoesOn};
+
+use energy_core::Last;
+use meter_journal::Installed;
+use office_books::installed;
+use office_events::Installation;
+use std::alloc::AllocError;
+
+/// Two meters at a register that don't join: where one stands by the files before, and another that begins in the next one,
+/// neither there nor after it.
+#[derive(Clone, Copy, Debug, PartialEq, Eq)]
+pub struct Apart {
+    pub stands: Installation,
+    pub begins: Installation,
+}
+
+pub(crate) fn both(one: bool, other: bool) -> bool
+    ensures { result ≡ one && other }
+{
+    one && other
+}
+
+// Whether a counter stands where another does.
+fn is_same(last: &Last, other: &Last) -> bool
+    ensures { IsTrue result ↔ (last.now ≡ other.now) }
+{
+    last.at == other.at && last.raw == other.raw && last.sf == other.sf
+}
+
+// Whether a meter that was left so goes on as another.
+fn goes_on_as(meter: &Installed, last: &Last, ended: bool, next: &Installed) -> bool
+    ensures { IsTrue result ↔ GoesOnAs meter.now last.now ended next.now }
+{
+    !ended
+        && next.range == meter.range
+        && next.ceiling == meter.ceiling
+        && is_same(&next.opening, last)
+}
+
+// Whether a meter goes on as the one of its name in a later file.
+fn goes_on(stands: &Installation, row: &Installation) -> bool
+    ensures { IsTrue result ↔ GoesOn stands.now row.now }
+{
+    let is_one = row.opening.meter.is(&stands.opening.meter);
+    let stood = installed(&stands.opening);
+    let next = installed(&row.opening);
+    both(
+        is_one,
+        goes_on_as(&stood, &stands.last, stands.ended, &next),
+    )
+}
+
+// The meter of both files.
+fn as_one(stands: &Installation, row: &Installation) -> Installation
+    ensures { result ≡ meters.as_one stands.now row.now }
+{
+    Installation {
+        opening: stands.opening,
+        last: row.last,
+        total: stands.total.saturating_add(row.total),
+        ended: row.ended,
+    }
+}
+
+// Whether a meter was there before another.
+fn is_before(stands: &Installation, row: &Installation) -> bool
+    ensures { result ≡ meters.is_before stands.now row.now }
+{
+    let is_same = row.opening.meter.is(&stands.opening.meter);
+    let is_earlier = stands.last.at <= row.opening.at;
+    both(stands.ended, both(is_earlier, !is_same))
+}
+
+// The first of these that was not there before another.
+fn not_before(known: &[Installation], row: &Installation) -> Option<Installation>
+    ensures { result ≡ find (λ stands. not (meters.is_before stands row.now)) known.now }
+{
+    for stands in known {
+        if !is_before(stands, row) {
+            return Some(*stands);
+        }
+    }
+    None
+}
+
+// Adds a meter that comes after these.
+fn add_next(known: &mut Vec<Installation>, row: &Installation) -> Result<Option<Apart>, AllocError>
+    ensures { IfOk result (AddsNext known.old.items row.now known.new.items) }
+{
+    match not_before(known.as_slice(), row) {
+        Some(stands) => Ok(Some(Apart {
+            stands,
+            begins: *row,
+        })),
+        None => {
+            known.push(*row)?;
+            Ok(None)
+        }
+    }
+}
+
+// Adds a meter as which the last of these goes on, or which comes after them.
+fn add_meter(known: &mut Vec<Installation>, row: &Installation) -> Result<Option<Apart>, AllocError>
+    ensures { IfOk result (AddsOrIsApart known.old.items row.now known.new.items) }
+{
+    let Some(last) = known.pop() else {
+        return add_next(known, row);
+    };
+    if goes_on(&last, row) {
+        known.push(as_one(&last, row))?;
+        return Ok(None);
+    }
+    known.push(last)?;
+    add_next(known, row)
+}
+
+/// Adds the meters of a file, in the order in which they were installed, to those of the files before; it answers the first two
+/// that don't join.
+pub fn add_meters(
+    known: &mut Vec<Installation>,
+    listed: &[Installation],
+) -> Result<Option<Apart>, AllocError>
+    ensures { IfOk result (AddOrAreApart known.old.items listed.now known.new.items) }
+{
+    for row in listed {
+        match add_meter(known, row) {
+            Err(fault) => return Err(fault),
+            Ok(apart) => {
+                if apart.is_some() {
+                    return Ok(apart);
+                }
+            }
+        }
+    }
+    Ok(None)
+}

@@ -1,0 +1,47 @@
+//! The report of a register over files of one office.
+ghost use Rattle.std.specs.Prelude.{◌≡◌, ◌<◌, ◌^◌, length, if◌then◌else◌};
+ghost use Rattle.office_books.specs.Rows.{TakesAll};
+ghost use Rattle.office_program.specs.Texts.RangedReports.{PrintsLast};
+ghost use Rattle.carried_books.specs.Joining.Reports.{ReportsJoined};
+
+use crate::joining::files::JoinedFiles;
+use command_io::ExitStatus;
+use energy_report::{ReportForm, ReportRows};
+use interval_core::{DayTotal, accounts_are_one};
+use office_books::RowSink;
+use std::io::Write;
+
+// Hands on all days, in their order.
+fn hand_on<K: RowSink<DayTotal>>(days: &[DayTotal], sink: &mut K)
+    ensures took { TakesAll K.takes sink.old days.now sink.new }
+    ensures few { length days.now < 2 ^ 64 }
+{
+    for day in days {
+        sink.put(*day);
+    }
+}
+
+// Writes what is left of a report.
+fn finish<W: Write>(rows: &mut ReportRows<'_, W>) -> ExitStatus
+    ensures { PrintsLast W.contents result rows.old rows.new }
+{
+    rows.finish();
+    if rows.has_failed() {
+        ExitStatus::Failed
+    } else {
+        ExitStatus::Fine
+    }
+}
+
+/// Prints the energy of a register in files that join, on the days of a range, by periods, in a unit and a format. What was kept
+/// of them has the quarter hours around the days of the range.
+pub fn report_joined<W: Write>(joined: JoinedFiles, form: &ReportForm, output: &mut W) -> ExitStatus
+    ensures { ReportsJoined W.Write joined form.now output.old output.new result }
+{
+    accounts_are_one();
+    let JoinedFiles { days, .. } = joined;
+    let days = days.into_rows();
+    let mut rows = ReportRows::to(*form, output);
+    hand_on(&days, &mut rows);
+    finish(&mut rows)
+}

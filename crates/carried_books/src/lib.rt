@@ -1,0 +1,13 @@
+//! Books that are carried into new ones, and what all of them tell together.
+#![tactic(auto)]
+
+mod carrying;
+mod joining;
+
+pub use carrying::{
+    CarryFault, carry_books, commands_record_the_same, meters_go_on_where_they_stand,
+};
+pub use joining::{
+    Apart, JoinedDays, JoinedFiles, Keeping, Unjoined, add_books, both_files_tell_the_joined_days,
+    no_files, one_file_tells_its_days, report_joined,
+};

@@ -1,0 +1,78 @@
+-- What the bytes of a body give: a command, or the reason why there is none.
+use Rattle.std.specs.Prelude.{◌≡◌, ◌⊎◌, ℕ, List, Option, Some, Result, Ok, Err, IsUtf8}
+use Rattle.serde_json.specs.Data.{Data}
+use Rattle.serde_json.specs.Read.{read}
+use Rattle.http_answer.specs.declared.commands.json.body.BodyFault.{BodyFault}
+use Rattle.http_answer.specs.declared.commands.json.body.BodyFault.TheVariants as body
+use Rattle.http_request.specs.declared.routing.routes.Route.{Route}
+use Rattle.http_request.specs.declared.routing.routes.Route.TheVariants as route
+use Rattle.office_events.specs.declared.commands.Command.{Command}
+use Rattle.office_events.specs.declared.commands.Command.TheVariants.{PutList}
+use Rattle.read_plan.specs.PlannedLists.{IsPlanned, Planned}
+use Rattle.point_list.specs.Lists.{AreFaults, SpellsList, list_faults, rows_read}
+use Rattle.http_answer.specs.Commands.Commands.{command_of}
+use Rattle.http_answer.specs.declared.commands.fault.CommandFault.{CommandFault}
+use Rattle.http_answer.specs.declared.commands.fault.CommandFault.TheVariants.{Malformed, Negative, Faulty, Memory}
+
+-- the bytes are a JSON text (RFC 8259) of this value
+pub record IsJson (bytes : List ℕ) (d : Data) : Type 0 where
+  pub utf8 : IsUtf8 bytes
+  pub value : read bytes ≡ Some d
+
+abbrev pub fault_told : BodyFault → CommandFault
+fault_told body.Malformed = Malformed
+fault_told body.Negative = Negative
+fault_told body.Memory = Memory
+
+abbrev pub told : Result Command BodyFault → Result Command CommandFault
+told (Ok c) = Ok c
+told (Err fault) = Err (fault_told fault)
+
+-- the bytes are a JSON text, and this is what its value asks for
+pub record GivesJson (at : Route) (name : Option (List ℕ)) (bytes : List ℕ)
+    (given : Result Command CommandFault) : Type 0 where
+  pub value : Data
+  pub is : IsJson bytes value
+  pub gives : given ≡ told (command_of at name value)
+
+-- they are none
+pub record IsNoJson (bytes : List ℕ) (given : Result Command CommandFault) : Type 0 where
+  pub none : (d : Data) → IsJson bytes d → ⊥
+  pub gives : given ≡ Err Malformed
+
+abbrev pub IsBody : Route → Option (List ℕ) → (bytes : List ℕ) → Result Command CommandFault
+    → Type 0
+IsBody at name bytes given =
+    GivesJson at name bytes given ⊎ IsNoJson bytes given ⊎ (given ≡ Err Memory)
+
+-- the bytes spell a point list, which is put with its plan
+pub record GivesList (name : Option (List ℕ)) (bytes : List ℕ) (c : Command) : Type 0 where
+  pub list : Planned
+  pub spelled : SpellsList bytes list.points
+  pub planned : IsPlanned list
+  pub is : c ≡ PutList (record { device = name; list = list })
+
+-- The bytes are the text of a list of comma-separated values, not JSON.
+abbrev pub IsListBody : Option (List ℕ) → (bytes : List ℕ) → Result Command CommandFault → Type 0
+IsListBody name bytes (Ok c) = GivesList name bytes c
+IsListBody name bytes (Err Malformed) = ⊥
+IsListBody name bytes (Err Negative) = ⊥
+IsListBody name bytes (Err (Faulty rows)) = AreFaults (list_faults (rows_read bytes)) rows
+IsListBody name bytes (Err Memory) = Unit {0}
+
+-- What the body of a route's request gives. Memory says nothing of the body.
+abbrev pub Gives : Route → Option (List ℕ) → (bytes : List ℕ) → Result Command CommandFault → Type 0
+Gives route.List name bytes given = IsListBody name bytes given
+Gives route.Devices name bytes given = IsBody route.Devices name bytes given
+Gives route.Registers name bytes given = IsBody route.Registers name bytes given
+Gives route.Install name bytes given = IsBody route.Install name bytes given
+Gives route.Exchange name bytes given = IsBody route.Exchange name bytes given
+Gives route.Reset name bytes given = IsBody route.Reset name bytes given
+Gives route.Rescale name bytes given = IsBody route.Rescale name bytes given
+Gives route.Manual name bytes given = IsBody route.Manual name bytes given
+Gives route.Close name bytes given = IsBody route.Close name bytes given
+Gives route.Void name bytes given = IsBody route.Void name bytes given
+Gives route.Days name bytes given = IsBody route.Days name bytes given
+Gives route.Meter name bytes given = IsBody route.Meter name bytes given
+Gives route.Intervals name bytes given = IsBody route.Intervals name bytes given
+Gives route.Poll name bytes given = IsBody route.Poll name bytes given

@@ -1,0 +1,85 @@
+-- The members of each command's body. Members that are not in the table are ignored.
+use Rattle.std.specs.Prelude.{Bool, ◌&&◌, ◌||◌, List, [], ◌∷◌, is_none, is_some, Option, codes}
+use Rattle.serde_json.specs.Data.{Data}
+use Rattle.serde_json.specs.Find.{get}
+use Rattle.http_answer.specs.declared.commands.json.body.BodyFault.{BodyFault}
+use Rattle.http_answer.specs.Commands.Json.Members.{Member, Text, Whole, Natural, Optional, fault_in, have_kinds, have_negative, is_below_zero, whole}
+
+-- the fault of a body that wants these members
+abbrev pub fault_of : List Member → Data → Option BodyFault
+fault_of members d = fault_in (have_kinds members d) (have_negative members d)
+
+abbrev pub device_members : List Member
+device_members =
+    record { name = codes "name"; want = Text }
+    ∷ record { name = codes "unit"; want = Natural }
+    ∷ record { name = codes "timeout"; want = Natural }
+    ∷ record { name = codes "window"; want = Natural }
+    ∷ []
+
+-- beside these a register has a scale: exactly one of `fixed` and `scale_at`
+abbrev pub register_members : List Member
+register_members =
+    record { name = codes "name"; want = Text }
+    ∷ record { name = codes "device"; want = Text }
+    ∷ record { name = codes "function"; want = Natural }
+    ∷ record { name = codes "address"; want = Natural }
+    ∷ []
+
+-- one of the two stands there, and is a number
+abbrev pub has_scale : Data → Bool
+has_scale d =
+    (is_some (whole (codes "fixed") d) && is_none (get (codes "scale_at") d))
+    || (is_none (get (codes "fixed") d) && is_some (whole (codes "scale_at") d))
+
+abbrev pub scale_fault : Data → Option BodyFault
+scale_fault d = fault_in (has_scale d) (is_below_zero (whole (codes "scale_at") d))
+
+abbrev pub register_fault : Data → Option BodyFault
+register_fault d =
+    fault_in (have_kinds register_members d && has_scale d)
+    (have_negative register_members d || is_below_zero (whole (codes "scale_at") d))
+
+abbrev pub install_members : List Member
+install_members =
+    record { name = codes "meter"; want = Text }
+    ∷ record { name = codes "raw"; want = Natural }
+    ∷ record { name = codes "sf"; want = Whole }
+    ∷ record { name = codes "ceiling"; want = Natural }
+    ∷ record { name = codes "range"; want = Optional }
+    ∷ []
+
+abbrev pub exchange_members : List Member
+exchange_members =
+    record { name = codes "last"; want = Natural }
+    ∷ record { name = codes "rolls"; want = Natural }
+    ∷ install_members
+
+abbrev pub reset_members : List Member
+reset_members =
+    record { name = codes "before"; want = Natural }
+    ∷ record { name = codes "after"; want = Natural }
+    ∷ []
+
+abbrev pub rescale_members : List Member
+rescale_members =
+    record { name = codes "before"; want = Natural }
+    ∷ record { name = codes "after"; want = Natural }
+    ∷ record { name = codes "sf"; want = Whole }
+    ∷ []
+
+abbrev pub manual_members : List Member
+manual_members =
+    record { name = codes "raw"; want = Natural }
+    ∷ record { name = codes "rolls"; want = Natural }
+    ∷ record { name = codes "at"; want = Optional }
+    ∷ []
+
+abbrev pub close_members : List Member
+close_members =
+    record { name = codes "raw"; want = Natural }
+    ∷ record { name = codes "rolls"; want = Natural }
+    ∷ []
+
+abbrev pub void_members : List Member
+void_members = record { name = codes "place"; want = Natural } ∷ []

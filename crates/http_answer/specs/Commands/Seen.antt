@@ -1,0 +1,9 @@
+-- A scale as a body gives it.
+use Rattle.http_answer.specs.declared.commands.json.devices.Scale.{Scale}
+use Rattle.http_answer.specs.declared.commands.json.devices.Scale.TheVariants.{Fixed, At}
+use Rattle.office_events.specs.declared.commands.GivenScale.{GivenScale}
+use Rattle.office_events.specs.declared.commands.GivenScale.TheVariants as given
+
+abbrev pub scale_seen : Scale → GivenScale
+scale_seen (Fixed sf) = given.Fixed sf
+scale_seen (At address) = given.Register address

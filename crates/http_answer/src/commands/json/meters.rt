@@ -1,0 +1,103 @@
+//! The bodies that install meters and change what they show.
+ghost use Rattle.serde_json.specs.View.{view};
+ghost use Rattle.http_answer.specs.Commands.Json.Members.{Reads};
+ghost use Rattle.http_answer.specs.Commands.Json.Tables.{exchange_members, fault_of, install_members};
+ghost use Rattle.http_answer.specs.Commands.Json.Tables.{rescale_members, reset_members};
+ghost use Rattle.http_answer.specs.Commands.Json.Commands.{IsExchange, IsInstall, IsRescale, IsReset};
+
+use crate::commands::json::body::{Body, BodyFault};
+use crate::commands::json::members::{natural, natural_or_none, optional, text, whole};
+
+/// A meter that is installed.
+#[derive(Clone, Copy, Debug, PartialEq, Eq)]
+pub struct InstallBody<'b> {
+    pub meter: &'b str,
+    pub raw: u64,
+    pub sf: i64,
+    pub ceiling: u64,
+    pub range: Option<u64>,
+}
+
+/// What the meter before showed last, how often it turned over since its last reading, and the meter after it.
+#[derive(Clone, Copy, Debug, PartialEq, Eq)]
+pub struct ExchangeBody<'b> {
+    pub last: u64,
+    pub rolls: u64,
+    pub install: InstallBody<'b>,
+}
+
+/// What a meter showed before and after it was reset.
+#[derive(Clone, Copy, Debug, PartialEq, Eq)]
+pub struct ResetBody {
+    pub before: u64,
+    pub after: u64,
+}
+
+/// What a meter showed before and after its scale changed, and its scale from then on.
+#[derive(Clone, Copy, Debug, PartialEq, Eq)]
+pub struct RescaleBody {
+    pub before: u64,
+    pub after: u64,
+    pub sf: i64,
+}
+
+/// The installation that a body describes.
+pub fn install_in(body: &Body) -> Result<InstallBody<'_>, BodyFault>
+    ensures { Reads (fault_of install_members (view body.now)) (IsInstall (view body.now)) result }
+{
+    let meter = text(body, "meter")?;
+    let raw = whole(body, "raw")?;
+    let sf = whole(body, "sf")?;
+    let ceiling = whole(body, "ceiling")?;
+    let range = optional(body, "range")?;
+    Ok(InstallBody {
+        meter,
+        raw: natural(raw)?,
+        sf,
+        ceiling: natural(ceiling)?,
+        range: natural_or_none(range)?,
+    })
+}
+
+/// The exchange that a body describes.
+pub fn exchange_in(body: &Body) -> Result<ExchangeBody<'_>, BodyFault>
+    ensures { Reads (fault_of exchange_members (view body.now))
+        (IsExchange (view body.now)) result }
+{
+    let last = whole(body, "last")?;
+    let rolls = whole(body, "rolls")?;
+    match install_in(body) {
+        Err(BodyFault::Malformed) => Err(BodyFault::Malformed),
+        install => Ok(ExchangeBody {
+            last: natural(last)?,
+            rolls: natural(rolls)?,
+            install: install?,
+        }),
+    }
+}
+
+/// The reset that a body describes.
+pub fn reset_in(body: &Body) -> Result<ResetBody, BodyFault>
+    ensures { Reads (fault_of reset_members (view body.now)) (IsReset (view body.now)) result }
+{
+    let before = whole(body, "before")?;
+    let after = whole(body, "after")?;
+    Ok(ResetBody {
+        before: natural(before)?,
+        after: natural(after)?,
+    })
+}
+
+/// The rescaling that a body describes.
+pub fn rescale_in(body: &Body) -> Result<RescaleBody, BodyFault>
+    ensures { Reads (fault_of rescale_members (view body.now)) (IsRescale (view body.now)) result }
+{
+    let before = whole(body, "before")?;
+    let after = whole(body, "after")?;
+    let sf = whole(body, "sf")?;
+    Ok(RescaleBody {
+        before: natural(before)?,
+        after: natural(after)?,
+        sf,
+    })
+}

@@ -1,0 +1,35 @@
+//! What the members of a body give a command.
+ghost use Rattle.std.specs.Prelude.{◌≡◌};
+ghost use Rattle.office_events.specs.Names.{named};
+ghost use Rattle.http_answer.specs.Commands.Values.{or_full_range};
+ghost use Rattle.http_answer.specs.Commands.Seen.{scale_seen};
+
+use crate::commands::json::Scale;
+use energy_core::MAX_RANGE;
+use office_events::{GivenScale, Name};
+
+// The name that a text is, if it is one.
+pub(crate) fn name(text: &str) -> Option<Name>
+    ensures { result ≡ named text.now }
+{
+    Name::new(text.as_bytes())
+}
+
+// The range that was given, or the full one.
+pub(crate) fn or_full_range(range: Option<u64>) -> u64
+    ensures { result ≡ or_full_range range }
+{
+    match range {
+        Some(range) => range,
+        None => MAX_RANGE,
+    }
+}
+
+pub(crate) fn given_scale(scale: Scale) -> GivenScale
+    ensures { result ≡ scale_seen scale }
+{
+    match scale {
+        Scale::Fixed(sf) => GivenScale::Fixed(sf),
+        Scale::At(address) => GivenScale::Register(address),
+    }
+}

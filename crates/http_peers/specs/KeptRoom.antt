@@ -1,0 +1,46 @@
+-- How many bytes of requests may still be kept.
+use Rattle.std.specs.Prelude.{◌≡◌, ◌==◌, ◌&&◌, ◌-◌, if◌then◌else◌, List, ℕ, Bool, false, Option, Some, None, length, nat_lt, codes}
+use Rattle.std.specs.List.{starts_with}
+use Rattle.std.specs.Str.{bytes_eq}
+use Rattle.httparse.specs.Spans.{span_bytes}
+use Rattle.http_request.specs.Head.Heads.{Looks}
+use Rattle.http_request.specs.declared.head.head.HeadState.{HeadState}
+use Rattle.http_request.specs.declared.head.head.HeadState.TheVariants.{Open, TooLarge, NoHead, Whole}
+use Rattle.run_http.specs.declared.answer.PeerReply.{PeerReply}
+use Rattle.run_http.specs.declared.answer.PeerReply.TheVariants as reply
+
+-- Commands are given by POST, and by nothing else.
+abbrev pub is_command_in : (bytes : List ℕ) → HeadState → Bool
+is_command_in bytes Open = false
+is_command_in bytes TooLarge = false
+is_command_in bytes NoHead = false
+is_command_in bytes (Whole at) = bytes_eq (span_bytes bytes at.method) (codes "POST")
+
+-- a look at the bytes finds such a head, or none
+pub record IsCommand (bytes : List ℕ) (result : Bool) : Type 0 where
+  pub head_state : HeadState
+  pub looks : Looks bytes head_state
+  pub is : result ≡ is_command_in bytes head_state
+
+-- the reply says that the office acted, now or when it was asked before
+abbrev pub has_acted : PeerReply → Bool
+has_acted reply.Open = false
+has_acted (reply.Replied text) = starts_with (λ a b. a == b) text.items (codes "HTTP/1.1 200 ")
+has_acted reply.Failed = false
+
+-- what is left of the most, or as good as no limit
+abbrev pub room_of : (most : Option ℕ) → (taken : ℕ) → ℕ
+room_of None taken = 18446744073709551615
+room_of (Some most) taken = most - taken
+
+-- a command that is longer than what is left
+pub record Lacks (left : ℕ) (bytes : List ℕ) (result : Bool) : Type 0 where
+  pub is_command : Bool
+  pub finds : IsCommand bytes is_command
+  pub is : result ≡ (is_command && nat_lt left (length bytes))
+
+-- A command that acted takes as many bytes as it has, and nothing else takes any.
+pub record Counts (left later : ℕ) (bytes : List ℕ) (reply : PeerReply) : Type 0 where
+  pub is_command : Bool
+  pub finds : IsCommand bytes is_command
+  pub is : later ≡ if is_command && has_acted reply then left - length bytes else left

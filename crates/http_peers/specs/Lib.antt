@@ -1,0 +1,3 @@
+pub mod KeptRoom
+pub mod Outbox
+pub mod PeersAsk

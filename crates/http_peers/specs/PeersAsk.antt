@@ -1,0 +1,27 @@
+-- What peers ask of the office of a run.
+use Rattle.std.specs.Prelude.{◌≡◌, ℕ, List, [], ◌∷◌}
+use Rattle.office_books.specs.Ledgers.{Ledger}
+use Rattle.office_core.specs.Standing.{After, Stands, books_in}
+use Rattle.office_core.specs.declared.office.Office.{Office}
+use Rattle.office_http.specs.Connections.Connections.{Connection, history_with}
+use Rattle.office_rules.specs.History.{History}
+
+-- each of them came at this moment
+abbrev pub AreAt : {names : List (List ℕ)} → (at : ℕ) → List (Connection names) → Type 0
+AreAt at [] = Unit {0}
+AreAt at (one ∷ earlier) = (one.at ≡ at) × AreAt at earlier
+
+-- The office stands after what was asked on some connections at a moment, of an office that may be asked by these names.
+pub record StandsAfterPeers {B : Type 0} (names : List (List ℕ)) (at : ℕ) (ledger : B → Ledger)
+    (past : History) (office : Office B) : Type 0 where
+  pub connections : List (Connection names)
+  pub each : AreAt at connections
+  pub stands : Stands ledger (history_with past connections) office
+
+-- Whatever the sockets of peers bring at a moment, the office stands after what was asked on connections at that moment, and
+-- after nothing else; a wrong answer of a store that was taken as true stays one, and the zone stays.
+pub record PeersAsk {B : Type 0} (names : List (List ℕ)) (at : ℕ) (ledger : B → Ledger)
+    (old new : Office B) : Type 0 where
+  pub stands : After ledger old new (λ past. StandsAfterPeers names at ledger past new)
+  pub clean : (ledger (books_in new)).is_clean → (ledger (books_in old)).is_clean
+  pub zone : (ledger (books_in new)).zone ≡ (ledger (books_in old)).zone

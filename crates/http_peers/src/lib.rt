@@ -1,0 +1,15 @@
+//! Who asks a run by HTTP: its port, what has come of each peer, which is replied to next, and what is still to be written.
+#![tactic(auto)]
+
+mod http_port;
+mod kept_room;
+mod moments;
+mod outbox;
+mod peers;
+mod run_told;
+
+pub use http_port::{HttpPort, PORT_TOKEN};
+pub use kept_room::KeptRoom;
+pub use moments::{Now, even_milliseconds};
+pub use outbox::{Outbox, Went, went_by};
+pub use run_told::RunTold;

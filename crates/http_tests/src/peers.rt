@@ -1,0 +1,242 @@
+//! Peers of a run, over sockets that don't wait.
+use crate::cases::reply;
+use crate::connections::{REPLY, REQUEST, Stepping, client_of, energy_of_ended};
+use crate::office::metered;
+use http_peers::{
+    HttpPort, KeptRoom, Now, Outbox, PORT_TOKEN, RunTold, Went, even_milliseconds, went_by,
+};
+use memory_books::ListBooks;
+use mio::{Events, Interest, Poll, Token};
+use office_core::Office;
+use run_http::PeerReply;
+use run_schedule::{MOST_PEERS, place_at};
+use run_status::RunMonitor;
+use std::alloc::{AllocError, Global};
+use std::io::{self, ErrorKind, Read};
+use std::net::{TcpListener, TcpStream};
+use std::test::Fail;
+use std::time::Duration;
+
+// A port, and what a run has beside it.
+#[derive(Drop)]
+struct Listening {
+    poll: Poll,
+    events: Events<Global>,
+    port: HttpPort,
+    monitor: RunMonitor,
+}
+
+// A listener that doesn't wait, and is registered as that of a port.
+fn registered(listener: TcpListener, poll: &Poll) -> io::Result<mio::net::TcpListener> {
+    listener.set_nonblocking(true)?;
+    let mut listener = mio::net::TcpListener::from_std(listener);
+    poll.registry()
+        .register(&mut listener, Token(PORT_TOKEN), Interest::READABLE)?;
+    Ok(listener)
+}
+
+impl Listening {
+    fn of(
+        alloc: Global,
+        poll: Poll,
+        listener: mio::net::TcpListener,
+        room: KeptRoom,
+    ) -> Result<Listening, AllocError> {
+        Ok(Listening {
+            poll,
+            events: Events::with_capacity(alloc, 8)?,
+            port: HttpPort::new(alloc, listener, room)?,
+            monitor: RunMonitor::new(alloc, &[])?,
+        })
+    }
+
+    fn open(rt: &HostRuntime, listener: TcpListener, room: KeptRoom) -> Result<Listening, Fail> {
+        let poll = Poll::new(rt)?;
+        let listener = registered(listener, &poll)?;
+        Ok(Listening::of(rt.alloc(), poll, listener, room)?)
+    }
+
+    // What waits is accepted, each peer attended, and those that were replied to are dropped.
+    fn turn(&mut self, office: &mut Office<ListBooks>, time: u64) {
+        let now = Now { time, moment: 2800 };
+        self.port.begin_turn();
+        self.port.accept(self.poll.registry(), time);
+        let first = self.port.first();
+        for step in 0..MOST_PEERS {
+            let told = RunTold {
+                monitor: &self.monitor,
+                lacks: &[],
+            };
+            let place = place_at(first, step);
+            self.port
+                .attend(&Stepping::of(7, 0), place, &[], office, &told, now);
+        }
+        self.port.sweep(time);
+    }
+
+    // Waits a tenth of a second at most, and takes note of what came.
+    fn look(&mut self) -> io::Result<()> {
+        self.poll
+            .poll(&mut self.events, Some(Duration::from_millis(100)))?;
+        for event in &self.events {
+            let Token(token) = event.token();
+            self.port.mark(token);
+        }
+        Ok(())
+    }
+
+    fn turns(&mut self, office: &mut Office<ListBooks>) -> io::Result<()> {
+        for time in 0..3 {
+            self.turn(office, time);
+            self.look()?;
+        }
+        self.turn(office, 3);
+        Ok(())
+    }
+}
+
+// Whether the clients of a listener are served, so that none of them waits, and it is then to be said once that nothing more is
+// kept, or isn't.
+fn serves(
+    rt: &HostRuntime,
+    listener: TcpListener,
+    room: KeptRoom,
+    office: &mut Office<ListBooks>,
+    is_full: bool,
+) -> Result<bool, Fail> {
+    let mut listening = Listening::open(rt, listener, room)?;
+    listening.turns(office)?;
+    let is_idle = !listening.port.is_waiting() && !listening.port.is_ready();
+    let is_told = listening.port.take_full() == is_full;
+    Ok(is_idle && is_told && !listening.port.take_full())
+}
+
+fn read_all(alloc: Global, mut stream: TcpStream) -> Result<Vec<u8>, Fail> {
+    let mut got = Vec::new(alloc);
+    stream.read_to_end(&mut got)?;
+    Ok(got)
+}
+
+// What a client is replied that asks this; it is then to be said that nothing more is kept, or isn't.
+fn replied(
+    rt: &HostRuntime,
+    room: KeptRoom,
+    request: &[u8],
+    office: &mut Office<ListBooks>,
+    is_full: bool,
+) -> Result<Vec<u8>, Fail> {
+    let listener = TcpListener::bind(rt, "127.0.0.1:0")?;
+    let client = client_of(rt, &listener, request)?;
+    if !serves(rt, listener, room, office, is_full)? {
+        return Err(Fail::from("a client waits, or what is kept is told otherwise"));
+    }
+    read_all(rt.alloc(), client)
+}
+
+#[test]
+fn a_peer_is_replied_to(rt: HostRuntime) -> Result<(), Fail> {
+    let mut office = metered(rt.alloc())?;
+    let room = KeptRoom::new(Some(REQUEST.len() as u64), 0);
+    let got = replied(&rt, room, REQUEST, &mut office, false)?;
+    assert!(rt; got.as_slice() == REPLY);
+    assert!(rt; energy_of_ended(&mut office) == Some(300_000));
+    Ok(())
+}
+
+static AFTER_LINES: &[u8] =
+    b"\r\n\r\nPOST /registers/main/exchange HTTP/1.1\r\nContent-Length: 68\r\nOffice-Caller: desk\r\nOffice-Request: 7\r\n\r\n{\"ceiling\":100000,\"last\":5300,\"meter\":\"m2\",\"raw\":0,\"rolls\":0,\"sf\":0}";
+
+// Empty lines before a command don't hide it from who counts what is kept.
+#[test]
+fn a_command_has_no_room(rt: HostRuntime) -> Result<(), Fail> {
+    let mut office = metered(rt.alloc())?;
+    let room = KeptRoom::new(Some(300), 200);
+    let got = replied(&rt, room, AFTER_LINES, &mut office, true)?;
+    let want = reply(rt.alloc(), "503 Service Unavailable", "{\"fault\":503}")?;
+    assert!(rt; got.as_slice() == want.as_bytes());
+    assert!(rt; energy_of_ended(&mut office) == None);
+    Ok(())
+}
+
+static GET: &[u8] = b"GET /meters/m1 HTTP/1.1\r\n\r\n";
+
+// A command of 28 bytes, with the empty line before it.
+static POST: &[u8] = b"\r\nPOST /devices HTTP/1.1\r\n\r\n";
+
+// A reply that begins so.
+fn reply_of(alloc: Global, text: &[u8]) -> Result<PeerReply, AllocError> {
+    Ok(PeerReply::Replied(text.to_vec(alloc)?))
+}
+
+#[test]
+fn a_command_that_acted_is_counted(rt: HostRuntime) -> Result<(), Fail> {
+    let mut room = KeptRoom::new(Some(100), 60);
+    assert!(rt; !room.lacks(POST));
+    room.count(POST, &PeerReply::Open);
+    room.count(POST, &reply_of(rt.alloc(), b"HTTP/1.1 409 Conflict")?);
+    let acted = reply_of(rt.alloc(), b"HTTP/1.1 200 OK")?;
+    room.count(GET, &acted);
+    assert!(rt; !room.lacks(POST));
+    room.count(POST, &acted);
+    assert!(rt; room.lacks(POST));
+    assert!(rt; !room.lacks(GET));
+    Ok(())
+}
+
+#[test]
+fn without_a_limit_no_command_lacks_room(rt: HostRuntime) {
+    let mut room = KeptRoom::new(None, u64::MAX);
+    assert!(rt; !room.lacks(POST));
+    room.count(POST, &PeerReply::Failed);
+    assert!(rt; KeptRoom::new(Some(10), 11).lacks(POST));
+}
+
+// Whether all of an outbox is taken by a connection, which ends then.
+fn is_taken(stream: TcpStream, outbox: &mut Outbox) -> bool {
+    let stream = mio::net::TcpStream::from_std(stream);
+    outbox.write_all(&stream) == Went::On && outbox.is_written()
+}
+
+// What comes of a connection on which an outbox was written.
+fn written(rt: &HostRuntime, outbox: &mut Outbox) -> Result<Vec<u8>, Fail> {
+    let listener = TcpListener::bind(rt, "127.0.0.1:0")?;
+    if !is_taken(client_of(rt, &listener, b"")?, outbox) {
+        return Err(Fail::from("a connection takes less than it is given"));
+    }
+    read_all(rt.alloc(), listener.accept()?.0)
+}
+
+// An outbox of some bytes.
+fn outbox_of(alloc: Global, bytes: &[u8]) -> Result<Outbox, AllocError> {
+    Ok(Outbox::of(bytes.to_vec(alloc)?))
+}
+
+#[test]
+fn what_is_put_is_written_once(rt: HostRuntime) -> Result<(), Fail> {
+    let mut outbox = outbox_of(rt.alloc(), b"one")?;
+    outbox.put(b"two")?;
+    assert!(rt; outbox.len() == 6);
+    assert!(rt; !outbox.is_written());
+    assert!(rt; written(&rt, &mut outbox)?.as_slice() == b"onetwo".as_slice());
+    assert!(rt; !outbox.is_empty());
+    Ok(())
+}
+
+#[test]
+fn what_was_written_makes_room(rt: HostRuntime) -> Result<(), Fail> {
+    let mut outbox = Outbox::empty(rt.alloc());
+    assert!(rt; outbox.is_empty() && outbox.is_written());
+    outbox.put(b"one")?;
+    assert!(rt; written(&rt, &mut outbox)?.as_slice() == b"one".as_slice());
+    outbox.put(b"more")?;
+    assert!(rt; outbox.len() == 4);
+    Ok(())
+}
+
+#[test]
+fn errors_of_sockets_have_a_meaning(rt: HostRuntime) {
+    assert!(rt; went_by(ErrorKind::WouldBlock) == Went::Waits);
+    assert!(rt; went_by(ErrorKind::Interrupted) == Went::On);
+    assert!(rt; went_by(ErrorKind::ConnectionReset) == Went::Over);
+    assert!(rt; even_milliseconds(&Stepping::of(6, 1)) == 7000);
+}

@@ -1,0 +1,187 @@
+//! Replies with quarter hours of a meter that are told piece by piece.
+use crate::cases::serve;
+use crate::meter_rows::text_reply;
+use crate::office::polled;
+use http_request::router;
+use memory_books::ListBooks;
+use office_books::Span;
+use office_core::Office;
+use office_events::{Installation, Name};
+use run_http::{
+    PeerReply, RowsLeft, all_rows_asked, are_many, ask, begin_all_intervals, begin_intervals,
+    end_rows, has_more, may_void, pieces_are_whole, reply_intervals, tell_rows, text_stays,
+};
+use std::alloc::Global;
+use std::test::Fail;
+
+// Where the meter stands: its counter has gone on from moment 1000 to 1900.
+fn meter(office: &mut Office<ListBooks>) -> Result<Installation, Fail> {
+    match office.meter(&Name::new(b"m1")) {
+        Ok(it) => Ok(it),
+        Err(_) => Err(Fail::from("no meter")),
+    }
+}
+
+// What a reply with rows of a span begins with, and what is still to be told of it.
+fn begun(
+    alloc: Global,
+    text: &mut Vec<u8>,
+    office: &mut Office<ListBooks>,
+    from: u64,
+    till: u64,
+) -> Result<RowsLeft, Fail> {
+    let it = meter(office)?;
+    match begin_intervals(alloc, text, office, &it, from, till)? {
+        Ok(left) => Ok(left),
+        Err(_) => Err(Fail::from("refused")),
+    }
+}
+
+// One piece of so many seconds.
+fn tell_piece(
+    alloc: Global,
+    text: &mut Vec<u8>,
+    office: &mut Office<ListBooks>,
+    left: &mut RowsLeft,
+    seconds: u64,
+) -> Result<(), Fail> {
+    match tell_rows(alloc, text, office, left, seconds)? {
+        Ok(()) => Ok(()),
+        Err(_) => Err(Fail::from("refused")),
+    }
+}
+
+// What is told of a reply, in pieces of so many seconds; it answers how many pieces have rows that were asked for.
+fn tell_all(
+    alloc: Global,
+    text: &mut Vec<u8>,
+    office: &mut Office<ListBooks>,
+    left: &mut RowsLeft,
+    seconds: u64,
+) -> Result<u32, Fail> {
+    let mut count = 0u32;
+    for _piece in 0..20 {
+        if has_more(left) {
+            tell_piece(alloc, text, office, left, seconds)?;
+            count = count.saturating_add(1);
+        }
+    }
+    end_rows(text, left)?;
+    Ok(count)
+}
+
+static SPANS: [(u64, u64); 6] = [
+    (0, u64::MAX),
+    (900, 1801),
+    (900, 1800),
+    (901, 1801),
+    (1801, 5000),
+    (1801, 900),
+];
+
+// In pieces of a quarter hour, of less, and of all at once.
+#[test]
+fn pieces_are_the_reply(rt: HostRuntime) -> Result<(), Fail> {
+    let mut office = polled(rt.alloc())?;
+    for (from, till) in SPANS {
+        let mut whole = Vec::new(rt.alloc());
+        let span = Span::Between { from, till };
+        reply_intervals(rt.alloc(), &mut whole, &mut office, &Name::new(b"m1"), span)?;
+        for seconds in [100, 900, 90000] {
+            let mut text = Vec::new(rt.alloc());
+            let mut left = begun(rt.alloc(), &mut text, &mut office, from, till)?;
+            tell_all(rt.alloc(), &mut text, &mut office, &mut left, seconds)?;
+            assert!(rt;
+                text.as_slice() == whole.as_slice(),
+                "{from} {till} {seconds}"
+            );
+        }
+    }
+    Ok(())
+}
+
+// The counter goes on after the reply was begun, so that its last row would have more, and another would follow.
+static LATER: &[u8] =
+    b"POST /registers/main/manual HTTP/1.1\r\nContent-Length: 22\r\nOffice-Caller: desk\r\nOffice-Request: 4\r\n\r\n{\"raw\":5500,\"rolls\":0}";
+
+#[test]
+fn what_comes_meanwhile_is_not_told(rt: HostRuntime) -> Result<(), Fail> {
+    let mut office = polled(rt.alloc())?;
+    let mut text = Vec::new(rt.alloc());
+    let mut left = begun(rt.alloc(), &mut text, &mut office, 0, 9000)?;
+    let served = serve(rt.alloc(), &mut office, 2800, LATER)?;
+    assert!(rt; served.given.starts_with(b"HTTP/1.1 200 "));
+    let count = tell_all(rt.alloc(), &mut text, &mut office, &mut left, 900)?;
+    assert!(rt; count == 1);
+    let expected = text_reply(rt.alloc(), "900 177777\n1800 22223\nend 2\n")?;
+    assert!(rt; text.as_slice() == expected.as_bytes());
+    Ok(())
+}
+
+static ALL_ROWS: &[u8] = b"GET /meters/m1/intervals HTTP/1.1\r\nHost: localhost\r\n\r\n";
+
+#[test]
+fn all_rows_are_the_reply_of_the_office(rt: HostRuntime) -> Result<(), Fail> {
+    let mut office = polled(rt.alloc())?;
+    let it = meter(&mut office)?;
+    let mut text = Vec::new(rt.alloc());
+    let begun = begin_all_intervals(rt.alloc(), &mut text, &mut office, &it)?;
+    let Ok(mut left) = begun else {
+        return Err(Fail::from("refused"));
+    };
+    tell_all(rt.alloc(), &mut text, &mut office, &mut left, 900)?;
+    match ask(rt.alloc(), ALL_ROWS, &mut office, 1900) {
+        PeerReply::Replied(reply) => assert!(rt; text.as_slice() == reply.as_slice()),
+        _ => return Err(Fail::from("no reply")),
+    }
+    Ok(())
+}
+
+// From the quarter hour of the opening, 900, up to that of the last entry, 1800.
+#[test]
+fn rows_are_many_by_their_seconds(rt: HostRuntime) -> Result<(), Fail> {
+    let mut office = polled(rt.alloc())?;
+    let it = meter(&mut office)?;
+    assert!(rt; are_many(&it, 0, u64::MAX, 899));
+    assert!(rt; !are_many(&it, 0, u64::MAX, 900));
+    assert!(rt; !are_many(&it, 1800, 900, 0));
+    assert!(rt; !are_many(&it, 0, 1000, 100));
+    Ok(())
+}
+
+static OTHERS: [&[u8]; 6] = [
+    b"POST /meters/m1/intervals HTTP/1.1\r\n\r\n",
+    b"GET /meters/m1 HTTP/1.1\r\n\r\n",
+    b"GET /meters//intervals HTTP/1.1\r\n\r\n",
+    b"GET /registers/m1/days HTTP/1.1\r\n\r\n",
+    b"GET /meters/m1/intervals HTTP/1.1\r\n",
+    b"",
+];
+
+#[test]
+fn a_request_may_ask_for_all_rows(rt: HostRuntime) -> Result<(), Fail> {
+    let router = router(rt.alloc())?;
+    assert!(rt; all_rows_asked(&router, ALL_ROWS) == Some(Name::new(b"m1")));
+    let nobody = b"GET /meters/1/intervals HTTP/1.1\r\n\r\n";
+    assert!(rt; all_rows_asked(&router, nobody) == Some(None));
+    for other in OTHERS {
+        assert!(rt; all_rows_asked(&router, other) == None);
+    }
+    Ok(())
+}
+
+#[test]
+fn a_request_may_void(rt: HostRuntime) {
+    assert!(rt; may_void(b"POST /meters/m1/void HTTP/1.1\r\n\r\n"));
+    assert!(rt; may_void(b"\r\nPOST /meters/m1/void HTTP/1.1\r\n\r\n"));
+    assert!(rt; !may_void(b"POST /registers/main/manual HTTP/1.1\r\n\r\n"));
+    assert!(rt; !may_void(b"GET /meters/m1/void HTTP/1.1\r\n\r\n"));
+    assert!(rt; !may_void(b"POST /meters/m1/void HTTP/1.1\r\n"));
+}
+
+#[test]
+fn laws_of_pieces_are_called(rt: HostRuntime) {
+    text_stays();
+    pieces_are_whole();
+    assert!(rt; !may_void(b""));
+}

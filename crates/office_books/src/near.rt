@@ -1,0 +1,23 @@
+//! An entry with the energy of its whole meter.
+ghost use Rattle.std.specs.Prelude.{◌≡◌};
+ghost use Rattle.office_books.specs.Near.{with_energy};
+ghost use Rattle.office_rules.specs.Ranges.{IsSound};
+
+use office_events::{EntryPlace, Installation};
+
+/// The same place of a meter, but with its whole energy in place of that before the entry.
+pub fn with_whole_energy(place: &EntryPlace, whole: &Installation) -> EntryPlace
+    ensures same { result ≡ with_energy whole.now.total place.now }
+    ensures sound { IsSound place.now.before → IsSound whole.now → IsSound result.before }
+{
+    EntryPlace {
+        before: Installation {
+            opening: place.before.opening,
+            last: place.before.last,
+            total: whole.total,
+            ended: place.before.ended,
+        },
+        row: place.row,
+        next: place.next,
+    }
+}

@@ -1,0 +1,36 @@
+-- Which requests to the office ask for all quarter hours of a meter, and which may have an entry voided.
+use Rattle.std.specs.Prelude.{◌≡◌, ◌&&◌, List, ℕ, Bool, false, Option, codes, is_some}
+use Rattle.std.specs.Str.{bytes_eq}
+use Rattle.httparse.specs.Spans.{span_bytes}
+use Rattle.http_answer.specs.Offices.{Office}
+use Rattle.http_answer.specs.Replies.{lines_reply, reply_bytes}
+use Rattle.http_answer.specs.Whole.{IsReply}
+use Rattle.http_request.specs.Head.Heads.{Looks}
+use Rattle.http_request.specs.Routing.Routes.{Table}
+use Rattle.http_request.specs.declared.head.head.HeadState.{HeadState}
+use Rattle.http_request.specs.declared.head.head.HeadState.TheVariants.{Open, TooLarge, NoHead, Whole}
+use Rattle.interval_core.specs.Lines.{intervals_text}
+use Rattle.run_http.specs.MeterTargets.{after}
+
+-- whatever an office answers, its reply to these bytes has all quarter hours of the meter
+abbrev pub AsksAllRows : Table → (bytes : List ℕ) → (meter : Option (List ℕ)) → Type 0
+AsksAllRows table bytes meter = (office : Office)
+    → IsReply office table bytes (reply_bytes (lines_reply intervals_text (office.intervals meter)))
+
+-- A void is asked for by POST, at a target that begins so, as no other command's does.
+abbrev pub may_void_by : (method target : List ℕ) → Bool
+may_void_by method target =
+    bytes_eq method (codes "POST") && is_some (after (codes "/meters/") target)
+
+abbrev pub may_void_in : (bytes : List ℕ) → HeadState → Bool
+may_void_in bytes Open = false
+may_void_in bytes TooLarge = false
+may_void_in bytes NoHead = false
+may_void_in bytes (Whole at) =
+    may_void_by (span_bytes bytes at.method) (span_bytes bytes at.target)
+
+-- a look at the bytes finds such a head, or none
+pub record MayVoid (bytes : List ℕ) (result : Bool) : Type 0 where
+  pub head_state : HeadState
+  pub looks : Looks bytes head_state
+  pub is : result ≡ may_void_in bytes head_state

@@ -1,0 +1,239 @@
+-- Replies with quarter hours of a meter that are told piece by piece, so that none is in memory whole: what is still to be
+-- told of one, and why that stays what it was when the reply was begun.
+use Rattle.std.specs.Prelude.{◌≡◌, ℕ, ◌+◌, ◌-◌, ◌<◌, ◌≤◌, min, max, List, [], ◌∷◌, ◌++◌, length, All, flat_map, codes, nat_lt, Bool, true, Option, Some, None, Result, Ok, Err}
+use Rattle.std.specs.Option.{option_and_then}
+use Rattle.std.specs.declared.alloc.Global.{Global}
+use Rattle.std.specs.declared.vec.Vec.{Vec}
+use Rattle.http_answer.specs.Replies.{lines_reply, reply_bytes}
+use Rattle.http_request.specs.declared.status.Status.TheVariants.{Fine}
+use Rattle.interval_core.specs.Lines.{end_line, intervals_text, share_line}
+use Rattle.interval_core.specs.declared.shares.Share.{Share}
+use Rattle.office_books.specs.Ledgers.{Ledger}
+use Rattle.office_books.specs.declared.spans.Span.TheVariants.{Between}
+use Rattle.office_core.specs.Asking.{IsRowFound, OnlyAsks, is_there, rows_in}
+use Rattle.office_core.specs.Failing.{IsOutside}
+use Rattle.office_core.specs.Parts.{intervals_within}
+use Rattle.office_core.specs.Standing.{After}
+use Rattle.office_core.specs.Taking.{failures_of}
+use Rattle.office_core.specs.declared.office.Office.{Office}
+use Rattle.office_events.specs.declared.facts.Fact.{Fact}
+use Rattle.office_events.specs.declared.facts.Opening.{Opening}
+use Rattle.office_events.specs.declared.questions.Installation.{Installation}
+use Rattle.office_events.specs.declared.refusals.Refusal.{Refusal}
+use Rattle.office_rules.specs.Facts.{opening_of}
+use Rattle.office_rules.specs.History.{facts_of}
+use Rattle.office_rules.specs.Lawful.{AreLawful}
+use Rattle.office_rules.specs.Meters.{meter_of}
+use Rattle.run_http.specs.Copies.{VoidsFrom, next_place, quarter_of}
+use Rattle.run_http.specs.StatusRoute.{with_reply, with_start_of}
+use Rattle.run_http.specs.declared.pieces.RowsLeft.{RowsLeft}
+use Rattle.run_http.specs.declared.row_sizes.RowSizes.{RowSizes}
+use Rattle.run_http.specs.declared.row_sizes.Sizes.{Sizes}
+
+-- the quarter hours of a meter that start at a moment or later, and before another
+abbrev pub rows_between : List Fact → (meter : Option (List ℕ)) → (from till : ℕ) → List Share
+rows_between facts meter from till = rows_in (intervals_within facts meter (Between from till))
+
+-- The rows that are still to be told: those that are still to be asked for, and then those that are kept.
+abbrev pub rows_left : List Fact → RowsLeft → List Share
+rows_left facts left = rows_between facts left.meter left.from left.till ++ left.last.items
+
+-- their lines, and how many rows the reply has
+abbrev pub text_left : List Fact → RowsLeft → List ℕ
+text_left facts left =
+    flat_map share_line (rows_left facts left)
+    ++ end_line (left.told + length (rows_left facts left))
+
+abbrev pub has_more : RowsLeft → Bool
+has_more left = nat_lt left.from left.till
+
+-- the quarter hour of the last entry of a meter
+abbrev pub last_quarter : Option Installation → ℕ
+last_quarter None = 0
+last_quarter (Some it) = quarter_of it.last.at
+
+-- Those that are still to be asked for start before the quarter hour of the meter's last entry: new entries change none of them.
+abbrev pub IsSettled : List Fact → RowsLeft → Type 0
+IsSettled facts left =
+    left.from < left.till
+    → left.till ≤ last_quarter (option_and_then (meter_of facts) left.meter)
+
+-- Let further facts come, of which none voids an entry that the meter has by now. What is still to be told then stays as it was, so
+-- that all pieces are of the moment at which the reply was begun, whenever they are told.
+abbrev pub TextStays : Type 0
+TextStays = (further facts : List Fact) (meter : List ℕ) (opening : Opening) (left : RowsLeft)
+    → AreLawful (further ++ facts) → opening_of facts meter ≡ Some opening
+    → left.meter ≡ Some meter → IsSettled facts left
+    → All (VoidsFrom meter (next_place facts opening)) further
+    → text_left (further ++ facts) left ≡ text_left facts left
+
+-- ---- to begin a reply
+
+-- from where on rows are asked for, and up to where later: none starts before the quarter hour of the opening, and those before that
+-- of the last entry stay
+abbrev pub first_asked : Installation → (from : ℕ) → ℕ
+first_asked it from = max from (quarter_of it.opening.at)
+
+abbrev pub asked_till : Installation → (from till : ℕ) → ℕ
+asked_till it from till = max (first_asked it from) (min till (quarter_of it.last.at))
+
+-- those are of more than so many seconds
+abbrev pub are_many : Installation → (from till seconds : ℕ) → Bool
+are_many it from till seconds = nat_lt seconds (asked_till it from till - first_asked it from)
+
+-- what was put, and what is still to be told, are the reply with all rows that were asked for, and the latter stays
+pub record IsBegun (facts : List Fact) (meter : List ℕ) (from till : ℕ)
+    (reply : List Share → List ℕ) (put : List ℕ) (left : RowsLeft) : Type 0 where
+  pub tells : put ++ text_left facts left ≡ reply (rows_between facts (Some meter) from till)
+  pub settled : IsSettled facts left
+
+-- So it is where the meter stands so; or the books failed, or there was no memory.
+abbrev pub AreBegun : {B E : Type 0} → (B → Ledger) → (old new : Office B) → Installation
+    → (from till : ℕ) → (reply : List Share → List ℕ) → (put : List ℕ)
+    → (answer : Result (Unit {0}) Refusal) → Result (Result RowsLeft Refusal) E → Type 0
+AreBegun ledger old new it from till reply put answer (Ok (Ok left)) =
+    (answer ≡ Ok tt) × (left.meter ≡ Some it.opening.meter)
+    × After ledger old new (λ past. meter_of (facts_of past) it.opening.meter ≡ Some it
+    → IsBegun (facts_of past) it.opening.meter from till reply put left)
+AreBegun ledger old new it from till reply put answer (Ok (Err why)) =
+    (answer ≡ Err why)
+    × After ledger old new (λ past. meter_of (facts_of past) it.opening.meter ≡ Some it
+    → IsOutside ⊥ (failures_of ledger old) (failures_of ledger new) why)
+AreBegun ledger old new it from till reply put answer (Err fault) = Unit {0}
+
+-- The office is asked, which leaves it as it was, and so the reply is begun.
+pub record BeginsReply {B : Type 0} (ledger : B → Ledger) (old new : Office B) (it : Installation)
+    (from till : ℕ) (reply : List Share → List ℕ) (put : List ℕ) {E : Type 0}
+    (result : Result (Result RowsLeft Refusal) E) : Type 0 where
+  pub answer : Result (Unit {0}) Refusal
+  pub asks : OnlyAsks ledger old new answer
+  pub begins : AreBegun ledger old new it from till reply put answer result
+
+-- a reply that tells its size, as to any question for rows
+abbrev pub with_rows : List ℕ → List Share → List ℕ
+with_rows text rows = with_reply Fine (codes "text/plain") (intervals_text rows) text
+
+-- One of the office's own, which ends with how many rows there are. All start at 0 or later, and before 2^64 - 1 (`RowsBeforeStay`).
+abbrev pub with_all_rows : List ℕ → List Share → List ℕ
+with_all_rows text rows = text ++ reply_bytes (lines_reply intervals_text (Ok rows))
+
+-- ---- its size
+
+-- how many bytes the lines of some rows have, and how many rows they are
+abbrev pub AreSizes : Sizes → List Share → Type 0
+AreSizes sizes rows =
+    (sizes.bytes ≡ length (flat_map share_line rows)) × (sizes.count ≡ length rows)
+
+-- A row's line is counted after those before it, unless there was no memory for one.
+abbrev pub SizesRow : RowSizes → Share → RowSizes → Type 0
+SizesRow old row new = new.is_whole ≡ true
+    → (old.is_whole ≡ true) × (new.sizes.bytes ≡ old.sizes.bytes + length (share_line row))
+    × (new.sizes.count ≡ old.sizes.count + 1)
+
+abbrev pub AreSized : {B E : Type 0} → (B → Ledger) → (old new : Office B) → RowsLeft
+    → (answer : Result (Unit {0}) Refusal) → Result (Result Sizes Refusal) E → Type 0
+AreSized ledger old new left answer (Ok (Ok sizes)) =
+    (answer ≡ Ok tt) × After ledger old new (λ past.
+    AreSizes sizes (rows_between (facts_of past) left.meter left.from left.till))
+AreSized ledger old new left answer (Ok (Err why)) =
+    (answer ≡ Err why) × After ledger old new (λ past.
+    let span = Between left.from left.till in
+    IsRowFound (is_there (intervals_within (facts_of past) left.meter span))
+    (failures_of ledger old) (failures_of ledger new) answer)
+AreSized ledger old new left answer (Err fault) = Unit {0}
+
+-- how many bytes the body of a reply has, whose rows that are still to be asked for have these
+abbrev pub body_size : RowsLeft → Sizes → ℕ
+body_size left sizes =
+    sizes.bytes
+    + length (flat_map share_line left.last.items
+    ++ end_line (left.told + sizes.count + length left.last.items))
+
+-- what such a reply begins with
+abbrev pub with_head : (size : ℕ) → List ℕ → List ℕ
+with_head size text = with_start_of Fine (codes "text/plain") size text ++ codes "\r\n\r\n"
+
+-- The office is asked for the rows that are still to be asked for, to tell their size.
+pub record SizesRows {B : Type 0} (ledger : B → Ledger) (old new : Office B) (left : RowsLeft)
+    {E : Type 0} (result : Result (Result Sizes Refusal) E) : Type 0 where
+  pub answer : Result (Unit {0}) Refusal
+  pub asks : OnlyAsks ledger old new answer
+  pub sizes : AreSized ledger old new left answer result
+
+-- ---- to tell it
+
+-- A piece was told: of rows that start within so many seconds, and of some where there were more. What else is to be told stays.
+pub record MovesOn (left later : RowsLeft) (seconds : ℕ) : Type 0 where
+  pub meter : later.meter ≡ left.meter
+  pub till : later.till ≡ left.till
+  pub some : left.from < left.till → 0 < seconds → left.from < later.from
+  pub none : left.till ≤ left.from → later.till ≤ later.from
+  pub few : later.from ≤ left.from + seconds
+
+-- What was told, and what is still to be told, are together what they were; or the books failed, or memory was wanting.
+abbrev pub HasTold : {B E : Type 0} → (B → Ledger) → (old new : Office B)
+    → (answer : Result (Vec Share Global) Refusal) → (left later : RowsLeft) → (seconds : ℕ)
+    → (from to : List ℕ) → Result (Result (Unit {0}) Refusal) E → Type 0
+HasTold ledger old new answer left later seconds from to (Ok (Ok done)) =
+    MovesOn left later seconds
+    × After ledger old new (λ past.
+    to ++ text_left (facts_of past) later ≡ from ++ text_left (facts_of past) left)
+HasTold ledger old new answer left later seconds from to (Ok (Err why)) = answer ≡ Err why
+HasTold ledger old new answer left later seconds from to (Err fault) = Unit {0}
+
+-- The rows of the piece are asked for.
+pub record TellsOn {B : Type 0} (ledger : B → Ledger) (old new : Office B) (left later : RowsLeft)
+    (seconds : ℕ) (from to : List ℕ) {E : Type 0} (result : Result (Result (Unit {0}) Refusal) E)
+    : Type 0 where
+  pub answer : Result (Vec Share Global) Refusal
+  pub asks : OnlyAsks ledger old new answer
+  pub tells : HasTold ledger old new answer left later seconds from to result
+
+-- Where none is still to be asked for, the rest is told.
+abbrev pub TellsRest : RowsLeft → (from to : List ℕ) → Type 0
+TellsRest left from to =
+    (facts : List Fact) → left.till ≤ left.from → to ≡ from ++ text_left facts left
+
+-- ---- all of it
+
+-- a piece that was told when these further facts had come, what is still to be told after it, and what was told up to its end
+pub record Piece : Type 0 where
+  pub further : List Fact
+  pub later : RowsLeft
+  pub text : List ℕ
+
+-- what is still to be told after some pieces, the latest first, and what was told up to then
+abbrev pub left_after : RowsLeft → List Piece → RowsLeft
+left_after left [] = left
+left_after left (piece ∷ earlier) = piece.later
+
+abbrev pub text_after : List ℕ → List Piece → List ℕ
+text_after text [] = text
+text_after text (piece ∷ earlier) = piece.text
+
+-- It is told as above, after further facts, of which none voids an entry that the meter had at the beginning.
+pub record IsPiece (facts : List Fact) (meter : List ℕ) (opening : Opening) (left : RowsLeft)
+    (text : List ℕ) (piece : Piece) : Type 0 where
+  pub lawful : AreLawful (piece.further ++ facts)
+  pub voids : All (VoidsFrom meter (next_place facts opening)) piece.further
+  pub seconds : ℕ
+  pub moves : MovesOn left piece.later seconds
+  pub tells : piece.text ++ text_left (piece.further ++ facts) piece.later
+      ≡ text ++ text_left (piece.further ++ facts) left
+
+abbrev pub ArePieces : List Fact → (meter : List ℕ) → Opening → RowsLeft → (text : List ℕ)
+    → List Piece → Type 0
+ArePieces facts meter opening left text [] = Unit {0}
+ArePieces facts meter opening left text (piece ∷ earlier) =
+    IsPiece facts meter opening (left_after left earlier) (text_after text earlier) piece
+    × ArePieces facts meter opening left text earlier
+
+-- Let a reply be begun by these facts, and be told on by pieces, whatever else comes between them. What was told then, and what is
+-- still to be told by the facts of the beginning, are together what they were: the reply of that moment.
+abbrev pub PiecesAreWhole : Type 0
+PiecesAreWhole = (facts : List Fact) (meter : List ℕ) (opening : Opening) (left : RowsLeft)
+    (text : List ℕ) (pieces : List Piece) → opening_of facts meter ≡ Some opening
+    → left.meter ≡ Some meter → IsSettled facts left
+    → ArePieces facts meter opening left text pieces
+    → text_after text pieces ++ text_left facts (left_after left pieces)
+    ≡ text ++ text_left facts left

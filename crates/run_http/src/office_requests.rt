@@ -1,0 +1,65 @@
+//! Which requests to the office ask for all quarter hours of a meter, and which may have an entry voided.
+ghost use Rattle.std.specs.Prelude.{◌≡◌, IfSome};
+ghost use Rattle.http_request.specs.Head.Heads.{Looks};
+ghost use Rattle.http_request.specs.declared.head.head.HeadState.TheVariants.{Whole};
+ghost use Rattle.run_http.specs.OfficeRequests as requests;
+ghost use Rattle.run_http.specs.OfficeRequests.{AsksAllRows, MayVoid};
+
+use crate::meter_targets::after;
+use http_answer::{name_asked, questions_are_replied_to};
+use http_request::{Ask, Head, HeadState, Route, ask_of, parse_head};
+use matchit::Router;
+use office_events::Name;
+
+// The meter all of whose quarter hours a whole head asks the office for, if it asks for those.
+fn meter_asked(
+    router: &Router<Route>,
+    request: &[u8],
+    head_state: &HeadState,
+    head: &Head,
+) -> Option<Option<Name>>
+    requires is { head_state.now ≡ Whole head.now }
+    requires looks { Looks request.now head_state.now }
+    ensures { IfSome result (AsksAllRows router.now request.now) }
+{
+    match ask_of(router, request, head) {
+        Ok(Ask::Question(found)) => match found.route {
+            Route::Intervals => {
+                questions_are_replied_to(router, request, head_state, &found);
+                Some(name_asked(found.name))
+            }
+            _ => None,
+        },
+        Ok(Ask::Command(_, _)) | Err(_) => None,
+    }
+}
+
+/// The meter all of whose quarter hours a request asks the office for, by its routes, if it asks for those. `None` in that is a name
+/// that no meter can have.
+pub fn all_rows_asked(router: &Router<Route>, request: &[u8]) -> Option<Option<Name>>
+    ensures { IfSome result (AsksAllRows router.now request.now) }
+{
+    let head_state = parse_head(request);
+    match &head_state {
+        HeadState::Whole(head) => meter_asked(router, request, &head_state, head),
+        HeadState::Open | HeadState::TooLarge | HeadState::NoHead => None,
+    }
+}
+
+// Whether a head of this method and this target may have an entry voided.
+fn may_void_by(method: &[u8], target: &[u8]) -> bool
+    ensures { result ≡ requests.may_void_by method.now target.now }
+{
+    method == b"POST".as_slice() && after(b"/meters/", target).is_some()
+}
+
+/// Whether a request may have the office void an entry.
+pub fn may_void(request: &[u8]) -> bool
+    ensures { MayVoid request.now result }
+{
+    let head_state = parse_head(request);
+    match &head_state {
+        HeadState::Whole(head) => may_void_by(head.method.of(request), head.target.of(request)),
+        HeadState::Open | HeadState::TooLarge | HeadState::NoHead => false,
+    }
+}

@@ -1,0 +1,306 @@
+//! Quarter hours of a meter that are told piece by piece.
+ghost use Rattle.std.specs.Prelude.{◌≡◌, ◌+◌, ◌<◌, ◌≤◌, [], ◌++◌, length, flat_map, IfOk, IfSome, OnOk};
+ghost use Rattle.http_answer.specs.Sending.Replies.{text_head};
+ghost use Rattle.interval_core.specs.Lines.{intervals_text, share_line};
+ghost use Rattle.run_http.specs.Copies as copies;
+ghost use Rattle.run_http.specs.Pieces as pieces;
+ghost use Rattle.run_http.specs.Pieces.{BeginsReply, PiecesAreWhole, SizesRows, TellsOn, TellsRest};
+ghost use Rattle.run_http.specs.Pieces.{TextStays};
+
+use crate::meter_replies::ask_intervals;
+use crate::route::put_start_of;
+use crate::row_sizes::{RowSizes, Sizes};
+use crate::texts::{put_end, put_share_lines};
+use energy_core::INTERVAL_SECONDS;
+use http_request::Status;
+use interval_core::{Share, shares_add_up};
+use office_books::{Books, Span};
+use office_core::Office;
+use office_events::{Installation, Name, Refusal};
+use office_rules::facts_are_lawful;
+use run_status::{put, put_number, put_word};
+use std::alloc::{AllocError, Global};
+
+/// What is still to be told of a reply with quarter hours of a meter.
+#[derive(Drop)]
+pub struct RowsLeft {
+    meter: Option<Name>,
+    /// Rows that start at `from` or later, and before `till`, are still to be asked for.
+    from: u64,
+    till: u64,
+    /// Rows that are told after them. New entries may change these, so they are kept.
+    last: Vec<Share>,
+    /// How many rows were told.
+    told: usize,
+}
+
+// The start of the quarter hour of a moment.
+fn quarter_of(moment: u64) -> u64
+    ensures { result ≡ copies.quarter_of moment }
+{
+    moment - moment % INTERVAL_SECONDS
+}
+
+// From where on rows are asked for.
+fn first_asked(it: &Installation, from: u64) -> u64
+    ensures { result ≡ pieces.first_asked it.now from }
+{
+    from.max(quarter_of(it.opening.at))
+}
+
+// Up to where rows are asked for later.
+fn asked_till(it: &Installation, from: u64, till: u64) -> u64
+    ensures { result ≡ pieces.asked_till it.now from till }
+{
+    first_asked(it, from).max(till.min(quarter_of(it.last.at)))
+}
+
+/// Whether the quarter hours of a meter that start at a moment or later, and before another, may be of more than so many seconds.
+pub fn are_many(it: &Installation, from: u64, till: u64, seconds: u64) -> bool
+    ensures { result ≡ pieces.are_many it.now from till seconds }
+{
+    asked_till(it, from, till).saturating_sub(first_asked(it, from)) > seconds
+}
+
+// Asks for the rows that new entries may change, and keeps them; the others are still to be asked for.
+fn begin_rows<B: Books>(
+    alloc: Global,
+    office: &mut Office<B>,
+    it: &Installation,
+    from: u64,
+    till: u64,
+) -> Result<Result<RowsLeft, Refusal>, AllocError>
+    ensures { BeginsReply B.ledger office.old office.new it.now from till intervals_text [] result }
+{
+    shares_add_up();
+    facts_are_lawful();
+    let first = first_asked(it, from);
+    let end = asked_till(it, from, till);
+    let meter = Some(it.opening.meter);
+    let answer = ask_intervals(alloc, office, &meter, Span::Between { from: end, till })?;
+    match answer {
+        Ok(last) => Ok(Ok(RowsLeft {
+            meter,
+            from: first,
+            till: end,
+            last,
+            told: 0,
+        })),
+        Err(why) => Ok(Err(why)),
+    }
+}
+
+// Asks the office for the rows that are still to be asked for, to tell their size.
+fn ask_sizes<B: Books>(
+    alloc: Global,
+    office: &mut Office<B>,
+    left: &RowsLeft,
+) -> Result<Result<Sizes, Refusal>, AllocError>
+    ensures { SizesRows B.ledger office.old office.new left.now result }
+{
+    let mut sizes = RowSizes::new(alloc);
+    let span = Span::Between {
+        from: left.from,
+        till: left.till,
+    };
+    let answer = office.intervals_within(&left.meter, span, &mut sizes);
+    let told = sizes.whole()?;
+    match answer {
+        Ok(()) => Ok(Ok(told)),
+        Err(why) => Ok(Err(why)),
+    }
+}
+
+// The sum of three numbers, where it is one of as many bits.
+fn sum_of(a: usize, b: usize, c: usize) -> Option<usize>
+    ensures { IfSome result (λ sum. sum ≡ a + b + c) }
+{
+    a.checked_add(b)?.checked_add(c)
+}
+
+// How many bytes the body of a reply has, of which those rows are still to be asked for.
+fn body_size(alloc: Global, left: &RowsLeft, sizes: Sizes) -> Result<usize, AllocError>
+    ensures { IfOk result (λ size. size ≡ pieces.body_size left.now sizes) }
+{
+    let Some(count) = sum_of(left.told, sizes.count, left.last.len()) else {
+        return Err(AllocError);
+    };
+    let mut rest = Vec::new(alloc);
+    put_share_lines(&mut rest, &left.last)?;
+    put_end(&mut rest, count)?;
+    match sizes.bytes.checked_add(rest.len()) {
+        Some(size) => Ok(size),
+        None => Err(AllocError),
+    }
+}
+
+// Puts what a reply begins with whose body has so many bytes.
+fn put_head(text: &mut Vec<u8>, size: usize) -> Result<(), AllocError>
+    ensures { OnOk result (text.new.items ≡ pieces.with_head size text.old.items) }
+{
+    put_start_of(text, Status::Fine, b"text/plain", size)?;
+    put(text, b"\r\n\r\n")
+}
+
+/// Asks the office for quarter hours of a meter, those that start at a moment or later, and before another, by where the meter stands,
+/// and puts what the reply begins with, which tells its size, at the end of a text. Want of memory leaves a part of it.
+pub fn begin_intervals<B: Books>(
+    alloc: Global,
+    text: &mut Vec<u8>,
+    office: &mut Office<B>,
+    it: &Installation,
+    from: u64,
+    till: u64,
+) -> Result<Result<RowsLeft, Refusal>, AllocError>
+    ensures { BeginsReply B.ledger office.old office.new it.now from till
+        (pieces.with_rows text.old.items) text.new.items result }
+{
+    let left = match begin_rows(alloc, office, it, from, till)? {
+        Ok(left) => left,
+        Err(why) => return Ok(Err(why)),
+    };
+    let sizes = match ask_sizes(alloc, office, &left)? {
+        Ok(sizes) => sizes,
+        Err(why) => return Ok(Err(why)),
+    };
+    let size = body_size(alloc, &left, sizes)?;
+    put_head(text, size)?;
+    Ok(Ok(left))
+}
+
+// Puts what the office's own replies with rows begin with.
+fn put_text_head(text: &mut Vec<u8>) -> Result<(), AllocError>
+    ensures { OnOk result (text.new.items ≡ text.old.items ++ text_head) }
+{
+    put_number(text, b"HTTP/1.1 ", u64::from(Status::Fine.number()))?;
+    put_word(text, b" ", Status::Fine.reason())?;
+    put(
+        text,
+        b"\r\nContent-Type: text/plain\r\nConnection: close\r\n\r\n",
+    )
+}
+
+/// The same of all quarter hours of a meter, for the office's own reply, which doesn't tell its size.
+pub fn begin_all_intervals<B: Books>(
+    alloc: Global,
+    text: &mut Vec<u8>,
+    office: &mut Office<B>,
+    it: &Installation,
+) -> Result<Result<RowsLeft, Refusal>, AllocError>
+    ensures { BeginsReply B.ledger office.old office.new it.now 0 18446744073709551615
+        (pieces.with_all_rows text.old.items) text.new.items result }
+{
+    let begun = begin_rows(alloc, office, it, 0, u64::MAX)?;
+    match begun {
+        Ok(left) => {
+            put_text_head(text)?;
+            Ok(Ok(left))
+        }
+        Err(why) => Ok(Err(why)),
+    }
+}
+
+// Where a piece of so many seconds ends.
+fn piece_end(from: u64, till: u64, seconds: u64) -> u64
+    ensures low { from ≤ till → from ≤ result }
+    ensures high { result ≤ till }
+    ensures none { till ≤ from → result ≡ till }
+    ensures some { from < till → 0 < seconds → from < result }
+    ensures few { result ≤ from + seconds }
+{
+    if till <= from || till - from <= seconds {
+        till
+    } else {
+        from + seconds
+    }
+}
+
+// Puts the lines of the rows of a piece, which ends there.
+fn put_piece(
+    text: &mut Vec<u8>,
+    left: &mut RowsLeft,
+    rows: &[Share],
+    till: u64,
+) -> Result<(), AllocError>
+    ensures text { OnOk result (text.new.items ≡ text.old.items ++ flat_map share_line rows.now) }
+    ensures left { OnOk result (left.new
+        ≡ record left.old { from = till; told = left.old.told + length rows.now }) }
+{
+    let Some(told) = left.told.checked_add(rows.len()) else {
+        return Err(AllocError);
+    };
+    put_share_lines(text, rows)?;
+    left.told = told;
+    left.from = till;
+    Ok(())
+}
+
+/// Whether rows are still to be asked for.
+pub fn has_more(left: &RowsLeft) -> bool
+    ensures { result ≡ pieces.has_more left.now }
+{
+    left.from < left.till
+}
+
+/// Asks the office for the next rows of a reply, those that start within so many seconds, and puts their lines at the end of a text.
+/// Want of memory leaves a part of them.
+pub fn tell_rows<B: Books>(
+    alloc: Global,
+    text: &mut Vec<u8>,
+    office: &mut Office<B>,
+    left: &mut RowsLeft,
+    seconds: u64,
+) -> Result<Result<(), Refusal>, AllocError>
+    ensures { TellsOn B.ledger office.old office.new left.old left.new seconds
+        text.old.items text.new.items result }
+{
+    shares_add_up();
+    facts_are_lawful();
+    let till = piece_end(left.from, left.till, seconds);
+    let span = Span::Between {
+        from: left.from,
+        till,
+    };
+    let answer = ask_intervals(alloc, office, &left.meter, span)?;
+    match answer {
+        Ok(rows) => {
+            put_piece(text, left, &rows, till)?;
+            Ok(Ok(()))
+        }
+        Err(why) => Ok(Err(why)),
+    }
+}
+
+// How many rows a reply has whose last rows are told now.
+fn count_of(left: &RowsLeft) -> Option<usize>
+    ensures { IfSome result (λ count. count ≡ left.now.told + length left.now.last.items) }
+{
+    left.told.checked_add(left.last.len())
+}
+
+/// Puts the last rows of a reply, of which no others are still to be asked for, and how many it has, at the end of a text. Want of
+/// memory leaves a part of them.
+pub fn end_rows(text: &mut Vec<u8>, left: &RowsLeft) -> Result<(), AllocError>
+    ensures { OnOk result (TellsRest left.now text.old.items text.new.items) }
+{
+    let Some(count) = count_of(left) else {
+        return Err(AllocError);
+    };
+    put_share_lines(text, &left.last)?;
+    put_end(text, count)
+}
+
+/// What is still to be told of a reply stays what it was when the reply was begun, whatever comes, unless a void names an entry that
+/// the meter had then.
+pub fn text_stays()
+    ensures { TextStays }
+{
+    shares_add_up();
+}
+
+/// So the pieces of a reply, one after the other, are the reply of the moment at which it was begun.
+pub fn pieces_are_whole()
+    ensures { PiecesAreWhole }
+{
+    shares_add_up();
+}

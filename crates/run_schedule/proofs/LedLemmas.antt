@@ -1,0 +1,101 @@
+-- Which file is led, name by name.
+use Rattle.std.proofs.Common.{◌≡◌, ◌⊎◌, inl, inr, ℕ, ◌+◌, ◌<◌, ◌≤◌, nat_lt, Bool, true, false, List, [], ◌∷◌, ◌++◌, Some, None, refl, sym, ap, ◌∙◌, subst, arith}
+use Rattle.std.specs.Prelude.{Option, codes, Contains, ◌||◌}
+use Rattle.std.specs.Borrow.{Bor}
+use Rattle.std.specs.declared.vec.Vec.{Vec}
+use Rattle.std.proofs.lemmas.Bool.{ltb-true, ltb-false}
+use Rattle.std.proofs.lemmas.List.{append_cancel_left, append_cancel_right}
+use Rattle.std.proofs.lemmas.List.Elements.{Contains-append_left, Contains-push, Contains-push_cases}
+use Rattle.energy_report.specs.declared.form.Period.{Period}
+use Rattle.run_schedule.specs.Periods.Names.{IsPeriodIn, file_of, spells, stem_of, suffix_of}
+use Rattle.run_schedule.specs.Periods.Led.{IsFileOf, IsLast, IsLed, IsToldBy, gives_way, other_length, rank, tells}
+
+either : (a b : Bool) → (a || b) ≡ true → (a ≡ true) ⊎ (b ≡ true)
+either true b is = inl refl
+either false b is = inr is
+
+or_right : (a b : Bool) → b ≡ true → (a || b) ≡ true
+or_right true b is = refl
+or_right false b is = is
+
+or_left : (a b : Bool) → a ≡ true → (a || b) ≡ true
+or_left true b is = refl
+or_left false b is = absurd (cc)
+
+-- a name that is of no period of the run's length
+pub told_by_other : (file : List ℕ) (length : Period) (name : List ℕ) (r : Option (Bor (List ℕ))) → IsPeriodIn file length name None
+    → IsPeriodIn file (other_length length) name r → IsToldBy file length name r
+told_by_other file length name (Some text) own is = record {
+  told = or_right (spells length text.now) (spells (other_length length) text.now) is.spelled;
+  named = is.named;
+}
+told_by_other file length name None own other = λ text is.
+    elim (either (spells length text) (spells (other_length length) text) is.told) as (λ _. ⊥) [
+      | inl spelled ↦ own text (record { spelled = spelled; named = is.named })
+      | inr spelled ↦ other text (record { spelled = spelled; named = is.named })
+    ]
+
+-- two periods have two files
+same_text : (file text other : List ℕ) → file_of file text ≡ file_of file other → text ≡ other
+same_text file text other both =
+    let fronts : stem_of file ++ codes "-" ++ text ≡ stem_of file ++ codes "-" ++ other = append_cancel_right _ _ (suffix_of file) both in
+    append_cancel_left (stem_of file ++ codes "-") text other fronts
+
+pub keeps_untold : {Z : Type 0} (file : List ℕ) (length : Period) (name : List ℕ) (led : Option (Vec ℕ Z)) → IsToldBy file length name None
+    → (names : List (List ℕ)) → IsLed file length names led → IsLed file length (names ++ name ∷ []) led
+keeps_untold file length name None untold names old = λ text told there.
+    elim (Contains-push_cases names name (file_of file text) there) as (λ _. ⊥) [
+      | inl before ↦ old text told before
+      | inr same ↦ untold text (record { told = told; named = sym same })
+    ]
+keeps_untold file length name (Some led) untold names old = record {
+  told = old.told;
+  there = Contains-append_left names (name ∷ []) _ old.there;
+  last = λ other told there.
+      elim (Contains-push_cases names name (file_of file other) there) as (λ _. rank length other ≤ rank length led.items) [
+        | inl before ↦ old.last other told before
+        | inr same ↦ absurd (untold other (record { told = told; named = sym same }))
+      ];
+}
+
+not_more : (length : Period) (text other : List ℕ) (least : ℕ) → text ≡ other → rank length text ≤ least → rank length other ≤ least
+not_more length text other least same below = subst (λ (t : List ℕ). rank length t ≤ least) same below
+
+pub keeps_led : {Z : Type 0} (file : List ℕ) (length : Period) (name text : List ℕ) (led : Option (Vec ℕ Z)) → IsFileOf file length name text
+    → gives_way led length text ≡ false → (names : List (List ℕ)) → IsLed file length names led → IsLed file length (names ++ name ∷ []) led
+keeps_led file length name text None is stays names old = absurd (cc)
+keeps_led file length name text (Some led) is stays names old = record {
+  told = old.told;
+  there = Contains-append_left names (name ∷ []) _ old.there;
+  last = λ other told there.
+      elim (Contains-push_cases names name (file_of file other) there) as (λ _. rank length other ≤ rank length led.items) [
+        | inl before ↦ old.last other told before
+        | inr same ↦ not_more length text other (rank length led.items) (same_text file text other (is.named ∙ same))
+            (ltb-false (rank length led.items) (rank length text) stays)
+      ];
+}
+
+below : (a b c : ℕ) → a ≤ b → b < c → a ≤ c
+below a b c first second = omega (arith, first, second)
+
+pub leads : {Z : Type 0} (file : List ℕ) (length : Period) (name text : List ℕ) (led : Option (Vec ℕ Z)) → IsFileOf file length name text
+    → gives_way led length text ≡ true → (names : List (List ℕ)) → IsLed file length names led → IsLast file length (names ++ name ∷ []) text
+leads file length name text None is gives names old = record {
+  told = is.told;
+  there = subst (λ (n : List ℕ). Contains (names ++ name ∷ []) n) (sym is.named) (Contains-push names name);
+  last = λ other told there.
+      elim (Contains-push_cases names name (file_of file other) there) as (λ _. rank length other ≤ rank length text) [
+        | inl before ↦ absurd (old other told before)
+        | inr same ↦ not_more length text other (rank length text) (same_text file text other (is.named ∙ same)) (omega arith)
+      ];
+}
+leads file length name text (Some led) is gives names old = record {
+  told = is.told;
+  there = subst (λ (n : List ℕ). Contains (names ++ name ∷ []) n) (sym is.named) (Contains-push names name);
+  last = λ other told there.
+      elim (Contains-push_cases names name (file_of file other) there) as (λ _. rank length other ≤ rank length text) [
+        | inl before ↦ below (rank length other) (rank length led.items) (rank length text) (old.last other told before)
+            (ltb-true (rank length led.items) (rank length text) gives)
+        | inr same ↦ not_more length text other (rank length text) (same_text file text other (is.named ∙ same)) (omega arith)
+      ];
+}

@@ -1,0 +1,4 @@
+pub mod Ends
+pub mod Led
+pub mod Names
+pub mod Plans

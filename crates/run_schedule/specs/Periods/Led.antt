@@ -1,0 +1,84 @@
+-- In which of the files of periods books are led, by their names.
+use Rattle.std.specs.Prelude.{◌≡◌, ℕ, ◌+◌, ◌-◌, ◌*◌, ◌≤◌, nat_lt, Bool, true, ◌||◌, if◌then◌else◌}
+use Rattle.std.specs.Prelude.{List, [], ◌∷◌, ◌++◌, Contains, Option, Some, None}
+use Rattle.std.specs.Borrow.{Bor}
+use Rattle.std.specs.declared.vec.Vec.{Vec}
+use Rattle.energy_report.specs.declared.form.Period.{Period}
+use Rattle.energy_report.specs.declared.form.Period.TheVariants as period
+use Rattle.run_schedule.specs.Periods.Names.{file_of, spells}
+
+-- ---- the numbers of a period's text
+
+abbrev pub pair : (tens ones : ℕ) → ℕ
+pair tens ones = 10 * (tens - 48) + (ones - 48)
+
+abbrev pub year_in : List ℕ → ℕ
+year_in (a ∷ b ∷ c ∷ d ∷ rest) = 100 * pair a b + pair c d
+year_in _ = 0
+
+-- 0 in the text of a year
+abbrev pub month_in : List ℕ → ℕ
+month_in (a ∷ b ∷ c ∷ d ∷ hyphen ∷ m ∷ n ∷ rest) = pair m n
+month_in _ = 0
+
+-- 0 in that of a year or a month
+abbrev pub day_in : List ℕ → ℕ
+day_in (a ∷ b ∷ c ∷ d ∷ hyphen ∷ m ∷ n ∷ second ∷ e ∷ f ∷ rest) = pair e f
+day_in _ = 0
+
+-- Of two texts of one length that of the later period has the greater number.
+abbrev pub number_in : List ℕ → ℕ
+number_in text = 512 * year_in text + 32 * month_in text + day_in text
+
+-- ---- the files of periods beside a run's own
+
+-- a run by months looks at the files of years too, and the other way round
+abbrev pub other_length : Period → Period
+other_length period.Day = period.Day
+other_length period.Month = period.Year
+other_length period.Year = period.Month
+
+abbrev pub tells : Period → List ℕ → Bool
+tells length text = spells length text || spells (other_length length) text
+
+-- The name is that of the file of this period.
+pub record IsFileOf (file : List ℕ) (length : Period) (name text : List ℕ) : Type 0 where
+  pub told : tells length text ≡ true
+  pub named : file_of file text ≡ name
+
+abbrev pub IsToldBy : (file : List ℕ) → Period → (name : List ℕ) → Option (Bor (List ℕ))
+    → Type 0
+IsToldBy file length name (Some text) = IsFileOf file length name text.now
+IsToldBy file length name None = (text : List ℕ) → ¬ IsFileOf file length name text
+
+-- Books are led in the file of the greatest rank: that of the latest year; of one year that of the
+-- run's own length; of these that of the latest month, or day.
+abbrev pub rank : Period → List ℕ → ℕ
+rank length text =
+    2 * 512 * year_in text + (if spells length text then 512 else 0)
+    + 32 * month_in text + day_in text
+
+-- the file that was led gives way to that of this period
+abbrev pub gives_way : {Z : Type 0} → Option (Vec ℕ Z) → Period → List ℕ → Bool
+gives_way None length text = true
+gives_way (Some led) length text = nat_lt (rank length led.items) (rank length text)
+
+-- The file of this period is there among these names, and none of a greater rank is.
+pub record IsLast (file : List ℕ) (length : Period) (names : List (List ℕ))
+    (text : List ℕ) : Type 0 where
+  pub told : tells length text ≡ true
+  pub there : Contains names (file_of file text)
+  pub last : (other : List ℕ) → tells length other ≡ true → Contains names (file_of file other)
+      → rank length other ≤ rank length text
+
+abbrev pub IsLed : {Z : Type 0} → (file : List ℕ) → Period → (names : List (List ℕ))
+    → Option (Vec ℕ Z) → Type 0
+IsLed file length names (Some text) = IsLast file length names text.items
+IsLed file length names None =
+    (text : List ℕ) → tells length text ≡ true → ¬ Contains names (file_of file text)
+
+-- What was led of some names is led of these and one more.
+abbrev pub SeesOneMore : {Z : Type 0} → (file : List ℕ) → Period → (name : List ℕ)
+    → (old new : Option (Vec ℕ Z)) → Type 0
+SeesOneMore file length name old new = (names : List (List ℕ)) → IsLed file length names old
+    → IsLed file length (names ++ name ∷ []) new

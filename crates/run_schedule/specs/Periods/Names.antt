@@ -1,0 +1,62 @@
+-- The names of the files of periods.
+use Rattle.std.specs.Prelude.{◌≡◌, ℕ, nat_le, ◌-◌, ◌==◌, Bool, true, false, ◌&&◌, ◌||◌, if◌then◌else◌}
+use Rattle.std.specs.Prelude.{List, [], ◌∷◌, ◌++◌, codes, length, take, drop, Option, Some, None}
+use Rattle.std.specs.Borrow.{Bor}
+use Rattle.std.specs.Str.{bytes_eq}
+use Rattle.energy_report.specs.declared.form.Period.{Period}
+use Rattle.energy_report.specs.declared.form.Period.TheVariants as period
+
+-- the name of a file ends with `.db`
+abbrev pub has_suffix : List ℕ → Bool
+has_suffix file = bytes_eq (drop (length file - 3) file) (codes ".db")
+
+-- what stands before the end, and the end
+abbrev pub stem_of : (file : List ℕ) → List ℕ
+stem_of file = if has_suffix file then take (length file - 3) file else file
+
+abbrev pub suffix_of : (file : List ℕ) → List ℕ
+suffix_of file = if has_suffix file then codes ".db" else []
+
+-- The file of a period: of `office.db` and `2026-11` it is `office-2026-11.db`, and of `office` `office-2026-11`.
+abbrev pub file_of : (file text : List ℕ) → List ℕ
+file_of file text = stem_of file ++ codes "-" ++ text ++ suffix_of file
+
+-- ---- texts of periods
+
+abbrev pub is_digit : ℕ → Bool
+is_digit byte = nat_le 48 byte && nat_le byte 57
+
+-- two digits from 01 to 12, and from 01 to 31
+abbrev pub is_month : (tens ones : ℕ) → Bool
+is_month tens ones =
+    ((tens == 48) && nat_le 49 ones && nat_le ones 57)
+    || ((tens == 49) && nat_le 48 ones && nat_le ones 50)
+
+abbrev pub is_day : (tens ones : ℕ) → Bool
+is_day tens ones =
+    ((tens == 48) && nat_le 49 ones && nat_le ones 57)
+    || (nat_le 49 tens && nat_le tens 50 && is_digit ones)
+    || ((tens == 51) && nat_le 48 ones && nat_le ones 49)
+
+abbrev pub is_year : (a b c d : ℕ) → Bool
+is_year a b c d = is_digit a && is_digit b && is_digit c && is_digit d
+
+-- A text has the form of a period's: `2026-11-25`, `2026-11` or `2026`.
+abbrev pub spells : Period → List ℕ → Bool
+spells period.Year (a ∷ b ∷ c ∷ d ∷ []) = is_year a b c d
+spells period.Year _ = false
+spells period.Month (a ∷ b ∷ c ∷ d ∷ hyphen ∷ m ∷ n ∷ []) =
+    is_year a b c d && (hyphen == 45) && is_month m n
+spells period.Month _ = false
+spells period.Day (a ∷ b ∷ c ∷ d ∷ hyphen ∷ m ∷ n ∷ second ∷ e ∷ f ∷ []) =
+    is_year a b c d && (hyphen == 45) && is_month m n && (second == 45) && is_day e f
+spells period.Day _ = false
+
+-- The name is that of the file of this period.
+pub record IsNamed (file : List ℕ) (period : Period) (name text : List ℕ) : Type 0 where
+  pub spelled : spells period text ≡ true
+  pub named : file_of file text ≡ name
+
+abbrev pub IsPeriodIn : (file : List ℕ) → Period → (name : List ℕ) → Option (Bor (List ℕ)) → Type 0
+IsPeriodIn file period name (Some text) = IsNamed file period name text.now
+IsPeriodIn file period name None = (text : List ℕ) → ¬ IsNamed file period name text

@@ -1,0 +1,134 @@
+//! In which of the files of periods books are led, by their names.
+ghost use Rattle.std.specs.Prelude.{◌≡◌, ◌≤◌, ◌<◌, ◌*◌, ◌+◌, nat_lt};
+ghost use Rattle.run_schedule.specs.Periods.Led as numbers;
+ghost use Rattle.run_schedule.specs.Periods.Led.{IsToldBy};
+
+use crate::periods::names::{period_of_file, spells};
+use energy_report::Period;
+use std::alloc::{AllocError, Global};
+
+fn pair(tens: u8, ones: u8) -> u32
+    ensures value { result ≡ numbers.pair tens ones }
+    ensures few { result < 2_500 }
+{
+    10 * u32::from(tens.saturating_sub(48)) + u32::from(ones.saturating_sub(48))
+}
+
+// The year, month and day of a period's text; 0 for what it doesn't tell.
+fn numbers_in(text: &[u8]) -> (u32, u32, u32)
+    ensures year { result.0 ≡ numbers.year_in text.now }
+    ensures month { result.1 ≡ numbers.month_in text.now }
+    ensures day { result.2 ≡ numbers.day_in text.now }
+    ensures few_years { result.0 < 252_500 }
+    ensures few_months { result.1 < 2_500 }
+    ensures few_days { result.2 < 2_500 }
+{
+    match text {
+        [a, b, c, d, _, m, n, _, e, f, ..] => {
+            (
+                100 * pair(*a, *b) + pair(*c, *d),
+                pair(*m, *n),
+                pair(*e, *f),
+            )
+        }
+        [a, b, c, d, _, m, n, ..] => (100 * pair(*a, *b) + pair(*c, *d), pair(*m, *n), 0),
+        [a, b, c, d, ..] => (100 * pair(*a, *b) + pair(*c, *d), 0, 0),
+        _ => (0, 0, 0),
+    }
+}
+
+/// The number of a period's text, by which those of one length are in their order.
+pub(crate) fn number_in(text: &[u8]) -> u32
+    ensures { result ≡ numbers.number_in text.now }
+{
+    let (year, month, day) = numbers_in(text);
+    512 * year + 32 * month + day
+}
+
+fn other_length(length: Period) -> Period
+    ensures { result ≡ numbers.other_length length }
+{
+    match length {
+        Period::Day => Period::Day,
+        Period::Month => Period::Year,
+        Period::Year => Period::Month,
+    }
+}
+
+fn rank(length: Period, text: &[u8]) -> u32
+    ensures { result ≡ numbers.rank length text.now }
+{
+    let (year, month, day) = numbers_in(text);
+    let own = if spells(length, text) { 512 } else { 0 };
+    2 * 512 * year + own + 32 * month + day
+}
+
+// Of which period a file is by its name, of a run's own length or of the other one.
+fn told_by<'a>(file: &[u8], length: Period, name: &'a [u8]) -> Option<&'a [u8]>
+    ensures { IsToldBy file.now length name.now result }
+{
+    match period_of_file(file, length, name) {
+        Some(text) => Some(text),
+        None => period_of_file(file, other_length(length), name),
+    }
+}
+
+fn is_before(length: Period, text: &[u8], other: &[u8]) -> bool
+    ensures { result ≡ nat_lt (numbers.rank length text.now) (numbers.rank length other.now) }
+{
+    rank(length, text) < rank(length, other)
+}
+
+/// Of which period the file is in which books are led, by the names that were seen: its text, as `2026-11` or `2026`; none
+/// where there is no file of a period.
+#[derive(Drop)]
+pub struct LedPeriod {
+    pub text: Option<Vec<u8>>,
+}
+
+impl LedPeriod {
+    ghost use Rattle.std.specs.Prelude.{◌≡◌, [], OnOk, OnErr, None};
+    ghost use Rattle.run_schedule.specs.Periods.Led.{SeesOneMore};
+
+    /// No name was seen.
+    pub fn none() -> LedPeriod
+        ensures { result.text ≡ None }
+    {
+        LedPeriod { text: None }
+    }
+
+    // Whether the file of this period is led, and no longer that which is.
+    fn gives_way_to(&self, length: Period, text: &[u8]) -> bool
+        ensures { result ≡ numbers.gives_way self.now.text length text.now }
+    {
+        match &self.text {
+            Some(led) => is_before(length, led, text),
+            None => true,
+        }
+    }
+
+    /// Sees a name that lies beside a run's own file. Books are led in the file of the latest year, of one year in that of the
+    /// run's own length, and of these in that of the latest month, or day.
+    pub fn see(
+        &mut self,
+        alloc: Global,
+        file: &[u8],
+        length: Period,
+        name: &[u8],
+    ) -> Result<(), AllocError>
+        ensures seen { OnOk result
+            (SeesOneMore file.now length name.now self.old.text self.new.text) }
+        ensures unseen { OnErr result (self.new ≡ self.old) }
+    {
+        match told_by(file, length, name) {
+            None => Ok(()),
+            Some(text) => {
+                if !self.gives_way_to(length, text) {
+                    return Ok(());
+                }
+                self.text = Some(Vec::from_slice(alloc, text)?);
+                Ok(())
+            }
+        }
+    }
+}

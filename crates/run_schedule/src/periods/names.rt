@@ -1,0 +1,140 @@
+//! The names of the files of periods.
+ghost use Rattle.std.specs.Prelude.{◌≡◌, ◌≢◌, ◌++◌, ℕ, List, codes, IfOk};
+ghost use Rattle.std.specs.Option.{MatchOption};
+ghost use Rattle.run_schedule.specs.Periods.Names as named;
+ghost use Rattle.run_schedule.specs.Periods.Names.{IsPeriodIn, file_of, stem_of, suffix_of};
+
+use energy_report::Period;
+use std::alloc::{AllocError, Global};
+
+/// What ends the name of a database, which stays behind the period.
+const SUFFIX: &[u8] = b".db";
+
+// What stands before the end of a file's name, and the end.
+fn parts_of(file: &[u8]) -> (&[u8], &[u8])
+    ensures stem { result.0.now ≡ stem_of file.now }
+    ensures suffix { result.1.now ≡ suffix_of file.now }
+{
+    let cut = file.len().saturating_sub(3);
+    if &file[cut..] == SUFFIX {
+        (&file[..cut], SUFFIX)
+    } else {
+        (file, b"")
+    }
+}
+
+// The bytes one after the other.
+fn joined(alloc: Global, stem: &[u8], text: &[u8], suffix: &[u8]) -> Result<Vec<u8>, AllocError>
+    ensures { IfOk result
+        (λ name. name.items ≡ stem.now ++ codes "-" ++ text.now ++ suffix.now) }
+{
+    let mut name = Vec::new(alloc);
+    name.extend_from_slice(stem)?;
+    name.extend_from_slice(b"-")?;
+    name.extend_from_slice(text)?;
+    name.extend_from_slice(suffix)?;
+    Ok(name)
+}
+
+/// The name of the file of a period: of `office.db` and `2026-11` it is `office-2026-11.db`. Without `.db` at its end a name gets
+/// the period there.
+pub fn file_of_period(alloc: Global, file: &[u8], text: &[u8]) -> Result<Vec<u8>, AllocError>
+    ensures { IfOk result (λ name. name.items ≡ file_of file.now text.now) }
+{
+    let (stem, suffix) = parts_of(file);
+    joined(alloc, stem, text, suffix)
+}
+
+fn is_digit(byte: u8) -> bool
+    ensures { result ≡ named.is_digit byte }
+{
+    48 <= byte && byte <= 57
+}
+
+fn is_month(tens: u8, ones: u8) -> bool
+    ensures { result ≡ named.is_month tens ones }
+{
+    (tens == 48 && 49 <= ones && ones <= 57) || (tens == 49 && 48 <= ones && ones <= 50)
+}
+
+fn is_day(tens: u8, ones: u8) -> bool
+    ensures { result ≡ named.is_day tens ones }
+{
+    (tens == 48 && 49 <= ones && ones <= 57)
+        || (49 <= tens && tens <= 50 && is_digit(ones))
+        || (tens == 51 && 48 <= ones && ones <= 49)
+}
+
+fn is_year(a: u8, b: u8, c: u8, d: u8) -> bool
+    ensures { result ≡ named.is_year a b c d }
+{
+    is_digit(a) && is_digit(b) && is_digit(c) && is_digit(d)
+}
+
+// Whether a text has the form of a period's.
+pub(crate) fn spells(period: Period, text: &[u8]) -> bool
+    ensures { result ≡ named.spells period text.now }
+{
+    match (period, text) {
+        (Period::Year, [a, b, c, d]) => is_year(*a, *b, *c, *d),
+        (Period::Month, [a, b, c, d, hyphen, m, n]) => {
+            is_year(*a, *b, *c, *d) && *hyphen == 45 && is_month(*m, *n)
+        }
+        (Period::Day, [a, b, c, d, hyphen, m, n, second, e, f]) => {
+            is_year(*a, *b, *c, *d)
+                && *hyphen == 45
+                && is_month(*m, *n)
+                && *second == 45
+                && is_day(*e, *f)
+        }
+        _ => false,
+    }
+}
+
+// What stands after a beginning.
+fn after<'a>(text: &'a [u8], front: &[u8]) -> Option<&'a [u8]>
+    ensures { MatchOption result ((rest : List ℕ) → text.now ≢ front.now ++ rest)
+        (λ rest. text.now ≡ front.now ++ rest.now) }
+{
+    text.strip_prefix(front)
+}
+
+// What stands before an end.
+fn before<'a>(text: &'a [u8], end: &[u8]) -> Option<&'a [u8]>
+    ensures { MatchOption result ((front : List ℕ) → text.now ≢ front ++ end.now)
+        (λ front. text.now ≡ front.now ++ end.now) }
+{
+    text.strip_suffix(end)
+}
+
+// What stands between a beginning with a hyphen and an end.
+fn between<'a>(name: &'a [u8], stem: &[u8], suffix: &[u8]) -> Option<&'a [u8]>
+    ensures { MatchOption result
+        ((text : List ℕ) → stem.now ++ codes "-" ++ text ++ suffix.now ≢ name.now)
+        (λ text. stem.now ++ codes "-" ++ text.now ++ suffix.now ≡ name.now) }
+{
+    match after(name, stem) {
+        None => None,
+        Some(hyphened) => match after(hyphened, b"-") {
+            None => None,
+            Some(rest) => before(rest, suffix),
+        },
+    }
+}
+
+/// Of which period a file is by its name, where it is one of those that belong to a file.
+pub fn period_of_file<'a>(file: &[u8], period: Period, name: &'a [u8]) -> Option<&'a [u8]>
+    ensures { IsPeriodIn file.now period name.now result }
+{
+    let (stem, suffix) = parts_of(file);
+    match between(name, stem, suffix) {
+        None => None,
+        Some(text) => {
+            if spells(period, text) {
+                Some(text)
+            } else {
+                None
+            }
+        }
+    }
+}

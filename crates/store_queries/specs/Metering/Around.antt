@@ -1,0 +1,97 @@
+-- The rows around an entry of a meter, and what they tell of it.
+use Rattle.std.specs.Prelude.{◌≡◌, ◌⊎◌, ℕ, ◌<◌, ◌≤◌, Bool, true, false, not, List, map, Option, Some, None, IfSome}
+use Rattle.std.specs.List.{list_any}
+use Rattle.std.specs.List.Sorted.{IsPermutation}
+use Rattle.std.specs.Prelude.{filter}
+use Rattle.meter_journal.specs.declared.lines.EntryRow as journal
+use Rattle.sqlite.specs.Order.{Row}
+use Rattle.office_events.specs.declared.facts.Fact.{Fact}
+use Rattle.office_events.specs.declared.questions.Installation.{Installation}
+use Rattle.office_events.specs.declared.questions.EntryPlace.{EntryPlace}
+use Rattle.office_rules.specs.Lawful.{AreLawful}
+use Rattle.office_rules.specs.Meters.{meter_of}
+use Rattle.office_books.specs.Near.{TellsNear}
+use Rattle.store_tables.specs.Answer.{IsFound}
+use Rattle.store_tables.specs.Limits.{greatest_place}
+use Rattle.store_tables.specs.declared.entries.rows.EntryRow.{EntryRow}
+use Rattle.store_tables.specs.Entries.Rows.{Entered, Voided, is_of, is_entry, IsRow, voided_shown}
+use Rattle.store_facts.specs.Rows.{counter_after, entries_of}
+use Rattle.store_queries.specs.Metering.Entries.{row_from, names}
+use Rattle.store_queries.specs.declared.metering.around.Sides.{Sides}
+use Rattle.store_queries.specs.declared.metering.around.Around.{Around}
+
+-- ---- the places around one, by the voids of the meter
+
+-- each entry between two places was voided
+abbrev pub AreVoided : List Voided → (low high : ℕ) → Type 0
+AreVoided voids low high =
+    (place : ℕ) → low < place → place < high → list_any (names place) voids ≡ true
+
+-- The place before one: of the last entry before it that stands, or else of the opening.
+pub record IsBefore (voids : List Voided) (place before : ℕ) : Type 0 where
+  pub lower : before < place
+  pub between : AreVoided voids before place
+  pub stands : (before ≡ 1) ⊎ (list_any (names before) voids ≡ false)
+
+-- The place after one: the next that no void names.
+pub record IsAfter (voids : List Voided) (place after : ℕ) : Type 0 where
+  pub higher : place < after
+  pub small : after ≤ greatest_place
+  pub between : AreVoided voids place after
+  pub stands : list_any (names after) voids ≡ false
+
+-- both, and whether the entry itself stands
+pub record AreSides (voids : List Voided) (place : ℕ) (sides : Sides) : Type 0 where
+  pub before : IsBefore voids place sides.before
+  pub after : IsAfter voids place sides.after
+  pub stands : sides.stands ≡ not (list_any (names place) voids)
+
+-- so it is, by the voids that these rows show
+abbrev pub ByVoids : (List Voided → Type 0) → (rows : List Row) → Type 0
+ByVoids Is rows = (voids : List Voided) → rows ≡ map voided_shown voids → Is voids
+
+-- ---- the rows at these places
+
+-- the row of a meter's entry at a place, as the table has it, if it is there
+pub record FindsAt (meter : List ℕ) (place : ℕ) (facts : List Fact) (found : Option EntryRow) :
+    Type 0 where
+  pub lawful : AreLawful facts
+  pub table : List Entered
+  pub each : (m : List ℕ) → IsPermutation (filter (is_of m) table) (entries_of facts m)
+  pub is : IsFound (is_entry meter place) IsRow table found
+
+-- those of an entry and of the places around it
+pub record FindsAround (meter : List ℕ) (place low high : ℕ) (facts : List Fact)
+    (around : Around) : Type 0 where
+  pub entry : FindsAt meter place facts (Some around.entry)
+  pub before : FindsAt meter low facts (Some around.before)
+  pub next : FindsAt meter high facts around.next
+
+-- ---- what is told by them
+
+-- the next row of a journal, which stands
+abbrev pub next_from : Option EntryRow → Option journal.EntryRow
+next_from None = None
+next_from (Some next) = row_from next true
+
+-- the meter stood where the counter was after the entry before, with the energy that it has in whole
+abbrev pub stood : Installation → EntryRow → Installation
+stood whole before = record whole { last = counter_after before }
+
+pub record IsSeen (whole : Installation) (around : Around) (stands : Bool) (seen : EntryPlace) :
+    Type 0 where
+  pub before : seen.before ≡ stood whole around.before
+  pub row : Some seen.row ≡ row_from around.entry stands
+  pub next : seen.next ≡ next_from around.next
+
+-- what is told of the entry of this meter is right
+abbrev pub TellsOf : (meter : List ℕ) → (place : ℕ) → Installation → List Fact
+    → Option EntryPlace → Type 0
+TellsOf meter place whole facts found =
+    Some whole ≡ meter_of facts meter → TellsNear facts meter place found
+
+-- it is right if anything is told
+pub record TellsRightly (meter : List ℕ) (place : ℕ) (whole : Installation) (facts : List Fact)
+    (found : Option EntryPlace) : Type 0 where
+  pub lawful : AreLawful facts
+  pub right : IfSome found (λ p. TellsOf meter place whole facts (Some p))

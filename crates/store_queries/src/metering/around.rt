@@ -1,0 +1,257 @@
+//! An entry of a meter, by the rows around it.
+ghost use Rattle.std.specs.Prelude.{◌≡◌, ◌≤◌, false, IfOk, IfSome, IsUtf8};
+ghost use Rattle.office_rules.specs.Lawful.{AreLawful};
+ghost use Rattle.office_rules.specs.Ranges.{IsSound};
+ghost use Rattle.office_books.specs.Near.{TellsNear};
+ghost use Rattle.store_tables.specs.Limits.{greatest_place};
+ghost use Rattle.store_queries.specs.Finding.Finding.{Finds};
+ghost use Rattle.store_queries.specs.Metering.Sound.{HasReadableMeters, HasReadableJournals};
+ghost use Rattle.store_queries.specs.Metering.Entries.{TellsVoided};
+ghost use Rattle.store_queries.specs.Metering.Around.{IsBefore, IsAfter, AreSides, ByVoids};
+ghost use Rattle.store_queries.specs.Metering.Around.{FindsAt, FindsAround, next_from, IsSeen};
+ghost use Rattle.store_queries.specs.Metering.Around.{stood, TellsOf, TellsRightly};
+
+use crate::metering::entries::{entry, voids};
+use crate::metering::journal::{entry_row, is_voided};
+use crate::metering::meters::meter;
+use meter_journal::{journals_are_kept, places_were_kept, rows_stand, voids_change_two_rows};
+use office_books::{is_sound, with_whole_energy};
+use office_events::{EntryPlace, Installation, Name};
+use office_rules::journals_fit;
+use sqlite::{Alter, Connection, Row};
+use std::alloc::Global;
+use store_facts::{counter_after, text};
+use store_tables::{EntryRow, GREATEST_PLACE, RowFault, check_open, entry_at};
+
+/// The places of the entries around one that stand, and whether it stands itself.
+#[derive(Clone, Copy, Debug, PartialEq, Eq)]
+pub(crate) struct Sides {
+    pub before: u64,
+    pub after: u64,
+    pub stands: bool,
+}
+
+/// The row of an entry, that of the last before it that stands, or else of the opening, and that of the next that stands.
+#[derive(Clone, Copy, Debug, PartialEq, Eq)]
+pub(crate) struct Around {
+    pub entry: EntryRow,
+    pub before: EntryRow,
+    pub next: Option<EntryRow>,
+}
+
+/// Whether one of these voids names a place. None where a void can't be read.
+fn is_named(voids: &[Row], place: u64) -> Option<bool>
+    ensures { IfSome result (TellsVoided voids.now place) }
+{
+    match is_voided(voids, place) {
+        Ok(is) => Some(is),
+        Err(_) => None,
+    }
+}
+
+/// The place of the last entry before one that none of these voids names, or else of the opening. None where a void can't be
+/// read.
+fn place_before(voids: &[Row], place: u64) -> Option<u64>
+    requires following { 2 ≤ place }
+    ensures before { IfSome result (λ n. ByVoids (λ vs. IsBefore vs place n) voids.now) }
+    ensures low { IfSome result (λ n. n ≤ place) }
+{
+    for passed in 1..place - 1 {
+        let before = place - passed;
+        if !is_named(voids, before)? {
+            return Some(before);
+        }
+    }
+    Some(1)
+}
+
+/// The next place after one that none of these voids names. None where a void can't be read, or all are named.
+fn place_after(voids: &[Row], place: u64) -> Option<u64>
+    requires place { place ≤ greatest_place }
+    ensures after { IfSome result (λ n. ByVoids (λ vs. IsAfter vs place n) voids.now) }
+    ensures small { IfSome result (λ n. n ≤ greatest_place) }
+{
+    for after in place + 1..GREATEST_PLACE + 1 {
+        if !is_named(voids, after)? {
+            return Some(after);
+        }
+    }
+    None
+}
+
+/// Both, and whether the entry stands. None also at a place that no entry has.
+fn sides_of(voids: &[Row], place: u64) -> Option<Sides>
+    ensures following { IfSome result (λ sides. 2 ≤ place) }
+    ensures place { IfSome result (λ sides. place ≤ greatest_place) }
+    ensures sides { IfSome result (λ sides. ByVoids (λ vs. AreSides vs place sides) voids.now) }
+    ensures before { IfSome result (λ sides. sides.before ≤ greatest_place) }
+    ensures after { IfSome result (λ sides. sides.after ≤ greatest_place) }
+{
+    if place < 2 || GREATEST_PLACE < place {
+        return None;
+    }
+    let before = place_before(voids, place)?;
+    let after = place_after(voids, place)?;
+    let stands = !is_named(voids, place)?;
+    Some(Sides {
+        before,
+        after,
+        stands,
+    })
+}
+
+/// The row of a meter's entry at a place.
+fn row_there<S: Alter>(
+    conn: &mut Connection<S>,
+    meter: &str,
+    place: u64,
+) -> Result<Option<EntryRow>, RowFault>
+    requires idle { conn.old.in_transaction ≡ false }
+    requires place { place ≤ greatest_place }
+    ensures { Finds S.Store conn.old conn.new result (FindsAt meter.now place)
+        HasReadableMeters }
+{
+    check_open(conn)?;
+    entry_at(conn, meter, place)
+}
+
+/// The row of a meter's entry at a place, and those at the places around it, if the first two are there.
+fn rows_around<S: Alter>(
+    conn: &mut Connection<S>,
+    meter: &str,
+    place: u64,
+    sides: Sides,
+) -> Result<Option<Around>, RowFault>
+    requires idle { conn.old.in_transaction ≡ false }
+    requires place { place ≤ greatest_place }
+    requires before { sides.before ≤ greatest_place }
+    requires after { sides.after ≤ greatest_place }
+    ensures { Finds S.Store conn.old conn.new result
+        (λ facts found. IfSome found (FindsAround meter.now place sides.before sides.after facts))
+        HasReadableMeters }
+{
+    let Some(entry) = row_there(conn, meter, place)? else {
+        return Ok(None);
+    };
+    let Some(before) = row_there(conn, meter, sides.before)? else {
+        return Ok(None);
+    };
+    let next = row_there(conn, meter, sides.after)?;
+    Ok(Some(Around {
+        entry,
+        before,
+        next,
+    }))
+}
+
+/// The next row of the journal.
+fn next_row(next: &Option<EntryRow>) -> Option<meter_journal::EntryRow>
+    ensures { result ≡ next_from next.now }
+{
+    match next {
+        None => None,
+        Some(next) => entry_row(*next, true),
+    }
+}
+
+/// The installation where it stood after an entry, with its whole energy.
+fn stood_after(whole: &Installation, before: &EntryRow) -> Installation
+    ensures { result ≡ stood whole.now before.now }
+{
+    Installation {
+        opening: whole.opening,
+        last: counter_after(before),
+        total: whole.total,
+        ended: whole.ended,
+    }
+}
+
+/// An entry as the rows around it show it. None where these are no rows of an office.
+fn seen(whole: &Installation, around: &Around, stands: bool) -> Option<EntryPlace>
+    ensures seen { IfSome result (IsSeen whole.now around.now stands) }
+    ensures sound { IfSome result (λ found. IsSound found.before) }
+{
+    let row = entry_row(around.entry, stands)?;
+    let next = next_row(&around.next);
+    let before = stood_after(whole, &around.before);
+    if !is_sound(&before) {
+        return None;
+    }
+    Some(EntryPlace { before, row, next })
+}
+
+/// The entry of a meter at a place as the rows around it tell it. None where they don't.
+fn told_around<S: Alter>(
+    conn: &mut Connection<S>,
+    meter: &str,
+    whole: &Installation,
+    place: u64,
+) -> Result<Option<EntryPlace>, RowFault>
+    requires { conn.old.in_transaction ≡ false }
+    ensures finds { Finds S.Store conn.old conn.new result
+        (TellsRightly meter.now place whole.now) HasReadableJournals }
+    ensures sound { IfOk result (λ found. IfSome found (λ p. IsSound p.before)) }
+{
+    journals_fit();
+    rows_stand();
+    voids_change_two_rows();
+    journals_are_kept();
+    places_were_kept();
+    let voids = voids(conn, meter)?;
+    let Some(sides) = sides_of(&voids, place) else {
+        return Ok(None);
+    };
+    let Some(around) = rows_around(conn, meter, place, sides)? else {
+        return Ok(None);
+    };
+    Ok(seen(whole, &around, sides.stands))
+}
+
+/// The same, as all rows of the meter tell it.
+fn told_by_all<S: Alter>(
+    alloc: Global,
+    conn: &mut Connection<S>,
+    name: &Name,
+    whole: &Installation,
+    place: u64,
+) -> Result<Option<EntryPlace>, RowFault>
+    requires idle { conn.old.in_transaction ≡ false }
+    requires sound { IsSound whole.now }
+    ensures finds { Finds S.Store conn.old conn.new result
+        (λ facts found. AreLawful facts → TellsOf name.now place whole.now facts found)
+        (λ facts. IsUtf8 name.now × HasReadableJournals facts) }
+    ensures sound { IfOk result (λ found. IfSome found (λ p. IsSound p.before)) }
+{
+    journals_are_kept();
+    places_were_kept();
+    match entry(alloc, conn, name, place)? {
+        None => Ok(None),
+        Some(found) => Ok(Some(with_whole_energy(&found, whole))),
+    }
+}
+
+/// The entry of a meter at a place from 2 on, with the energy of the whole meter in place of that before it. It reads the
+/// meter's voids and the rows around the entry; all entries only where these don't tell it, as where there is none.
+pub fn entry_near<S: Alter>(
+    alloc: Global,
+    conn: &mut Connection<S>,
+    name: &Name,
+    place: u64,
+) -> Result<Option<EntryPlace>, RowFault>
+    requires { conn.old.in_transaction ≡ false }
+    ensures finds { Finds S.Store conn.old conn.new result
+        (λ facts found. TellsNear facts name.now place found)
+        (λ facts. IsUtf8 name.now × HasReadableJournals facts) }
+    ensures sound { IfOk result (λ found. IfSome found (λ p. IsSound p.before)) }
+{
+    journals_are_kept();
+    places_were_kept();
+    let text = text(name)?;
+    let Some(whole) = meter(conn, name)? else {
+        return Ok(None);
+    };
+    match told_around(conn, text, &whole, place)? {
+        Some(found) => Ok(Some(found)),
+        None => told_by_all(alloc, conn, name, &whole, place),
+    }
+}

@@ -1,0 +1,32 @@
+-- What is said of the lines that a round printed.
+use Rattle.std.specs.Prelude.{◌≡◌, ℕ, ◌==◌, Bool, true, false, not, List, [], ◌∷◌, Option, Some, None}
+use Rattle.command_io.specs.Lines.{Line}
+use Rattle.script_lines.specs.LineWords.Words.{words_of}
+use Rattle.stored_office.specs.Advice.Remarks.{Says, remark_of}
+use Rattle.stored_office.specs.declared.advice.remarks.Remark.{Remark}
+use Rattle.stored_office.specs.declared.advice.remarks.Remark.TheVariants.{Refused, Held}
+
+-- That the device or its list isn't there, for which a round is refused as 1, is said as what lacks.
+abbrev pub is_left : Remark → Bool
+is_left (Refused number) = not (number == 1)
+is_left (Held meter number) = true
+
+abbrev pub SaysIf : (left : Bool) → (device : Option (List ℕ)) → Remark → (old new : List ℕ)
+    → Type 0
+SaysIf true device remark old new = Says device remark old new
+SaysIf false device remark old new = new ≡ old
+
+abbrev pub SaysLeft : (device : Option (List ℕ)) → Option Remark → (old new : List ℕ) → Type 0
+SaysLeft device None old new = new ≡ old
+SaysLeft device (Some remark) old new = SaysIf (is_left remark) device remark old new
+
+abbrev pub ExplainsLine : (device : Option (List ℕ)) → (line old new : List ℕ) → Type 0
+ExplainsLine device line old new =
+    SaysLeft device (remark_of (words_of line)) old new
+
+-- one line after the other
+abbrev pub Explains : (device : Option (List ℕ)) → List Line → (old new : List ℕ) → Type 0
+Explains device [] old new = new ≡ old
+Explains device (line ∷ lines) old new =
+    (between : List ℕ) × ExplainsLine device line.text old between
+    × Explains device lines between new

@@ -1,0 +1,9 @@
+//! What is said to people beside what a round prints: what its device lacks, and what its refusals and held readings mean.
+
+mod ends;
+mod lacking;
+mod printed_lines;
+mod remarks;
+
+pub use lacking::say_lacks;
+pub use printed_lines::say_remarks;

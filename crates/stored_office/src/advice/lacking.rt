@@ -1,0 +1,61 @@
+//! What the device of a round lacks.
+ghost use Rattle.std.specs.Prelude.{◌≡◌, OnOk, false};
+ghost use Rattle.run_status.specs.Advice.Lacks.{LooksUp};
+ghost use Rattle.stored_office.specs.Advice.Ends.{is_told};
+ghost use Rattle.stored_office.specs.Advice.Lacking.{PutsLacks, with_lacks};
+
+use crate::advice::ends::is_told;
+use office_books::{Books, BooksFault};
+use office_events::Name;
+use office_program::PollEnd;
+use run_status::{DeviceLack, add_lacks, put_lack};
+use std::alloc::{AllocError, Global};
+use std::io::Write;
+
+// Puts a line for each lack.
+fn put_lacks(text: &mut Vec<u8>, lacks: &[DeviceLack]) -> Result<(), AllocError>
+    ensures { OnOk result (text.new.items ≡ with_lacks lacks.now text.old.items) }
+{
+    for lack in lacks {
+        put_lack(text, lack)?;
+    }
+    Ok(())
+}
+
+// Puts a line for each thing that a device lacks by what the books hold.
+fn put_lacks_of<B: Books>(
+    alloc: Global,
+    text: &mut Vec<u8>,
+    books: &mut B,
+    device: &Option<Name>,
+) -> Result<(), BooksFault>
+    ensures puts { PutsLacks (B.ledger books.old) (B.ledger books.new) device.now
+        text.old.items text.new.items result }
+    ensures looks { LooksUp (B.ledger books.old) (B.ledger books.new) }
+{
+    let mut lacks = Vec::new(alloc);
+    add_lacks(&mut lacks, books, device)?;
+    put_lacks(text, &lacks)?;
+    Ok(())
+}
+
+/// Says after the round of a device what it lacks by what the books hold, a line each, as a run says it; nothing after a round
+/// that failed. A text that is no name is a device that isn't there. Where the books, memory or the writing fail, a part of that is
+/// said.
+pub fn say_lacks<B: Books, E: Write>(
+    alloc: Global,
+    books: &mut B,
+    device: &str,
+    end: PollEnd,
+    errors: &mut E,
+)
+    ensures looks { LooksUp (B.ledger books.old) (B.ledger books.new) }
+    ensures silent { is_told end ≡ false → (errors.new ≡ errors.old) × (books.new ≡ books.old) }
+{
+    if !is_told(end) {
+        return;
+    }
+    let mut text = Vec::new(alloc);
+    let _found = put_lacks_of(alloc, &mut text, books, &Name::new(device.as_bytes()));
+    let _said = errors.write_all(&text);
+}

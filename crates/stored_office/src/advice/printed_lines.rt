@@ -1,0 +1,69 @@
+//! What a round printed, line by line.
+ghost use Rattle.std.specs.Prelude.{◌≡◌, OnOk, false};
+ghost use Rattle.command_io.specs.Lines.{speaking_lines};
+ghost use Rattle.stored_office.specs.Advice.Ends.{is_told};
+ghost use Rattle.stored_office.specs.Advice.PrintedLines as printing;
+ghost use Rattle.stored_office.specs.Advice.PrintedLines.{Explains, ExplainsLine};
+
+use crate::advice::ends::is_told;
+use crate::advice::remarks::{Remark, put_remark, remark_in};
+use command_io::InputLines;
+use office_events::Name;
+use office_program::PollEnd;
+use std::alloc::{AllocError, Global};
+use std::io::Write;
+
+// Whether a remark is left to be explained: that the device or its list isn't there is said as what lacks.
+fn is_left(remark: &Remark) -> bool
+    ensures { result ≡ printing.is_left remark.now }
+{
+    match remark {
+        Remark::Refused(number) => *number != 1,
+        Remark::Held(_, _) => true,
+    }
+}
+
+// Puts what a line asks to be said.
+fn put_line(text: &mut Vec<u8>, device: &Option<Name>, line: &[u8]) -> Result<(), AllocError>
+    ensures { OnOk result (ExplainsLine device.now line.now text.old.items text.new.items) }
+{
+    let Some(remark) = remark_in(line) else {
+        return Ok(());
+    };
+    if is_left(&remark) {
+        put_remark(text, device, remark)
+    } else {
+        Ok(())
+    }
+}
+
+// Puts what the lines of a text ask to be said.
+fn put_remarks(text: &mut Vec<u8>, device: &Option<Name>, printed: &[u8]) -> Result<(), AllocError>
+    ensures { OnOk result (Explains device.now (speaking_lines printed.now)
+        text.old.items text.new.items) }
+{
+    let mut lines = InputLines::of(printed);
+    while let Some(line) = lines.next_line() {
+        put_line(text, device, line.text)?;
+    }
+    Ok(())
+}
+
+/// Says after the round of a device what the refusals and the held readings mean that it printed, a line each, and what to do;
+/// nothing after a round that failed. Where memory or the writing fails, a part of that is said.
+pub fn say_remarks<E: Write>(
+    alloc: Global,
+    device: &str,
+    end: PollEnd,
+    printed: &[u8],
+    errors: &mut E,
+)
+    ensures silent { is_told end ≡ false → errors.new ≡ errors.old }
+{
+    if !is_told(end) {
+        return;
+    }
+    let mut text = Vec::new(alloc);
+    let _put = put_remarks(&mut text, &Name::new(device.as_bytes()), printed);
+    let _said = errors.write_all(&text);
+}

@@ -1,0 +1,218 @@
+//! Reports of a register over several files of one office.
+use crate::carries::say_refused;
+use crate::command_output::CommandOutput;
+use crate::escaped::Escaped;
+use crate::offices::{Files, Opening, open_in};
+use crate::reports::{form_of, range_of};
+use carried_books::{Apart, JoinedFiles, Keeping, Unjoined, report_joined};
+use command_io::ExitStatus;
+use command_words::FormWords;
+use energy_report::ReportForm;
+use interval_core::DayRange;
+use office_events::{Installation, Name, Refusal};
+use std::io::{self, Write};
+use std::str::from_utf8;
+use stored_office::{Databases, Ending, Failure, JoinFault, JoinedOffice, ending_of, join_stored};
+
+// What to do where files don't join.
+const REMEDY: &str =
+    "name the oldest first, each carried from the one before it, and void in that what it booked after the carry";
+
+// The name of a meter.
+fn name_of(row: &Installation) -> &str {
+    from_utf8(row.opening.meter.as_bytes()).unwrap_or("?")
+}
+
+// Says where a meter begins that joins none, and where one stands by the files before.
+fn say_apart(rt: &HostRuntime, before: &str, path: &str, apart: &Apart) {
+    let begins = &apart.begins.opening;
+    let stands = &apart.stands.last;
+    let state = if apart.stands.ended {
+        "was closed"
+    } else {
+        "stands"
+    };
+    let mut errors = Escaped::new(rt.stderr());
+    let _said = write!(
+        errors,
+        "sunreg: {path}: the meter {} begins there at moment {}, counter {}, scale {}; ",
+        name_of(&apart.begins),
+        begins.at,
+        begins.raw,
+        begins.sf
+    );
+    let _said = write!(
+        errors,
+        "up to {before} the meter {} {state} at moment {}, counter {}, scale {}: {}\n",
+        name_of(&apart.stands),
+        stands.at,
+        stands.raw,
+        stands.sf,
+        REMEDY
+    );
+}
+
+// Says why a file doesn't join those before it.
+fn say_unjoined(rt: &HostRuntime, before: &str, path: &str, why: &Unjoined) -> Ending<'static> {
+    let mut errors = Escaped::new(rt.stderr());
+    match why {
+        Unjoined::Apart(apart) => say_apart(rt, before, path, apart),
+        Unjoined::NotRecorded => {
+            let _said = write!(
+                errors,
+                "sunreg: {path}: the register is not recorded there, but is in {before} or before it: {}\n",
+                REMEDY
+            );
+        }
+        Unjoined::OutOfTurn => {
+            let _said = write!(
+                errors,
+                "sunreg: {path}: it has a quarter hour from before the last of {before}: {}\n",
+                REMEDY
+            );
+        }
+    }
+    Ending::Refused
+}
+
+// Says that a file is of another zone.
+fn say_other_zone(rt: &HostRuntime, before: &str, path: &str) -> Ending<'static> {
+    let mut errors = Escaped::new(rt.stderr());
+    let _said = write!(
+        errors,
+        "sunreg: {path}: its days are those of another zone than the days of {before}: {}\n",
+        REMEDY
+    );
+    Ending::Refused
+}
+
+// Why a file was not joined to those before it.
+fn say_fault<'a>(rt: &HostRuntime, before: &str, path: &'a str, fault: JoinFault) -> Ending<'a> {
+    match fault {
+        JoinFault::Unopened(fault) => Ending::Failed(Failure::Unopened { path, fault }),
+        JoinFault::OtherZone => say_other_zone(rt, before, path),
+        JoinFault::Unjoined(why) => say_unjoined(rt, before, path, &why),
+        JoinFault::Books(why) => say_refused(rt, path, why),
+    }
+}
+
+// Adds what one file tells.
+fn join_in<'a, D: Databases, K: Keeping>(
+    rt: &HostRuntime,
+    databases: &D,
+    joined: Option<JoinedOffice<K>>,
+    before: &str,
+    path: &'a str,
+    register: &Name,
+    range: &DayRange,
+) -> Result<JoinedOffice<K>, Ending<'a>> {
+    match open_in(rt, databases, path) {
+        Ok(connection) => match join_stored(rt.alloc(), connection, joined, register, *range) {
+            Ok(joined) => Ok(joined),
+            Err(fault) => Err(say_fault(rt, before, path, fault)),
+        },
+        Err(failure) => Err(Ending::Failed(failure)),
+    }
+}
+
+// What the files tell of a register, one after the other: one of them is open at a time.
+fn join_all<'a, K: Keeping>(
+    rt: &HostRuntime,
+    paths: &[&'a str],
+    register: &Name,
+    range: &DayRange,
+) -> Result<Option<JoinedOffice<K>>, Ending<'a>> {
+    let files = Files::opened(rt, Opening::ToRead);
+    let mut joined = None;
+    let mut before = "";
+    for path in paths {
+        match join_in(rt, &files, joined, before, *path, register, range) {
+            Ok(next) => joined = Some(next),
+            Err(ending) => return Err(ending),
+        }
+        before = *path;
+    }
+    Ok(joined)
+}
+
+// How a command ends that printed all it had to.
+fn ended<W: Write + Drop>(output: &mut CommandOutput<W>, status: ExitStatus) -> Ending<'static> {
+    match output.flush() {
+        Ok(()) => ending_of(status),
+        Err(_) => Ending::Failed(Failure::Streams),
+    }
+}
+
+// Prints the report of what files tell.
+fn print_report(rt: &HostRuntime, joined: JoinedFiles, form: &ReportForm) -> Ending<'static> {
+    let mut output = CommandOutput::in_pieces(io::writer(rt));
+    let status = report_joined(joined, form, &mut output);
+    ended(&mut output, status)
+}
+
+// The same where the register is recorded in one of them.
+fn report_recorded(
+    rt: &HostRuntime,
+    path: &str,
+    joined: Option<JoinedOffice<JoinedFiles>>,
+    form: &ReportForm,
+) -> Ending<'static> {
+    match joined {
+        Some(joined) => {
+            if joined.kept.is_recorded {
+                print_report(rt, joined.kept, form)
+            } else {
+                say_refused(rt, path, Refusal::NotFound)
+            }
+        }
+        None => say_refused(rt, path, Refusal::NotFound),
+    }
+}
+
+// The last of the files.
+fn last_of<'a>(paths: &[&'a str]) -> &'a str {
+    match paths.last() {
+        Some(path) => *path,
+        None => "",
+    }
+}
+
+// Prints the energy of a register.
+fn report_register<'a>(
+    rt: &HostRuntime,
+    paths: &[&'a str],
+    register: &Name,
+    form: &ReportForm,
+) -> Ending<'a> {
+    match join_all(rt, paths, register, &form.range) {
+        Err(ending) => ending,
+        Ok(joined) => report_recorded(rt, last_of(paths), joined, form),
+    }
+}
+
+// Says that a statement is of one file.
+fn say_one_file(rt: &HostRuntime) -> Ending<'static> {
+    let mut errors = Escaped::new(rt.stderr());
+    let _said = errors.write_all(b"sunreg: a statement is of one file: ask for each alone\n");
+    Ending::Refused
+}
+
+/// Prints the energy of a register over several files of one office, the oldest first, as one.
+pub(crate) fn report_files<'a>(
+    rt: &HostRuntime,
+    paths: &[&'a str],
+    register: &str,
+    words: &FormWords<'a>,
+) -> Ending<'a> {
+    if words.statement {
+        return say_one_file(rt);
+    }
+    let range = match range_of(words) {
+        Ok(range) => range,
+        Err(ending) => return ending,
+    };
+    match Name::new(register.as_bytes()) {
+        Some(name) => report_register(rt, paths, &name, &form_of(words, range)),
+        None => say_refused(rt, last_of(paths), Refusal::NotFound),
+    }
+}

@@ -1,0 +1,430 @@
+//! A run whose books are led in a new file each month or year. Each of its runs ends soon after the period has begun that follows its
+//! own; then the meters are carried into the file of that, and the next run goes on there.
+use crate::backups::is_there;
+use crate::carries::{NotCarried, carry_open, write_why};
+use crate::ended;
+use crate::escaped::Escaped;
+use crate::offices::{Files, OWN_HOST, open_in, run_opened};
+use crate::onward_clock::OnwardClock;
+use crate::period_files::{Led, leave_one_name, led_file, path_of};
+use crate::run_words::{STANDARD_ERROR, sites_of};
+use command_words::Device;
+use energy_report::{Period, period_name};
+use interval_core::{Day, LAST_MOMENT, Zone, day_of};
+use office_program::NamedFiles;
+use office_running::{Settings, Site, write_without_waiting};
+use office_store::OpenFault;
+use run_schedule::{Plan, next_try, period_until, plan_of};
+use socket_link::{Clock, SystemClock};
+use sqlite::types::ValueRef;
+use sqlite::{Alter, Connection};
+use std::io::{self, Write};
+use std::process::ExitCode;
+use std::thread::sleep;
+use std::time::{Duration, Instant};
+use stored_office::{CopyFault, Databases, Ending, Failure, FileFault, ending_of_done, told_zone};
+
+/// How often a file is tried that another process has open, and one looked for that another may be making; and how many milliseconds
+/// pass between.
+const TRIES: u32 = 100;
+
+const LOOKS: u32 = 30;
+
+const PAUSE: u64 = 100;
+
+const NOT_CARRIED: &str =
+    "it was not carried: books go on in it, and it is tried again at the next hour";
+
+const NAMED: &str = "it was carried: books go on in the new file";
+
+// Standard error, as far as nobody has to be waited for who reads it.
+#[derive(Clone, Copy)]
+struct Unwaited<'r> {
+    rt: &'r HostRuntime,
+}
+
+impl Write for Unwaited<'_> {
+    fn write(&mut self, bytes: &[u8]) -> io::Result<usize> {
+        let rt = self.rt;
+        let mut errors = rt.stderr();
+        write_without_waiting(rt, rt.alloc(), Some(STANDARD_ERROR), bytes, &mut errors)?;
+        Ok(bytes.len())
+    }
+
+    fn flush(&mut self) -> io::Result<()> {
+        Ok(())
+    }
+}
+
+// Says lines on standard error.
+fn say(rt: &HostRuntime, lines: &[u8]) {
+    let mut errors = Escaped::new(Unwaited { rt });
+    let _said = errors.write_all(lines);
+}
+
+fn say_carried(rt: &HostRuntime, from: &str, to: &str, count: u64) {
+    if let Ok(line) = format!(in rt.alloc(); "sunreg: {from}: carried {count} meters into {to}\n") {
+        say(rt, line.as_bytes());
+    }
+}
+
+fn say_later(rt: &HostRuntime, path: &str) {
+    if let Ok(line) = format!(in rt.alloc();
+        "sunreg: {path}: its period is later than the clock says: books go on in it\n"
+    ) {
+        say(rt, line.as_bytes());
+    }
+}
+
+fn say_behind(rt: &HostRuntime, path: &str) {
+    if let Ok(line) = format!(in rt.alloc();
+        "sunreg: {path}: the clock stands before its last entry, so it is not carried yet: books go on in it until the next hour\n"
+    ) {
+        say(rt, line.as_bytes());
+    }
+}
+
+// Says why a file was not carried, and what comes of that.
+fn say_not_carried(rt: &HostRuntime, from: &str, why: &NotCarried<'_>, comes: &str) {
+    let mut lines = Vec::new(rt.alloc());
+    let _written = write_why(&mut lines, why);
+    let _written = write!(lines, "sunreg: {from}: {comes}\n");
+    say(rt, lines.as_slice());
+}
+
+// What is run: the file that was given, and the periods of its files.
+#[derive(Clone, Copy)]
+struct Asked<'r> {
+    rt: &'r HostRuntime,
+    file: &'r str,
+    period: Period,
+    sites: &'r [Site],
+    settings: Settings<'r>,
+}
+
+// Where books go on, and until which moment where one is told.
+#[derive(Drop)]
+enum Course {
+    // In the file in which they are led.
+    Stay(Option<u64>),
+    // In another at this path, into which that is carried.
+    Carry(String, Option<u64>),
+}
+
+fn zone_in<S: Alter>(connection: &mut Connection<S>) -> Result<Zone, OpenFault> {
+    match told_zone(connection) {
+        Ok(text) => match Zone::read(text.as_str()) {
+            Ok(zone) => Ok(zone),
+            Err(_) => Err(OpenFault::Zone),
+        },
+        Err(fault) => Err(fault),
+    }
+}
+
+// The latest moment at which a meter has an entry; 0 where there is none, or it can't be asked, which an opening then tells.
+fn latest_entry<S: Alter + Drop>(connection: &mut Connection<S>) -> u64 {
+    let Ok(row) = connection.query_row("SELECT max(last_moment) FROM installations", &[]) else {
+        return 0;
+    };
+    match row.get_ref(0) {
+        Ok(ValueRef::Int(moment)) => u64::try_from(moment).unwrap_or(0),
+        _ => 0,
+    }
+}
+
+// Where books go on, on a day in a zone.
+fn course_on<'a, S: Alter + Drop>(
+    asked: &Asked<'a>,
+    led: &Led,
+    connection: &mut Connection<S>,
+    zone: &Zone,
+    day: Day,
+    now: u64,
+) -> Result<Course, Failure<'a>> {
+    let current = period_name(asked.period, day);
+    let every = asked.settings.every;
+    let until = period_until(zone, asked.period, day, every, now);
+    let last_entry = latest_entry(connection);
+    match plan_of(led.period(), current.bytes(), last_entry, now) {
+        Plan::Stay => Ok(Course::Stay(until)),
+        Plan::StayAhead => {
+            say_later(asked.rt, led.path.as_str());
+            Ok(Course::Stay(until))
+        }
+        Plan::Wait => {
+            say_behind(asked.rt, led.path.as_str());
+            Ok(Course::Stay(next_try(every, now)))
+        }
+        Plan::Carry => {
+            let to = path_of(asked.rt, asked.file, current.bytes())?;
+            Ok(Course::Carry(to, until))
+        }
+    }
+}
+
+// Where books go on at a moment. Past the last of them there are no days.
+fn course_at<'a, S: Alter + Drop>(
+    asked: &Asked<'a>,
+    led: &Led,
+    connection: &mut Connection<S>,
+    zone: &Zone,
+    now: u64,
+) -> Result<Course, Failure<'a>> {
+    if LAST_MOMENT < now {
+        return Ok(Course::Stay(None));
+    }
+    match day_of(zone, now) {
+        Ok(day) => course_on(asked, led, connection, zone, day, now),
+        Err(_) => Ok(Course::Stay(None)),
+    }
+}
+
+// Runs over a connection to the file at a path, until a moment. None: it ended since that has come, or the time is up.
+fn run_in<D: Databases + NamedFiles, C: Clock + Drop>(
+    asked: &Asked<'_>,
+    databases: &D,
+    path: &str,
+    connection: Connection<D::Store>,
+    clock: &mut OnwardClock<C>,
+    until: Option<u64>,
+    left: Option<u64>,
+) -> Option<ExitCode> {
+    let rt = asked.rt;
+    let mut settings = asked.settings;
+    settings.lasts = left;
+    settings.ends = until;
+    let done = run_opened(
+        rt,
+        databases,
+        path,
+        connection,
+        asked.sites,
+        &settings,
+        clock,
+    );
+    match ending_of_done(done, OWN_HOST, settings.listen.port()) {
+        Ending::Fine => None,
+        ending => Some(ended(rt, &ending)),
+    }
+}
+
+// Opens the file at a path. One that was just made has no log yet, which isn't told.
+fn open_once<'a, D: Databases>(
+    rt: &HostRuntime,
+    databases: &D,
+    path: &'a str,
+    is_new: bool,
+) -> Result<Connection<D::Store>, Failure<'a>> {
+    if !is_new {
+        return open_in(rt, databases, path);
+    }
+    match databases.open(path) {
+        Ok(connection) => Ok(connection),
+        Err(fault) => Err(Failure::File { path, fault }),
+    }
+}
+
+fn is_busy(failure: &Failure<'_>) -> bool {
+    matches!(
+        failure,
+        Failure::File {
+            fault: FileFault::Busy,
+            ..
+        }
+    )
+}
+
+// The same of a file that nobody had open a moment ago: who has opened it meanwhile is waited for, some seconds.
+fn open_again<'a, D: Databases>(
+    rt: &HostRuntime,
+    databases: &D,
+    path: &'a str,
+    is_new: bool,
+) -> Result<Connection<D::Store>, Failure<'a>> {
+    for _try in 0..TRIES {
+        match open_once(rt, databases, path, is_new) {
+            Err(failure) if is_busy(&failure) => sleep(rt, Duration::from_millis(PAUSE)),
+            opened => return opened,
+        }
+    }
+    open_once(rt, databases, path, is_new)
+}
+
+// Opens the file at a path that was just made, or was open before, and runs over it.
+fn run_at<D: Databases + NamedFiles, C: Clock + Drop>(
+    asked: &Asked<'_>,
+    databases: &D,
+    path: &str,
+    is_new: bool,
+    clock: &mut OnwardClock<C>,
+    until: Option<u64>,
+    left: Option<u64>,
+) -> Option<ExitCode> {
+    match open_again(asked.rt, databases, path, is_new) {
+        Ok(connection) => run_in(asked, databases, path, connection, clock, until, left),
+        Err(failure) => Some(ended(asked.rt, &Ending::Failed(failure))),
+    }
+}
+
+fn is_unfinished(why: &NotCarried<'_>) -> bool {
+    matches!(
+        why,
+        NotCarried::Failed(Failure::Uncopied {
+            fault: CopyFault::Unfinished,
+            ..
+        })
+    )
+}
+
+// Whether a new file is there that this process has not made. One whose beginning is there may be another run's, which then has its name
+// in a moment.
+fn is_made(rt: &HostRuntime, to: &str, why: &NotCarried<'_>) -> bool {
+    if is_unfinished(why) {
+        for _look in 0..LOOKS {
+            if is_there(rt, to) {
+                return true;
+            }
+            sleep(rt, Duration::from_millis(PAUSE));
+        }
+    }
+    is_there(rt, to)
+}
+
+// Carries the file at a path into another, and runs over that. Where it can't be carried, books go on where they are, and it is tried
+// again at the next hour.
+fn carry_on<D: Databases + NamedFiles, C: Clock + Drop>(
+    asked: &Asked<'_>,
+    databases: &D,
+    from: &str,
+    connection: Connection<D::Store>,
+    to: &str,
+    clock: &mut OnwardClock<C>,
+    until: Option<u64>,
+    left: Option<u64>,
+) -> Option<ExitCode> {
+    let rt = asked.rt;
+    match carry_open(rt, databases, from, connection, to) {
+        Ok(count) => say_carried(rt, from, to, count),
+        Err(why) => {
+            if !is_made(rt, to, &why) {
+                say_not_carried(rt, from, &why, NOT_CARRIED);
+                let until = next_try(asked.settings.every, clock.now());
+                return run_at(asked, databases, from, false, clock, until, left);
+            }
+            // (it has its name, which can't be brought to the disk; or another process made it, and has it)
+            say_not_carried(rt, from, &why, NAMED);
+        }
+    }
+    run_at(asked, databases, to, true, clock, until, left)
+}
+
+// Opens the file in which books are led: where a run has just let it go, with some patience.
+fn open_led<'a, D: Databases>(
+    rt: &HostRuntime,
+    databases: &D,
+    path: &'a str,
+    is_first: bool,
+) -> Result<Connection<D::Store>, Failure<'a>> {
+    if is_first {
+        open_in(rt, databases, path)
+    } else {
+        open_again(rt, databases, path, false)
+    }
+}
+
+// Runs over the file in which books are led, or over a new one that is due.
+fn turn<D: Databases + NamedFiles, C: Clock + Drop>(
+    asked: &Asked<'_>,
+    databases: &D,
+    clock: &mut OnwardClock<C>,
+    is_first: bool,
+    left: Option<u64>,
+) -> Option<ExitCode> {
+    let rt = asked.rt;
+    let led = match led_file(rt, asked.file, asked.period) {
+        Ok(led) => led,
+        Err(failure) => return Some(ended(rt, &Ending::Failed(failure))),
+    };
+    let path = led.path.as_str();
+    leave_one_name(rt, path);
+    let mut connection = match open_led(rt, databases, path, is_first) {
+        Ok(connection) => connection,
+        Err(failure) => return Some(ended(rt, &Ending::Failed(failure))),
+    };
+    let zone = match zone_in(&mut connection) {
+        Ok(zone) => zone,
+        Err(fault) => {
+            return Some(ended(rt, &Ending::Failed(Failure::Unopened { path, fault })));
+        }
+    };
+    let course = match course_at(asked, &led, &mut connection, &zone, clock.now()) {
+        Ok(course) => course,
+        Err(failure) => return Some(ended(rt, &Ending::Failed(failure))),
+    };
+    match course {
+        Course::Stay(until) => run_in(asked, databases, path, connection, clock, until, left),
+        Course::Carry(to, until) => {
+            carry_on(
+                asked,
+                databases,
+                path,
+                connection,
+                to.as_str(),
+                clock,
+                until,
+                left,
+            )
+        }
+    }
+}
+
+// How many seconds are left of those that all lasts.
+fn left_of(rt: &HostRuntime, lasts: Option<u64>, begun: Option<Instant>) -> Option<u64> {
+    let seconds = lasts?;
+    let passed = match begun {
+        Some(begun) => match begun.elapsed(rt) {
+            Ok(passed) => passed.as_secs(),
+            Err(_) => 0,
+        },
+        None => 0,
+    };
+    Some(seconds.saturating_sub(passed))
+}
+
+/// Polls devices on a schedule and answers HTTP, as the settings say, and begins a new file with each period.
+pub(crate) fn run_by_periods<'a>(
+    rt: &HostRuntime,
+    file: &'a str,
+    devices: &[Device<'a>],
+    settings: &Settings<'_>,
+    period: Period,
+) -> ExitCode {
+    let sites = match sites_of(rt, devices) {
+        Ok(sites) => sites,
+        Err(failure) => return ended(rt, &Ending::Failed(failure)),
+    };
+    let asked = Asked {
+        rt,
+        file,
+        period,
+        sites: sites.as_slice(),
+        settings: *settings,
+    };
+    let files = Files::of(rt);
+    let mut clock = OnwardClock::of(SystemClock::new(rt));
+    let begun = match Instant::now(rt) {
+        Ok(begun) => Some(begun),
+        Err(_) => None,
+    };
+    for run in 0..u64::MAX {
+        let left = left_of(rt, settings.lasts, begun);
+        if left == Some(0) {
+            break;
+        }
+        match turn(&asked, &files, &mut clock, run == 0, left) {
+            Some(code) => return code,
+            None => clock.go_on(),
+        }
+    }
+    ended(rt, &Ending::Fine)
+}

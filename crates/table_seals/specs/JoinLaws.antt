@@ -1,0 +1,108 @@
+-- Laws of files that go on from each other.
+use Rattle.std.specs.Prelude.{⊤, ◌≡◌, ◌↔◌, ◌≤◌, ◌+◌, ℕ, true, List, [], ◌∷◌, ◌++◌, length, Some, Ok, string_bytes}
+use Rattle.std.specs.List.{AllByRecursion, filter}
+use Rattle.energy_core.specs.declared.limits.TheConstants.{MAX_TOTAL}
+use Rattle.meter_journal.specs.Books.{IsWellInstalled}
+use Rattle.meter_audit.specs.CarriedFiles.{GoesOnAs, InFile, told_by_all}
+use Rattle.meter_audit.specs.Fitting.{Tables, AreFine}
+use Rattle.meter_audit.specs.Laws.{AreLawful}
+use Rattle.sqlite.specs.Order.{Row}
+use Rattle.store_tables.specs.Meters.Rows.{installation_in}
+use Rattle.store_tables.specs.declared.meters.rows.InstallationRow.{InstallationRow}
+use Rattle.table_audit.specs.declared.rows.MeterRows.{MeterRows}
+use Rattle.table_audit.specs.Fine.{IsFine}
+use Rattle.table_seals.specs.declared.filed.FiledMeter.{FiledMeter}
+use Rattle.table_seals.specs.Filing.{IsFiledAs}
+use Rattle.table_seals.specs.Joins.{Known, known_with, joins_by, joins_of_all, is_meter, is_within}
+
+-- The meter that was left so in an earlier file goes on as this one, at the same register, and its energies are together within
+-- the limit of one meter.
+pub record MeterGoesOn (known : List FiledMeter) (old new : FiledMeter) : Type 0 where
+  pub goes_on : GoesOnAs old.installed old.standing.last old.standing.is_ended new.installed
+  pub register : string_bytes new.register ≡ string_bytes old.register
+  pub within : is_within known new ≡ true
+
+-- Nothing is told of a meter that an earlier file has exactly if it goes on so.
+abbrev pub JoinedMetersGoOn : Type 0
+JoinedMetersGoOn = (known : List FiledMeter) (old new : FiledMeter)
+    → (joins_by known new (Some old) ≡ []) ↔ MeterGoesOn known old new
+
+-- ---- over several files
+
+-- the meters of a name, of each file that has one
+abbrev pub named : (name : List ℕ) → List FiledMeter → List FiledMeter
+named name meters = filter (is_meter name) meters
+
+abbrev pub energy_of : List FiledMeter → ℕ
+energy_of [] = 0
+energy_of (meter ∷ meters) = meter.standing.total + energy_of meters
+
+-- Of a file no two meters have one name, as the key of its table has it, and each has no more energy than a meter may have.
+pub record IsOfMeters (file : Known) : Type 0 where
+  pub apart : (name : List ℕ) → length (named name file.meters) ≤ 1
+  pub totals : AllByRecursion (λ meter. meter.standing.total ≤ MAX_TOTAL) file.meters
+
+-- Each of these goes on where the one after it in the list was left: the latest is the first.
+abbrev pub EachGoesOn : List FiledMeter → Type 0
+EachGoesOn [] = ⊤
+EachGoesOn (new ∷ []) = ⊤
+EachGoesOn (new ∷ old ∷ older) =
+    GoesOnAs old.installed old.standing.last old.standing.is_ended new.installed
+    × EachGoesOn (old ∷ older)
+
+-- The meters of a name are one that goes on through all files that have it, with its energy within the limit of one meter.
+pub record IsOneMeter (name : List ℕ) (known : Known) : Type 0 where
+  pub goes_on : EachGoesOn (named name known.meters)
+  pub energy : energy_of (named name known.meters) ≤ MAX_TOTAL
+
+-- what is kept of all files
+abbrev pub known_with_all : Known → (later : List Known) → Known
+known_with_all known [] = known
+known_with_all known (next ∷ later) = known_with_all (known_with known next) later
+
+-- Where nothing is told of files, those of each name are one meter.
+abbrev pub JoinedFilesAreOne : Type 0
+JoinedFilesAreOne = (first : Known) (later : List Known) → IsOfMeters first
+    → AllByRecursion IsOfMeters later
+    → joins_of_all first later ≡ []
+    → (name : List ℕ) → IsOneMeter name (known_with_all first later)
+
+-- ---- and their tables
+
+-- These tables are fine, and tell of a meter what is kept of it.
+pub record IsToldBy (meter : FiledMeter) (tables : Tables) : Type 0 where
+  pub well : IsWellInstalled meter.installed
+  pub fine : AreFine meter.installed tables
+  pub last : tables.last ≡ meter.standing.last
+  pub total : tables.total ≡ meter.standing.total
+  pub ended : tables.ended ≡ meter.standing.is_ended
+
+-- A meter that is kept of a file which an audit finds fine is one of such tables.
+abbrev pub FiledMetersAreTold : Type 0
+FiledMetersAreTold = (row : Row) (rows : MeterRows) (installation : InstallationRow)
+    (filed : FiledMeter) → installation_in row ≡ Ok installation
+    → IsFine installation rows → IsFiledAs row rows filed
+    → (tables : Tables) × IsToldBy filed tables
+
+abbrev pub in_file : (tables : FiledMeter → Tables) → FiledMeter → InFile
+in_file tables meter = record { meter = meter.installed; tables = tables meter }
+
+-- each of these meters with its tables, the oldest first where they have the latest first
+abbrev pub in_files : (tables : FiledMeter → Tables) → List FiledMeter → List InFile
+in_files tables [] = []
+in_files tables (meter ∷ older) = in_files tables older ++ in_file tables meter ∷ []
+
+-- What all files tell of a meter is what one lawful journal comes to, from where it was opened in the first of them.
+pub record HasOneJournal (tables : FiledMeter → Tables) (meters : List FiledMeter) : Type 0 where
+  pub first : InFile
+  pub later : List InFile
+  pub are : in_files tables meters ≡ first ∷ later
+  pub lawful : AreLawful first.meter (told_by_all first.tables later)
+
+-- So it is of each meter of files of which nothing is told, and each of which is fine by itself.
+abbrev pub JoinedFilesAreLawful : Type 0
+JoinedFilesAreLawful = (tables : FiledMeter → Tables) (meter : FiledMeter)
+    (older : List FiledMeter) → AllByRecursion (λ m. IsToldBy m (tables m)) (meter ∷ older)
+    → EachGoesOn (meter ∷ older)
+    → energy_of (meter ∷ older) ≤ MAX_TOTAL
+    → HasOneJournal tables (meter ∷ older)

@@ -1,0 +1,70 @@
+//! Files of an office, one after the other.
+ghost use Rattle.std.specs.Prelude.{◌≡◌, ◌++◌, [], Some, None, IfOk, OnOk, option_map};
+ghost use Rattle.table_seals.specs.Joins.{known_of, known_with};
+
+use crate::filed::FiledOffice;
+use crate::joins::tell_joins;
+use std::alloc::{AllocError, Global};
+
+/// What is kept of files and of the next one.
+fn with_next<'a>(
+    known: FiledOffice<'a>,
+    next: FiledOffice<'a>,
+) -> Result<FiledOffice<'a>, AllocError>
+    ensures { IfOk result (λ all. known_of all
+        ≡ known_with (known_of known.entry) (known_of next.entry)) }
+{
+    let mut before = known.meters;
+    let mut meters = next.meters;
+    let latest = meters.len();
+    meters.append(&mut before)?;
+    Ok(FiledOffice {
+        file: next.file,
+        zone: next.zone,
+        meters,
+        latest,
+    })
+}
+
+/// Files one after the other, the oldest first: what is kept of them, and a line for each way in which one doesn't go on from those
+/// before it.
+#[derive(Debug, Drop)]
+pub struct Joining<'a> {
+    pub known: Option<FiledOffice<'a>>,
+    pub lines: Vec<Vec<u8>>,
+}
+
+impl<'a> Joining<'a> {
+    ghost use Rattle.table_seals.specs.Joins.{after_next, joins_after};
+    ghost use Rattle.table_seals.specs.JoinTexts.{lines_of, texts_of};
+
+    /// None yet. The allocator is kept; no memory is taken.
+    pub fn new(alloc: Global) -> Joining<'a>
+        ensures none { result.known ≡ None }
+        ensures lines { result.lines.items ≡ [] }
+    {
+        Joining {
+            known: None,
+            lines: Vec::new(alloc),
+        }
+    }
+
+    /// Takes the next file. They go on from each other exactly if there is no line. Where memory is wanting, some lines may lack, and
+    /// what was kept is gone.
+    pub fn join(&mut self, alloc: Global, next: FiledOffice<'a>) -> Result<(), AllocError>
+        ensures lines { OnOk result (texts_of self.new.lines.items ≡ texts_of self.old.lines.items
+            ++ lines_of (joins_after (option_map known_of self.old.known) (known_of next.entry))) }
+        ensures known { OnOk result (option_map known_of self.new.known
+            ≡ Some (after_next (option_map known_of self.old.known) (known_of next.entry))) }
+    {
+        let all = match self.known.take() {
+            None => next,
+            Some(known) => {
+                tell_joins(alloc, &mut self.lines, &known, &next)?;
+                with_next(known, next)?
+            }
+        };
+        self.known = Some(all);
+        Ok(())
+    }
+}

@@ -1,0 +1,284 @@
+//! Whether an office's files go on from each other.
+ghost use Rattle.std.specs.Prelude.{◌≡◌, ◌++◌, ◌∷◌, [], Some, None, OnOk, flat_map};
+ghost use Rattle.std.specs.List.{find};
+ghost use Rattle.std.specs.Option.{option_copied};
+ghost use Rattle.table_seals.specs.Joins as joins;
+ghost use Rattle.table_seals.specs.JoinTexts.{lines_of, texts_of};
+
+use crate::filed::{FiledMeter, FiledOffice};
+use crate::join_faults::JoinFault;
+use crate::join_lines::{fault_line, missing_line, overlap_line, zone_line};
+use energy_core::{Last, MAX_TOTAL};
+use std::alloc::{AllocError, Global};
+
+/// Whether a meter has the name.
+fn is_meter(name: &str, meter: &FiledMeter<'_>) -> bool
+    ensures { result ≡ joins.is_meter name.now meter.now }
+{
+    meter.meter.as_str() == name
+}
+
+/// Whether one of these meters has the name.
+fn has_meter(name: &str, meters: &[FiledMeter<'_>]) -> bool
+    ensures { result ≡ joins.has_meter name.now meters.now }
+{
+    meters.iter().any(|meter| is_meter(name, meter))
+}
+
+/// The first of these meters that has the name.
+fn meter_in<'m, 'a>(name: &str, meters: &'m [FiledMeter<'a>]) -> Option<&'m FiledMeter<'a>>
+    ensures { option_copied result ≡ find (joins.is_meter name.now) meters.now }
+{
+    meters.iter().find(|meter| is_meter(name, *meter))
+}
+
+/// Whether both show the same counter at the same moment and scale.
+fn is_same(last: &Last, other: &Last) -> bool
+    ensures { result ≡ joins.is_same last.now other.now }
+{
+    last.at == other.at && last.raw == other.raw && last.sf == other.sf
+}
+
+/// How much energy may still come after a meter, if it has the name.
+fn left_after(most: u64, name: &str, meter: &FiledMeter<'_>) -> Option<u64>
+    ensures { result ≡ joins.left_after most name.now meter.now }
+{
+    let total = meter.standing.total;
+    if !is_meter(name, meter) {
+        return Some(most);
+    }
+    if total <= most {
+        Some(most - total)
+    } else {
+        None
+    }
+}
+
+/// Whether the energies of the meter of a name are together no more than this.
+fn stay_within(most: u64, name: &str, meters: &[FiledMeter<'_>]) -> bool
+    ensures { result ≡ joins.stay_within most name.now meters.now }
+{
+    let mut left = most;
+    for meter in meters {
+        match left_after(left, name, meter) {
+            Some(rest) => left = rest,
+            None => return false,
+        }
+    }
+    true
+}
+
+/// Whether the energies of a meter of the next file and of the files before it are within the limit of one meter.
+fn is_within(known: &[FiledMeter<'_>], new: &FiledMeter<'_>) -> bool
+    ensures { result ≡ joins.is_within known.now new.now }
+{
+    match left_after(MAX_TOTAL, &new.meter, new) {
+        Some(rest) => stay_within(rest, &new.meter, known),
+        None => false,
+    }
+}
+
+/// How a meter doesn't go on from the file before.
+fn fault_between(within: bool, old: &FiledMeter<'_>, new: &FiledMeter<'_>) -> Option<JoinFault>
+    ensures { result ≡ joins.fault_between within old.now new.now }
+{
+    if old.standing.is_ended {
+        return Some(JoinFault::Closed);
+    }
+    if new.register.as_str() != old.register.as_str() {
+        return Some(JoinFault::Register);
+    }
+    if new.installed.range != old.installed.range {
+        return Some(JoinFault::Range);
+    }
+    if new.installed.ceiling != old.installed.ceiling {
+        return Some(JoinFault::Ceiling);
+    }
+    if !is_same(&new.installed.opening, &old.standing.last) {
+        return Some(JoinFault::Opening);
+    }
+    if !within {
+        return Some(JoinFault::Energy);
+    }
+    None
+}
+
+/// Whether a meter begins at its register while another is still read there.
+fn is_beyond(new: &FiledMeter<'_>, old: &FiledMeter<'_>) -> bool
+    ensures { result ≡ joins.is_beyond new.now old.now }
+{
+    old.register.as_str() == new.register.as_str()
+        && new.installed.opening.at < old.standing.last.at
+}
+
+/// The first of these meters that is still read at the register of another when that begins.
+fn overlapped<'m, 'a>(
+    new: &FiledMeter<'_>,
+    known: &'m [FiledMeter<'a>],
+) -> Option<&'m FiledMeter<'a>>
+    ensures { option_copied result ≡ find (joins.is_beyond new.now) known.now }
+{
+    known.iter().find(|old| is_beyond(new, *old))
+}
+
+/// One more line.
+fn keep(lines: &mut Vec<Vec<u8>>, line: Vec<u8>) -> Result<(), AllocError>
+    ensures { OnOk result (texts_of lines.new.items
+        ≡ texts_of lines.old.items ++ line.items ∷ []) }
+{
+    lines.push(line)?;
+    Ok(())
+}
+
+/// How a meter of the next file doesn't go on from one of the same name.
+fn tell_fault(
+    alloc: Global,
+    lines: &mut Vec<Vec<u8>>,
+    known: &[FiledMeter<'_>],
+    old: &FiledMeter<'_>,
+    new: &FiledMeter<'_>,
+) -> Result<(), AllocError>
+    ensures { OnOk result (texts_of lines.new.items
+        ≡ texts_of lines.old.items ++ lines_of (joins.joins_by known.now new.now (Some old.now))) }
+{
+    match fault_between(is_within(known, new), old, new) {
+        None => Ok(()),
+        Some(fault) => {
+            let line = fault_line(alloc, fault, old, new)?;
+            keep(lines, line)
+        }
+    }
+}
+
+/// Where a meter that no file before has begins too early.
+fn tell_overlap(
+    alloc: Global,
+    lines: &mut Vec<Vec<u8>>,
+    known: &[FiledMeter<'_>],
+    new: &FiledMeter<'_>,
+) -> Result<(), AllocError>
+    ensures { OnOk result (texts_of lines.new.items
+        ≡ texts_of lines.old.items ++ lines_of (joins.joins_by known.now new.now None)) }
+{
+    match overlapped(new, known) {
+        None => Ok(()),
+        Some(old) => {
+            let line = overlap_line(alloc, old, new)?;
+            keep(lines, line)
+        }
+    }
+}
+
+/// What is told of a meter of the next file.
+fn tell_meter(
+    alloc: Global,
+    lines: &mut Vec<Vec<u8>>,
+    known: &[FiledMeter<'_>],
+    new: &FiledMeter<'_>,
+) -> Result<(), AllocError>
+    ensures { OnOk result (texts_of lines.new.items
+        ≡ texts_of lines.old.items ++ lines_of (joins.joins_of known.now new.now)) }
+{
+    match meter_in(&new.meter, known) {
+        None => {
+            tell_overlap(alloc, lines, known, new)?;
+            Ok(())
+        }
+        Some(old) => {
+            tell_fault(alloc, lines, known, old, new)?;
+            Ok(())
+        }
+    }
+}
+
+/// What is told of the meters of the next file.
+fn tell_meters(
+    alloc: Global,
+    lines: &mut Vec<Vec<u8>>,
+    known: &[FiledMeter<'_>],
+    next: &[FiledMeter<'_>],
+) -> Result<(), AllocError>
+    ensures { OnOk result (texts_of lines.new.items ≡ texts_of lines.old.items
+        ++ flat_map (λ new. lines_of (joins.joins_of known.now new)) next.now) }
+{
+    for new in next {
+        tell_meter(alloc, lines, known, new)?;
+    }
+    Ok(())
+}
+
+/// Whether a meter is open in the file before, and isn't among those of the next one.
+fn is_missing(next: &[FiledMeter<'_>], old: &FiledMeter<'_>) -> bool
+    ensures { result ≡ joins.is_missing next.now old.now }
+{
+    !old.standing.is_ended && !has_meter(&old.meter, next)
+}
+
+/// Tells it.
+fn tell_missing(
+    alloc: Global,
+    lines: &mut Vec<Vec<u8>>,
+    next: &FiledOffice<'_>,
+    old: &FiledMeter<'_>,
+) -> Result<(), AllocError>
+    ensures { OnOk result (texts_of lines.new.items ≡ texts_of lines.old.items
+        ++ lines_of (joins.missing_of (joins.known_of next.now) old.now)) }
+{
+    if !is_missing(&next.meters, old) {
+        return Ok(());
+    }
+    let line = missing_line(alloc, old, next.file)?;
+    keep(lines, line)
+}
+
+/// The same of all meters of the file before.
+fn tell_each_missing(
+    alloc: Global,
+    lines: &mut Vec<Vec<u8>>,
+    next: &FiledOffice<'_>,
+    latest: &[FiledMeter<'_>],
+) -> Result<(), AllocError>
+    ensures { OnOk result (texts_of lines.new.items ≡ texts_of lines.old.items
+        ++ flat_map (λ old. lines_of (joins.missing_of (joins.known_of next.now) old))
+        latest.now) }
+{
+    for old in latest {
+        tell_missing(alloc, lines, next, old)?;
+    }
+    Ok(())
+}
+
+/// That the days of the next file are those of another zone.
+fn tell_zone(
+    alloc: Global,
+    lines: &mut Vec<Vec<u8>>,
+    known: &FiledOffice<'_>,
+    next: &FiledOffice<'_>,
+) -> Result<(), AllocError>
+    ensures { OnOk result (texts_of lines.new.items ≡ texts_of lines.old.items
+        ++ lines_of (joins.zone_of (joins.known_of known.now) (joins.known_of next.now))) }
+{
+    if next.zone.as_str() == known.zone.as_str() {
+        return Ok(());
+    }
+    let line = zone_line(alloc, known, next)?;
+    keep(lines, line)
+}
+
+/// Tells how the next file doesn't go on from those before it: a line for each difference, after those that were told.
+pub(crate) fn tell_joins(
+    alloc: Global,
+    lines: &mut Vec<Vec<u8>>,
+    known: &FiledOffice<'_>,
+    next: &FiledOffice<'_>,
+) -> Result<(), AllocError>
+    ensures { OnOk result (texts_of lines.new.items ≡ texts_of lines.old.items
+        ++ lines_of (joins.joins_between (joins.known_of known.now) (joins.known_of next.now))) }
+{
+    let meters = known.meters.as_slice();
+    let latest = known.latest.min(meters.len());
+    tell_zone(alloc, lines, known, next)?;
+    tell_meters(alloc, lines, meters, &next.meters)?;
+    tell_each_missing(alloc, lines, next, &meters[..latest])?;
+    Ok(())
+}

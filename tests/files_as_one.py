@@ -1,0 +1,269 @@
+"""Reports over several files of one office: files_as_one.py PROGRAM; tests/files_as_one.sh calls it.
+
+A site has a meter whose counter turns over, is reset, is corrected by hand and has a reading voided, and that is exchanged for another.
+One file gets all of it. Three files get it in parts, the second and the third of them begun by `sunreg carry`: the first carry falls into
+a quarter hour, the second on the begin of one. What the program prints of the three is what it prints of the one, byte for byte.
+"""
+import datetime
+import itertools
+import pathlib
+import shutil
+import subprocess
+import sys
+import tempfile
+
+HERE = pathlib.Path(__file__).resolve().parent
+ZONE = "CET-1CEST,M3.5.0,M10.5.0/3"
+BEGIN = 1703808000  # 2023-12-29 00:00 UTC
+DAY, STEP = 86400, 6 * 3600 + 431
+OPENING, READING, MANUAL, CLOSING, RESET, RESCALE = 1, 2, 3, 4, 5, 6
+counts = {"passed": 0, "failed": 0}
+
+
+def same(what, got, wanted):
+    """Holds what came to what is wanted."""
+    counts["passed" if got == wanted else "failed"] += 1
+    if got != wanted:
+        print(f"{what}: {got!r}\nand not {wanted!r}")
+
+
+class Entry:
+    """An entry of a meter: `raw` is what the counter showed, `after` what it was set to by a reset or a rescaling."""
+
+    def __init__(self, kind, moment, raw, sf, rolls=0, after=0):
+        self.kind, self.moment, self.raw, self.sf, self.rolls, self.after = kind, moment, raw, sf, rolls, after
+        self.voided = None
+
+    def shown(self):
+        return self.after if self.kind in (RESET, RESCALE) else self.raw
+
+
+class Meter:
+    """A meter at the register `main`, by its entries in their order, and its readings that were held: moments and causes."""
+
+    def __init__(self, name, top, entries):
+        self.name, self.top, self.entries, self.held = name, top, entries, []
+
+    def part(self, from_moment, till):
+        """What a file has of it that was begun at a moment; none where it was closed before, or was not there yet."""
+        standing = [it for it in self.entries if not it.voided]
+        first = [it for it in standing if it.moment <= from_moment]
+        rest = [it for it in self.entries if from_moment < it.moment <= till]
+        if not first:
+            return Meter(self.name, self.top, rest) if rest else None
+        last = first[-1]
+        if last.kind == CLOSING:
+            return None
+        found = Meter(self.name, self.top, [Entry(OPENING, last.moment, last.shown(), last.sf)] + rest)
+        return found
+
+    def steps(self):
+        """The steps between entries that stand: from when until when, and the energy in mWh."""
+        last = self.entries[0]
+        for it in self.entries[1:]:
+            if not it.voided:
+                yield last.moment, it.moment, (it.raw + it.rolls * self.top - last.shown()) * 10 ** (last.sf + 3)
+                last = it
+
+    def intervals(self):
+        """The energy of each quarter hour."""
+        found = {}
+        for begin, end, energy in self.steps():
+            def until(moment):
+                return energy * (min(max(moment, begin), end) - begin) // (end - begin)
+            for start in range(begin // 900 * 900, end, 900):
+                found[start] = found.get(start, 0) + until(start + 900) - until(start)
+        return sorted(found.items())
+
+    def statements(self, place):
+        """The rows of the tables."""
+        standing = [it for it in self.entries if not it.voided]
+        last, total = standing[-1], sum(energy for _, _, energy in self.steps())
+        ended = int(any(it.kind == CLOSING for it in self.entries))
+        yield f"INSERT OR REPLACE INTO installations VALUES ({place}, '{self.name}', 'main', 100000, {ended}, {last.moment}, {last.shown()}, {last.sf}, {total});"
+        yield f"INSERT OR REPLACE INTO ranges VALUES ('{self.name}', {self.top});"
+        for at, it in enumerate(self.entries, 1):
+            yield f"INSERT OR REPLACE INTO entries VALUES ('{self.name}', {at}, {it.kind}, {it.moment}, {it.raw}, {it.rolls}, {it.after}, {it.sf});"
+            if it.voided:
+                yield f"INSERT INTO voids VALUES ('{self.name}', {at}, {it.voided});"
+        for start, mwh in self.intervals():
+            yield f"INSERT INTO intervals VALUES ('{self.name}', {start}, {mwh});"
+
+
+def readings(from_moment, till, raw, top, sf, pace):
+    """Readings at a pace, which take the counter over its top."""
+    found = []
+    for at, moment in enumerate(range(from_moment, till, STEP)):
+        more = pace + at * 37 % 211
+        rolls, raw = divmod(raw + more, top)
+        found.append(Entry(READING, moment, raw, sf, rolls))
+    return found
+
+
+def site():
+    """The two meters of the register."""
+    top = 65536
+    one = [Entry(OPENING, BEGIN, 60000, 0)]
+    one += readings(BEGIN + STEP, BEGIN + 20 * DAY, 60000, top, 0, 350)
+    # (a reading that was voided: the next one has the energy of both)
+    last, gone = one[-1], one[-2]
+    gone.voided = last.moment + 5
+    last.rolls = 1 if last.raw < one[-3].raw else 0
+    at = last.moment + 3600
+    one.append(Entry(RESET, at, last.raw + 9, 0, after=12))
+    one += readings(at + STEP, BEGIN + 41 * DAY, 12, top, 0, 401)
+    at = one[-1].moment + 777
+    one.append(Entry(MANUAL, at, one[-1].raw + 50, 0))
+    one += readings(at + STEP, BEGIN + 60 * DAY, one[-1].raw, top, 0, 390)
+    at = one[-1].moment + 1234
+    one.append(Entry(CLOSING, at, one[-1].raw + 21, 0))
+    two = [Entry(OPENING, at, 7, -1)] + readings(at + STEP, BEGIN + 75 * DAY, 7, 10 ** 6, -1, 4100)
+    # (at the begin of a quarter hour)
+    on_time = two[-1].moment // 900 * 900 + 1800
+    two.append(Entry(READING, on_time, two[-1].raw + 900, -1))
+    at = on_time + 4321
+    two.append(Entry(RESCALE, at, two[-1].raw + 11, 0, after=5000))
+    two += readings(at + STEP, BEGIN + 100 * DAY, 5000, 10 ** 6, 0, 395)
+    return [Meter("m1", top, one), Meter("m2", 10 ** 6, two)], on_time
+
+
+def polls(held):
+    """The rows of readings that were held."""
+    for at, (meter, moment, cause) in enumerate(held, 1):
+        yield f"INSERT INTO polls VALUES ({at}, 'inv', 1, {moment}, {at}, 3, 40094, 3);"
+        yield f"INSERT INTO outcomes VALUES ({at}, {moment}, 1, 0);"
+        yield f"INSERT INTO holds VALUES ({at}, '{meter}', {at}, {moment}, 5, 0, {cause});"
+
+
+def write(db, statements):
+    text = "BEGIN;\n" + "\n".join(statements) + "\nCOMMIT;\n"
+    subprocess.run(["sqlite3", "-bail", db], input=text, text=True, check=True)
+
+
+def ask(db, question):
+    return subprocess.run(["sqlite3", "-bail", db, question], capture_output=True, text=True, check=True).stdout.strip()
+
+
+def run(*words):
+    """The status of a command, what it prints, and what it says, but that a file has no log beside it."""
+    done = subprocess.run([PROGRAM, *words], capture_output=True, stdin=subprocess.DEVNULL)
+    said = [it for it in done.stderr.decode().splitlines() if "it had no log beside it" not in it]
+    return done.returncode, done.stdout.decode(), said
+
+
+def new_office(db):
+    subprocess.run(["bash", str(HERE / "schema.sh"), db, ZONE], check=True)
+    write(db, ["INSERT INTO devices VALUES (1, 'inv', 1, 5, 1);",
+               "INSERT INTO registers VALUES (1, 'main', 'inv', 3, 40094, 0, 0), (2, 'spare', 'inv', 3, 40194, 0, 0);"])
+
+
+def fill(db, meters, held):
+    """Writes what a file has of the meters; one that was carried into it has its place there."""
+    known = {line.split("|")[1]: line.split("|")[0] for line in ask(db, "SELECT place, meter FROM installations").splitlines()}
+    at = itertools.count(len(known) + 1)
+    statements = []
+    for meter in meters:
+        if meter.name in known:
+            opening = meter.entries[0]
+            same(f"{db}: {meter.name} goes on where it stood", ask(db, f"SELECT kind, moment, raw, sf FROM entries WHERE meter = '{meter.name}'"),
+                 f"1|{opening.moment}|{opening.raw}|{opening.sf}")
+        statements += meter.statements(known[meter.name] if meter.name in known else next(at))
+    write(db, statements + list(polls(held)))
+
+
+def copy(db, name):
+    there = str(pathlib.Path(db).with_name(name))
+    for it in (db, db + "-wal"):
+        if pathlib.Path(it).exists():
+            shutil.copy(it, there + it[len(db):])
+    return there
+
+
+def over(files, *words):
+    """A report of the register `main` over files."""
+    return run("report", *[word for db in files for word in ("--db", db)], "--register", "main", *words)
+
+
+def hold_reports(whole, parts, ranges):
+    """Holds each form of the report over the parts to that of the whole."""
+    for (first, till), period, unit, form in itertools.product(ranges, ("day", "month", "year"), ("mwh", "kwh"), ("text", "csv", "json")):
+        words = ["--by", period, "--unit", unit, "--format", form]
+        words += ["--from", first] if first else []
+        words += ["--till", till] if till else []
+        same(" ".join(words), over(parts, *words), over([whole], *words))
+    same("the plain report", over(parts), over([whole]))
+    same("it has rows", len(over(parts)[1].splitlines()) > 90, True)
+
+
+def unjoined(what, files, begin, *words):
+    """Holds a report over files that don't join to its refusal."""
+    status, printed, said = over(files, *words)
+    same(what, (status, printed, [it.startswith(f"sunreg: {begin}") for it in said]), (1, "", [True]))
+
+
+def hold_refusals(room, parts, carries):
+    one, two, three = parts
+    def at(meter, kind, db, place):
+        moment, raw, sf = ask(db, f"SELECT moment, raw, sf FROM entries WHERE meter = '{meter}' AND place = {place}").split("|")
+        return f"the meter {meter} {kind} at moment {moment}, counter {raw}, scale {sf}"
+    unjoined("the wrong order", [two, one, three], f"{one}: {at('m1', 'begins there', one, 1)}; up to {two} the meter ")
+    unjoined("a file lacks", [one, three], f"{three}: {at('m2', 'begins there', three, 1)}; up to {one} the meter m1 stands at moment {carries[0]}, ")
+    unjoined("one twice", [one, one], f"{one}: {at('m1', 'begins there', one, 1)}; up to {one} the meter m1 stands at moment {carries[0]}, ")
+    unjoined("a range before the carry", [two, one], f"{one}: ", "--till", "2024-01-02")
+    later = copy(one, "later.db")
+    last = int(ask(later, "SELECT max(place) FROM entries WHERE meter = 'm1'"))
+    moment, raw = map(int, ask(later, f"SELECT moment, raw FROM entries WHERE meter = 'm1' AND place = {last}").split("|"))
+    write(later, [f"INSERT INTO entries VALUES ('m1', {last + 1}, 2, {moment + 900}, {raw + 1}, 0, 0, 0);",
+                  f"UPDATE installations SET last_moment = {moment + 900}, last_raw = {raw + 1} WHERE meter = 'm1';"])
+    unjoined("it went on after the carry", [later, two], f"{two}: {at('m1', 'begins there', two, 1)}; up to {later} the meter m1 stands at moment {moment + 900}, ")
+    write(later, [f"INSERT INTO voids VALUES ('m1', {last + 1}, {moment + 1000});",
+                  f"UPDATE installations SET last_moment = {moment}, last_raw = {raw} WHERE meter = 'm1';"])
+    same("and that was voided", over([later, two, three]), over(parts))
+    zone = copy(two, "zone.db")
+    write(zone, ["UPDATE meta SET zone = 'UTC0';"])
+    unjoined("another zone", [one, zone], f"{zone}: its days are those of another zone than the days of {one}: ")
+    none = str(room / "none.db")
+    subprocess.run(["bash", str(HERE / "schema.sh"), none, ZONE], check=True)
+    unjoined("it is not recorded later", [one, none], f"{none}: the register is not recorded there, ")
+    same("but before", over([none, *parts]), over(parts))
+    same("nowhere", run("report", "--db", one, "--db", two, "--register", "far")[:2], (1, "refused 1\n"))
+    same("no name", run("report", "--db", one, "--db", two, "--register", "?")[:2], (1, "refused 1\n"))
+    same("no meter", run("report", "--db", one, "--db", two, "--register", "spare"), (0, "end 0\n", []))
+    same("no file", over([one, str(room / "gone.db")])[:2], (3, ""))
+    same("a statement", over(parts, "--statement"), (1, "", ["sunreg: a statement is of one file: ask for each alone"]))
+    same("no day", over(parts, "--from", "2024-02-30")[0], 2)
+
+
+def main():
+    room = tempfile.TemporaryDirectory()
+    place = pathlib.Path(room.name)
+    meters, on_time = site()
+    first = [it.moment for it in meters[0].entries if it.moment < BEGIN + 33 * DAY and not it.voided][-1]
+    carries = [first, on_time]
+    held = [(("m1" if moment < meters[1].entries[0].moment else "m2"), moment, at % 8 + 1) for at, moment in enumerate(range(BEGIN + 500, BEGIN + 100 * DAY, 3 * DAY + 17))]
+    whole = str(place / "whole.db")
+    new_office(whole)
+    fill(whole, meters, held)
+    same("the audit of the whole", run("audit", "--db", whole)[1][:5], "fine:")
+    parts, ends = [str(place / f"{name}.db") for name in ("one", "two", "three")], [*carries, BEGIN + 1000 * DAY]
+    begins = [0, *carries]
+    new_office(parts[0])
+    for at, db in enumerate(parts):
+        if at:
+            same(f"carry {at}", run("carry", "--from", parts[at - 1], "--to", db)[:2], (0, "carried 1 meters\n"))
+        there = [it for it in (meter.part(begins[at], ends[at]) for meter in meters) if it]
+        fill(db, there, [it for it in held if begins[at] < it[1] <= ends[at]])
+        same(f"the audit of {db}", run("audit", "--db", db)[1][:5], "fine:")
+    same("a carry cuts a quarter hour", [first % 900 != 0, on_time % 900], [True, 0])
+    cut = datetime.datetime.fromtimestamp(first, datetime.timezone.utc).date()
+    days = [None, "2024-01-01", str(cut), str(cut + datetime.timedelta(1)), "2024-02-29", "2024-03-31", "2024-05-01"]
+    ranges = [(a, b) for a, b in itertools.product(days, days) if not (a and b) or a <= b]
+    hold_reports(whole, parts, ranges)
+    hold_refusals(place, parts, carries)
+    room.cleanup()
+    print(f"{counts['passed']} passed, {counts['failed']} failed")
+    sys.exit(1 if counts["failed"] else 0)
+
+
+PROGRAM = sys.argv[1]
+main()
