@@ -16,6 +16,8 @@ HERE = pathlib.Path(__file__).resolve().parent
 ZONE = "CET-1CEST,M3.5.0,M10.5.0/3"
 BEGIN = 1703808000  # 2023-12-29 00:00 UTC
 DAY, STEP = 86400, 6 * 3600 + 431
+# In W: so little that the counter can't turn over twice in two steps.
+CEILING = 2500
 OPENING, READING, MANUAL, CLOSING, RESET, RESCALE = 1, 2, 3, 4, 5, 6
 counts = {"passed": 0, "failed": 0}
 
@@ -80,7 +82,7 @@ class Meter:
         standing = [it for it in self.entries if not it.voided]
         last, total = standing[-1], sum(energy for _, _, energy in self.steps())
         ended = int(any(it.kind == CLOSING for it in self.entries))
-        yield f"INSERT OR REPLACE INTO installations VALUES ({place}, '{self.name}', 'main', 100000, {ended}, {last.moment}, {last.shown()}, {last.sf}, {total});"
+        yield f"INSERT OR REPLACE INTO installations VALUES ({place}, '{self.name}', 'main', {CEILING}, {ended}, {last.moment}, {last.shown()}, {last.sf}, {total});"
         yield f"INSERT OR REPLACE INTO ranges VALUES ('{self.name}', {self.top});"
         for at, it in enumerate(self.entries, 1):
             yield f"INSERT OR REPLACE INTO entries VALUES ('{self.name}', {at}, {it.kind}, {it.moment}, {it.raw}, {it.rolls}, {it.after}, {it.sf});"
