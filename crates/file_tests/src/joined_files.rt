@@ -67,11 +67,11 @@ fn is_reported<D: Databases>(rt: &HostRuntime, databases: &D, path: &str) -> Res
     Ok(true)
 }
 
-/// Whether two meters don't join: m1 begins, but m2 stands at the register.
+/// Whether two meters don't join: m1 begins at 1000, but was there up to 2800.
 fn are_two(why: &Unjoined) -> bool {
     match why {
         Unjoined::Apart(apart) => {
-            apart.begins.opening.at == 1000 && apart.stands.last.at == 3700 && !apart.stands.ended
+            apart.begins.opening.at == 1000 && apart.stands.last.at == 2800 && apart.stands.ended
         }
         Unjoined::NotRecorded | Unjoined::OutOfTurn => false,
     }
