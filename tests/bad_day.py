@@ -448,6 +448,9 @@ def large_meter():
     for k in range(1, 25):
         entry = {"raw": 5000 + 1000000 * k, "rolls": 0, "at": now - 63072000 + k * 2620000}
         same(f"an entry by hand {k}", post(port, 100 + k, "/registers/main/manual", entry), "200")
+    # (so near that what the device shows is a reading, and not held)
+    entry |= {"at": now - 1}
+    same("an entry by hand a moment ago", post(port, 125, "/registers/main/manual", entry), "200")
     serve.end()
     return db
 
