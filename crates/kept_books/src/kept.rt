@@ -114,8 +114,8 @@ impl<B: Books> Books for KeptBooks<B> {
         device: &Name,
         span: ReadSpan,
     ) -> Result<Vec<Register>, BooksFault> {
-        if let Some(registers) = self.known.registers_read(device, span) {
-            return Ok(registers);
+        if let Some(read) = self.known.registers_read(device, span) {
+            return Ok(read);
         }
         let mut found = self.books.registers(device)?;
         self.known.keep_registers(device, &found);

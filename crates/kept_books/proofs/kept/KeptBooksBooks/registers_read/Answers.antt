@@ -8,7 +8,7 @@ use Rattle.kept_books.proofs.kept.KeptBooksBooks.registers_read.Goals as goal
 
 pub returns-in-Some-clause-found : goal.returns-in-Some-clause-found
 returns-in-Some-clause-found g c = λ known holds clean.
-    some_so (λ v. v.items ≡ filter (is_read_by c.args.span) (registers_of known c.args.device.now)) c.registers_read.result c.in-Some.registers c.in-Some.is
+    some_so (λ v. v.items ≡ filter (is_read_by c.args.span) (registers_of known c.args.device.now)) c.registers_read.result c.in-Some.read c.in-Some.is
     (c.registers_read.ensures known (holds.1 clean))
 
 pub returns-clause-found : goal.returns-clause-found
