@@ -21,6 +21,6 @@ taken p xs i x ys more less is passes so_far came =
 -- it isn't
 pub passed_by : {X : Type 0} (p : X → Bool) (xs : List X) (i : ℕ) (x : X) (ys more : List X) → i < length xs → x ≡ get_or xs i x → p x ≡ false
     → ys ≡ filter p (take i xs) → more ≡ ys → more ≡ filter p (take (i + 1) xs)
-passed_by {X} p xs i x ys more less is fails so_far stays =
+passed_by p xs i x ys more less is fails so_far stays =
     let none : cond (p x) (x ∷ []) [] ≡ [] = cond-false _ _ _ fails in
     stays ∙ so_far ∙ sym (append-nil (filter p (take i xs))) ∙ ap (λ zs. filter p (take i xs) ++ zs) (sym none) ∙ sym (one_more p xs i x less is)
