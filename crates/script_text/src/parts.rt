@@ -1,5 +1,5 @@
 //! Texts that are written one after the other.
-ghost use Rattle.std.specs.Prelude.{◌++◌, ◌≤◌, length};
+ghost use Rattle.std.specs.Prelude.{◌≡◌, ◌++◌, ◌*◌, ◌≤◌, length};
 ghost use Rattle.hex.specs.Hex.{encode_lower};
 ghost use Rattle.sun_points.specs.Writing.{GotText};
 
@@ -60,7 +60,15 @@ fn write_piece<W: Write>(bytes: &[u8], output: &mut W) -> io::Result<()>
 {
     let mut digits = [0; DIGITS];
     let text = &mut digits[..2 * bytes.len()];
-    // The text has two digits for each byte, as it must.
-    let _ = hex::encode_to_slice(bytes, text);
+    put_digits(bytes, text);
     write_text(text, output)
+}
+
+/// Fills a text that has two digits for each byte.
+fn put_digits(bytes: &[u8], text: &mut [u8])
+    requires { length text.old ≡ 2 * length bytes.now }
+    ensures { text.new ≡ encode_lower bytes.now }
+{
+    // (it fails at another length alone)
+    let _ = hex::encode_to_slice(bytes, text);
 }

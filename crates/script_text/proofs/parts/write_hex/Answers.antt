@@ -1,4 +1,5 @@
 use Rattle.std.proofs.Common.{◌≡◌, [], ◌++◌, refl, arith}
+use Rattle.std.proofs.lemmas.Grind.{common_steps}
 use Rattle.script_text.proofs.HexText.{none_got, cut_off, piece_got, piece_failed, all_got}
 use Rattle.script_text.proofs.parts.write_hex.Goals as goal
 
@@ -25,4 +26,5 @@ returns-in_err-write_piece g c =
 pub returns : goal.returns
 returns g c =
     let (done, split, got) = c.loop-rest.invariant in
-    all_got _ _ c.args.bytes.now done c.loop-rest.rest.now split ? got
+    let none : c.loop-rest.rest.now ≡ [] = grind (arith, common_steps, c.is_empty.ensures, c.loop-rest-test.false) in
+    all_got _ _ c.args.bytes.now done c.loop-rest.rest.now split none got
