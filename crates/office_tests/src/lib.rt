@@ -53,6 +53,8 @@ mod questions;
 #[cfg(test)]
 mod random_acts;
 #[cfg(test)]
+mod read_registers;
+#[cfg(test)]
 mod refusals;
 #[cfg(test)]
 mod refusing_books;
