@@ -1,9 +1,7 @@
 //! What peers are replied.
 use crate::office::opened;
 use http_request::Status;
-use run_http::{
-    PeerReply, StatusRoute, ask, entries_come_after, reply_status, rows_before_stay,
-};
+use run_http::{PeerReply, StatusRoute, ask, entries_come_after, reply_status, rows_before_stay};
 use run_status::Counts;
 use std::alloc::{AllocError, Global};
 use std::test::Fail;

@@ -88,7 +88,10 @@ fn bodies_ask_for_meters(rt: HostRuntime) {
         ),
     ];
     for (name, route, body, wanted) in &commands {
-        assert!(rt; is_asked(&command(rt.alloc(), *route, body), wanted), "{name}");
+        assert!(rt;
+            is_asked(&command(rt.alloc(), *route, body), wanted),
+            "{name}"
+        );
     }
 }
 
@@ -149,7 +152,10 @@ fn bodies_ask_for_entries(rt: HostRuntime) {
         ),
     ];
     for (name, route, body, wanted) in &commands {
-        assert!(rt; is_asked(&command(rt.alloc(), *route, body), wanted), "{name}");
+        assert!(rt;
+            is_asked(&command(rt.alloc(), *route, body), wanted),
+            "{name}"
+        );
     }
 }
 

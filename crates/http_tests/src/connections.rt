@@ -187,8 +187,13 @@ fn are_served(rt: &HostRuntime, clients: &[Client], step: Option<u64>) -> Result
     let mut office = metered(rt.alloc())?;
     let listener = TcpListener::bind(rt, "127.0.0.1:0")?;
     let mut streams = streams_of(rt, &listener, clients)?;
-    let is_done = serves(rt.alloc(), &listener, clients.len() as u64, step, &mut office)
-        && energy_of_ended(&mut office) == Some(300_000);
+    let is_done = serves(
+        rt.alloc(),
+        &listener,
+        clients.len() as u64,
+        step,
+        &mut office,
+    ) && energy_of_ended(&mut office) == Some(300_000);
     if !is_done {
         return Ok(false);
     }

@@ -33,7 +33,7 @@ enum Found {
     Whole,
 }
 
-fn found(bytes: &[u8]) -> Found {
+fn look(bytes: &[u8]) -> Found {
     match parse_head(bytes) {
         HeadState::Open => Found::Open,
         HeadState::NoHead => Found::NoHead,
@@ -63,7 +63,7 @@ static LOOKS: [(&[u8], Found); 15] = [
 #[test]
 fn a_look_reads_on_until_the_head_has_ended(rt: HostRuntime) {
     for (place, (bytes, wanted)) in LOOKS.iter().enumerate() {
-        assert!(rt; found(bytes) == *wanted, "at {place}");
+        assert!(rt; look(bytes) == *wanted, "at {place}");
     }
 }
 
@@ -97,8 +97,8 @@ static LIMITS: [Limit; 8] = [
     (b"\r\nA:", 1, 8171, 8193, 8193, Found::TooLarge),
 ];
 
-fn found_at_front(bytes: &[u8], count: usize) -> Found {
-    found(bytes.get(..count).unwrap_or(bytes))
+fn look_at_front(bytes: &[u8], count: usize) -> Found {
+    look(bytes.get(..count).unwrap_or(bytes))
 }
 
 #[test]
@@ -106,7 +106,10 @@ fn heads_have_limits(rt: HostRuntime) -> Result<(), Fail> {
     for (header, count, value, size, front, wanted) in &LIMITS {
         let head = head_of(rt.alloc(), header, *count, *value)?;
         assert!(rt; head.len() == *size, "{size}");
-        assert!(rt; found_at_front(&head, *front) == *wanted, "{front} of {size}");
+        assert!(rt;
+            look_at_front(&head, *front) == *wanted,
+            "{front} of {size}"
+        );
     }
     Ok(())
 }

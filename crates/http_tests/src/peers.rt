@@ -145,7 +145,14 @@ type Kept = (u64, u64, &'static [u8], bool, &'static [u8], Option<u64>);
 #[test]
 fn a_peer_is_replied_to(rt: HostRuntime) -> Result<(), Fail> {
     let peers: [Kept; 2] = [
-        (REQUEST.len() as u64, 0, REQUEST, false, REPLY, Some(300_000)),
+        (
+            REQUEST.len() as u64,
+            0,
+            REQUEST,
+            false,
+            REPLY,
+            Some(300_000),
+        ),
         // a command has no room; empty lines before it don't hide it from who counts what is kept
         (300, 200, AFTER_LINES, true, NO_ROOM, None),
     ];

@@ -39,7 +39,7 @@ enum By {
     Months(Format),
 }
 
-fn report<W: Write>(
+fn put_report<W: Write>(
     office: &mut Office<ListBooks>,
     register: &[u8],
     by: By,
@@ -136,7 +136,7 @@ fn registers_have_reports(rt: HostRuntime) -> Result<(), Fail> {
     for (place, (booked, register, by, end, text)) in REPORTS.iter().enumerate() {
         let mut office = office_of(rt.alloc(), *booked)?;
         let mut printed = Vec::new(rt.alloc());
-        let ended = report(&mut office, register, *by, &mut printed);
+        let ended = put_report(&mut office, register, *by, &mut printed);
         assert!(rt; ended == *end, "at {place}");
         assert!(rt; printed.as_slice() == *text, "at {place}");
     }
@@ -162,7 +162,7 @@ fn a_write_that_fails_is_told(rt: HostRuntime) -> Result<(), Fail> {
     let mut office = polled(rt.alloc())?;
     for (room, register, by) in &NARROW {
         let mut narrow = Narrow { room: *room };
-        let status = report(&mut office, register, *by, &mut narrow);
+        let status = put_report(&mut office, register, *by, &mut narrow);
         assert!(rt; status.number() == 3, "room for {room}");
     }
     Ok(())

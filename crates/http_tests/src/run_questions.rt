@@ -31,7 +31,14 @@ enum Booked {
 }
 
 /// What the question shows, what was booked, the moment, the target, and the reply: its status with its reason, and its body.
-type Question = (&'static str, Booked, u64, &'static str, &'static str, &'static str);
+type Question = (
+    &'static str,
+    Booked,
+    u64,
+    &'static str,
+    &'static str,
+    &'static str,
+);
 
 static SITES: [Question; 3] = [
     (
@@ -378,7 +385,10 @@ static EXCHANGE: [(u64, &[u8]); 2] = [
 fn after(alloc: Global, requests: &[(u64, &[u8])]) -> Result<ListBooks, Fail> {
     let mut office = polled(alloc)?;
     for (moment, request) in requests {
-        if serve(alloc, &mut office, *moment, request)?.handled.is_err() {
+        if serve(alloc, &mut office, *moment, request)?
+            .handled
+            .is_err()
+        {
             return Err(Fail::from("not served"));
         }
     }
@@ -471,7 +481,13 @@ fn questions_have_their_replies(rt: HostRuntime) -> Result<(), Fail> {
 fn entries_from_the_greatest_place_on_are_none(rt: HostRuntime) -> Result<(), Fail> {
     let mut office = polled(rt.alloc())?;
     let mut text = Vec::new(rt.alloc());
-    reply_entries(rt.alloc(), &mut text, &mut office, &Name::new(b"m1"), u64::MAX)?;
+    reply_entries(
+        rt.alloc(),
+        &mut text,
+        &mut office,
+        &Name::new(b"m1"),
+        u64::MAX,
+    )?;
     let wanted = text_reply(rt.alloc(), "end 0\n")?;
     assert!(rt; text.as_slice() == wanted.as_bytes());
     Ok(())
@@ -479,7 +495,13 @@ fn entries_from_the_greatest_place_on_are_none(rt: HostRuntime) -> Result<(), Fa
 
 // What is replied to a target over books of a meter that was read.
 fn replied_of_reading(alloc: Global, failing: u64, target: &str) -> Result<Option<Vec<u8>>, Fail> {
-    Ok(replied(alloc, books_of(alloc, Booked::Reading)?, failing, 2800, target)?)
+    Ok(replied(
+        alloc,
+        books_of(alloc, Booked::Reading)?,
+        failing,
+        2800,
+        target,
+    )?)
 }
 
 static METRICS_HEAD: &[u8] = b"HTTP/1.1 200 OK\r\nContent-Type: text/plain; version=0.0.4\r\n";
@@ -501,7 +523,11 @@ static FAILING: [(&str, &str, u8); 3] = [
     ("books that fail are unavailable", "/site", 3),
     ("books that fail leave no metrics", "/metrics", 3),
     // The register, and the meters at it.
-    ("books that fail tell no meters", "/registers/main/meters", 2),
+    (
+        "books that fail tell no meters",
+        "/registers/main/meters",
+        2,
+    ),
 ];
 
 // How many calls of the books have this reply where they fail. Where another fails, which is one of the opening's, or none, all is told.
@@ -516,7 +542,10 @@ fn calls_that_fail(
     for failing in 1..20 {
         if let Some(text) = replied_of_reading(alloc, failing, target)? {
             let is_failure = text.as_slice() == failure;
-            assert!(rt; is_failure || text.as_slice() == whole.as_slice(), "{target}");
+            assert!(rt;
+                is_failure || text.as_slice() == whole.as_slice(),
+                "{target}"
+            );
             count = count.saturating_add(u8::from(is_failure));
         }
     }

@@ -9,34 +9,17 @@ use std::alloc::{AllocError, Global};
 use std::test::Fail;
 use web_page::PagePart;
 
-const MALFORMED: Option<RunRoute> = Some(RunRoute::Own(StatusRoute::Rejected(
-    Status::BadRequest,
-)));
+const MALFORMED: Option<StatusRoute> = Some(StatusRoute::Rejected(Status::BadRequest));
 
-const WRONG_METHOD: Option<RunRoute> = Some(RunRoute::Own(StatusRoute::Rejected(
-    Status::MethodNotAllowed,
-)));
+const WRONG_METHOD: Option<StatusRoute> = Some(StatusRoute::Rejected(Status::MethodNotAllowed));
 
-const MISDIRECTED: Option<RunRoute> = Some(RunRoute::Own(StatusRoute::Rejected(
-    Status::Misdirected,
-)));
+const MISDIRECTED: Option<StatusRoute> = Some(StatusRoute::Rejected(Status::Misdirected));
 
-const PAGE: Option<RunRoute> = Some(RunRoute::Own(StatusRoute::Page(PagePart::Page)));
-
-const STYLE: Option<RunRoute> = Some(RunRoute::Own(StatusRoute::Page(PagePart::Style)));
-
-const SCRIPT: Option<RunRoute> = Some(RunRoute::Own(StatusRoute::Page(PagePart::Script)));
-
-const ICON: Option<RunRoute> = Some(RunRoute::Own(StatusRoute::Page(PagePart::Icon)));
-
-const STATUS: Option<RunRoute> = Some(RunRoute::Own(StatusRoute::Status));
-
-// Requests, and what is answered without asking the office, or what it is asked; nothing where the office has the request itself. This
-// machine may ask, and no other.
-static REQUESTS: [(&[u8], Option<RunRoute>); 25] = [
+// Requests, and what is answered without asking the office; nothing where the office has the request itself. This machine may ask, and
+// no other.
+static REQUESTS: [(&[u8], Option<StatusRoute>); 24] = [
     // a run has routes of its own
-    (b"GET /status HTTP/1.1\r\n\r\n", STATUS),
-    (b"GET /site HTTP/1.1\r\n\r\n", Some(RunRoute::Site)),
+    (b"GET /status HTTP/1.1\r\n\r\n", Some(StatusRoute::Status)),
     (b"GET /page HTTP/1.1\r\n\r\n", None),
     (b"GET /sites HTTP/1.1\r\n\r\n", None),
     (b"GET /site/ HTTP/1.1\r\n\r\n", None),
@@ -48,27 +31,52 @@ static REQUESTS: [(&[u8], Option<RunRoute>); 25] = [
     (b"GET /meters/m1 HTTP/1.1\r\n\r\n", None),
     (b"", None),
     // the page has four targets
-    (b"GET / HTTP/1.1\r\n\r\n", PAGE),
-    (b"GET /page.css HTTP/1.1\r\n\r\n", STYLE),
-    (b"GET /page.js HTTP/1.1\r\n\r\n", SCRIPT),
-    (b"GET /icon.svg HTTP/1.1\r\n\r\n", ICON),
+    (
+        b"GET / HTTP/1.1\r\n\r\n",
+        Some(StatusRoute::Page(PagePart::Page)),
+    ),
+    (
+        b"GET /page.css HTTP/1.1\r\n\r\n",
+        Some(StatusRoute::Page(PagePart::Style)),
+    ),
+    (
+        b"GET /page.js HTTP/1.1\r\n\r\n",
+        Some(StatusRoute::Page(PagePart::Script)),
+    ),
+    (
+        b"GET /icon.svg HTTP/1.1\r\n\r\n",
+        Some(StatusRoute::Page(PagePart::Icon)),
+    ),
     // a run rejects by itself: another method, and before that who may not ask, whatever is asked
     (b"POST / HTTP/1.1\r\n\r\n", WRONG_METHOD),
     (b"HEAD /status HTTP/1.1\r\n\r\n", WRONG_METHOD),
     (b"POST /metrics HTTP/1.1\r\n\r\n", WRONG_METHOD),
     (b"POST /site HTTP/1.1\r\n\r\n", WRONG_METHOD),
-    (b"POST /registers/main/meters HTTP/1.1\r\n\r\n", WRONG_METHOD),
+    (
+        b"POST /registers/main/meters HTTP/1.1\r\n\r\n",
+        WRONG_METHOD,
+    ),
     (b"GET /status HTTP/1.1\r\nHost: a\r\n\r\n", MISDIRECTED),
     (b"GET /site HTTP/1.1\r\nHost: a\r\n\r\n", MISDIRECTED),
     (b"POST /metrics HTTP/1.1\r\nHost: a\r\n\r\n", MISDIRECTED),
     (b"GET /meters/m1 HTTP/1.1\r\nHost: a\r\n\r\n", MISDIRECTED),
 ];
 
+// What is answered without asking the office.
+fn own(route: &Option<StatusRoute>) -> Option<RunRoute> {
+    match route {
+        Some(route) => Some(RunRoute::Own(*route)),
+        None => None,
+    }
+}
+
 #[test]
 fn a_run_has_requests_of_its_own(rt: HostRuntime) {
     for (place, (request, route)) in REQUESTS.iter().enumerate() {
-        assert!(rt; run_route(&[], request) == *route, "at {place}");
+        assert!(rt; run_route(&[], request) == own(route), "at {place}");
     }
+    let site = b"GET /site HTTP/1.1\r\n\r\n";
+    assert!(rt; run_route(&[], site) == Some(RunRoute::Site));
     let metrics = b"GET /metrics HTTP/1.0\r\nHost: a\r\n\r\n";
     assert!(rt; run_route(&["a"], metrics) == Some(RunRoute::Metrics));
 }
@@ -99,7 +107,10 @@ fn a_target_may_ask_for_rows(rt: HostRuntime) -> Result<(), Fail> {
             "/meters/1/intervals/900/9999999999999999999",
             RunRoute::Intervals { meter: None, span },
         ),
-        ("/meters/m1/entries/12", RunRoute::Entries { meter, from: 12 }),
+        (
+            "/meters/m1/entries/12",
+            RunRoute::Entries { meter, from: 12 },
+        ),
         ("/meters/m1/voids", RunRoute::Voids { meter }),
         ("/registers/main/meters", RunRoute::Meters { register }),
         ("/registers/1/meters", RunRoute::Meters { register: None }),
@@ -131,7 +142,7 @@ fn a_target_may_ask_for_energy(rt: HostRuntime) -> Result<(), Fail> {
 }
 
 // Targets that ask for rows or days by a part that is malformed, and such that ask for neither.
-static OTHERS: [(&str, Option<RunRoute>); 39] = [
+static OTHERS: [(&str, Option<StatusRoute>); 39] = [
     // a target may be malformed: its numbers
     ("/meters/m1/entries/", MALFORMED),
     ("/meters/m1/entries/all", MALFORMED),
@@ -181,7 +192,7 @@ static OTHERS: [(&str, Option<RunRoute>); 39] = [
 #[test]
 fn other_targets_ask_for_no_rows(rt: HostRuntime) -> Result<(), Fail> {
     for (target, route) in &OTHERS {
-        assert!(rt; route_of(rt.alloc(), target)? == *route, "{target}");
+        assert!(rt; route_of(rt.alloc(), target)? == own(route), "{target}");
     }
     Ok(())
 }

@@ -224,7 +224,11 @@ fn rounds_end_so(rt: HostRuntime) {
         let mut office = listed(&rt, rt.alloc());
         let (done, failures) = played(rt.alloc(), &mut office, case, &input);
         assert!(rt; done.done == case.done, "{}", case.shows);
-        assert!(rt; str::from_utf8(&done.printed) == Ok(case.printed), "{}", case.shows);
+        assert!(rt;
+            str::from_utf8(&done.printed) == Ok(case.printed),
+            "{}",
+            case.shows
+        );
         assert!(rt; ends(&mut office) == case.polls, "{}", case.shows);
         assert!(rt; failures == case.failures, "{}", case.shows);
     }
