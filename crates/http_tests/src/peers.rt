@@ -1,5 +1,4 @@
 //! Peers of a run, over sockets that don't wait.
-use crate::cases::reply;
 use crate::connections::{REPLY, REQUEST, Stepping, client_of, energy_of_ended};
 use crate::office::metered;
 use http_peers::{
@@ -133,28 +132,37 @@ fn replied(
     read_all(rt.alloc(), client)
 }
 
-#[test]
-fn a_peer_is_replied_to(rt: HostRuntime) -> Result<(), Fail> {
-    let mut office = metered(rt.alloc())?;
-    let room = KeptRoom::new(Some(REQUEST.len() as u64), 0);
-    let got = replied(&rt, room, REQUEST, &mut office, false)?;
-    assert!(rt; got.as_slice() == REPLY);
-    assert!(rt; energy_of_ended(&mut office) == Some(300_000));
-    Ok(())
-}
-
 static AFTER_LINES: &[u8] =
     b"\r\n\r\nPOST /registers/main/exchange HTTP/1.1\r\nContent-Length: 68\r\nOffice-Caller: desk\r\nOffice-Request: 7\r\n\r\n{\"ceiling\":100000,\"last\":5300,\"meter\":\"m2\",\"raw\":0,\"rolls\":0,\"sf\":0}";
 
-// Empty lines before a command don't hide it from who counts what is kept.
+static NO_ROOM: &[u8] =
+    b"HTTP/1.1 503 Service Unavailable\r\nContent-Type: application/json\r\nContent-Length: 13\r\nConnection: close\r\n\r\n{\"fault\":503}";
+
+/// How many bytes may be kept and how many are, the request, whether it is told that nothing more is kept, the reply, and the energy
+/// of the meter where the request ended it.
+type Kept = (u64, u64, &'static [u8], bool, &'static [u8], Option<u64>);
+
 #[test]
-fn a_command_has_no_room(rt: HostRuntime) -> Result<(), Fail> {
-    let mut office = metered(rt.alloc())?;
-    let room = KeptRoom::new(Some(300), 200);
-    let got = replied(&rt, room, AFTER_LINES, &mut office, true)?;
-    let want = reply(rt.alloc(), "503 Service Unavailable", "{\"fault\":503}")?;
-    assert!(rt; got.as_slice() == want.as_bytes());
-    assert!(rt; energy_of_ended(&mut office) == None);
+fn a_peer_is_replied_to(rt: HostRuntime) -> Result<(), Fail> {
+    let peers: [Kept; 2] = [
+        (
+            REQUEST.len() as u64,
+            0,
+            REQUEST,
+            false,
+            REPLY,
+            Some(300_000),
+        ),
+        // a command has no room; empty lines before it don't hide it from who counts what is kept
+        (300, 200, AFTER_LINES, true, NO_ROOM, None),
+    ];
+    for (most, kept, request, is_full, reply, energy) in peers {
+        let mut office = metered(rt.alloc())?;
+        let room = KeptRoom::new(Some(most), kept);
+        let got = replied(&rt, room, request, &mut office, is_full)?;
+        assert!(rt; got.as_slice() == reply, "room for {most}");
+        assert!(rt; energy_of_ended(&mut office) == energy, "room for {most}");
+    }
     Ok(())
 }
 

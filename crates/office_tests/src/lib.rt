@@ -63,6 +63,8 @@ mod requests;
 #[cfg(test)]
 mod round_breaks;
 #[cfg(test)]
+mod round_cases;
+#[cfg(test)]
 mod round_faults;
 #[cfg(test)]
 mod rounds;
