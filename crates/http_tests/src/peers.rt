@@ -1,9 +1,14 @@
 //! Peers of a run, over sockets that don't wait.
+use crate::cases::text_reply;
 use crate::connections::{REPLY, REQUEST, Stepping, client_of, energy_of_ended};
-use crate::office::metered;
+use crate::energy_over::main_of;
+use crate::office::{metered, polled};
+use carried_books::EarlierRegister;
 use http_peers::{
-    HttpPort, KeptRoom, Now, Outbox, PORT_TOKEN, RunTold, Went, even_milliseconds, went_by,
+    EarlierFiles, HttpPort, KeptRoom, Now, Outbox, PORT_TOKEN, RunTold, Went, even_milliseconds,
+    went_by,
 };
+use interval_core::Zone;
 use memory_books::ListBooks;
 use mio::{Events, Interest, Poll, Token};
 use office_core::Office;
@@ -23,6 +28,8 @@ struct Listening {
     events: Events<Global>,
     port: HttpPort,
     monitor: RunMonitor,
+    zone: Zone,
+    earlier: Vec<EarlierRegister>,
 }
 
 // A listener that doesn't wait, and is registered as that of a port.
@@ -40,24 +47,40 @@ impl Listening {
         poll: Poll,
         listener: mio::net::TcpListener,
         room: KeptRoom,
+        zone: Zone,
+        earlier: Vec<EarlierRegister>,
     ) -> Result<Listening, AllocError> {
         Ok(Listening {
             poll,
             events: Events::with_capacity(alloc, 8)?,
             port: HttpPort::new(alloc, listener, room)?,
             monitor: RunMonitor::new(alloc, &[])?,
+            zone,
+            earlier,
         })
     }
 
     fn open(rt: &HostRuntime, listener: TcpListener, room: KeptRoom) -> Result<Listening, Fail> {
         let poll = Poll::new(rt)?;
         let listener = registered(listener, &poll)?;
-        Ok(Listening::of(rt.alloc(), poll, listener, room)?)
+        let (zone, earlier) = (Zone::read("UTC0")?, main_of(rt.alloc())?);
+        Ok(Listening::of(
+            rt.alloc(),
+            poll,
+            listener,
+            room,
+            zone,
+            earlier,
+        )?)
     }
 
     // What waits is accepted, each peer attended, and those that were replied to are dropped.
     fn turn(&mut self, office: &mut Office<ListBooks>, time: u64) {
         let now = Now { time, moment: 2800 };
+        let earlier = EarlierFiles {
+            zone: self.zone,
+            registers: &self.earlier,
+        };
         self.port.begin_turn();
         self.port.accept(self.poll.registry(), time);
         let first = self.port.first();
@@ -65,6 +88,7 @@ impl Listening {
             let told = RunTold {
                 monitor: &self.monitor,
                 lacks: &[],
+                earlier: &earlier,
             };
             let place = place_at(first, step);
             self.port
@@ -130,6 +154,21 @@ fn replied(
         return Err(Fail::from("a client waits, or what is kept is told otherwise"));
     }
     read_all(rt.alloc(), client)
+}
+
+static MONTHS: &[u8] = b"GET /registers/main/months HTTP/1.1\r\n\r\n";
+
+// The quarter hour from 900 is in both, and counted once.
+#[test]
+fn a_peer_is_told_of_earlier_files_too(rt: HostRuntime) -> Result<(), Fail> {
+    let mut office = polled(rt.alloc())?;
+    let got = replied(&rt, KeptRoom::new(None, 0), MONTHS, &mut office, false)?;
+    let want = text_reply(
+        rt.alloc(),
+        "1970-01    3                   200012\nend 1\n",
+    )?;
+    assert!(rt; got.as_slice() == want.as_bytes());
+    Ok(())
 }
 
 static AFTER_LINES: &[u8] =
