@@ -3,3 +3,8 @@ pub mod Meters
 pub mod Files
 pub mod Reports
 pub mod Keeping
+pub mod KeptMeters
+pub mod Statements
+pub mod OneFile
+pub mod BothFiles
+mod Examples
