@@ -128,7 +128,7 @@ def hold_periods(place, whole, parts):
 def main():
     with tempfile.TemporaryDirectory() as room:
         place = pathlib.Path(room)
-        whole, parts, carries = carry_parts(place)
+        whole, parts, carries, _, _ = carry_parts(place)
         hold_replies(place, whole, parts)
         one, two, three = parts
         refused("the wrong order", [two, one, three], 1, f"{one}: the meter m1 begins there")

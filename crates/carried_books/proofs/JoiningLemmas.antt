@@ -5,3 +5,8 @@ pub mod Reports
 pub mod Offices
 pub mod Keeping
 pub mod Earlier
+pub mod KeptMeters
+pub mod Statements
+pub mod OneFile
+pub mod BothFiles
+mod Examples

@@ -5,10 +5,12 @@ mod days;
 mod earlier;
 mod files;
 mod keeping;
+mod kept_meters;
 mod laws;
 mod meters;
 mod offices;
 mod reports;
+mod statements;
 
 pub use days::JoinedDays;
 pub use earlier::{
@@ -16,7 +18,12 @@ pub use earlier::{
 };
 pub use files::{JoinedFiles, Unjoined, add_books, no_files};
 pub use keeping::Keeping;
-pub use laws::{both_files_tell_the_joined_days, one_file_tells_its_days};
+pub use kept_meters::KeptMeter;
+pub use laws::{
+    both_files_state_the_joined_meter, both_files_tell_the_joined_days, one_file_states_its_meters,
+    one_file_tells_its_days,
+};
 pub use meters::Apart;
 pub use offices::days_over;
 pub use reports::{report_days, report_joined};
+pub use statements::{JoinedStatement, state_joined};
