@@ -106,11 +106,7 @@ pub trait Books: Drop {
         ensures reads { OnlyReads (ledger self.old) (ledger self.new) result };
 
     /// The registers of a device of which a read of the span gives a reading, in the order in which they were added.
-    fn registers_read(
-        &mut self,
-        device: &Name,
-        span: ReadSpan,
-    ) -> Result<Vec<Register>, BooksFault>
+    fn registers_read(&mut self, device: &Name, span: ReadSpan) -> Result<Vec<Register>, BooksFault>
         ensures found { Finds (ledger self.old) (ledger self.new) result
             (λ known v. v.items ≡ filter (is_read_by span) (registers_of known device.now)) }
         ensures reads { OnlyReads (ledger self.old) (ledger self.new) result };

@@ -176,7 +176,12 @@ fn is_told<B: Books>(books: &mut B, case: &Case) -> Result<bool, BooksFault> {
 fn a_read_tells_its_registers(rt: HostRuntime) {
     let mut books = books_of_registers(rt.alloc()).expect(&rt, "books");
     for case in &CASES {
-        assert!(rt; is_told(&mut books, case) == Ok(true), "{} {}", case.address, case.count);
+        assert!(rt;
+            is_told(&mut books, case) == Ok(true),
+            "{} {}",
+            case.address,
+            case.count
+        );
     }
 }
 
@@ -186,8 +191,18 @@ fn kept_registers_are_told_by_their_read(rt: HostRuntime) {
     for case in &CASES {
         let beneath = books_of_registers(rt.alloc()).expect(&rt, "books");
         let mut books = KeptBooks::new(rt.alloc(), beneath);
-        assert!(rt; is_told(&mut books, case) == Ok(true), "{} {}", case.address, case.count);
-        assert!(rt; is_told(&mut books, case) == Ok(true), "{} {}", case.address, case.count);
+        assert!(rt;
+            is_told(&mut books, case) == Ok(true),
+            "{} {}",
+            case.address,
+            case.count
+        );
+        assert!(rt;
+            is_told(&mut books, case) == Ok(true),
+            "{} {}",
+            case.address,
+            case.count
+        );
     }
 }
 

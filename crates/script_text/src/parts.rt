@@ -6,8 +6,10 @@ ghost use Rattle.sun_points.specs.Writing.{GotText};
 use std::io::{self, Write};
 use sun_points::Sink;
 
-/// So many bytes at most are written as hex in one piece, and so many digits these have.
+/// So many bytes at most are written as hex in one piece.
 const PIECE: usize = 32;
+
+/// The digits of so many.
 const DIGITS: usize = 2 * PIECE;
 
 /// Writes a text.

@@ -12,8 +12,7 @@ use sqlite::{Connection, Error, MemStore};
 use std::alloc::Global;
 use std::test::Fail;
 use store_queries::{
-    devices, pending, poll, poll_count, register, register_count, registers, registers_read,
-    repeat,
+    devices, pending, poll, poll_count, register, register_count, registers, registers_read, repeat,
 };
 use store_tables::RowFault;
 

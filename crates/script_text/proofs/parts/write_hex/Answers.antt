@@ -9,8 +9,7 @@ loop-rest-init g c = ([], refl, none_got _)
 pub loop-rest-preserved : goal.loop-rest-preserved
 loop-rest-preserved g c =
     let (done, split, got) = c.loop-rest.invariant in
-    let cut = c.split_at.ensures in
-    (
+    let cut = c.split_at.ensures in (
       done ++ c.split_at.result.0.now,
       cut_off c.args.bytes.now done c.loop-rest.rest.now c.split_at.result.0.now c.split_at.result.1.now _ split cut.front cut.back,
       piece_got _ _ _ done c.split_at.result.0.now got c.in_ok-write_piece.ensures,
