@@ -97,14 +97,13 @@ fn bodies_ask_for_meters(rt: HostRuntime) {
 
 #[test]
 fn bodies_ask_for_entries(rt: HostRuntime) {
-    let register = Name::new(b"main");
     let commands: [(&str, Route, &[u8], Command); 5] = [
         (
             "a counter is set",
             Route::Reset,
             b"{\"before\":5250,\"after\":3}",
             Command::Reset(Reset {
-                register,
+                register: Name::new(b"main"),
                 before: 5250,
                 after: 3,
             }),
@@ -114,7 +113,7 @@ fn bodies_ask_for_entries(rt: HostRuntime) {
             Route::Rescale,
             b"{\"before\":5250,\"after\":3,\"sf\":-2}",
             Command::Rescale(Rescale {
-                register,
+                register: Name::new(b"main"),
                 before: 5250,
                 after: 3,
                 sf: -2,
@@ -125,7 +124,7 @@ fn bodies_ask_for_entries(rt: HostRuntime) {
             Route::Manual,
             b"{\"raw\":5300,\"rolls\":1,\"at\":1900}",
             Command::Manual(Manual {
-                register,
+                register: Name::new(b"main"),
                 raw: 5300,
                 rolls: 1,
                 at: Some(1900),
@@ -136,7 +135,7 @@ fn bodies_ask_for_entries(rt: HostRuntime) {
             Route::Close,
             b"{\"raw\":5300,\"rolls\":1}",
             Command::Close(Close {
-                register,
+                register: Name::new(b"main"),
                 raw: 5300,
                 rolls: 1,
             }),
