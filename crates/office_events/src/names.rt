@@ -97,7 +97,8 @@ impl Name {
     pub fn is(&self, other: &Name) -> bool
         ensures { result ≡ bytes_eq self.now other.now }
     {
-        self.as_bytes() == other.as_bytes()
+        // (bytes of a fixed length are compared all at once)
+        self.len == other.len && self.bytes == other.bytes
     }
 
     /// The bytes of the name.

@@ -15,7 +15,7 @@ pub fn is_named(given: &Option<Name>, device: &Device) -> bool
 {
     match given {
         None => false,
-        Some(name) => name.as_bytes() == device.name.as_bytes(),
+        Some(name) => name.is(&device.name),
     }
 }
 
