@@ -5,7 +5,7 @@ use Rattle.std.specs.declared.alloc.AllocError.{AllocError}
 use Rattle.office_events.specs.declared.facts.Fact.{Fact}
 use Rattle.office_rules.specs.Lawful.{AreLawful}
 use Rattle.memory_books.specs.declared.tables.tables.Tables.{Tables}
-use Rattle.memory_books.specs.Tables.Whole.{HaveCome}
+use Rattle.memory_books.specs.Tables.Whole.{HaveCome, AreWhole}
 use Rattle.memory_books.proofs.TablesLemmas.Wholes.{have_come_with}
 use Rattle.office_books.specs.declared.faults.BooksFault.{BooksFault}
 use Rattle.office_books.specs.Faults.{faults_after}
@@ -19,22 +19,28 @@ use Rattle.memory_books.specs.Looking.{failures_in, told}
 following : (known facts : List Fact) → reverse known ++ facts ≡ reverse (with_facts facts known)
 following known facts = sym (reverse-append (reverse facts) known ∙ ap (λ (xs : List Fact). reverse known ++ xs) (reverse-reverse facts))
 
-listed_on : (old new : ListBooks) (known facts : List Fact) → new.facts.items ≡ old.facts.items ++ facts → new.tables ≡ old.tables → FiguresFollow facts old new
-    → AreListed old known → AreLawful (with_facts facts known) → AreListed new (with_facts facts known)
-listed_on old new known facts is tables figures listed lawful = record {
+-- tables that lack facts are not said to have caught up
+behind : (books : ListBooks) {P : Type 0} → books.caught_up ≡ false → books.caught_up ≡ true → P
+behind books lacks caught = absurd (let never : false ≡ true = sym lacks ∙ caught in cc)
+
+listed_on : (old new : ListBooks) (known facts : List Fact) → new.facts.items ≡ old.facts.items ++ facts → new.tables ≡ old.tables → new.caught_up ≡ false
+    → FiguresFollow facts old new → AreListed old known → AreLawful (with_facts facts known) → AreListed new (with_facts facts known)
+listed_on old new known facts is tables lacks figures listed lawful = record {
   lawful = lawful;
   facts = is ∙ ap (λ (xs : List Fact). xs ++ facts) listed.facts ∙ following known facts;
   tables = subst (λ (t : Tables). HaveCome t new.facts.items) (sym tables)
       (subst (HaveCome old.tables) (sym is) (have_come_with old.tables old.facts.items facts listed.tables));
+  whole = λ caught. behind new lacks caught;
   figures = figures known listed.facts listed.figures;
 }
 
-listed_still : (old new : ListBooks) (known : List Fact) → new.facts.items ≡ old.facts.items → new.tables ≡ old.tables → AreFigures new.figures known
-    → AreListed old known → AreListed new known
-listed_still old new known same tables figures listed = record {
+listed_still : (old new : ListBooks) (known : List Fact) → new.facts.items ≡ old.facts.items → new.tables ≡ old.tables → (new.caught_up ≡ true → old.caught_up ≡ true)
+    → AreFigures new.figures known → AreListed old known → AreListed new known
+listed_still old new known same tables caught figures listed = record {
   lawful = listed.lawful;
   facts = same ∙ listed.facts;
   tables = subst (λ (t : Tables). HaveCome t new.facts.items) (sym tables) (subst (HaveCome old.tables) (sym same) listed.tables);
+  whole = λ now. subst (λ (t : Tables). AreWhole t known) (sym tables) (listed.whole (caught now));
   figures = figures;
 }
 
@@ -56,30 +62,30 @@ figures_after_none old new facts known none figures listed =
 
 -- the facts were added, and the tables came further
 pub added : (old mid new : ListBooks) (facts : List Fact) → mid.facts.items ≡ old.facts.items ++ facts → mid.zone ≡ old.zone → mid.tables ≡ old.tables
-    → FiguresFollow facts old mid → KeepsFacts (ledger_of mid) (ledger_of new) → new.zone ≡ mid.zone → new.last_failure ≡ old.last_failure
+    → mid.caught_up ≡ false → FiguresFollow facts old mid → KeepsFacts (ledger_of mid) (ledger_of new) → new.zone ≡ mid.zone → new.last_failure ≡ old.last_failure
     → Books (ledger_of old) (ledger_of new) facts (Ok tt)
-added old mid new facts is zone tables figures keeps still_zone none_failed = record {
-  booked = λ known listed lawful. keeps.facts (with_facts facts known) (listed_on old mid known facts is tables figures listed lawful);
-  settled = λ some known listed lawful. inl (keeps.facts (with_facts facts known) (listed_on old mid known facts is tables figures listed lawful));
+added old mid new facts is zone tables lacks figures keeps still_zone none_failed = record {
+  booked = λ known listed lawful. keeps.facts (with_facts facts known) (listed_on old mid known facts is tables lacks figures listed lawful);
+  settled = λ some known listed lawful. inl (keeps.facts (with_facts facts known) (listed_on old mid known facts is tables lacks figures listed lawful));
   refused = λ known listed. tt;
   under_way = λ known left listed lawful may. tt;
   nothing = λ none.
       let same : mid.facts.items ≡ old.facts.items = is ∙ ap (λ (xs : List Fact). old.facts.items ++ xs) none ∙ append-nil old.facts.items in
       let still : (known : List Fact) → AreListed old known → AreListed mid known =
-      λ known listed. listed_still old mid known same tables (figures_after_none old mid facts known none figures listed) listed in
+      λ known listed. listed_still old mid known same tables (λ caught. behind mid lacks caught) (figures_after_none old mid facts known none figures listed) listed in
       (refl, record { facts = λ known listed. keeps.facts known (still known listed); left = λ left may. keeps.left left (one_still old mid still left may) });
   goes = record { clean = λ c. c; faults = ap failures_in none_failed; zone = still_zone ∙ zone };
 }
 
 -- there was no room for them
 pub not_added : (old new : ListBooks) (facts : List Fact) (lacks : AllocError) (result : Result (Unit {0}) BooksFault) → result ≡ told (Err lacks)
-    → new.facts.items ≡ old.facts.items → new.zone ≡ old.zone → new.tables ≡ old.tables → new.figures ≡ old.figures
+    → new.facts.items ≡ old.facts.items → new.zone ≡ old.zone → new.tables ≡ old.tables → new.caught_up ≡ old.caught_up → new.figures ≡ old.figures
     → failures_in new.last_failure ≡ faults_after result (failures_in old.last_failure) → (facts ≡ [] → false ≡ true)
     → Books (ledger_of old) (ledger_of new) facts result
-not_added old new facts lacks (Ok done) is same zone tables figures noted some = absurd (cc)
-not_added old new facts lacks (Err fault) is same zone tables figures noted some =
+not_added old new facts lacks (Ok done) is same zone tables caught figures noted some = absurd (cc)
+not_added old new facts lacks (Err fault) is same zone tables caught figures noted some =
     let still : (known : List Fact) → AreListed old known → AreListed new known =
-    λ known listed. listed_still old new known same tables (subst (λ (f : Figures). AreFigures f known) (sym figures) listed.figures) listed in
+    λ known listed. listed_still old new known same tables (λ now. sym caught ∙ now) (subst (λ (f : Figures). AreFigures f known) (sym figures) listed.figures) listed in
     record {
       booked = λ known listed lawful. tt;
       settled = λ some known listed lawful. tt;

@@ -1,5 +1,5 @@
 -- Tables that are brought up to date, and failures that are noted.
-use Rattle.std.proofs.Common.{◌≡◌, List, reverse, refl, sym, ap, subst, ◌∙◌, Option, Result, Ok}
+use Rattle.std.proofs.Common.{◌≡◌, true, List, reverse, refl, sym, ap, subst, ◌∙◌, Option, Result, Ok}
 use Rattle.std.proofs.lemmas.List.{reverse-reverse}
 use Rattle.office_events.specs.declared.facts.Fact.{Fact}
 use Rattle.office_rules.specs.Lawful.{AreLawful}
@@ -7,7 +7,7 @@ use Rattle.office_books.specs.declared.faults.BooksFault.{BooksFault}
 use Rattle.office_books.specs.Faults.{faults_after}
 use Rattle.office_books.specs.Ledgers.{Ledger, KeepsFacts, OnlyReads}
 use Rattle.office_books.proofs.Moving.{keeps_then}
-use Rattle.memory_books.specs.Tables.Whole.{HaveCome}
+use Rattle.memory_books.specs.Tables.Whole.{HaveCome, AreWhole}
 use Rattle.memory_books.specs.declared.list_books.ListBooks.{ListBooks}
 use Rattle.memory_books.specs.declared.figures.Figures.{Figures}
 use Rattle.memory_books.specs.Figures.{AreFigures}
@@ -21,8 +21,9 @@ in_turn books facts known is listed = ap reverse (is ∙ listed.facts) ∙ rever
 
 -- books whose tables alone have come further hold what they held
 pub keeps_facts : (old new : ListBooks) (facts : List Fact) → new.facts.items ≡ old.facts.items → new.figures ≡ old.figures → facts ≡ old.facts.items
-    → (AreLawful (reverse facts) → HaveCome old.tables facts → HaveCome new.tables facts) → KeepsFacts (ledger_of old) (ledger_of new)
-keeps_facts old new facts same figures is further = record { facts = still; left = one_still old new still }
+    → (AreLawful (reverse facts) → HaveCome old.tables facts → HaveCome new.tables facts)
+    → ((known : List Fact) → AreListed old known → new.caught_up ≡ true → AreWhole new.tables known) → KeepsFacts (ledger_of old) (ledger_of new)
+keeps_facts old new facts same figures is further whole = record { facts = still; left = one_still old new still }
   where
     still : (known : List Fact) → AreListed old known → AreListed new known
     still known listed = record {
@@ -30,6 +31,7 @@ keeps_facts old new facts same figures is further = record { facts = still; left
       facts = same ∙ listed.facts;
       tables = subst (HaveCome new.tables) (is ∙ sym same)
           (further (subst AreLawful (sym (in_turn old facts known is listed)) listed.lawful) (subst (HaveCome old.tables) (sym is) listed.tables));
+      whole = whole known listed;
       figures = subst (λ (f : Figures). AreFigures f known) (sym figures) listed.figures;
     }
 
@@ -45,7 +47,7 @@ noting : (books : ListBooks) (last : Option BooksFault) → KeepsFacts (ledger_o
 noting books last = record { facts = still; left = one_still books (record books { last_failure = last }) still }
   where
     still : (known : List Fact) → AreListed books known → AreListed (record books { last_failure = last }) known
-    still known listed = record { lawful = listed.lawful; facts = listed.facts; tables = listed.tables; figures = listed.figures }
+    still known listed = record { lawful = listed.lawful; facts = listed.facts; tables = listed.tables; whole = listed.whole; figures = listed.figures }
 
 -- a call that takes memory for its answer
 pub only_noted : {T : Type 0} (books : ListBooks) (last : Option BooksFault) (answer : Result T BooksFault)

@@ -1,6 +1,6 @@
 -- What books of a list hold.
-use Rattle.std.specs.Prelude.{◌≡◌, ◌⊎◌, List, [], ◌∷◌, reverse}
-use Rattle.memory_books.specs.Tables.Whole.{HaveCome}
+use Rattle.std.specs.Prelude.{◌≡◌, ◌⊎◌, true, List, [], ◌∷◌, reverse}
+use Rattle.memory_books.specs.Tables.Whole.{HaveCome, AreWhole}
 use Rattle.office_books.specs.Ledgers.{Ledger, with_facts}
 use Rattle.office_events.specs.declared.facts.Fact.{Fact}
 use Rattle.memory_books.specs.Figures.{AreFigures}
@@ -8,12 +8,13 @@ use Rattle.memory_books.specs.Looking.{failures_in}
 use Rattle.memory_books.specs.declared.list_books.ListBooks.{ListBooks}
 use Rattle.office_rules.specs.Lawful.{AreLawful}
 
--- The facts are lawful, the list has them, the earliest first, the tables say what they say, as far as they have come, and
--- the figures are theirs.
+-- The facts are lawful, the list has them, the earliest first, the tables say what they say, as far as they have come, all
+-- of it where they are said to have caught up, and the figures are theirs.
 pub record AreListed (books : ListBooks) (known : List Fact) : Type 0 where
   pub lawful : AreLawful known
   pub facts : books.facts.items ≡ reverse known
   pub tables : HaveCome books.tables books.facts.items
+  pub whole : books.caught_up ≡ true → AreWhole books.tables known
   pub figures : AreFigures books.figures known
 
 -- with these facts after the others, figures that were those of the list are so again

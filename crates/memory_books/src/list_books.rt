@@ -1,5 +1,5 @@
 //! Books in memory.
-ghost use Rattle.std.specs.Prelude.{◌≡◌, List, [], ◌++◌, OnOk, OnErr, IsOk};
+ghost use Rattle.std.specs.Prelude.{◌≡◌, false, List, [], ◌++◌, OnOk, OnErr, IsOk};
 ghost use Rattle.office_books.specs.Faults.{faults_after};
 ghost use Rattle.office_events.specs.declared.facts.Fact.{Fact};
 ghost use Rattle.memory_books.specs.Tables.Whole.{AreWhole};
@@ -25,6 +25,8 @@ pub struct ListBooks {
     facts: Vec<Fact>,
     zone: Zone,
     tables: Tables,
+    /// Whether the tables have all facts.
+    caught_up: bool,
     figures: Figures,
     /// What the last failure was. It was want of memory, if there was any.
     last_failure: Option<BooksFault>,
@@ -45,6 +47,7 @@ impl ListBooks {
             facts: Vec::new(alloc),
             zone,
             tables: Tables::new(alloc),
+            caught_up: false,
             figures: Figures::new(),
             last_failure: None,
         }
@@ -60,7 +63,12 @@ impl ListBooks {
         ensures zone { self.new.zone ≡ self.old.zone }
         ensures failure { self.new.last_failure ≡ self.old.last_failure }
     {
-        self.tables.catch_up(&self.facts)
+        if self.caught_up {
+            return Ok(());
+        }
+        self.tables.catch_up(&self.facts)?;
+        self.caught_up = true;
+        Ok(())
     }
 
     /// The same for a look-up, which fails where memory is wanting.
@@ -83,12 +91,15 @@ impl ListBooks {
         ensures same_figures { OnErr result (self.new.figures ≡ self.old.figures) }
         ensures zone { self.new.zone ≡ self.old.zone }
         ensures tables { self.new.tables ≡ self.old.tables }
+        ensures behind { OnOk result (self.new.caught_up ≡ false) }
+        ensures same_reach { OnErr result (self.new.caught_up ≡ self.old.caught_up) }
         ensures failure { self.new.last_failure ≡ self.old.last_failure }
         ensures nothing { facts.items ≡ [] → IsOk result }
     {
         let figures = self.figures.after_all(&facts);
         let mut more = facts;
         self.facts.append(&mut more)?;
+        self.caught_up = false;
         self.figures = figures;
         Ok(())
     }

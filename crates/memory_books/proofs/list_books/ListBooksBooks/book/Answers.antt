@@ -8,7 +8,7 @@ use Rattle.memory_books.proofs.list_books.ListBooksBooks.book.Goals as goal
 pub returns-in-Ok : goal.returns-in-Ok
 returns-in-Ok c = record {
   books = added c.args.self.now c.add.new.self c.catch_up.new.self c.args.facts.items c.in-Ok.ensures.ok c.in-Ok.ensures.zone c.in-Ok.ensures.tables
-      c.in-Ok.ensures.figures c.catch_up.ensures.keeps c.catch_up.ensures.zone (c.catch_up.ensures.failure ∙ c.in-Ok.ensures.failure);
+      c.in-Ok.ensures.behind c.in-Ok.ensures.figures c.catch_up.ensures.keeps c.catch_up.ensures.zone (c.catch_up.ensures.failure ∙ c.in-Ok.ensures.failure);
 }
 
 pub returns-in-Err : goal.returns-in-Err
@@ -17,5 +17,5 @@ returns-in-Err c =
     c.told.ensures.noted ∙ ap (λ (l : Option BooksFault). faults_after c.told.result (failures_in l)) c.in-Err.ensures.failure in
     record {
       books = not_added c.args.self.now (record c.add.new.self { last_failure = c.told.new.last_failure }) c.args.facts.items c.in-Err.lacks c.told.result
-          c.told.ensures.answer c.in-Err.ensures.err c.in-Err.ensures.zone c.in-Err.ensures.tables c.in-Err.ensures.same_figures noted c.in-Err.ensures.nothing;
+          c.told.ensures.answer c.in-Err.ensures.err c.in-Err.ensures.zone c.in-Err.ensures.tables c.in-Err.ensures.same_reach c.in-Err.ensures.same_figures noted c.in-Err.ensures.nothing;
     }
