@@ -12,18 +12,17 @@ use office_books::{Books, BooksFault, after_entry};
 use office_events::{Fact, Installation, Name};
 use office_rules::{meters_are_kept, names_are_distinct};
 
-/// An installation after one more fact.
-fn with_fact(row: &Installation, fact: &Fact) -> Installation
-    requires { IsSound row.now }
-    ensures sound { IsSound result }
-    ensures with_it { result ≡ installation_with fact.now row.now }
+/// An installation goes on by one more fact.
+fn go_on(row: &mut Installation, fact: &Fact)
+    requires { IsSound row.old }
+    ensures sound { IsSound row.new }
+    ensures with_it { row.new ≡ installation_with fact.now row.old }
 {
     match fact {
-        Fact::Entry(booked) if booked.meter.is(&row.opening.meter) => after_entry(
-            row,
-            &booked.entry,
-        ),
-        _ => *row,
+        Fact::Entry(booked) if booked.meter.is(&row.opening.meter) => {
+            *row = after_entry(row, &booked.entry);
+        }
+        _ => {}
     }
 }
 
@@ -40,7 +39,7 @@ fn with_facts(row: &Installation, facts: &[Fact]) -> Installation
     accounts_go_on();
     let mut following = *row;
     for fact in facts {
-        following = with_fact(&following, fact);
+        go_on(&mut following, fact);
     }
     following
 }

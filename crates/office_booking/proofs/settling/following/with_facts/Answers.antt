@@ -10,7 +10,7 @@ loop-fact-preserved c =
       booked = c.entered_is_booked.ensures;
       go_on = c.accounts_go_on.ensures;
     } in (
-      c.with_fact-following.ensures.sound,
+      c.go_on.ensures.sound,
       one_fact_more laws _ _ c.loop-fact.fact-index _ _ c.fact-item.result c.loop-fact-test.true c.fact-item.is c.loop-fact.invariant.0
-          c.loop-fact.invariant.1 c.with_fact-following.ensures.with_it,
+          c.loop-fact.invariant.1 c.go_on.ensures.with_it,
     )
