@@ -234,9 +234,8 @@ def hold_refusals(room, parts, carries):
     same("no day", over(parts, "--from", "2024-02-30")[0], 2)
 
 
-def main():
-    room = tempfile.TemporaryDirectory()
-    place = pathlib.Path(room.name)
+def carry_parts(place):
+    """Makes the file that gets all, and the three that go on from each other; and when these were carried."""
     meters, on_time = site()
     first = [it.moment for it in meters[0].entries if it.moment < BEGIN + 33 * DAY and not it.voided][-1]
     carries = [first, on_time]
@@ -254,6 +253,14 @@ def main():
         there = [it for it in (meter.part(begins[at], ends[at]) for meter in meters) if it]
         fill(db, there, [it for it in held if begins[at] < it[1] <= ends[at]])
         same(f"the audit of {db}", run("audit", "--db", db)[1][:5], "fine:")
+    return whole, parts, carries
+
+
+def main():
+    room = tempfile.TemporaryDirectory()
+    place = pathlib.Path(room.name)
+    whole, parts, carries = carry_parts(place)
+    first, on_time = carries
     same("a carry cuts a quarter hour", [first % 900 != 0, on_time % 900], [True, 0])
     cut = datetime.datetime.fromtimestamp(first, datetime.timezone.utc).date()
     days = [None, "2024-01-01", str(cut), str(cut + datetime.timedelta(1)), "2024-02-29", "2024-03-31", "2024-05-01"]
@@ -266,4 +273,5 @@ def main():
 
 
 PROGRAM = sys.argv[1]
-main()
+if __name__ == "__main__":
+    main()

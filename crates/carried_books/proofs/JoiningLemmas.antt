@@ -2,4 +2,6 @@ pub mod Days
 pub mod Meters
 pub mod Files
 pub mod Reports
+pub mod Offices
 pub mod Keeping
+pub mod Earlier

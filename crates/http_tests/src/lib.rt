@@ -18,6 +18,8 @@ mod commands;
 #[cfg(test)]
 mod connections;
 #[cfg(test)]
+mod energy_over;
+#[cfg(test)]
 mod entering;
 #[cfg(test)]
 mod faults;

@@ -3,8 +3,10 @@ use crate::cases::reply;
 use crate::connections::{REPLY, REQUEST, Stepping, client_of, energy_of_ended};
 use crate::office::metered;
 use http_peers::{
-    HttpPort, KeptRoom, Now, Outbox, PORT_TOKEN, RunTold, Went, even_milliseconds, went_by,
+    EarlierFiles, HttpPort, KeptRoom, Now, Outbox, PORT_TOKEN, RunTold, Went, even_milliseconds,
+    went_by,
 };
+use interval_core::Zone;
 use memory_books::ListBooks;
 use mio::{Events, Interest, Poll, Token};
 use office_core::Office;
@@ -24,6 +26,7 @@ struct Listening {
     events: Events<Global>,
     port: HttpPort,
     monitor: RunMonitor,
+    zone: Zone,
 }
 
 // A listener that doesn't wait, and is registered as that of a port.
@@ -41,19 +44,22 @@ impl Listening {
         poll: Poll,
         listener: mio::net::TcpListener,
         room: KeptRoom,
+        zone: Zone,
     ) -> Result<Listening, AllocError> {
         Ok(Listening {
             poll,
             events: Events::with_capacity(alloc, 8)?,
             port: HttpPort::new(alloc, listener, room)?,
             monitor: RunMonitor::new(alloc, &[])?,
+            zone,
         })
     }
 
     fn open(rt: &HostRuntime, listener: TcpListener, room: KeptRoom) -> Result<Listening, Fail> {
         let poll = Poll::new(rt)?;
         let listener = registered(listener, &poll)?;
-        Ok(Listening::of(rt.alloc(), poll, listener, room)?)
+        let zone = Zone::read("UTC0")?;
+        Ok(Listening::of(rt.alloc(), poll, listener, room, zone)?)
     }
 
     // What waits is accepted, each peer attended, and those that were replied to are dropped.
@@ -66,6 +72,10 @@ impl Listening {
             let told = RunTold {
                 monitor: &self.monitor,
                 lacks: &[],
+                earlier: EarlierFiles {
+                    zone: self.zone,
+                    registers: &[],
+                },
             };
             let place = place_at(first, step);
             self.port

@@ -1,7 +1,7 @@
 //! Words that spell no command.
 use command_words::{WordsFault, command_of};
 
-static WRONG: [&[&str]; 56] = [
+static WRONG: [&[&str]; 58] = [
     &["bogus"],
     &[""],
     &["Plan"],
@@ -88,6 +88,34 @@ static WRONG: [&[&str]; 56] = [
         "a=h:1",
         "--carry",
         "day",
+    ],
+    &[
+        "run",
+        "--db",
+        "x",
+        "--listen",
+        "1",
+        "--every",
+        "1",
+        "--devices",
+        "a=h:1",
+        "--earlier",
+        "3",
+    ],
+    &[
+        "run",
+        "--db",
+        "x",
+        "--listen",
+        "1",
+        "--every",
+        "1",
+        "--devices",
+        "a=h:1",
+        "--carry",
+        "month",
+        "--earlier",
+        "1201",
     ],
 ];
 

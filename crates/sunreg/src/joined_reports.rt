@@ -96,8 +96,8 @@ fn say_fault<'a>(rt: &HostRuntime, before: &str, path: &'a str, fault: JoinFault
     }
 }
 
-// Adds what one file tells.
-fn join_in<'a, D: Databases, K: Keeping>(
+/// Adds what one file tells.
+pub(crate) fn join_in<'a, D: Databases, K: Keeping>(
     rt: &HostRuntime,
     databases: &D,
     joined: Option<JoinedOffice<K>>,

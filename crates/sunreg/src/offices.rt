@@ -4,6 +4,7 @@ ghost use Rattle.stored_office.specs.Tasks.Tasks.{IsOf};
 
 use crate::command_output::CommandOutput;
 use crate::copies::open_copy;
+use crate::earlier_files::{but_last, earlier_registers, last_of};
 use crate::escaped::Escaped;
 use crate::onward_clock::OnwardClock;
 use crate::run_words::sites_of;
@@ -368,10 +369,11 @@ pub(crate) fn run_opened<'a, D: Databases + NamedFiles, C: Clock>(
     over_connection(rt, surroundings, path, connection, task, clock)
 }
 
-/// Polls devices on a schedule and answers HTTP, as the settings say.
+/// Polls devices on a schedule and answers HTTP, as the settings say. Of several files, the oldest first, books go on in the last, and
+/// energy is told over all.
 pub(crate) fn run<'a>(
     rt: &HostRuntime,
-    path: &'a str,
+    paths: &[&'a str],
     devices: &[Device<'a>],
     settings: &Settings<'_>,
 ) -> Ending<'a> {
@@ -379,6 +381,13 @@ pub(crate) fn run<'a>(
         Ok(sites) => sites,
         Err(failure) => return Ending::Failed(failure),
     };
-    let done = run_over(rt, &Files::of(rt), path, sites.as_slice(), settings);
+    let path = last_of(paths);
+    let registers = match earlier_registers(rt, but_last(paths), path) {
+        Ok(registers) => registers,
+        Err(ending) => return ending,
+    };
+    let mut settings = *settings;
+    settings.earlier = registers.as_slice();
+    let done = run_over(rt, &Files::of(rt), path, sites.as_slice(), &settings);
     ending_of_done(done, OWN_HOST, settings.listen.port())
 }

@@ -2,12 +2,14 @@
 //! own; then the meters are carried into the file of that, and the next run goes on there.
 use crate::backups::is_there;
 use crate::carries::{NotCarried, carry_open, write_why};
+use crate::earlier_files::{but_last, earlier_registers, last_of};
 use crate::ended;
 use crate::escaped::Escaped;
 use crate::offices::{Files, OWN_HOST, open_in, run_opened};
 use crate::onward_clock::OnwardClock;
-use crate::period_files::{Led, leave_one_name, led_file, path_of};
+use crate::period_files::{Led, files_before, leave_one_name, led_file, path_of};
 use crate::run_words::{STANDARD_ERROR, sites_of};
+use carried_books::EarlierRegister;
 use command_words::Device;
 use energy_report::{Period, period_name};
 use interval_core::{Day, LAST_MOMENT, Zone, day_of};
@@ -84,6 +86,12 @@ fn say_behind(rt: &HostRuntime, path: &str) {
     }
 }
 
+fn say_alone(rt: &HostRuntime, path: &str) {
+    if let Ok(line) = format!(in rt.alloc(); "sunreg: {path}: energy is told of it alone\n") {
+        say(rt, line.as_bytes());
+    }
+}
+
 // Says why a file was not carried, and what comes of that.
 fn say_not_carried(rt: &HostRuntime, from: &str, why: &NotCarried<'_>, comes: &str) {
     let mut lines = Vec::new(rt.alloc());
@@ -92,14 +100,31 @@ fn say_not_carried(rt: &HostRuntime, from: &str, why: &NotCarried<'_>, comes: &s
     say(rt, lines.as_slice());
 }
 
+/// What the words say of the files of a run by periods: that which was given, after earlier ones, their periods, and over how many
+/// earlier ones of them energy is told, too.
+#[derive(Clone, Copy)]
+pub(crate) struct PeriodWords<'r> {
+    pub(crate) files: &'r [&'r str],
+    pub(crate) period: Period,
+    pub(crate) earlier: Option<u32>,
+}
+
 // What is run: the file that was given, and the periods of its files.
 #[derive(Clone, Copy)]
 struct Asked<'r> {
     rt: &'r HostRuntime,
     file: &'r str,
     period: Period,
+    words: PeriodWords<'r>,
     sites: &'r [Site],
     settings: Settings<'r>,
+}
+
+impl Asked<'_> {
+    // Whether energy is told over earlier files, too.
+    fn has_earlier(&self) -> bool {
+        self.words.earlier.is_some() || self.words.files.len() > 1
+    }
 }
 
 // Where books go on, and until which moment where one is told.
@@ -179,12 +204,69 @@ fn course_at<'a, S: Alter + Drop>(
     }
 }
 
+// Adds so many of these paths, from the end, to others.
+fn add_last<'p>(paths: &mut Vec<&'p str>, files: &'p [String], count: u32) -> io::Result<()> {
+    let first = files.len().saturating_sub(count as usize);
+    for place in first..files.len() {
+        paths.push(files[place].as_str())?;
+    }
+    Ok(())
+}
+
+// What is told of the registers in the files before the one at a path.
+fn registers_before<'a>(
+    asked: &Asked<'_>,
+    files: &'a [String],
+    given: &'a [&'a str],
+    path: &'a str,
+) -> Result<Vec<EarlierRegister>, Ending<'a>> {
+    let mut paths = Vec::new(asked.rt.alloc());
+    for file in given {
+        if paths.push(*file).is_err() {
+            return Err(Ending::Failed(Failure::Memory));
+        }
+    }
+    if add_last(&mut paths, files, asked.words.earlier.unwrap_or(0)).is_err() {
+        return Err(Ending::Failed(Failure::Memory));
+    }
+    earlier_registers(asked.rt, paths.as_slice(), path)
+}
+
+// The same, where it is asked for. Where the files can't be read, or don't join, that is told: a run that has just begun ends, and one
+// that goes on in another file tells that alone.
+fn told_before(
+    asked: &Asked<'_>,
+    path: &str,
+    is_first: bool,
+) -> Result<Vec<EarlierRegister>, ExitCode> {
+    let rt = asked.rt;
+    if !asked.has_earlier() {
+        return Ok(Vec::new(rt.alloc()));
+    }
+    let files = match files_before(rt, asked.file, asked.period, path) {
+        Ok(files) => files,
+        Err(failure) => return Err(ended(rt, &Ending::Failed(failure))),
+    };
+    match registers_before(asked, files.as_slice(), but_last(asked.words.files), path) {
+        Ok(registers) => Ok(registers),
+        Err(ending) => {
+            let code = ended(rt, &ending);
+            if is_first {
+                return Err(code);
+            }
+            say_alone(rt, path);
+            Ok(Vec::new(rt.alloc()))
+        }
+    }
+}
+
 // Runs over a connection to the file at a path, until a moment. None: it ended since that has come, or the time is up.
 fn run_in<D: Databases + NamedFiles, C: Clock + Drop>(
     asked: &Asked<'_>,
     databases: &D,
     path: &str,
     connection: Connection<D::Store>,
+    registers: &[EarlierRegister],
     clock: &mut OnwardClock<C>,
     until: Option<u64>,
     left: Option<u64>,
@@ -193,6 +275,7 @@ fn run_in<D: Databases + NamedFiles, C: Clock + Drop>(
     let mut settings = asked.settings;
     settings.lasts = left;
     settings.ends = until;
+    settings.earlier = registers;
     let done = run_opened(
         rt,
         databases,
@@ -250,18 +333,32 @@ fn open_again<'a, D: Databases>(
     open_once(rt, databases, path, is_new)
 }
 
-// Opens the file at a path that was just made, or was open before, and runs over it.
+// Reads the files before the one at a path that was just made, or was open before, opens that, and runs over it.
 fn run_at<D: Databases + NamedFiles, C: Clock + Drop>(
     asked: &Asked<'_>,
     databases: &D,
     path: &str,
+    is_first: bool,
     is_new: bool,
     clock: &mut OnwardClock<C>,
     until: Option<u64>,
     left: Option<u64>,
 ) -> Option<ExitCode> {
+    let registers = match told_before(asked, path, is_first) {
+        Ok(registers) => registers,
+        Err(code) => return Some(code),
+    };
     match open_again(asked.rt, databases, path, is_new) {
-        Ok(connection) => run_in(asked, databases, path, connection, clock, until, left),
+        Ok(connection) => run_in(
+            asked,
+            databases,
+            path,
+            connection,
+            registers.as_slice(),
+            clock,
+            until,
+            left,
+        ),
         Err(failure) => Some(ended(asked.rt, &Ending::Failed(failure))),
     }
 }
@@ -298,6 +395,7 @@ fn carry_on<D: Databases + NamedFiles, C: Clock + Drop>(
     from: &str,
     connection: Connection<D::Store>,
     to: &str,
+    is_first: bool,
     clock: &mut OnwardClock<C>,
     until: Option<u64>,
     left: Option<u64>,
@@ -309,13 +407,13 @@ fn carry_on<D: Databases + NamedFiles, C: Clock + Drop>(
             if !is_made(rt, to, &why) {
                 say_not_carried(rt, from, &why, NOT_CARRIED);
                 let until = next_try(asked.settings.every, clock.now());
-                return run_at(asked, databases, from, false, clock, until, left);
+                return run_at(asked, databases, from, is_first, false, clock, until, left);
             }
             // (it has its name, which can't be brought to the disk; or another process made it, and has it)
             say_not_carried(rt, from, &why, NAMED);
         }
     }
-    run_at(asked, databases, to, true, clock, until, left)
+    run_at(asked, databases, to, is_first, true, clock, until, left)
 }
 
 // Opens the file in which books are led: where a run has just let it go, with some patience.
@@ -362,7 +460,14 @@ fn turn<D: Databases + NamedFiles, C: Clock + Drop>(
         Err(failure) => return Some(ended(rt, &Ending::Failed(failure))),
     };
     match course {
-        Course::Stay(until) => run_in(asked, databases, path, connection, clock, until, left),
+        Course::Stay(until) => {
+            if asked.has_earlier() {
+                // (the file is read, too, which no connection to it may outlast)
+                drop(connection);
+                return run_at(asked, databases, path, is_first, false, clock, until, left);
+            }
+            run_in(asked, databases, path, connection, &[], clock, until, left)
+        }
         Course::Carry(to, until) => {
             carry_on(
                 asked,
@@ -370,6 +475,7 @@ fn turn<D: Databases + NamedFiles, C: Clock + Drop>(
                 path,
                 connection,
                 to.as_str(),
+                is_first,
                 clock,
                 until,
                 left,
@@ -394,10 +500,9 @@ fn left_of(rt: &HostRuntime, lasts: Option<u64>, begun: Option<Instant>) -> Opti
 /// Polls devices on a schedule and answers HTTP, as the settings say, and begins a new file with each period.
 pub(crate) fn run_by_periods<'a>(
     rt: &HostRuntime,
-    file: &'a str,
+    words: PeriodWords<'a>,
     devices: &[Device<'a>],
     settings: &Settings<'_>,
-    period: Period,
 ) -> ExitCode {
     let sites = match sites_of(rt, devices) {
         Ok(sites) => sites,
@@ -405,8 +510,9 @@ pub(crate) fn run_by_periods<'a>(
     };
     let asked = Asked {
         rt,
-        file,
-        period,
+        file: last_of(words.files),
+        period: words.period,
+        words,
         sites: sites.as_slice(),
         settings: *settings,
     };
