@@ -224,7 +224,7 @@ def hold_refusals(room, parts, carries):
     unjoined("another zone", [one, zone], f"{zone}: its days are those of another zone than the days of {one}: ")
     none = str(room / "none.db")
     subprocess.run(["bash", str(HERE / "schema.sh"), none, ZONE], check=True)
-    unjoined("it is not recorded later", [one, none], f"{none}: the register is not recorded there, ")
+    unjoined("it is not recorded later", [one, none], f"{none}: a register is not recorded there, ")
     same("but before", over([none, *parts]), over(parts))
     same("nowhere", run("report", "--db", one, "--db", two, "--register", "far")[:2], (1, "refused 1\n"))
     same("no name", run("report", "--db", one, "--db", two, "--register", "?")[:2], (1, "refused 1\n"))

@@ -510,7 +510,7 @@ impl HttpPort {
     fn reply_days<B: Books>(
         &self,
         office: &mut Office<B>,
-        earlier: EarlierFiles<'_>,
+        earlier: &EarlierFiles<'_>,
         register: &Option<Name>,
         form: &ReportForm,
     ) -> PeerReply

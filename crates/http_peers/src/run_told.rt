@@ -7,5 +7,5 @@ use run_status::{DeviceLack, RunMonitor};
 pub struct RunTold<'a> {
     pub monitor: &'a RunMonitor,
     pub lacks: &'a [DeviceLack],
-    pub earlier: EarlierFiles<'a>,
+    pub earlier: &'a EarlierFiles<'a>,
 }

@@ -65,6 +65,10 @@ impl Listening {
     // What waits is accepted, each peer attended, and those that were replied to are dropped.
     fn turn(&mut self, office: &mut Office<ListBooks>, time: u64) {
         let now = Now { time, moment: 2800 };
+        let earlier = EarlierFiles {
+            zone: self.zone,
+            registers: &[],
+        };
         self.port.begin_turn();
         self.port.accept(self.poll.registry(), time);
         let first = self.port.first();
@@ -72,10 +76,7 @@ impl Listening {
             let told = RunTold {
                 monitor: &self.monitor,
                 lacks: &[],
-                earlier: EarlierFiles {
-                    zone: self.zone,
-                    registers: &[],
-                },
+                earlier: &earlier,
             };
             let place = place_at(first, step);
             self.port

@@ -1,39 +1,53 @@
 //! Earlier files of an office that goes on, over which a run tells energy, too.
-use crate::escaped::Escaped;
-use crate::joined_reports::join_in;
+use crate::carries::write_refusal;
+use crate::joined_reports::{NotJoined, join_in, last_of};
 use crate::offices::{Files, Opening};
-use carried_books::{EarlierRegister, HeldRegisters, KeptRegisters};
+use carried_books::{EarlierRegister, HeldRegisters, Keeping, KeptRegisters};
 use interval_core::DayRange;
 use office_events::Name;
 use std::io::Write;
 use stored_office::{Ending, Failure, JoinedOffice};
 
-// All registers and days are asked for, whatever the name.
+// Whichever register is named, all are asked for.
 const ANY: &[u8] = b"any";
 
-const ALL: DayRange = DayRange {
-    from: None,
-    till: None,
-};
-
-// Says that a file is read.
-fn say_read(rt: &HostRuntime, path: &str) {
-    let mut errors = Escaped::new(rt.stderr());
-    let _said = write!(errors, "sunreg: {path}: reads it, as an earlier file\n");
+// Adds what a file tells of all its registers, or says why it doesn't join.
+fn join<'a, K: Keeping, E: Write>(
+    rt: &HostRuntime,
+    joined: Option<JoinedOffice<K>>,
+    before: &str,
+    path: &'a str,
+    any: &Name,
+    is_new: bool,
+    errors: &mut E,
+) -> Result<JoinedOffice<K>, Ending<'a>> {
+    let files = Files::opened(rt, Opening::ToRead);
+    let all = DayRange::all();
+    match join_in(rt, &files, joined, before, path, any, &all, is_new, errors) {
+        Ok(next) => Ok(next),
+        Err(why) => match why {
+            NotJoined::Failed(failure) => Err(Ending::Failed(failure)),
+            NotJoined::Refused(why) => {
+                let _said = write_refusal(errors, path, why);
+                Err(Ending::Refused)
+            }
+            NotJoined::Apart => Err(Ending::Refused),
+        },
+    }
 }
 
 // What the files tell of their registers, one after the other: one of them is open at a time.
-fn keep_all<'a>(
+fn keep_all<'a, E: Write>(
     rt: &HostRuntime,
     paths: &[&'a str],
     any: &Name,
+    errors: &mut E,
 ) -> Result<Option<JoinedOffice<KeptRegisters>>, Ending<'a>> {
-    let files = Files::opened(rt, Opening::ToRead);
     let mut joined = None;
     let mut before = "";
     for path in paths {
-        say_read(rt, *path);
-        match join_in(rt, &files, joined, before, *path, any, ALL) {
+        let _said = write!(errors, "sunreg: {}: reads it, as an earlier file\n", *path);
+        match join(rt, joined, before, *path, any, false, errors) {
             Ok(next) => joined = Some(next),
             Err(ending) => return Err(ending),
         }
@@ -42,36 +56,36 @@ fn keep_all<'a>(
     Ok(joined)
 }
 
+// What was kept of the registers.
+fn registers_of<'a>(held: JoinedOffice<HeldRegisters>) -> Result<Vec<EarlierRegister>, Ending<'a>> {
+    let JoinedOffice { kept, .. } = held;
+    let HeldRegisters { kept } = kept;
+    match kept.into_registers() {
+        Ok(registers) => Ok(registers),
+        Err(_) => Err(Ending::Failed(Failure::Memory)),
+    }
+}
+
 // Holds the file in which books go on to those before it.
-fn hold<'a>(
+fn hold<'a, E: Write>(
     rt: &HostRuntime,
+    joined: JoinedOffice<KeptRegisters>,
     before: &str,
     path: &'a str,
     any: &Name,
-    joined: JoinedOffice<KeptRegisters>,
+    is_new: bool,
+    errors: &mut E,
 ) -> Result<Vec<EarlierRegister>, Ending<'a>> {
-    let files = Files::opened(rt, Opening::ToRead);
     let JoinedOffice { zone, kept } = joined;
     let kept = HeldRegisters { kept };
     let held = Some(JoinedOffice { zone, kept });
-    match join_in(rt, &files, held, before, path, any, ALL) {
-        Ok(held) => match held.kept.kept.into_registers() {
-            Ok(registers) => Ok(registers),
-            Err(_) => Err(Ending::Failed(Failure::Memory)),
-        },
+    match join(rt, held, before, path, any, is_new, errors) {
+        Ok(held) => registers_of(held),
         Err(ending) => Err(ending),
     }
 }
 
-/// The last of the files.
-pub(crate) fn last_of<'a>(paths: &[&'a str]) -> &'a str {
-    match paths.last() {
-        Some(path) => *path,
-        None => "",
-    }
-}
-
-/// Those before it.
+/// The files before the last.
 pub(crate) fn but_last<'a, 'f>(paths: &'f [&'a str]) -> &'f [&'a str] {
     match paths.len() {
         0 => &[],
@@ -79,19 +93,29 @@ pub(crate) fn but_last<'a, 'f>(paths: &'f [&'a str]) -> &'f [&'a str] {
     }
 }
 
-/// What earlier files tell of their registers, the oldest first, where the file in which books go on joins them. All are only read, one
-/// after the other, which is said.
-pub(crate) fn earlier_registers<'a>(
+/// What earlier files, the oldest first, tell of their registers, where the file in which books go on, which may just have been made,
+/// joins them. All are only read, one after the other. That they are, and what doesn't join, is said to a writer.
+pub(crate) fn earlier_registers<'a, E: Write>(
     rt: &HostRuntime,
     paths: &[&'a str],
     current: &'a str,
+    is_new: bool,
+    errors: &mut E,
 ) -> Result<Vec<EarlierRegister>, Ending<'a>> {
     let Some(any) = Name::new(ANY) else {
-        return Ok(Vec::new(rt.alloc()));
+        return Err(Ending::Failed(Failure::Memory));
     };
-    match keep_all(rt, paths, &any) {
+    match keep_all(rt, paths, &any, errors) {
         Err(ending) => Err(ending),
         Ok(None) => Ok(Vec::new(rt.alloc())),
-        Ok(Some(joined)) => hold(rt, last_of(paths), current, &any, joined),
+        Ok(Some(joined)) => hold(
+            rt,
+            joined,
+            last_of(paths),
+            current,
+            &any,
+            is_new,
+            errors,
+        ),
     }
 }

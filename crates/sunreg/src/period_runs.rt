@@ -2,9 +2,10 @@
 //! own; then the meters are carried into the file of that, and the next run goes on there.
 use crate::backups::is_there;
 use crate::carries::{NotCarried, carry_open, write_why};
-use crate::earlier_files::{but_last, earlier_registers, last_of};
+use crate::earlier_files::{but_last, earlier_registers};
 use crate::ended;
 use crate::escaped::Escaped;
+use crate::joined_reports::last_of;
 use crate::offices::{Files, OWN_HOST, open_in, run_opened};
 use crate::onward_clock::OnwardClock;
 use crate::period_files::{Led, files_before, leave_one_name, led_file, path_of};
@@ -20,6 +21,7 @@ use run_schedule::{Plan, next_try, period_until, plan_of};
 use socket_link::{Clock, SystemClock};
 use sqlite::types::ValueRef;
 use sqlite::{Alter, Connection};
+use std::alloc::AllocError;
 use std::io::{self, Write};
 use std::process::ExitCode;
 use std::thread::sleep;
@@ -87,7 +89,7 @@ fn say_behind(rt: &HostRuntime, path: &str) {
 }
 
 fn say_alone(rt: &HostRuntime, path: &str) {
-    if let Ok(line) = format!(in rt.alloc(); "sunreg: {path}: energy is told of it alone\n") {
+    if let Ok(line) = format!(in rt.alloc(); "sunreg: {path}: energy is told of this file alone\n") {
         say(rt, line.as_bytes());
     }
 }
@@ -109,13 +111,15 @@ pub(crate) struct PeriodWords<'r> {
     pub(crate) earlier: Option<u32>,
 }
 
-// What is run: the file that was given, and the periods of its files.
+// What is run: the file that was given, and the periods of its files; and the earlier files over which energy is told, too: those that
+// were given, and how many of the periods.
 #[derive(Clone, Copy)]
 struct Asked<'r> {
     rt: &'r HostRuntime,
     file: &'r str,
     period: Period,
-    words: PeriodWords<'r>,
+    given: &'r [&'r str],
+    earlier: Option<u32>,
     sites: &'r [Site],
     settings: Settings<'r>,
 }
@@ -123,7 +127,7 @@ struct Asked<'r> {
 impl Asked<'_> {
     // Whether energy is told over earlier files, too.
     fn has_earlier(&self) -> bool {
-        self.words.earlier.is_some() || self.words.files.len() > 1
+        self.earlier.is_some() || !self.given.is_empty()
     }
 }
 
@@ -205,7 +209,11 @@ fn course_at<'a, S: Alter + Drop>(
 }
 
 // Adds so many of these paths, from the end, to others.
-fn add_last<'p>(paths: &mut Vec<&'p str>, files: &'p [String], count: u32) -> io::Result<()> {
+fn add_last<'p>(
+    paths: &mut Vec<&'p str>,
+    files: &'p [String],
+    count: u32,
+) -> Result<(), AllocError> {
     let first = files.len().saturating_sub(count as usize);
     for place in first..files.len() {
         paths.push(files[place].as_str())?;
@@ -213,50 +221,74 @@ fn add_last<'p>(paths: &mut Vec<&'p str>, files: &'p [String], count: u32) -> io
     Ok(())
 }
 
-// What is told of the registers in the files before the one at a path.
-fn registers_before<'a>(
-    asked: &Asked<'_>,
-    files: &'a [String],
-    given: &'a [&'a str],
-    path: &'a str,
-) -> Result<Vec<EarlierRegister>, Ending<'a>> {
-    let mut paths = Vec::new(asked.rt.alloc());
-    for file in given {
-        if paths.push(*file).is_err() {
-            return Err(Ending::Failed(Failure::Memory));
-        }
+// These paths, and then so many of others, from the end.
+fn paths_of<'p>(
+    rt: &HostRuntime,
+    given: &'p [&'p str],
+    files: &'p [String],
+    count: u32,
+) -> Result<Vec<&'p str>, AllocError> {
+    let mut paths = Vec::new(rt.alloc());
+    for path in given {
+        paths.push(*path)?;
     }
-    if add_last(&mut paths, files, asked.words.earlier.unwrap_or(0)).is_err() {
-        return Err(Ending::Failed(Failure::Memory));
-    }
-    earlier_registers(asked.rt, paths.as_slice(), path)
+    add_last(&mut paths, files, count)?;
+    Ok(paths)
 }
 
-// The same, where it is asked for. Where the files can't be read, or don't join, that is told: a run that has just begun ends, and one
-// that goes on in another file tells that alone.
+// What the files before the one at a path tell of their registers. What is said of it isn't waited for.
+fn registers_before<'a>(
+    rt: &HostRuntime,
+    given: &'a [&'a str],
+    files: &'a [String],
+    count: u32,
+    path: &'a str,
+    is_new: bool,
+) -> Result<Vec<EarlierRegister>, Ending<'a>> {
+    let mut errors = Escaped::new(Unwaited { rt });
+    match paths_of(rt, given, files, count) {
+        Ok(paths) => earlier_registers(rt, paths.as_slice(), path, is_new, &mut errors),
+        Err(_) => Err(Ending::Failed(Failure::Memory)),
+    }
+}
+
+// What comes of earlier files that can't be read, or don't join: a run that has just begun ends, and one that goes on in another file
+// tells that alone.
+fn untold(
+    rt: &HostRuntime,
+    path: &str,
+    is_first: bool,
+    ending: &Ending<'_>,
+) -> Result<Vec<EarlierRegister>, ExitCode> {
+    if is_first {
+        return Err(ended(rt, ending));
+    }
+    if let Ending::Failed(failure) = ending {
+        let mut errors = Escaped::new(Unwaited { rt });
+        let _said = write!(errors, "sunreg: {failure}\n");
+    }
+    say_alone(rt, path);
+    Ok(Vec::new(rt.alloc()))
+}
+
+// What is told of the registers of the files before the one at a path, where that is asked for.
 fn told_before(
     asked: &Asked<'_>,
     path: &str,
     is_first: bool,
+    is_new: bool,
 ) -> Result<Vec<EarlierRegister>, ExitCode> {
     let rt = asked.rt;
     if !asked.has_earlier() {
         return Ok(Vec::new(rt.alloc()));
     }
-    let files = match files_before(rt, asked.file, asked.period, path) {
-        Ok(files) => files,
-        Err(failure) => return Err(ended(rt, &Ending::Failed(failure))),
-    };
-    match registers_before(asked, files.as_slice(), but_last(asked.words.files), path) {
-        Ok(registers) => Ok(registers),
-        Err(ending) => {
-            let code = ended(rt, &ending);
-            if is_first {
-                return Err(code);
-            }
-            say_alone(rt, path);
-            Ok(Vec::new(rt.alloc()))
-        }
+    let count = asked.earlier.unwrap_or(0);
+    match files_before(rt, asked.file, asked.period, path) {
+        Ok(files) => match registers_before(rt, asked.given, files.as_slice(), count, path, is_new) {
+            Ok(registers) => Ok(registers),
+            Err(ending) => untold(rt, path, is_first, &ending),
+        },
+        Err(failure) => untold(rt, path, is_first, &Ending::Failed(failure)),
     }
 }
 
@@ -344,7 +376,7 @@ fn run_at<D: Databases + NamedFiles, C: Clock + Drop>(
     until: Option<u64>,
     left: Option<u64>,
 ) -> Option<ExitCode> {
-    let registers = match told_before(asked, path, is_first) {
+    let registers = match told_before(asked, path, is_first, is_new) {
         Ok(registers) => registers,
         Err(code) => return Some(code),
     };
@@ -462,7 +494,7 @@ fn turn<D: Databases + NamedFiles, C: Clock + Drop>(
     match course {
         Course::Stay(until) => {
             if asked.has_earlier() {
-                // (the file is read, too, which no connection to it may outlast)
+                // (it is read before, by a connection of its own)
                 drop(connection);
                 return run_at(asked, databases, path, is_first, false, clock, until, left);
             }
@@ -512,7 +544,8 @@ pub(crate) fn run_by_periods<'a>(
         rt,
         file: last_of(words.files),
         period: words.period,
-        words,
+        given: but_last(words.files),
+        earlier: words.earlier,
         sites: sites.as_slice(),
         settings: *settings,
     };
