@@ -1,5 +1,5 @@
 -- The command that the words spell.
-use Rattle.std.specs.Prelude.{ℕ, Bool, true, false, ◌&&◌, is_some, is_none, length, nat_lt, List, [], Option, Some, None, codes, map, option_map, if◌then◌else◌}
+use Rattle.std.specs.Prelude.{ℕ, Bool, true, false, ◌&&◌, ◌||◌, is_some, is_none, length, nat_lt, List, [], Option, Some, None, codes, map, option_map, if◌then◌else◌}
 use Rattle.std.specs.Str.{bytes_eq}
 use Rattle.clap.specs.Words.{Row, Text}
 use Rattle.energy_report.specs.Words.{format_of, period_of, unit_of}
@@ -243,11 +243,12 @@ carried_by word =
     if bytes_eq word (codes "month") then Some Month
     else (if bytes_eq word (codes "year") then Some Year else None)
 
--- Of how many earlier files of periods energy is told, too: only of a run that begins new ones.
-abbrev pub earlier_in : (carry : Option Period) → List Row → Option (Option ℕ)
-earlier_in carry rows =
+-- Over how many earlier files of periods energy is told, too: of a run that begins new ones, where no files are named before.
+abbrev pub earlier_in : (are_several : Bool) → (carry : Option Period) → List Row
+    → Option (Option ℕ)
+earlier_in are_several carry rows =
     given (number_if 1200 (codes "earlier") rows) (λ earlier.
-    if is_some earlier && is_none carry then None else Some earlier)
+    if is_some earlier && (are_several || is_none carry) then None else Some earlier)
 
 abbrev pub run_in : List Row → Option Line
 run_in rows =
@@ -257,7 +258,7 @@ run_in rows =
     given (number_if 4000000000 (codes "for") rows) (λ lasts.
     given (devices_at rows) (λ devices.
     given (if_some carried_by (text_at (codes "carry") rows)) (λ carry.
-    given (earlier_in carry rows) (λ earlier.
+    given (earlier_in (nat_lt 1 (length dbs)) carry rows) (λ earlier.
     given (number_if 1000000 (codes "most-kept") rows) (λ most_kept.
     Some (Run dbs listen every devices lasts carry earlier (hosts_in rows) most_kept
     (is_set (codes "verbose") rows))))))))))

@@ -123,7 +123,7 @@ pub enum CommandLine<'a> {
         lasts: Option<u32>,
         /// By which periods it begins a new file.
         carry: Option<Period>,
-        /// Over how many earlier ones of these files energy is told, too.
+        /// Over how many earlier ones of its files by periods energy is told, too; where several files are named, over all.
         earlier: Option<u32>,
         host_names: Vec<&'a str>,
         /// How many megabytes of requests may be kept.

@@ -257,15 +257,26 @@ fn enter_line<'a>(alloc: Global, found: &ArgMatches<'a>) -> Result<CommandLine<'
     })
 }
 
-// How many earlier files of periods are told of, too. Only who begins new ones has them.
+// Over how many earlier files of periods energy is told, too. Only who begins new ones has them, and where files are named before
+// those, all are told of.
 fn earlier_if<'a>(
     found: &ArgMatches<'a>,
+    are_several: bool,
     carry: Option<Period>,
 ) -> Result<Option<u32>, ValueFault<'a>>
-    ensures { Reads (λ earlier. earlier) (earlier_in carry (rows_in found.now)) result }
+    ensures { Reads (λ earlier. earlier) (earlier_in are_several carry (rows_in found.now)) result }
 {
     let earlier = number_if(found, EARLIER)?;
-    if earlier.is_some() && carry.is_none() {
+    if earlier.is_none() {
+        return Ok(None);
+    }
+    if are_several {
+        return Err(ValueFault::Alone {
+            option: "earlier",
+            other: "db",
+        });
+    }
+    if carry.is_none() {
         return Err(ValueFault::Without {
             option: "earlier",
             other: "carry",
@@ -283,7 +294,7 @@ fn run_line<'a>(alloc: Global, found: &ArgMatches<'a>) -> Result<CommandLine<'a>
     let lasts = number_if(found, LASTS)?;
     let devices = devices(alloc, found)?;
     let carry = carry_if(found)?;
-    let earlier = earlier_if(found, carry)?;
+    let earlier = earlier_if(found, dbs.len() > 1, carry)?;
     let host_names = texts(alloc, found, HOST_NAME)?;
     let most_kept = number_if(found, MOST_KEPT)?;
     Ok(CommandLine::Run {

@@ -532,7 +532,8 @@ fn run_from<R: Net + std::rt::Clock, B: Books, C: Clock, W: Write, E: Write>(
     )
 }
 
-/// Tells what was left in the books of an open office, polls its devices and answers HTTP, until the time is up.
+/// Tells what was left in the books of an open office, polls its devices and answers HTTP, until the time is up. What the page asks first is
+/// asked once before: where books keep what look-ups answered, no device waits for that later.
 pub(crate) fn run_open<R: Net + std::rt::Clock, B: Books, C: Clock, W: Write, E: Write>(
     rt: &R,
     alloc: Global,
@@ -549,6 +550,7 @@ pub(crate) fn run_open<R: Net + std::rt::Clock, B: Books, C: Clock, W: Write, E:
     ensures { RunsOn (texts settings.now.host_names.now) B.ledger
         (C.moments clock.old) (C.moments clock.new) office.old office.new }
 {
+    drop(office.site());
     let moment = clock.now();
     run_from(
         rt, alloc, left, lacks, settings, sites, zone, office, moment, clock, output, errors,

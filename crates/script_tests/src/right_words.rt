@@ -535,7 +535,34 @@ fn run_takes_an_end_and_verbose(rt: HostRuntime) {
     }
 }
 
-static RUN_BY_YEARS: [&str; 15] = [
+static RUN_BY_YEARS: [&str; 13] = [
+    "run",
+    "--db",
+    "o.db",
+    "--listen",
+    "8080",
+    "--every",
+    "60",
+    "--devices",
+    "inv=192.0.2.7:502",
+    "--carry",
+    "year",
+    "--earlier",
+    "1200",
+];
+
+#[test]
+fn run_takes_a_file_each_year(rt: HostRuntime) {
+    match command_of(rt.alloc(), &RUN_BY_YEARS) {
+        Ok(CommandLine::Run { carry, earlier, .. }) => {
+            assert!(rt; carry == Some(Period::Year));
+            assert!(rt; earlier == Some(1200));
+        }
+        _ => panic!(rt; "no run"),
+    }
+}
+
+static RUN_SEVERAL: [&str; 13] = [
     "run",
     "--db",
     "2025.db",
@@ -546,27 +573,17 @@ static RUN_BY_YEARS: [&str; 15] = [
     "--devices",
     "inv=192.0.2.7:502",
     "--carry",
-    "year",
+    "month",
     "--db",
     "o.db",
-    "--earlier",
-    "1200",
 ];
 
 #[test]
-fn run_takes_a_file_each_year(rt: HostRuntime) {
-    match command_of(rt.alloc(), &RUN_BY_YEARS) {
-        Ok(CommandLine::Run { carry, .. }) => assert!(rt; carry == Some(Period::Year)),
-        _ => panic!(rt; "no run"),
-    }
-}
-
-#[test]
-fn run_takes_earlier_files(rt: HostRuntime) {
-    match command_of(rt.alloc(), &RUN_BY_YEARS) {
+fn run_takes_several_files(rt: HostRuntime) {
+    match command_of(rt.alloc(), &RUN_SEVERAL) {
         Ok(CommandLine::Run { dbs, earlier, .. }) => {
             assert!(rt; dbs.as_slice() == ["2025.db", "o.db"].as_slice());
-            assert!(rt; earlier == Some(1200));
+            assert!(rt; earlier == None);
         }
         _ => panic!(rt; "no run"),
     }

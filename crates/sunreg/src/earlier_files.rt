@@ -46,7 +46,6 @@ fn keep_all<'a, E: Write>(
     let mut joined = None;
     let mut before = "";
     for path in paths {
-        let _said = write!(errors, "sunreg: {}: reads it, as an earlier file\n", *path);
         match join(rt, joined, before, *path, any, false, errors) {
             Ok(next) => joined = Some(next),
             Err(ending) => return Err(ending),
@@ -93,8 +92,20 @@ pub(crate) fn but_last<'a, 'f>(paths: &'f [&'a str]) -> &'f [&'a str] {
     }
 }
 
+// Says over how many earlier files energy is told, too, and which is the first of them.
+fn say_earlier<E: Write>(errors: &mut E, current: &str, paths: &[&str]) {
+    if let Some(first) = paths.first() {
+        let count = paths.len();
+        let _said = write!(
+            errors,
+            "sunreg: {current}: energy is told over {count} earlier files too, from {} on\n",
+            *first
+        );
+    }
+}
+
 /// What earlier files, the oldest first, tell of their registers, where the file in which books go on, which may just have been made,
-/// joins them. All are only read, one after the other. That they are, and what doesn't join, is said to a writer.
+/// joins them. All are only read, one after the other. How many they are, or what doesn't join, is said to a writer.
 pub(crate) fn earlier_registers<'a, E: Write>(
     rt: &HostRuntime,
     paths: &[&'a str],
@@ -108,14 +119,12 @@ pub(crate) fn earlier_registers<'a, E: Write>(
     match keep_all(rt, paths, &any, errors) {
         Err(ending) => Err(ending),
         Ok(None) => Ok(Vec::new(rt.alloc())),
-        Ok(Some(joined)) => hold(
-            rt,
-            joined,
-            last_of(paths),
-            current,
-            &any,
-            is_new,
-            errors,
-        ),
+        Ok(Some(joined)) => {
+            let registers = hold(rt, joined, last_of(paths), current, &any, is_new, errors);
+            if registers.is_ok() {
+                say_earlier(errors, current, paths);
+            }
+            registers
+        }
     }
 }

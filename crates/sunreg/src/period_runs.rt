@@ -103,7 +103,7 @@ fn say_not_carried(rt: &HostRuntime, from: &str, why: &NotCarried<'_>, comes: &s
 }
 
 /// What the words say of the files of a run by periods: that which was given, after earlier ones, their periods, and over how many
-/// earlier ones of them energy is told, too.
+/// earlier ones of periods energy is told, too, where none was given before it.
 #[derive(Clone, Copy)]
 pub(crate) struct PeriodWords<'r> {
     pub(crate) files: &'r [&'r str],
@@ -128,6 +128,15 @@ impl Asked<'_> {
     // Whether energy is told over earlier files, too.
     fn has_earlier(&self) -> bool {
         self.earlier.is_some() || !self.given.is_empty()
+    }
+
+    // Over how many of periods at most: all are between those that were given and the one in which books go on.
+    fn most_earlier(&self) -> u32 {
+        if self.given.is_empty() {
+            self.earlier.unwrap_or(0)
+        } else {
+            u32::MAX
+        }
     }
 }
 
@@ -282,7 +291,7 @@ fn told_before(
     if !asked.has_earlier() {
         return Ok(Vec::new(rt.alloc()));
     }
-    let count = asked.earlier.unwrap_or(0);
+    let count = asked.most_earlier();
     match files_before(rt, asked.file, asked.period, path) {
         Ok(files) => match registers_before(rt, asked.given, files.as_slice(), count, path, is_new) {
             Ok(registers) => Ok(registers),
