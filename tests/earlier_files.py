@@ -14,7 +14,7 @@ import tempfile
 import time
 
 import files_as_one as site
-from files_as_one import BEGIN, DAY, PROGRAM, ask, carry_parts, copy, counts, same
+from files_as_one import PROGRAM, ask, carry_parts, copy, counts, same
 
 
 def free_port():
@@ -83,7 +83,7 @@ def hold_replies(place, whole, parts):
             same(target, three.get(target), one.get(target))
         same("it has rows", len(three.get("/registers/main/days/2023-12-01/2024-05-01")[1].splitlines()) > 90, True)
     told = [line for line in three.said if "energy is told" in line]
-    same("what it tells is told", told, [f"sunreg: {parts[-1]}: energy is told over 2 earlier files too, from {parts[0]} on"])
+    same("what it tells is told", told, [f"sunreg: {parts[-1]}: energy is told over earlier files too: 2, from {parts[0]} on"])
     alone = copy(parts[-1], "alone.db")
     with Run([alone]) as it:
         told = it.get("/registers/main/months")
@@ -113,7 +113,7 @@ def hold_periods(place, whole, parts):
     made = [str(it) for it in sorted(folder.glob("office-*.db"))]
     same("the new file", len(made), 1)
     same("what is said of it", [line.removeprefix(f"sunreg: {made[0]}: ") for line in it.said if line.startswith(f"sunreg: {made[0]}: ")],
-         [f"energy is told over 1 earlier files too, from {office} on"])
+         [f"energy is told over earlier files too: 1, from {office} on"])
     with Run([office], "--carry", "month", "--earlier", "1") as it:
         same("so it is at the next start", it.get(target), before)
     with Run([office], "--carry", "month") as it:

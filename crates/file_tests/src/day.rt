@@ -8,7 +8,7 @@ use std::test::Fail;
 
 /// A device, its register and its meter; a read of them, and the counter shows 5200 at the scale 0. Then the meter is
 /// exchanged, and the new one is read by hand.
-const DAY: &str = "1000 device inv 1 5 1
+pub(crate) const DAY: &str = "1000 device inv 1 5 1
 1000 register main inv 3 40094 @40096
 1000 install main m1 5000 0 100000
 1898 connect inv

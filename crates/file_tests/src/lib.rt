@@ -15,6 +15,8 @@ mod day;
 #[cfg(test)]
 mod day_ranges;
 #[cfg(test)]
+mod earlier_files;
+#[cfg(test)]
 mod failures;
 #[cfg(test)]
 mod files;

@@ -6,6 +6,7 @@ use carried_books::EarlierRegister;
 use http_peers::{place_among, reply_energy_over};
 use interval_core::{Share, Zone};
 use memory_books::ListBooks;
+use office_books::RowSink;
 use office_core::Office;
 use office_events::Name;
 use run_http::RunRoute;
@@ -16,6 +17,17 @@ static EARLIER: [Share; 2] = [Share { start: 0, mwh: 5 }, Share { start: 900, mw
 
 // The office has energy in the quarter hours from 900 and 1800.
 static LATE: [Share; 1] = [Share { start: 901, mwh: 1 }];
+
+/// What earlier files tell of the register `main`.
+pub(crate) fn main_of(alloc: Global) -> Result<Vec<EarlierRegister>, Fail> {
+    let mut it = EarlierRegister::new(alloc, Name::new(b"main").ok_or("no name")?);
+    for row in &EARLIER {
+        it.put(*row);
+    }
+    let mut registers = Vec::new(alloc);
+    registers.push(it)?;
+    Ok(registers)
+}
 
 // What is replied to a target by an office, with rows of earlier files before its own.
 fn energy_over(

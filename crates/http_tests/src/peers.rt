@@ -1,7 +1,10 @@
 //! Peers of a run, over sockets that don't wait.
 use crate::cases::reply;
 use crate::connections::{REPLY, REQUEST, Stepping, client_of, energy_of_ended};
-use crate::office::metered;
+use crate::energy_over::main_of;
+use crate::meter_rows::text_reply;
+use crate::office::{metered, polled};
+use carried_books::EarlierRegister;
 use http_peers::{
     EarlierFiles, HttpPort, KeptRoom, Now, Outbox, PORT_TOKEN, RunTold, Went, even_milliseconds,
     went_by,
@@ -27,6 +30,7 @@ struct Listening {
     port: HttpPort,
     monitor: RunMonitor,
     zone: Zone,
+    earlier: Vec<EarlierRegister>,
 }
 
 // A listener that doesn't wait, and is registered as that of a port.
@@ -45,6 +49,7 @@ impl Listening {
         listener: mio::net::TcpListener,
         room: KeptRoom,
         zone: Zone,
+        earlier: Vec<EarlierRegister>,
     ) -> Result<Listening, AllocError> {
         Ok(Listening {
             poll,
@@ -52,14 +57,22 @@ impl Listening {
             port: HttpPort::new(alloc, listener, room)?,
             monitor: RunMonitor::new(alloc, &[])?,
             zone,
+            earlier,
         })
     }
 
     fn open(rt: &HostRuntime, listener: TcpListener, room: KeptRoom) -> Result<Listening, Fail> {
         let poll = Poll::new(rt)?;
         let listener = registered(listener, &poll)?;
-        let zone = Zone::read("UTC0")?;
-        Ok(Listening::of(rt.alloc(), poll, listener, room, zone)?)
+        let (zone, earlier) = (Zone::read("UTC0")?, main_of(rt.alloc())?);
+        Ok(Listening::of(
+            rt.alloc(),
+            poll,
+            listener,
+            room,
+            zone,
+            earlier,
+        )?)
     }
 
     // What waits is accepted, each peer attended, and those that were replied to are dropped.
@@ -67,7 +80,7 @@ impl Listening {
         let now = Now { time, moment: 2800 };
         let earlier = EarlierFiles {
             zone: self.zone,
-            registers: &[],
+            registers: &self.earlier,
         };
         self.port.begin_turn();
         self.port.accept(self.poll.registry(), time);
@@ -151,6 +164,21 @@ fn a_peer_is_replied_to(rt: HostRuntime) -> Result<(), Fail> {
     let got = replied(&rt, room, REQUEST, &mut office, false)?;
     assert!(rt; got.as_slice() == REPLY);
     assert!(rt; energy_of_ended(&mut office) == Some(300_000));
+    Ok(())
+}
+
+static MONTHS: &[u8] = b"GET /registers/main/months HTTP/1.1\r\n\r\n";
+
+// The quarter hour from 900 is in both, and counted once.
+#[test]
+fn a_peer_is_told_of_earlier_files_too(rt: HostRuntime) -> Result<(), Fail> {
+    let mut office = polled(rt.alloc())?;
+    let got = replied(&rt, KeptRoom::new(None, 0), MONTHS, &mut office, false)?;
+    let want = text_reply(
+        rt.alloc(),
+        "1970-01    3                   200012\nend 1\n",
+    )?;
+    assert!(rt; got.as_slice() == want.as_bytes());
     Ok(())
 }
 

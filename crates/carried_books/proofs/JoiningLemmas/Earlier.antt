@@ -8,7 +8,7 @@ use Rattle.office_rules.specs.Intervals.{rows_of_register}
 use Rattle.office_books.specs.Rows.{TakesAll}
 use Rattle.office_books.specs.declared.faults.BooksFault.{BooksFault}
 use Rattle.office_books.specs.declared.spans.Span.{Span}
-use Rattle.carried_books.specs.Joining.Earlier.{AddsRows, KeepsRow}
+use Rattle.carried_books.specs.Joining.Earlier.{KeepsRow, KeepsRows}
 use Rattle.carried_books.specs.Joining.Files.{AllJoin}
 use Rattle.carried_books.specs.Joining.Keeping.{KeepsFile, PartsFile}
 use Rattle.carried_books.specs.declared.joining.earlier.KeptRegisters.{KeptRegisters}
@@ -41,7 +41,7 @@ joins_whatever span register facts old new (Ok (Some why)) all = tt
 joins_whatever span register facts old new (Err fault) all = tt
 
 pub rows_added : (facts : List Fact) (old new : EarlierRegister) (result : Result (Option Unjoined) BooksFault)
-    → IfOk result (λ why. new.rows.items ≡ old.rows.items ++ rows_of_register facts old.name) → IfOk result (AddsRows facts old new)
+    → IfOk result (λ why. new.rows.items ≡ old.rows.items ++ rows_of_register facts old.name) → IfOk result (KeepsRows facts old new)
 rows_added facts old new (Ok None) rows = rows
 rows_added facts old new (Ok (Some why)) rows = tt
 rows_added facts old new (Err fault) rows = tt

@@ -19,7 +19,7 @@ pub record KeepsRow (old : EarlierRegister) (row : Share) (new : EarlierRegister
       → (old.is_whole ≡ true) × (new.rows.items ≡ old.rows.items ++ row ∷ [])
 
 -- Those that a file with these facts has come after those of the files before it, where it joins them.
-abbrev pub AddsRows : List Fact → (old new : EarlierRegister) → Option Unjoined → Type 0
-AddsRows facts old new None =
+abbrev pub KeepsRows : List Fact → (old new : EarlierRegister) → Option Unjoined → Type 0
+KeepsRows facts old new None =
     new.rows.items ≡ old.rows.items ++ rows_of_register facts old.name
-AddsRows facts old new (Some why) = Unit {0}
+KeepsRows facts old new (Some why) = Unit {0}

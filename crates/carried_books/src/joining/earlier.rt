@@ -5,7 +5,7 @@ ghost use Rattle.office_rules.specs.Intervals.{rows_of_register};
 ghost use Rattle.office_books.specs.Ledgers.{Consults};
 ghost use Rattle.office_books.specs.declared.spans.Span.TheVariants.{All};
 ghost use Rattle.carried_books.specs.Joining.Files.{AllJoin, Joins};
-ghost use Rattle.carried_books.specs.Joining.Earlier.{AddsRows, no_span};
+ghost use Rattle.carried_books.specs.Joining.Earlier.{KeepsRows, no_span};
 
 use crate::joining::files::{JoinedFiles, Unjoined, add_books, no_files};
 use crate::joining::keeping::Keeping;
@@ -100,7 +100,7 @@ pub fn add_kept<B: Books>(
         → IfOk result (AllJoin All kept.old.it.name known kept.old.files kept.new.files) }
     ensures rows { (known : List Fact) → (B.ledger books.old).holds known
         → (B.ledger books.new).is_clean
-        → IfOk result (AddsRows known kept.old.it kept.new.it) }
+        → IfOk result (KeepsRows known kept.old.it kept.new.it) }
     ensures reads { Consults (B.ledger books.old) (B.ledger books.new) result }
 {
     let name = kept.it.name;
