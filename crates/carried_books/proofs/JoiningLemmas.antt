@@ -5,3 +5,4 @@ pub mod Reports
 pub mod Offices
 pub mod Keeping
 pub mod Earlier
+pub mod Kept

@@ -1,11 +1,15 @@
 //! What is kept of the registers of earlier files, over which an office that goes on tells energy, too.
-ghost use Rattle.std.specs.Prelude.{◌≡◌, ◌++◌, [], true, List, map, IfOk};
+ghost use Rattle.std.specs.Prelude.{◌≡◌, ◌++◌, [], true, ℕ, List, map, Contains, IfOk};
+ghost use Rattle.std.specs.List.{list_any};
+ghost use Rattle.interval_core.specs.declared.zone.Zone.{Zone as ZoneOf};
 ghost use Rattle.office_events.specs.declared.facts.Fact.{Fact};
+ghost use Rattle.office_rules.specs.Facts.{registers_of, same};
 ghost use Rattle.office_rules.specs.Intervals.{rows_of_register};
 ghost use Rattle.office_books.specs.Ledgers.{Consults};
 ghost use Rattle.office_books.specs.declared.spans.Span.TheVariants.{All};
 ghost use Rattle.carried_books.specs.Joining.Files.{AllJoin, Joins};
-ghost use Rattle.carried_books.specs.Joining.Earlier.{KeepsRows, no_span};
+ghost use Rattle.carried_books.specs.Joining.Earlier.{AddsNew, AddsToEach, AreAmong, EachIsAmong};
+ghost use Rattle.carried_books.specs.Joining.Earlier.{HaveAmong, HoldsToEach, KeepsRows, names_of, no_span};
 
 use crate::joining::files::{JoinedFiles, Unjoined, add_books, no_files};
 use crate::joining::keeping::Keeping;
@@ -13,6 +17,7 @@ use interval_core::{DayRange, Share, Zone};
 use office_books::{Books, BooksFault, RowSink, Span};
 use office_events::{Device, Name, Register};
 use std::alloc::{AllocError, Global};
+use std::mem;
 
 // No moment is asked for.
 const NO_SPAN: Span = Span::Between { from: 0, till: 0 };
@@ -138,31 +143,42 @@ pub struct KeptRegisters {
     kept: Vec<KeptRegister>,
 }
 
+// Whether this is kept of a register of the name.
+fn is_of(one: &KeptRegister, name: &Name) -> bool
+    ensures { result ≡ same one.now.it.name name.now }
+{
+    one.it.name.is(name)
+}
+
 // Whether a register is kept.
-fn is_kept(kept: &[KeptRegister], name: &Name) -> bool {
-    for one in kept {
-        if one.it.name.is(name) {
-            return true;
-        }
-    }
-    false
+fn is_kept(kept: &[KeptRegister], name: &Name) -> bool
+    ensures { result ≡ list_any (λ one. same one.it.name name.now) kept.now }
+{
+    kept.iter().any(|one| is_of(one, name))
 }
 
-// Adds what books tell of the registers that are kept.
+// Adds what books tell of the registers that are kept. Where they don't join, or fail, some are kept no more.
 fn add_all<B: Books>(
+    alloc: Global,
     kept: &mut Vec<KeptRegister>,
     books: &mut B,
 ) -> Result<Option<Unjoined>, BooksFault>
-    ensures { Consults (B.ledger books.old) (B.ledger books.new) result }
+    ensures added { (known : List Fact) → (B.ledger books.old).holds known
+        → (B.ledger books.new).is_clean
+        → IfOk result (AddsToEach known kept.old.items kept.new.items) }
+    ensures reads { Consults (B.ledger books.old) (B.ledger books.new) result }
 {
-    for place in 0..kept.len() {
-        if place < kept.len() {
-            match add_kept(&mut kept[place], books) {
-                Err(fault) => return Err(fault),
-                Ok(why) => {
-                    if why.is_some() {
-                        return Ok(why);
-                    }
+    let had = mem::replace(kept, Vec::new(alloc));
+    for it in had {
+        let mut one = it;
+        match add_kept(&mut one, books) {
+            Err(fault) => return Err(fault),
+            Ok(why) => {
+                if why.is_some() {
+                    return Ok(why);
+                }
+                if kept.push(one).is_err() {
+                    return Err(BooksFault::Memory);
                 }
             }
         }
@@ -170,21 +186,28 @@ fn add_all<B: Books>(
     Ok(None)
 }
 
-// Holds books to the registers that are kept.
+// Holds books to the registers that are kept. Where they don't join, or fail, some are kept no more.
 fn hold_all<B: Books>(
+    alloc: Global,
     kept: &mut Vec<KeptRegister>,
     books: &mut B,
 ) -> Result<Option<Unjoined>, BooksFault>
-    ensures { Consults (B.ledger books.old) (B.ledger books.new) result }
+    ensures held { (known : List Fact) → (B.ledger books.old).holds known
+        → (B.ledger books.new).is_clean
+        → IfOk result (HoldsToEach known kept.old.items kept.new.items) }
+    ensures reads { Consults (B.ledger books.old) (B.ledger books.new) result }
 {
-    for place in 0..kept.len() {
-        if place < kept.len() {
-            match hold_kept(&mut kept[place], books) {
-                Err(fault) => return Err(fault),
-                Ok(why) => {
-                    if why.is_some() {
-                        return Ok(why);
-                    }
+    let had = mem::replace(kept, Vec::new(alloc));
+    for it in had {
+        let mut one = it;
+        match hold_kept(&mut one, books) {
+            Err(fault) => return Err(fault),
+            Ok(why) => {
+                if why.is_some() {
+                    return Ok(why);
+                }
+                if kept.push(one).is_err() {
+                    return Err(BooksFault::Memory);
                 }
             }
         }
@@ -192,19 +215,21 @@ fn hold_all<B: Books>(
     Ok(None)
 }
 
-// Adds what books tell of a register, where it isn't kept yet.
-fn add_new<B: Books>(
+// Adds what books tell of a register that isn't kept yet.
+fn add_first<B: Books>(
     alloc: Global,
     zone: Zone,
     kept: &mut Vec<KeptRegister>,
     books: &mut B,
     name: Name,
 ) -> Result<Option<Unjoined>, BooksFault>
-    ensures { Consults (B.ledger books.old) (B.ledger books.new) result }
+    requires { Contains (names_of kept.old.items) name → ⊥ }
+    ensures new { (known : List Fact) → (B.ledger books.old).holds known
+        → (B.ledger books.new).is_clean
+        → IfOk result (AddsNew zone known (λ names. Contains names name)
+        kept.old.items kept.new.items) }
+    ensures reads { Consults (B.ledger books.old) (B.ledger books.new) result }
 {
-    if is_kept(kept.as_slice(), &name) {
-        return Ok(None);
-    }
     let mut one = KeptRegister {
         files: no_files(alloc, zone),
         it: EarlierRegister::new(alloc, name),
@@ -223,7 +248,27 @@ fn add_new<B: Books>(
     }
 }
 
-// Adds what books tell of those of these registers that aren't kept yet.
+// The same, unless it is kept.
+fn add_new<B: Books>(
+    alloc: Global,
+    zone: Zone,
+    kept: &mut Vec<KeptRegister>,
+    books: &mut B,
+    name: Name,
+) -> Result<Option<Unjoined>, BooksFault>
+    ensures new { (known : List Fact) → (B.ledger books.old).holds known
+        → (B.ledger books.new).is_clean
+        → IfOk result (AddsNew zone known (λ names. Contains names name)
+        kept.old.items kept.new.items) }
+    ensures reads { Consults (B.ledger books.old) (B.ledger books.new) result }
+{
+    if is_kept(kept.as_slice(), &name) {
+        return Ok(None);
+    }
+    add_first(alloc, zone, kept, books, name)
+}
+
+// The same of those of these registers that aren't kept yet.
 fn add_registers<B: Books>(
     alloc: Global,
     zone: Zone,
@@ -231,7 +276,11 @@ fn add_registers<B: Books>(
     books: &mut B,
     registers: &[Register],
 ) -> Result<Option<Unjoined>, BooksFault>
-    ensures { Consults (B.ledger books.old) (B.ledger books.new) result }
+    ensures new { (known : List Fact) → (B.ledger books.old).holds known
+        → (B.ledger books.new).is_clean
+        → IfOk result (AddsNew zone known (AreAmong registers.now)
+        kept.old.items kept.new.items) }
+    ensures reads { Consults (B.ledger books.old) (B.ledger books.new) result }
 {
     for register in registers {
         match add_new(alloc, zone, kept, books, register.name) {
@@ -254,7 +303,11 @@ fn add_device<B: Books>(
     books: &mut B,
     device: &Device,
 ) -> Result<Option<Unjoined>, BooksFault>
-    ensures { Consults (B.ledger books.old) (B.ledger books.new) result }
+    ensures new { (known : List Fact) → (B.ledger books.old).holds known
+        → (B.ledger books.new).is_clean
+        → IfOk result (AddsNew zone known (AreAmong (registers_of known device.now.name))
+        kept.old.items kept.new.items) }
+    ensures reads { Consults (B.ledger books.old) (B.ledger books.new) result }
 {
     match books.registers(&device.name) {
         Err(fault) => Err(fault),
@@ -270,7 +323,11 @@ fn add_devices<B: Books>(
     books: &mut B,
     devices: &[Device],
 ) -> Result<Option<Unjoined>, BooksFault>
-    ensures { Consults (B.ledger books.old) (B.ledger books.new) result }
+    ensures new { (known : List Fact) → (B.ledger books.old).holds known
+        → (B.ledger books.new).is_clean
+        → IfOk result (AddsNew zone known (HaveAmong known devices.now)
+        kept.old.items kept.new.items) }
+    ensures reads { Consults (B.ledger books.old) (B.ledger books.new) result }
 {
     for device in devices {
         match add_device(alloc, zone, kept, books, device) {
@@ -292,7 +349,11 @@ fn add_others<B: Books>(
     kept: &mut Vec<KeptRegister>,
     books: &mut B,
 ) -> Result<Option<Unjoined>, BooksFault>
-    ensures { Consults (B.ledger books.old) (B.ledger books.new) result }
+    ensures new { (known : List Fact) → (B.ledger books.old).holds known
+        → (B.ledger books.new).is_clean
+        → IfOk result (AddsNew zone known (λ names. EachIsAmong names known)
+        kept.old.items kept.new.items) }
+    ensures reads { Consults (B.ledger books.old) (B.ledger books.new) result }
 {
     match books.devices() {
         Err(fault) => Err(fault),
@@ -300,27 +361,28 @@ fn add_others<B: Books>(
     }
 }
 
-// Adds what books tell of all registers.
-fn add_books_to<B: Books>(
-    alloc: Global,
-    zone: Zone,
-    kept: &mut Vec<KeptRegister>,
-    books: &mut B,
-) -> Result<Option<Unjoined>, BooksFault>
-    ensures { Consults (B.ledger books.old) (B.ledger books.new) result }
-{
-    match add_all(kept, books) {
-        Err(fault) => Err(fault),
-        Ok(why) => {
-            if why.is_some() {
-                return Ok(why);
+impl KeptRegisters {
+    ghost use Rattle.carried_books.specs.Joining.Keeping.{KeepsFile};
+    ghost use Rattle.carried_books.specs.Joining.Earlier.{AreKept};
+
+    // Adds what books tell of all their registers, and of those that are kept.
+    fn add_books_to<B: Books>(&mut self, books: &mut B) -> Result<Option<Unjoined>, BooksFault>
+        ensures kept { (zone : ZoneOf) (known : List Fact) → (B.ledger books.old).holds known
+            → (B.ledger books.new).is_clean
+            → IfOk result (KeepsFile (AreKept zone) known self.old self.new) }
+        ensures reads { Consults (B.ledger books.old) (B.ledger books.new) result }
+    {
+        match add_all(self.alloc, &mut self.kept, books) {
+            Err(fault) => Err(fault),
+            Ok(why) => {
+                if why.is_some() {
+                    return Ok(why);
+                }
+                add_others(self.alloc, self.zone, &mut self.kept, books)
             }
-            add_others(alloc, zone, kept, books)
         }
     }
-}
 
-impl KeptRegisters {
     /// The quarter hours of each register.
     pub fn into_registers(self) -> Result<Vec<EarlierRegister>, AllocError>
         ensures { IfOk result (λ registers. registers.items
@@ -338,9 +400,9 @@ impl KeptRegisters {
 
 /// Whatever register and range is asked for, all are kept.
 impl Keeping for KeptRegisters {
-    ghost use Rattle.std.specs.Prelude.{◌≡◌};
+    ghost use Rattle.carried_books.specs.Joining.Earlier.{AreKept};
 
-    ghost keeps = { λ zone range register files kept. kept.zone ≡ zone };
+    ghost keeps = { λ zone range register. AreKept zone };
 
     ghost parts = { λ range register facts kept why. Unit {0} };
 
@@ -358,7 +420,7 @@ impl Keeping for KeptRegisters {
         _register: &Name,
         _range: DayRange,
     ) -> Result<Option<Unjoined>, BooksFault> {
-        add_books_to(self.alloc, self.zone, &mut self.kept, books)
+        self.add_books_to(books)
     }
 }
 
@@ -388,6 +450,7 @@ impl Keeping for HeldRegisters {
         _register: &Name,
         _range: DayRange,
     ) -> Result<Option<Unjoined>, BooksFault> {
-        hold_all(&mut self.kept.kept, books)
+        let alloc = self.kept.alloc;
+        hold_all(alloc, &mut self.kept.kept, books)
     }
 }
