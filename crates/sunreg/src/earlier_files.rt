@@ -86,10 +86,8 @@ fn hold<'a, E: Write>(
 
 /// The files before the last.
 pub(crate) fn but_last<'a, 'f>(paths: &'f [&'a str]) -> &'f [&'a str] {
-    match paths.len() {
-        0 => &[],
-        count => &paths[..count - 1],
-    }
+    let count = paths.len().saturating_sub(1);
+    &paths[..count]
 }
 
 // Says over how many earlier files energy is told, too, and which is the first of them.
