@@ -171,17 +171,11 @@ fn add_all<B: Books>(
     let had = mem::replace(kept, Vec::new(alloc));
     for it in had {
         let mut one = it;
-        match add_kept(&mut one, books) {
-            Err(fault) => return Err(fault),
-            Ok(why) => {
-                if why.is_some() {
-                    return Ok(why);
-                }
-                if kept.push(one).is_err() {
-                    return Err(BooksFault::Memory);
-                }
-            }
+        let why = add_kept(&mut one, books)?;
+        if why.is_some() {
+            return Ok(why);
         }
+        kept.push(one)?;
     }
     Ok(None)
 }
@@ -200,17 +194,11 @@ fn hold_all<B: Books>(
     let had = mem::replace(kept, Vec::new(alloc));
     for it in had {
         let mut one = it;
-        match hold_kept(&mut one, books) {
-            Err(fault) => return Err(fault),
-            Ok(why) => {
-                if why.is_some() {
-                    return Ok(why);
-                }
-                if kept.push(one).is_err() {
-                    return Err(BooksFault::Memory);
-                }
-            }
+        let why = hold_kept(&mut one, books)?;
+        if why.is_some() {
+            return Ok(why);
         }
+        kept.push(one)?;
     }
     Ok(None)
 }
@@ -234,18 +222,12 @@ fn add_first<B: Books>(
         files: no_files(alloc, zone),
         it: EarlierRegister::new(alloc, name),
     };
-    match add_kept(&mut one, books) {
-        Err(fault) => Err(fault),
-        Ok(why) => {
-            if why.is_some() {
-                return Ok(why);
-            }
-            match kept.push(one) {
-                Ok(()) => Ok(None),
-                Err(_) => Err(BooksFault::Memory),
-            }
-        }
+    let why = add_kept(&mut one, books)?;
+    if why.is_some() {
+        return Ok(why);
     }
+    kept.push(one)?;
+    Ok(None)
 }
 
 // The same, unless it is kept.
@@ -283,13 +265,9 @@ fn add_registers<B: Books>(
     ensures reads { Consults (B.ledger books.old) (B.ledger books.new) result }
 {
     for register in registers {
-        match add_new(alloc, zone, kept, books, register.name) {
-            Err(fault) => return Err(fault),
-            Ok(why) => {
-                if why.is_some() {
-                    return Ok(why);
-                }
-            }
+        let why = add_new(alloc, zone, kept, books, register.name)?;
+        if why.is_some() {
+            return Ok(why);
         }
     }
     Ok(None)
@@ -309,10 +287,8 @@ fn add_device<B: Books>(
         kept.old.items kept.new.items) }
     ensures reads { Consults (B.ledger books.old) (B.ledger books.new) result }
 {
-    match books.registers(&device.name) {
-        Err(fault) => Err(fault),
-        Ok(registers) => add_registers(alloc, zone, kept, books, &registers),
-    }
+    let registers = books.registers(&device.name)?;
+    add_registers(alloc, zone, kept, books, &registers)
 }
 
 // The same of those of these devices.
@@ -330,13 +306,9 @@ fn add_devices<B: Books>(
     ensures reads { Consults (B.ledger books.old) (B.ledger books.new) result }
 {
     for device in devices {
-        match add_device(alloc, zone, kept, books, device) {
-            Err(fault) => return Err(fault),
-            Ok(why) => {
-                if why.is_some() {
-                    return Ok(why);
-                }
-            }
+        let why = add_device(alloc, zone, kept, books, device)?;
+        if why.is_some() {
+            return Ok(why);
         }
     }
     Ok(None)
@@ -355,10 +327,8 @@ fn add_others<B: Books>(
         kept.old.items kept.new.items) }
     ensures reads { Consults (B.ledger books.old) (B.ledger books.new) result }
 {
-    match books.devices() {
-        Err(fault) => Err(fault),
-        Ok(devices) => add_devices(alloc, zone, kept, books, &devices),
-    }
+    let devices = books.devices()?;
+    add_devices(alloc, zone, kept, books, &devices)
 }
 
 impl KeptRegisters {
@@ -372,15 +342,11 @@ impl KeptRegisters {
             → IfOk result (KeepsFile (AreKept zone) known self.old self.new) }
         ensures reads { Consults (B.ledger books.old) (B.ledger books.new) result }
     {
-        match add_all(self.alloc, &mut self.kept, books) {
-            Err(fault) => Err(fault),
-            Ok(why) => {
-                if why.is_some() {
-                    return Ok(why);
-                }
-                add_others(self.alloc, self.zone, &mut self.kept, books)
-            }
+        let why = add_all(self.alloc, &mut self.kept, books)?;
+        if why.is_some() {
+            return Ok(why);
         }
+        add_others(self.alloc, self.zone, &mut self.kept, books)
     }
 
     /// The quarter hours of each register.
