@@ -3,7 +3,7 @@ use Rattle.std.proofs.Common.{◌≡◌, ◌⊎◌, ℕ, Bool, true, false, ◌|
 use Rattle.std.specs.Prelude.{All, Contains, IfOk}
 use Rattle.std.specs.List.{AllZip, list_any}
 use Rattle.std.proofs.lemmas.List.{map-append}
-use Rattle.std.proofs.lemmas.List.Elements.{All-append, All-cons, All-contains, All-head, All-nil, All-push, All-tail, All-weaker, Contains-append_cases, Contains-append_left, Contains-append_right, Contains-push, Contains-push_cases}
+use Rattle.std.proofs.lemmas.List.Elements.{All-append, All-cons, All-contains, All-head, All-nil, All-push, All-tail, All-weaker, AllZip-push, Contains-append_cases, Contains-append_left, Contains-append_right, Contains-push, Contains-push_cases}
 use Rattle.std.proofs.lemmas.Slice.Eq.{bytes_eq-Decides}
 use Rattle.interval_core.specs.declared.zone.Zone.{Zone}
 use Rattle.office_events.specs.declared.facts.Device.{Device}
@@ -70,6 +70,19 @@ none_kept (one ∷ kept) name is has =
       | inl here ↦ let e : true ≡ false = sym ((bytes_eq-Decides one.it.name name).1 here) ∙ both.0 in cc e
       | inr there ↦ none_kept kept name both.1 there
     ]
+
+-- ---- what is gone over
+
+pub given_next : {X : Type 0} (all given rest later : List X) (x : X) → all ≡ given ++ rest → rest ≡ x ∷ later → all ≡ given ++ x ∷ [] ++ later
+given_next all given rest later x are is = are ∙ ap (λ those. given ++ those) is ∙ sym (append_assoc given (x ∷ []) later)
+
+pub all_given : {X : Type 0} (all given rest : List X) → all ≡ given ++ rest → rest ≡ [] → all ≡ given
+all_given all given rest are none = are ∙ ap (λ those. given ++ those) none ∙ append-nil given
+
+-- one more was added
+pub zip_more : (R : KeptRegister → KeptRegister → Type 0) (given kept next : List KeptRegister) (old new : KeptRegister) → next ≡ kept ++ new ∷ []
+    → AllZip R given kept → R old new → AllZip R (given ++ old ∷ []) next
+zip_more R given kept next old new is zip one = subst (AllZip R (given ++ old ∷ [])) (sym is) (AllZip-push R given kept old new zip one)
 
 -- ---- one register
 
