@@ -64,23 +64,23 @@ within_one (span.Between from till) row = refl
 
 pub one_taken : (asked : Span) (row : Share) (is : Bool) (from to : JoinedDays) → is ≡ is_within asked row.start → is ≡ true → TakesShare from row to
     → TakesAll TakesShare from (rows_within asked (row ∷ [])) to
-one_taken asked row is from to told yes took =
+one_taken asked row is from to told holds took =
     let P : List Share → Type 0 = λ rows. TakesAll TakesShare from rows to in
-    subst P (sym (within_one asked row ∙ cond-true _ _ _ (sym told ∙ yes))) (to, took, refl)
+    subst P (sym (within_one asked row ∙ cond-true _ _ _ (sym told ∙ holds))) (to, took, refl)
 
 pub one_left : (asked : Span) (row : Share) (is : Bool) (from : JoinedDays) → is ≡ is_within asked row.start → is ≡ false
     → TakesAll TakesShare from (rows_within asked (row ∷ [])) from
-one_left asked row is from told no =
+one_left asked row is from told fails =
     let P : List Share → Type 0 = λ rows. TakesAll TakesShare from rows from in
-    subst P (sym (within_one asked row ∙ cond-false _ _ _ (sym told ∙ no))) refl
+    subst P (sym (within_one asked row ∙ cond-false _ _ _ (sym told ∙ fails))) refl
 
-pub one_more : (asked : Span) (rows : List Share) (i : ℕ) (row : Share) (from mid to : JoinedDays) → i < length rows → row ≡ get_or rows i row
-    → TakesAll TakesShare from (rows_within asked (take i rows)) mid → TakesAll TakesShare mid (rows_within asked (row ∷ [])) to
+pub one_more : (asked : Span) (rows : List Share) (i : ℕ) (d : Share) (from mid to : JoinedDays) → i < length rows
+    → TakesAll TakesShare from (rows_within asked (take i rows)) mid → TakesAll TakesShare mid (rows_within asked (get_or rows i d ∷ [])) to
     → TakesAll TakesShare from (rows_within asked (take (i + 1) rows)) to
-one_more asked rows i row from mid to less is took more =
+one_more asked rows i d from mid to less took more =
     let P : List Share → Type 0 = λ those. TakesAll TakesShare from those to in
-    let next : take (i + 1) rows ≡ take i rows ++ row ∷ [] = take_more rows i row less ∙ ap (λ (r : Share). take i rows ++ r ∷ []) (sym is) in
-    subst P (sym (ap (rows_within asked) next ∙ both_within asked (take i rows) (row ∷ [])))
+    let row = get_or rows i d in
+    subst P (sym (ap (rows_within asked) (take_more rows i d less) ∙ both_within asked (take i rows) (row ∷ [])))
     (takes_both TakesShare from mid to (rows_within asked (take i rows)) (rows_within asked (row ∷ [])) took more)
 
 -- ---- the meters at a register
@@ -217,7 +217,7 @@ module _ {B : Type 0} (ledger : B → Ledger) where
   }
 
   pub have_failed : (a b d : Office B) (listed : List Installation) (i : ℕ) (row : Installation) (asked : Span) (from mid to : JoinedDays) (why : Refusal)
-      → i < length listed → row ≡ get_or listed i row → Keeps ledger a b → OnlyAsks ledger b d (Err why)
+      → i < length listed → row ≡ get_or listed i row → Keeps ledger a b → OnlyAsks {T = Unit {0}} ledger b d (Err why)
       → TellsRows TakesShare ledger b d mid to (Err why) (λ facts. intervals_within facts (Some row.opening.meter) asked)
       → AsksMeters ledger a d listed asked from to (Err why)
   have_failed a b d listed i row asked from mid to why less is keeps asks tells = record {

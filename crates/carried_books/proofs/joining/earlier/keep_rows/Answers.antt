@@ -1,16 +1,16 @@
 use Rattle.carried_books.proofs.JoiningLemmas.Earlier.{all_kept, same_name}
 use Rattle.carried_books.proofs.joining.earlier.keep_rows.Goals as goal
 
-pub returns-then-is_whole-clause-rows : goal.returns-then-is_whole-clause-rows
-returns-then-is_whole-clause-rows g c known holds clean =
-    (all_kept c.args.it.now c.register_intervals.new.sink _ (c.in-Ok.ensures.rows.whole known holds clean) c.if-is_whole.true).1
+pub returns-then-it-clause-rows : goal.returns-then-it-clause-rows
+returns-then-it-clause-rows g c known holds clean =
+    (all_kept c.args.it.now c.register_intervals.new.sink _ (c.in-Ok.ensures.rows.whole known holds clean) c.if-it.true).1
 
-pub returns-then-is_whole-clause-name : goal.returns-then-is_whole-clause-name
-returns-then-is_whole-clause-name g c =
+pub returns-then-it-clause-name : goal.returns-then-it-clause-name
+returns-then-it-clause-name g c =
     same_name c.args.it.now c.register_intervals.new.sink c.in-Ok.ensures.rows.some.0 c.in-Ok.ensures.rows.some.1
 
-pub returns-else-is_whole-clause-name : goal.returns-else-is_whole-clause-name
-returns-else-is_whole-clause-name g c =
+pub returns-else-it-clause-name : goal.returns-else-it-clause-name
+returns-else-it-clause-name g c =
     same_name c.args.it.now c.register_intervals.new.sink c.in-Ok.ensures.rows.some.0 c.in-Ok.ensures.rows.some.1
 
 pub returns-in-Err-clause-name : goal.returns-in-Err-clause-name

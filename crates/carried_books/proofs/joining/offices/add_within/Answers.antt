@@ -15,5 +15,5 @@ loop-row-init c =
 
 pub loop-row-preserved : goal.loop-row-preserved
 loop-row-preserved c =
-    one_more c.args.span c.args.rows.now c.loop-row.row-index c.row-item.result c.args.days.now c.loop-row.days c.add_if_within.new.days c.loop-row-test.true
-    c.row-item.is c.loop-row.invariant c.add_if_within.ensures
+    one_more c.args.span c.args.rows.now c.loop-row.row-index _ c.args.days.now c.loop-row.days c.add_if_within.new.days c.loop-row-test.true
+    c.loop-row.invariant c.add_if_within.ensures
