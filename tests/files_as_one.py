@@ -1,4 +1,4 @@
-"""Reports over several files of one office: files_as_one.py PROGRAM; tests/files_as_one.sh calls it.
+"""Reports and statements over several files of one office: files_as_one.py PROGRAM; tests/files_as_one.sh calls it.
 
 A site has a meter whose counter turns over, is reset, is corrected by hand and has a reading voided, and that is exchanged for another.
 One file gets all of it. Three files get it in parts, the second and the third of them begun by `sunreg carry`: the first carry falls into
@@ -191,7 +191,14 @@ def hold_reports(whole, parts, ranges):
         words += ["--from", first] if first else []
         words += ["--till", till] if till else []
         same(" ".join(words), over(parts, *words), over([whole], *words))
+    for (first, till), unit, form in itertools.product(ranges, ("mwh", "kwh"), ("text", "csv", "json")):
+        words = ["--statement", "--unit", unit, "--format", form]
+        words += ["--from", first] if first else []
+        words += ["--till", till] if till else []
+        same(" ".join(words), over(parts, *words), over([whole], *words))
     same("the plain report", over(parts), over([whole]))
+    same("the plain statement", over(parts, "--statement"), over([whole], "--statement"))
+    same("it has both meters", len(over(parts, "--statement")[1].splitlines()), 3)
     same("it has rows", len(over(parts)[1].splitlines()) > 90, True)
 
 
@@ -230,7 +237,9 @@ def hold_refusals(room, parts, carries):
     same("no name", run("report", "--db", one, "--db", two, "--register", "?")[:2], (1, "refused 1\n"))
     same("no meter", run("report", "--db", one, "--db", two, "--register", "spare"), (0, "end 0\n", []))
     same("no file", over([one, str(room / "gone.db")])[:2], (3, ""))
-    same("a statement", over(parts, "--statement"), (1, "", ["sunreg: a statement is of one file: ask for each alone"]))
+    unjoined("a statement in the wrong order", [two, one, three], f"{one}: {at('m1', 'begins there', one, 1)}; up to {two} the meter ", "--statement")
+    same("a statement of no meter", run("report", "--db", one, "--db", two, "--register", "spare", "--statement"), (0, "end 0\n", []))
+    same("a statement of nowhere", run("report", "--db", one, "--db", two, "--register", "far", "--statement")[:2], (1, "refused 1\n"))
     same("no day", over(parts, "--from", "2024-02-30")[0], 2)
 
 

@@ -3,3 +3,4 @@ pub mod Meters
 pub mod Files
 pub mod Reports
 pub mod Keeping
+pub mod Statements

@@ -3,3 +3,4 @@ pub mod Days
 pub mod Files
 pub mod Reports
 pub mod Keeping
+pub mod Statements

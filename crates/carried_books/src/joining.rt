@@ -4,13 +4,17 @@
 mod days;
 mod files;
 mod keeping;
+mod kept_meters;
 mod laws;
 mod meters;
 mod reports;
+mod statements;
 
 pub use days::JoinedDays;
 pub use files::{JoinedFiles, Unjoined, add_books, no_files};
 pub use keeping::Keeping;
+pub use kept_meters::KeptMeter;
 pub use laws::{both_files_tell_the_joined_days, one_file_tells_its_days};
 pub use meters::Apart;
 pub use reports::report_joined;
+pub use statements::{JoinedStatement, state_joined};

@@ -3,11 +3,13 @@ use crate::carries::say_refused;
 use crate::command_output::CommandOutput;
 use crate::escaped::Escaped;
 use crate::offices::{Files, Opening, open_in};
-use crate::reports::{form_of, range_of};
-use carried_books::{Apart, JoinedFiles, Keeping, Unjoined, report_joined};
+use crate::reports::{form_of, range_of, statement_of};
+use carried_books::{
+    Apart, JoinedFiles, JoinedStatement, Keeping, Unjoined, report_joined, state_joined,
+};
 use command_io::ExitStatus;
 use command_words::FormWords;
-use energy_report::ReportForm;
+use energy_report::{ReportForm, StatementForm};
 use interval_core::DayRange;
 use office_events::{Installation, Name, Refusal};
 use std::io::{self, Write};
@@ -169,6 +171,38 @@ fn report_recorded(
     }
 }
 
+// Prints the statement of what files tell.
+fn print_statement(
+    rt: &HostRuntime,
+    joined: &JoinedStatement,
+    form: &StatementForm,
+) -> Ending<'static> {
+    let mut output = CommandOutput::in_pieces(io::writer(rt));
+    match state_joined(rt.alloc(), joined, form, &mut output) {
+        Ok(status) => ended(&mut output, status),
+        Err(_) => Ending::Failed(Failure::Memory),
+    }
+}
+
+// The same where the register is recorded in one of them.
+fn state_recorded(
+    rt: &HostRuntime,
+    path: &str,
+    joined: Option<JoinedOffice<JoinedStatement>>,
+    form: &StatementForm,
+) -> Ending<'static> {
+    match joined {
+        Some(joined) => {
+            if joined.kept.is_recorded {
+                print_statement(rt, &joined.kept, form)
+            } else {
+                say_refused(rt, path, Refusal::NotFound)
+            }
+        }
+        None => say_refused(rt, path, Refusal::NotFound),
+    }
+}
+
 // The last of the files.
 fn last_of<'a>(paths: &[&'a str]) -> &'a str {
     match paths.last() {
@@ -190,29 +224,35 @@ fn report_register<'a>(
     }
 }
 
-// Says that a statement is of one file.
-fn say_one_file(rt: &HostRuntime) -> Ending<'static> {
-    let mut errors = Escaped::new(rt.stderr());
-    let _said = errors.write_all(b"sunreg: a statement is of one file: ask for each alone\n");
-    Ending::Refused
+// Prints the statement of its meters.
+fn state_register<'a>(
+    rt: &HostRuntime,
+    paths: &[&'a str],
+    register: &Name,
+    form: &StatementForm,
+) -> Ending<'a> {
+    match join_all(rt, paths, register, &form.range) {
+        Err(ending) => ending,
+        Ok(joined) => state_recorded(rt, last_of(paths), joined, form),
+    }
 }
 
-/// Prints the energy of a register over several files of one office, the oldest first, as one.
+/// Prints the energy of a register over several files of one office, the oldest first, as one, or the statement of its meters.
 pub(crate) fn report_files<'a>(
     rt: &HostRuntime,
     paths: &[&'a str],
     register: &str,
     words: &FormWords<'a>,
 ) -> Ending<'a> {
-    if words.statement {
-        return say_one_file(rt);
-    }
     let range = match range_of(words) {
         Ok(range) => range,
         Err(ending) => return ending,
     };
-    match Name::new(register.as_bytes()) {
-        Some(name) => report_register(rt, paths, &name, &form_of(words, range)),
-        None => say_refused(rt, last_of(paths), Refusal::NotFound),
+    let Some(name) = Name::new(register.as_bytes()) else {
+        return say_refused(rt, last_of(paths), Refusal::NotFound);
+    };
+    if words.statement {
+        return state_register(rt, paths, &name, &statement_of(words, range));
     }
+    report_register(rt, paths, &name, &form_of(words, range))
 }
