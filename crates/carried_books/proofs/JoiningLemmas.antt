@@ -3,4 +3,5 @@ pub mod Meters
 pub mod Files
 pub mod Reports
 pub mod Keeping
+pub mod KeptMeters
 pub mod Statements

@@ -1,213 +1,30 @@
 -- What is kept of meters over files, for their statement.
-use Rattle.std.proofs.Common.{◌≡◌, ℕ, ◌+◌, ◌-◌, ◌^◌, ◌<◌, ◌&&◌, ◌||◌, nat_le, Bool, true, false, cond, not, List, [], ◌∷◌, ◌++◌, map, take, drop, length, Option, Some, None, Result, Ok, Err, inl, inr, refl, sym, ap, subst, ◌∙◌, append-nil, append_assoc, arith}
-use Rattle.std.specs.Prelude.{All, filter, is_some, min}
-use Rattle.std.specs.List.{count_by, sum_by}
+use Rattle.std.proofs.Common.{◌≡◌, ℕ, ◌+◌, ◌-◌, ◌&&◌, Bool, true, false, not, List, [], ◌∷◌, ◌++◌, map, Option, Some, None, Result, Ok, Err, IfOk, inl, inr, refl, sym, ap, subst, ◌∙◌, append-nil, arith}
+use Rattle.std.specs.Prelude.{All, Contains, filter, find, is_some}
+use Rattle.std.specs.Option.{option_map}
 use Rattle.std.proofs.lemmas.Bool.{cases_Bool, cond-false, cond-true}
-use Rattle.std.proofs.lemmas.List.{drop-drop, map-append}
+use Rattle.std.proofs.lemmas.List.{map-append}
 use Rattle.std.proofs.lemmas.List.Elements.{All-cons, All-head, All-tail, filter-append}
-use Rattle.std.proofs.lemmas.List.Sums.{sum_by-append}
-use Rattle.command_io.specs.declared.status.ExitStatus.{ExitStatus}
-use Rattle.energy_core.specs.declared.verdicts.Cause.{Cause}
-use Rattle.energy_core.specs.declared.verdicts.Cause.TheVariants as cause
-use Rattle.energy_report.specs.Energies.{AddsShare, IsFresh}
-use Rattle.energy_report.specs.Held.{held_for, held_within, is_held_within}
-use Rattle.energy_report.specs.HeldSinks.{CountsReading, HasCountedNone}
-use Rattle.energy_report.specs.RowLines.{counted}
-use Rattle.energy_report.specs.declared.energy_within.EnergyWithin.{EnergyWithin}
-use Rattle.energy_report.specs.declared.held_within.HeldWithin.{HeldWithin}
-use Rattle.energy_report.specs.Statements.{energy_within, tally_of, was_there}
-use Rattle.energy_report.specs.StatementTexts.{statement_text}
-use Rattle.energy_report.specs.declared.form.StatementForm.{StatementForm}
+use Rattle.energy_report.specs.Statements.{was_there}
 use Rattle.energy_report.specs.declared.meter_statement.MeterStatement.{MeterStatement}
-use Rattle.energy_report.specs.declared.tallies.EntryTally.{EntryTally}
-use Rattle.energy_report.proofs.EnergyLemmas.{added_up}
-use Rattle.energy_report.proofs.HeldLemmas.{counted_all}
-use Rattle.interval_core.specs.Ranges.{has_day, has_moment}
-use Rattle.interval_core.specs.Zone.{day_at}
 use Rattle.interval_core.specs.declared.day_range.DayRange.{DayRange}
-use Rattle.interval_core.specs.declared.limits.TheConstants.{LAST_MOMENT}
-use Rattle.interval_core.specs.declared.shares.Share.{Share}
 use Rattle.interval_core.specs.declared.zone.Zone.{Zone}
-use Rattle.office_books.specs.Entries.{all_entries, entries_from, installations_of}
-use Rattle.office_books.specs.Holds.{holds_of, holds_within}
+use Rattle.office_books.specs.Entries.{installations_of}
 use Rattle.office_books.specs.Rows.{TakesAll}
-use Rattle.office_books.specs.Spans.{is_within, rows_within}
-use Rattle.office_books.specs.declared.entries.MeterEntry.{MeterEntry}
-use Rattle.office_books.specs.declared.spans.Span.{Span}
-use Rattle.office_books.specs.declared.spans.Span.TheVariants.{All as Whole, Between}
+use Rattle.office_books.specs.declared.faults.BooksFault.{BooksFault}
 use Rattle.office_books.proofs.Handing.{takes_both}
-use Rattle.office_books.proofs.Pieces.{last_piece, one_piece_more}
-use Rattle.office_core.specs.DayRange.{span_of}
-use Rattle.office_core.proofs.Around.{has_each}
 use Rattle.office_events.specs.declared.facts.Fact.{Fact}
-use Rattle.office_events.specs.declared.facts.HeldReading.{HeldReading}
 use Rattle.office_events.specs.declared.questions.Installation.{Installation}
-use Rattle.office_program.specs.Texts.EndTexts.{IsTold}
-use Rattle.office_rules.specs.Facts.{opening_of}
-use Rattle.office_rules.specs.Intervals.{rows_of_meter}
-use Rattle.carried_books.specs.Joining.Files.{StaysRecorded, is_recorded, is_recorded_in}
-use Rattle.carried_books.specs.Joining.Keeping.{KeepsFile, PartsFile}
-use Rattle.carried_books.specs.Joining.Meters.{AddMeters, AddOrAreApart, AddsMeter, AddsNext, AddsOrIsApart, GoesOn, IsNext, NoneGoesOn, as_one, is_before}
-use Rattle.carried_books.specs.Joining.Statements.{AddsListed, AddsOver, AreMetersOver, AreTold, DoesNotGoOn, Goes, HasStated, IsStatementOver, MeterOver, TalliesOn, TellsAll, TellsPart, both_held, both_of, kept_of, meter_in, own_entries, parts_over, stands_of, statement_over, statements_over, told_of}
-use Rattle.carried_books.specs.declared.joining.files.Unjoined.{Unjoined}
+use Rattle.carried_books.specs.Joining.Files.{is_recorded, is_recorded_in}
+use Rattle.carried_books.specs.Joining.Keeping.{KeepsFile}
+use Rattle.carried_books.specs.Joining.Meters.{AddOrAreApart, AddsMeter, AddsNext, AddsOrIsApart, GoesOn, IsNext, as_one, is_before}
+use Rattle.carried_books.specs.Joining.Statements.{AddsListed, AddsOver, AreTold, DoesNotGoOn, HasStated, MeterOver, TellsAll, both_of, kept_of, meter_in, parts_over, rows_of_those, stands_of, statement_over, statements_over, told_of}
 use Rattle.carried_books.specs.declared.joining.files.Unjoined.TheVariants as unjoined
 use Rattle.carried_books.specs.declared.joining.kept_meters.KeptMeter.{KeptMeter}
 use Rattle.carried_books.specs.declared.joining.meters.Apart.{Apart}
 use Rattle.carried_books.specs.declared.joining.statements.JoinedStatement.{JoinedStatement}
-use Rattle.carried_books.proofs.CarryingLemmas.Lasts.{piece_of}
-use Rattle.carried_books.proofs.JoiningLemmas.Files.{is_in_both, is_kept, is_lost}
-use Rattle.carried_books.proofs.JoiningLemmas.Meters.{all_before, apart_among, joined_one, next_or_apart, one_apart}
-
--- ---- entries that are asked for piece by piece
-
-abbrev skipped : Bool → ℕ
-skipped goes_on = cond goes_on 1 0
-
-own_of : (goes_on : Bool) (entries : List MeterEntry) → own_entries goes_on entries ≡ drop (skipped goes_on) entries
-own_of true entries = refl
-own_of false entries = refl
-
-module _ (zone : Zone) (range : DayRange) (facts : List Fact) (meter : List ℕ) (goes_on : Bool) where
-  abbrev pub its_own : List MeterEntry
-  its_own = own_entries goes_on (all_entries facts meter)
-
-  piece_is : (n first : ℕ) (piece : List MeterEntry) → first ≡ cond goes_on 2 1 → piece ≡ entries_from facts meter (n + first) 65536
-      → piece ≡ take 65536 (drop n its_own)
-  piece_is n first piece is are =
-      let k = skipped goes_on in
-      let place : n + first ≡ n + k + 1 = elim goes_on as (λ b. first ≡ cond b 2 1 → n + first ≡ n + cond b 1 0 + 1) [
-        | true ↦ λ e. omega (arith, e)
-        | false ↦ λ e. omega (arith, e)
-      ] is in
-      let both : k + n ≡ n + k = omega arith in
-      are ∙ ap (λ p. entries_from facts meter p 65536) place ∙ piece_of facts (opening_of facts meter) (n + k) 65536
-      ∙ ap (take 65536) (ap (λ c. drop c (all_entries facts meter)) (sym both) ∙ sym (drop-drop n k (all_entries facts meter))
-      ∙ ap (drop n) (sym (own_of goes_on (all_entries facts meter))))
-
-  -- so many of them were tallied
-  abbrev pub HasTallied : (n : ℕ) → (old now : EntryTally) → Type 0
-  HasTallied n old now = TalliesOn zone range (take n its_own) old now
-
-  pub tally_none : (old : EntryTally) → HasTallied 0 old old
-  tally_none old = λ before is. is ∙ ap (tally_of zone range) (sym (append-nil before))
-
-  pub tally_more : (n first : ℕ) (piece : List MeterEntry) (old now more : EntryTally) → first ≡ cond goes_on 2 1
-      → piece ≡ entries_from facts meter (n + first) 65536 → HasTallied n old now → TalliesOn zone range piece now more → HasTallied (n + 65536) old more
-  tally_more n first piece old now more is are had took = λ before from.
-      took (before ++ take n its_own) (had before from)
-      ∙ ap (tally_of zone range) (append_assoc before (take n its_own) piece
-      ∙ ap (λ (those : List MeterEntry). before ++ those)
-      (ap (λ (those : List MeterEntry). take n its_own ++ those) (piece_is n first piece is are) ∙ one_piece_more n 65536 its_own))
-
-  pub tally_all : (n first : ℕ) (piece : List MeterEntry) (old now more : EntryTally) → first ≡ cond goes_on 2 1
-      → piece ≡ entries_from facts meter (n + first) 65536 → HasTallied n old now → TalliesOn zone range piece now more → length piece < 65536
-      → TalliesOn zone range its_own old more
-  tally_all n first piece old now more is are had took few = λ before from.
-      let items = piece_is n first piece is are in
-      took (before ++ take n its_own) (had before from)
-      ∙ ap (tally_of zone range) (append_assoc before (take n its_own) piece
-      ∙ ap (λ (those : List MeterEntry). before ++ those)
-      (ap (λ (those : List MeterEntry). take n its_own ++ those) items
-      ∙ last_piece n 65536 its_own (subst (λ (those : List MeterEntry). length those < 65536) items few)))
-
-all_held : (holds : List HeldReading) → holds_within Whole holds ≡ holds
-all_held [] = refl
-all_held (held ∷ holds) = ap (λ (those : List HeldReading). held ∷ those) (all_held holds)
-
--- what sinks come to that took what a file has
-pub held_told : (zone : Zone) (range : DayRange) (holds : List HeldReading) (from to : HeldWithin) → HasCountedNone zone range from
-    → TakesAll CountsReading from (holds_within Whole holds) to → to.counts ≡ held_within zone range holds
-held_told zone range holds from to fresh took =
-    counted_all zone range holds from to fresh (subst (λ (those : List HeldReading). TakesAll CountsReading from those to) (all_held holds) took)
-
-all_pass : {X : Type 0} (xs : List X) → filter (λ x. true) xs ≡ xs
-all_pass [] = refl
-all_pass (x ∷ xs) = ap (λ l. x ∷ l) (all_pass xs)
-
-by_test : (asked : Span) (rows : List Share) → rows_within asked rows ≡ filter (λ row. is_within asked row.start) rows
-by_test Whole rows = sym (all_pass rows)
-by_test (Between from till) rows = refl
-
-fails_too : (p q : Bool) → (p ≡ true → q ≡ true) → q ≡ false → p ≡ false
-fails_too true q implies isnt = absurd (let e : false ≡ true = sym isnt ∙ implies refl in cc e)
-fails_too false q implies isnt = refl
-
-filter_among : {X : Type 0} (p q : X → Bool) → ((x : X) → p x ≡ true → q x ≡ true) → (xs : List X) → filter p (filter q xs) ≡ filter p xs
-filter_among p q implies [] = refl
-filter_among p q implies (x ∷ xs) =
-    let rest = filter_among p q implies xs in
-    elim (cases_Bool (q x)) [
-      | inl is ↦ ap (filter p) (cond-true _ _ _ is) ∙ ap (λ l. cond (p x) (x ∷ l) l) rest
-      | inr isnt ↦ ap (filter p) (cond-false _ _ _ isnt) ∙ rest ∙ sym (cond-false _ _ _ (fails_too (p x) (q x) (implies x) isnt))
-    ]
-
-and_second : (a b : Bool) → (a && b) ≡ true → b ≡ true
-and_second true b is = is
-and_second false b is = absurd (cc is)
-
-pub energy_told : (zone : Zone) (range : DayRange) (rows : List Share) (from to : EnergyWithin) → IsFresh zone range from
-    → TakesAll AddsShare from (rows_within (span_of range) rows) to → to.mwh ≡ energy_within zone range rows
-energy_told zone range rows from to fresh took =
-    added_up zone range (rows_within (span_of range) rows) from to fresh took
-    ∙ ap (λ (those : List Share). min (sum_by (λ row. row.mwh) those) (2 ^ 128 - 1))
-    (ap (filter (λ row. has_moment zone range row.start)) (by_test (span_of range) rows)
-    ∙ filter_among (λ (row : Share). has_moment zone range row.start) (λ row. is_within (span_of range) row.start)
-    (λ row has. has_each range.from range.till zone row.start (and_second (nat_le row.start LAST_MOMENT) (has_day range (day_at zone row.start)) has)) rows)
-
--- ---- what is kept of a meter, and more of it
-
--- a sum of numbers that stay at the greatest
-capped_both : (most a b : ℕ) → min (min a most + min b most) most ≡ min (a + b) most
-capped_both most a b = omega arith
-
-energy_both : (zone : Zone) (range : DayRange) (rows more : List Share)
-    → energy_within zone range (rows ++ more) ≡ min (energy_within zone range rows + energy_within zone range more) (2 ^ 128 - 1)
-energy_both zone range rows more =
-    let has : Share → Bool = λ row. has_moment zone range row.start in
-    let mwh : Share → ℕ = λ row. row.mwh in
-    ap (λ n. min n (2 ^ 128 - 1)) (ap (sum_by mwh) (filter-append has rows more) ∙ sum_by-append mwh (filter has rows) (filter has more))
-    ∙ sym (capped_both (2 ^ 128 - 1) (sum_by mwh (filter has rows)) (sum_by mwh (filter has more)))
-
-held_for_both : (zone : Zone) (range : DayRange) (holds more : List HeldReading) (why : Cause)
-    → held_for zone range (holds ++ more) why ≡ counted (held_for zone range holds why + held_for zone range more why)
-held_for_both zone range holds more why =
-    let is : HeldReading → Bool = is_held_within zone range why in
-    ap counted (sum_by-append (λ (held : HeldReading). cond (is held) 1 0) holds more) ∙ sym (capped_both 18446744073709551615 (count_by is holds) (count_by is more))
-
-held_both : (zone : Zone) (range : DayRange) (holds more : List HeldReading)
-    → held_within zone range (holds ++ more) ≡ both_held (held_within zone range holds) (held_within zone range more)
-held_both zone range holds more = rw (
-    held_for_both zone range holds more cause.NotAccumulated,
-    held_for_both zone range holds more cause.ScaleChanged,
-    held_for_both zone range holds more cause.NotLater,
-    held_for_both zone range holds more cause.SpanTooLong,
-    held_for_both zone range holds more cause.GapTooLong,
-    held_for_both zone range holds more cause.TooFast,
-    held_for_both zone range holds more cause.TotalFull,
-    held_for_both zone range holds more cause.NotBelowRange,
-) refl
-
-module _ (zone : Zone) (range : DayRange) (facts : List Fact) (row : Installation) where
-  -- it goes on
-  pub tells_both : (old new : KeptMeter) (part : MeterStatement) (m : MeterOver) → old ≡ kept_of zone range m → Goes old row part new
-      → TellsPart zone range row.opening.meter true facts old.told.entries part → new ≡ kept_of zone range (both_of m (meter_in facts row))
-  tells_both old new part m told goes more =
-      let stands = goes.stands ∙ ap (λ (k : KeptMeter). as_one k.stands row) told in
-      let name = goes.meter ∙ ap (λ (k : KeptMeter). k.told.meter) told in
-      let entries = goes.entries ∙ more.entries m.entries (ap (λ (k : KeptMeter). k.told.entries) told) in
-      let mwh = goes.energy ∙ ap (λ (k : KeptMeter). min (k.told.mwh + part.mwh) (2 ^ 128 - 1)) told
-      ∙ ap (λ n. min (energy_within zone range m.rows + n) (2 ^ 128 - 1)) more.energy
-      ∙ sym (energy_both zone range m.rows (rows_of_meter facts row.opening.meter)) in
-      let held = goes.held ∙ ap (λ (k : KeptMeter). both_held k.told.held part.held) told
-      ∙ ap (both_held (held_within zone range m.holds)) more.held ∙ sym (held_both zone range m.holds (holds_of facts row.opening.meter)) in
-      rw (stands, name, entries, mwh, held) refl
-
-  -- it begins
-  pub tells_first : (new : KeptMeter) (none : EntryTally) → none ≡ tally_of zone range [] → new.stands ≡ row
-      → TellsPart zone range row.opening.meter false facts none new.told → new ≡ kept_of zone range (meter_in facts row)
-  tells_first new none is stands more =
-      let entries = more.entries [] is in
-      rw (stands, more.meter_is, entries, more.energy, more.held) refl
+use Rattle.carried_books.proofs.JoiningLemmas.Files.{is_in_both, is_kept}
+use Rattle.carried_books.proofs.JoiningLemmas.Meters.{all_before, next_or_apart, one_apart}
 
 -- ---- lists of them
 
@@ -223,10 +40,9 @@ stand_before row (m ∷ meters) all =
     (All-head (λ stands. is_before stands row ≡ true) m.stands (map (λ m. m.stands) meters) all)
     (stand_before row meters (All-tail (λ stands. is_before stands row ≡ true) m.stands (map (λ m. m.stands) meters) all))
 
-
 module _ (zone : Zone) (range : DayRange) where
   rows_of_meters : (meters : List MeterOver)
-      → map told_of (filter (λ one. was_there zone range one.stands) (map (kept_of zone range) meters)) ≡ statements_over zone range meters
+      → rows_of_those zone range (map (kept_of zone range) meters) ≡ statements_over zone range meters
   rows_of_meters [] = refl
   rows_of_meters (m ∷ meters) =
       let rest = rows_of_meters meters in
@@ -323,11 +139,111 @@ module _ (zone : Zone) (range : DayRange) where
   -- ---- the rows of a statement
 
   pub rows_told : (kept : List KeptMeter) (meters : List MeterOver) → AreTold zone range kept meters
-      → map told_of (filter (λ one. was_there zone range one.stands) kept) ≡ statements_over zone range meters
-  rows_told kept meters told =
-      ap (λ (those : List KeptMeter). map told_of (filter (λ one. was_there zone range one.stands) those)) told ∙ rows_of_meters meters
+      → rows_of_those zone range kept ≡ statements_over zone range meters
+  rows_told kept meters told = ap (rows_of_those zone range) told ∙ rows_of_meters meters
+
+  -- one meter more
+  pub rows_both : (kept more : List KeptMeter) → rows_of_those zone range (kept ++ more) ≡ rows_of_those zone range kept ++ rows_of_those zone range more
+  rows_both kept more =
+      let there : KeptMeter → Bool = λ one. was_there zone range one.stands in
+      ap (map told_of) (filter-append there kept more) ∙ map-append told_of (filter there kept) (filter there more)
+
+  pub row_there : (one : KeptMeter) (before after : List MeterStatement) → was_there zone range one.stands ≡ true → after ≡ before ++ one.told ∷ []
+      → after ≡ before ++ rows_of_those zone range (one ∷ [])
+  row_there one before after is put = put ∙ ap (λ (rows : List MeterStatement). before ++ rows) (sym (ap (map told_of) (cond-true _ _ _ is)))
+
+  pub row_absent : (one : KeptMeter) (before : List MeterStatement) → was_there zone range one.stands ≡ false
+      → before ≡ before ++ rows_of_those zone range (one ∷ [])
+  row_absent one before isnt = sym (ap (λ (rows : List MeterStatement). before ++ rows) (ap (map told_of) (cond-false _ _ _ isnt)) ∙ append-nil before)
+
+-- ---- where they stand
+
+find_stands : (row : Installation) (kept : List KeptMeter) → option_map stands_of (find (λ one. not (is_before one.stands row)) kept)
+    ≡ find (λ stands. not (is_before stands row)) (map stands_of kept)
+find_stands row [] = refl
+find_stands row (one ∷ kept) = elim (cases_Bool (not (is_before one.stands row))) [
+  | inl is ↦ ap (option_map stands_of) (cond-true _ _ _ is) ∙ sym (cond-true _ _ _ is)
+  | inr isnt ↦ ap (option_map stands_of) (cond-false _ _ _ isnt) ∙ find_stands row kept ∙ sym (cond-false _ _ _ isnt)
+]
+
+-- one was not there before the next
+pub stands_apart : (row stands : Installation) (kept : List KeptMeter) → option_map stands_of (find (λ one. not (is_before one.stands row)) kept) ≡ Some stands
+    → Contains (map stands_of kept) stands × (is_before stands row ≡ false)
+stands_apart row stands kept is = one_apart (map stands_of kept) row stands (sym (find_stands row kept) ∙ is)
+
+-- or all of them were
+pub stand_earlier : (row : Installation) (kept : List KeptMeter) → option_map stands_of (find (λ one. not (is_before one.stands row)) kept) ≡ None
+    → All (λ stands. is_before stands row ≡ true) (map stands_of kept)
+stand_earlier row kept is = all_before (map stands_of kept) row (sym (find_stands row kept) ∙ is)
+
+stand_more : (kept : List KeptMeter) (one : KeptMeter) (all : List KeptMeter) (stands : Installation) → all ≡ kept ++ one ∷ [] → one.stands ≡ stands
+    → map stands_of all ≡ map stands_of kept ++ stands ∷ []
+stand_more kept one all stands are is =
+    ap (map stands_of) are ∙ map-append stands_of kept (one ∷ []) ∙ ap (λ (those : Installation). map stands_of kept ++ those ∷ []) is
+
+-- the next one stands after them
+pub stands_next : (row : Installation) (new : KeptMeter) (old after : List KeptMeter) → All (λ stands. is_before stands row ≡ true) (map stands_of old)
+    → after ≡ old ++ new ∷ [] → new.stands ≡ row → IsNext (map stands_of old) row (map stands_of after)
+stands_next row new old after earlier are is = record { earlier = earlier; after_is = stand_more old new after row are is }
+
+-- the last goes on as it
+pub stands_on : (row : Installation) (last new : KeptMeter) (kept old after : List KeptMeter) → old ≡ kept ++ last ∷ [] → GoesOn last.stands row
+    → after ≡ kept ++ new ∷ [] → new.stands ≡ as_one last.stands row → AddsMeter (map stands_of old) row (map stands_of after)
+stands_on row last new kept old after old_is goes after_is is = inl (record {
+  before = map stands_of kept;
+  stands = last.stands;
+  known_is = stand_more kept last old last.stands old_is refl;
+  goes = goes;
+  after_is = stand_more kept new after (as_one last.stands row) after_is is;
+})
+
+-- or it doesn't, and the next one comes after all of them, or is apart
+pub stands_otherwise : (row : Installation) (last : KeptMeter) (kept old mid after : List KeptMeter) (apart : Option Apart) → old ≡ kept ++ last ∷ []
+    → (GoesOn last.stands row → ⊥) → mid ≡ kept ++ last ∷ [] → AddsNext (map stands_of mid) row (map stands_of after) apart
+    → AddsOrIsApart (map stands_of old) row (map stands_of after) apart
+stands_otherwise row last kept old mid after apart old_is other mid_is adds =
+    next_or_apart (map stands_of old) row (map stands_of after) apart
+    (inr (record { before = map stands_of kept; stands = last.stands; known_is = stand_more kept last old last.stands old_is refl; other = other }))
+    (subst (λ (those : List KeptMeter). AddsNext (map stands_of those) row (map stands_of after) apart) (mid_is ∙ sym old_is) adds)
+
+-- or there was none
+nothing_before : (old mid : List KeptMeter) → old ≡ mid ++ [] → mid ≡ [] → old ≡ []
+nothing_before old mid old_is mid_is = old_is ∙ append-nil mid ∙ mid_is
+
+pub stands_first : (row : Installation) (old mid after : List KeptMeter) (apart : Option Apart) → old ≡ mid ++ [] → mid ≡ []
+    → AddsNext (map stands_of mid) row (map stands_of after) apart → AddsOrIsApart (map stands_of old) row (map stands_of after) apart
+stands_first row old mid after apart old_is mid_is adds =
+    next_or_apart (map stands_of old) row (map stands_of after) apart (inl (ap (map stands_of) (nothing_before old mid old_is mid_is)))
+    (subst (λ (those : List KeptMeter). AddsNext (map stands_of those) row (map stands_of after) apart) (sym (old_is ∙ append-nil mid)) adds)
+
+-- what is told of meters is told of the same ones
+pub told_from : (zone : Zone) (range : DayRange) (facts : List Fact) (listed : List Installation) (old mid new : List KeptMeter) (apart : Option Apart)
+    → old ≡ mid → TellsAll zone range facts listed mid new apart → TellsAll zone range facts listed old new apart
+told_from zone range facts listed old mid new apart same tells =
+    subst (λ (those : List KeptMeter). TellsAll zone range facts listed those new apart) (sym same) tells
+
+-- those that books list
+pub added_listed : (zone : Zone) (range : DayRange) (facts : List Fact) (listed shown : List Installation) (old new : List KeptMeter)
+    (result : Result (Option Apart) BooksFault) → shown ≡ listed → IfOk result (AddOrAreApart (map stands_of old) shown (map stands_of new))
+    → IfOk result (TellsAll zone range facts shown old new) → IfOk result (AddsListed zone range facts listed old new)
+added_listed zone range facts listed shown old new (Ok apart) same joins tells = (
+    subst (λ (those : List Installation). AddOrAreApart (map stands_of old) those (map stands_of new) apart) same joins,
+    subst (λ (those : List Installation). TellsAll zone range facts those old new apart) same tells,
+)
+added_listed zone range facts listed shown old new (Err why) same joins tells = tt
+
+-- where two are apart, nothing is told
+pub told_apart : (zone : Zone) (range : DayRange) (facts : List Fact) (listed : List Installation) (old new : List KeptMeter) (apart : Option Apart)
+    → is_some apart ≡ true → TellsAll zone range facts listed old new apart
+told_apart zone range facts listed old new None is = absurd (cc is)
+told_apart zone range facts listed old new (Some apart) is = tt
 
 -- ---- one file more
+
+pub parts_so : (register : List ℕ) (facts : List Fact) (old : JoinedStatement) (new : List KeptMeter) (zone : Zone) (range : DayRange) (apart : Apart)
+    → AddsListed zone range facts (installations_of facts register) old.meters.items new (Some apart)
+    → DoesNotGoOn register facts old (unjoined.Apart apart)
+parts_so register facts old new zone range apart adds = adds.0
 
 pub keeps_more : (zone : Zone) (range : DayRange) (register : List ℕ) (facts : List Fact) (old new : JoinedStatement) (is : Bool)
     → (old.is_recorded && not is) ≡ false → is ≡ is_recorded register facts → new.is_recorded ≡ is → new.zone ≡ old.zone

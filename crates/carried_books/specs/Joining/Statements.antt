@@ -184,14 +184,17 @@ both_held one more = record {
   not_below_range = counted (one.not_below_range + more.not_below_range);
 }
 
--- A meter goes on in a file which has this part of it.
-pub record Goes (kept : KeptMeter) (row : Installation) (part : MeterStatement) (new : KeptMeter) :
-    Type 0 where
-  pub stands : new.stands ≡ as_one kept.stands row
-  pub meter : new.told.meter ≡ kept.told.meter
-  pub entries : new.told.entries ≡ part.entries
-  pub energy : new.told.mwh ≡ min (kept.told.mwh + part.mwh) (2 ^ 128 - 1)
-  pub held : new.told.held ≡ both_held kept.told.held part.held
+-- What is kept of a meter that goes on in a file which has this part of it.
+abbrev pub with_part : KeptMeter → Installation → (part : MeterStatement) → KeptMeter
+with_part kept row part = record {
+  stands = as_one kept.stands row;
+  told = record {
+    meter = kept.told.meter;
+    entries = part.entries;
+    mwh = min (kept.told.mwh + part.mwh) (2 ^ 128 - 1);
+    held = both_held kept.told.held part.held;
+  };
+}
 
 -- What was kept of meters becomes what is kept of them and those that a file lists, which join them, unless two are apart.
 abbrev pub TellsAll : Zone → DayRange → (facts : List Fact) → (listed : List Installation)

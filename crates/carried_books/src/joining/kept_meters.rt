@@ -1,5 +1,5 @@
 //! What is kept of a meter over files for its statement.
-ghost use Rattle.std.specs.Prelude.{◌≡◌, if◌then◌else◌};
+ghost use Rattle.std.specs.Prelude.{◌≡◌, ◌≤◌, if◌then◌else◌};
 ghost use Rattle.office_books.specs.Entries.{all_entries};
 ghost use Rattle.office_books.specs.Holds.{holds_of};
 ghost use Rattle.office_books.specs.Ledgers.{Consults, Finds};
@@ -7,7 +7,7 @@ ghost use Rattle.office_rules.specs.Intervals.{rows_of_meter};
 ghost use Rattle.energy_report.specs.Held.{held_within};
 ghost use Rattle.energy_report.specs.Statements.{energy_within};
 ghost use Rattle.carried_books.specs.Joining.Statements as statements;
-ghost use Rattle.carried_books.specs.Joining.Statements.{Goes, TalliesOn, TellsPart, own_entries};
+ghost use Rattle.carried_books.specs.Joining.Statements.{TalliesOn, TellsPart, own_entries};
 
 use crate::joining::meters::as_one;
 use energy_report::{EnergyWithin, EntryTally, HeldCounts, HeldWithin, MeterStatement};
@@ -30,7 +30,8 @@ const MOST_PIECES: u64 = 281_474_976_710_655;
 
 // The place of its first entry of its own.
 fn first_place(goes_on: bool) -> u64
-    ensures { result ≡ if goes_on then 2 else 1 }
+    ensures place { result ≡ if goes_on then 2 else 1 }
+    ensures few { result ≤ 2 }
 {
     if goes_on { 2 } else { 1 }
 }
@@ -133,9 +134,9 @@ fn both_held(one: &HeldCounts, more: &HeldCounts) -> HeldCounts
     }
 }
 
-/// A meter that goes on in a file which has this of it.
-pub(crate) fn gone_on(kept: &KeptMeter, row: &Installation, part: &MeterStatement) -> KeptMeter
-    ensures { Goes kept.now row.now part.now result }
+/// What is kept of a meter that goes on in a file which has this part of it.
+pub(crate) fn with_part(kept: &KeptMeter, row: &Installation, part: &MeterStatement) -> KeptMeter
+    ensures { result ≡ statements.with_part kept.now row.now part.now }
 {
     KeptMeter {
         stands: as_one(&kept.stands, row),

@@ -12,7 +12,7 @@ ghost use Rattle.carried_books.specs.Joining.Statements.{rows_of_those, stands_o
 
 use crate::joining::files::{Unjoined, is_recorded};
 use crate::joining::keeping::Keeping;
-use crate::joining::kept_meters::{KeptMeter, gone_on, told_in};
+use crate::joining::kept_meters::{KeptMeter, told_in, with_part};
 use crate::joining::meters::{Apart, both, goes_on, is_before};
 use command_io::ExitStatus;
 use energy_report::{EntryTally, MeterStatement, StatementForm, was_there, write_statement};
@@ -96,7 +96,7 @@ fn add_row<B: Books>(
     if goes_on(&last.stands, row) {
         let entries = last.told.entries;
         let part = told_in(books, entries, zone, range, &row.opening.meter, true)?;
-        known.push(gone_on(&last, row, &part))?;
+        known.push(with_part(&last, row, &part))?;
         return Ok(None);
     }
     known.push(last)?;
