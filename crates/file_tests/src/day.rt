@@ -45,13 +45,14 @@ fn event_of(alloc: Global, line: &str) -> Result<(u64, Event), Fail> {
     }
 }
 
-/// An office over these books to which the events of these lines came.
-pub(crate) fn office_after<B: Books>(
+/// An office that was opened over these books at a moment, and to which the events of these lines came.
+pub(crate) fn office_from<B: Books>(
     alloc: Global,
     books: B,
+    opened: u64,
     lines: &str,
 ) -> Result<Office<B>, Fail> {
-    let Ok(mut office) = Office::open(alloc, books, 0) else {
+    let Ok(mut office) = Office::open(alloc, books, opened) else {
         return Err(Fail::from("not opened"));
     };
     for line in lines.lines() {
@@ -61,6 +62,15 @@ pub(crate) fn office_after<B: Books>(
         }
     }
     Ok(office)
+}
+
+/// The same, opened at moment 0.
+pub(crate) fn office_after<B: Books>(
+    alloc: Global,
+    books: B,
+    lines: &str,
+) -> Result<Office<B>, Fail> {
+    office_from(alloc, books, 0, lines)
 }
 
 /// Books that day, in an office over these books.

@@ -1,17 +1,17 @@
 //! What files of an office tell of a register, one after the other.
 use crate::commands::fill;
-use crate::day::{MONTH, REPORTED, STATED};
+use crate::day::{MONTH, REPORTED};
 use crate::files::{Files, path, remove};
 use carried_books::{
-    JoinedFiles, JoinedStatement, Keeping, Unjoined, both_files_tell_the_joined_days,
-    one_file_tells_its_days, report_joined, state_joined,
+    JoinedFiles, Keeping, Unjoined, both_files_tell_the_joined_days, one_file_tells_its_days,
+    report_joined,
 };
 use command_io::ExitStatus;
-use energy_report::{EnergyUnit, Format, Period, ReportForm, StatementForm};
+use energy_report::{EnergyUnit, Format, Period, ReportForm};
 use interval_core::DayRange;
 use office_events::Name;
 use std::test::Fail;
-use stored_office::{Databases, JoinFault, JoinedOffice, carry_stored, join_stored};
+use stored_office::{Databases, JoinFault, JoinedOffice, join_stored};
 
 const ALL: DayRange = DayRange {
     from: None,
@@ -23,16 +23,33 @@ static FORMS: [(Period, EnergyUnit, &[u8]); 2] = [
     (Period::Month, EnergyUnit::KilowattHours, MONTH),
 ];
 
-/// What a file tells after those before it.
+/// What a file tells after those before it, on the days of a range.
+pub(crate) fn joined_on<D: Databases, K: Keeping>(
+    rt: &HostRuntime,
+    databases: &D,
+    path: &str,
+    before: Option<JoinedOffice<K>>,
+    range: &DayRange,
+) -> Result<Result<JoinedOffice<K>, JoinFault>, Fail> {
+    let connection = databases.open(path)?;
+    let register = Name::new(b"main").ok_or("no name")?;
+    Ok(join_stored(
+        rt.alloc(),
+        connection,
+        before,
+        &register,
+        *range,
+    ))
+}
+
+/// The same on all days.
 fn joined<D: Databases, K: Keeping>(
     rt: &HostRuntime,
     databases: &D,
     path: &str,
     before: Option<JoinedOffice<K>>,
 ) -> Result<Result<JoinedOffice<K>, JoinFault>, Fail> {
-    let connection = databases.open(path)?;
-    let register = Name::new(b"main").ok_or("no name")?;
-    Ok(join_stored(rt.alloc(), connection, before, &register, ALL))
+    joined_on(rt, databases, path, before, &ALL)
 }
 
 /// The report of what was kept, and how it ends.
@@ -77,7 +94,7 @@ fn are_two(why: &Unjoined) -> bool {
     }
 }
 
-fn is_apart(fault: &JoinFault) -> bool {
+pub(crate) fn is_apart(fault: &JoinFault) -> bool {
     match fault {
         JoinFault::Unjoined(why) => are_two(why),
         JoinFault::Unopened(_) | JoinFault::OtherZone | JoinFault::Books(_) => false,
@@ -118,66 +135,6 @@ fn is_apart_from_itself<D: Databases>(
         Ok(office) => is_apart_after(rt, databases, path, office),
         Err(_fault) => Ok(false),
     }
-}
-
-/// A new file, in which the meter goes on that is open in another.
-fn is_carried<D: Databases>(
-    rt: &HostRuntime,
-    databases: &D,
-    from: &str,
-    to: &str,
-) -> Result<bool, Fail> {
-    let old = databases.open(from)?;
-    let new = databases.make(to)?;
-    Ok(carry_stored(rt.alloc(), old, new, None) == Ok(1))
-}
-
-/// Whether the statement of a file and the next is that of its day, in which nothing was booked since.
-fn is_stated<D: Databases>(
-    rt: &HostRuntime,
-    databases: &D,
-    path: &str,
-    next: &str,
-) -> Result<bool, Fail> {
-    let none: Option<JoinedOffice<JoinedStatement>> = None;
-    let Ok(first) = joined(rt, databases, path, none)? else {
-        return Ok(false);
-    };
-    let Ok(both) = joined(rt, databases, next, Some(first))? else {
-        return Ok(false);
-    };
-    let form = StatementForm {
-        range: ALL,
-        unit: EnergyUnit::MilliwattHours,
-        format: Format::Text,
-    };
-    let mut printed = Vec::new(rt.alloc());
-    let status = state_joined(rt.alloc(), &both.kept, &form, &mut printed)?;
-    Ok(status == ExitStatus::Fine && printed.as_slice() == STATED)
-}
-
-/// Whether a file and one that is carried from it are stated as one.
-fn is_stated_with_next<D: Databases>(
-    rt: &HostRuntime,
-    databases: &D,
-    path: &str,
-) -> Result<bool, Fail> {
-    let next = format!(in rt.alloc(); "{path}-next")?;
-    if !is_carried(rt, databases, path, &next)? {
-        return Ok(false);
-    }
-    let is_stated = is_stated(rt, databases, path, &next)?;
-    remove(rt, &next)?;
-    Ok(is_stated)
-}
-
-#[test]
-fn a_file_and_the_next_are_stated_as_one(rt: HostRuntime) -> Result<(), Fail> {
-    let path = path(&rt)?;
-    let files = Files { rt: &rt };
-    fill(&rt, &files, &path)?;
-    assert!(rt; is_stated_with_next(&rt, &files, &path)?);
-    remove(&rt, &path)
 }
 
 #[test]

@@ -25,6 +25,8 @@ mod made_files;
 #[cfg(test)]
 mod said;
 #[cfg(test)]
+mod stated_files;
+#[cfg(test)]
 mod statuses;
 #[cfg(test)]
 mod stored;
