@@ -5,3 +5,4 @@ pub mod Reports
 pub mod Keeping
 pub mod KeptMeters
 pub mod Statements
+pub mod OneFile

@@ -23,7 +23,9 @@ use Rattle.office_events.specs.declared.facts.Fact.{Fact}
 use Rattle.office_events.specs.declared.facts.HeldReading.{HeldReading}
 use Rattle.office_events.specs.declared.questions.Installation.{Installation}
 use Rattle.office_program.specs.Texts.EndTexts.{IsTold}
+use Rattle.office_program.specs.Texts.Statements.{statements_of}
 use Rattle.office_rules.specs.Intervals.{rows_of_meter}
+use Rattle.office_rules.specs.Lawful.{AreLawful}
 use Rattle.carried_books.specs.Joining.Files.{StaysRecorded, is_recorded, is_recorded_in}
 use Rattle.carried_books.specs.Joining.Meters.{AddOrAreApart, AreApart, GoesOn, as_one, is_before}
 use Rattle.carried_books.specs.declared.joining.files.Unjoined.{Unjoined}
@@ -243,3 +245,13 @@ StatesJoined w joined form had holds status =
     (zone : Zone) (register : List ℕ) (files : List (List Fact))
     → HasStated zone form.range register files joined
     → PrintsStatement zone register files form status (w.contents had) (w.contents holds)
+
+-- ---- one file
+
+-- Of one file alone, which an office wrote, that is the statement of its meters.
+abbrev pub OneFileStatesItsMeters : Type 0
+OneFileStatesItsMeters = (zone : Zone) (range : DayRange) (register : List ℕ) (facts : List Fact)
+    (meters : List MeterOver)
+    → AreLawful facts → AreMetersOver register (facts ∷ []) meters
+    → statements_over zone range meters
+    ≡ statements_of zone range facts (installations_of facts register)
