@@ -6,3 +6,4 @@ pub mod Keeping
 pub mod KeptMeters
 pub mod Statements
 pub mod OneFile
+pub mod BothFiles

@@ -15,7 +15,8 @@ pub use files::{JoinedFiles, Unjoined, add_books, no_files};
 pub use keeping::Keeping;
 pub use kept_meters::KeptMeter;
 pub use laws::{
-    both_files_tell_the_joined_days, one_file_states_its_meters, one_file_tells_its_days,
+    both_files_state_the_joined_meter, both_files_tell_the_joined_days, one_file_states_its_meters,
+    one_file_tells_its_days,
 };
 pub use meters::Apart;
 pub use reports::report_joined;

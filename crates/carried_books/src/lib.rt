@@ -9,6 +9,6 @@ pub use carrying::{
 };
 pub use joining::{
     Apart, JoinedDays, JoinedFiles, JoinedStatement, Keeping, KeptMeter, Unjoined, add_books,
-    both_files_tell_the_joined_days, no_files, one_file_states_its_meters, one_file_tells_its_days,
-    report_joined, state_joined,
+    both_files_state_the_joined_meter, both_files_tell_the_joined_days, no_files,
+    one_file_states_its_meters, one_file_tells_its_days, report_joined, state_joined,
 };

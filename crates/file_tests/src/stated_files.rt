@@ -3,7 +3,10 @@ use crate::commands::fill;
 use crate::day::{STATED, office_from};
 use crate::files::{Files, path, remove};
 use crate::joined_files::{is_apart, joined_on};
-use carried_books::{JoinedStatement, Unjoined, one_file_states_its_meters, state_joined};
+use carried_books::{
+    JoinedStatement, Unjoined, both_files_state_the_joined_meter, one_file_states_its_meters,
+    state_joined,
+};
 use command_io::ExitStatus;
 use energy_report::{EnergyUnit, Format, StatementForm, read_range};
 use interval_core::DayRange;
@@ -147,6 +150,7 @@ fn are_stated<D: Databases>(rt: &HostRuntime, databases: &D, path: &str) -> Resu
 #[test]
 fn files_are_stated_as_one_and_each_alone(rt: HostRuntime) -> Result<(), Fail> {
     one_file_states_its_meters();
+    both_files_state_the_joined_meter();
     let path = path(&rt)?;
     assert!(rt; are_stated(&rt, &Files { rt: &rt }, &path)?);
     remove(&rt, &path)

@@ -173,7 +173,8 @@ held_both zone range holds more = λ i. record {
   not_below_range = held_for_both zone range holds more cause.NotBelowRange i;
 }
 
-told_alike : {a b : MeterStatement} → a.meter ≡ b.meter → a.entries ≡ b.entries → a.mwh ≡ b.mwh → a.held ≡ b.held → a ≡ b
+-- two are one whose parts are
+pub told_alike : {a b : MeterStatement} → a.meter ≡ b.meter → a.entries ≡ b.entries → a.mwh ≡ b.mwh → a.held ≡ b.held → a ≡ b
 told_alike meter entries mwh held = λ i. record { meter = meter i; entries = entries i; mwh = mwh i; held = held i }
 
 kept_alike : {a b : KeptMeter} → a.stands ≡ b.stands → a.told ≡ b.told → a ≡ b

@@ -15,10 +15,12 @@ use Rattle.energy_report.specs.declared.tallies.EntryTally.{EntryTally}
 use Rattle.interval_core.specs.declared.day_range.DayRange.{DayRange}
 use Rattle.interval_core.specs.declared.shares.Share.{Share}
 use Rattle.interval_core.specs.declared.zone.Zone.{Zone}
+use Rattle.meter_audit.specs.Carried.{AreCountedOnce, moved_row}
 use Rattle.office_books.specs.Entries.{all_entries, installations_of}
 use Rattle.office_books.specs.Holds.{holds_of}
 use Rattle.office_books.specs.Rows.{TakesAll}
 use Rattle.office_books.specs.declared.entries.MeterEntry.{MeterEntry}
+use Rattle.office_books.specs.declared.entries.MeterEntry.TheVariants as entry
 use Rattle.office_events.specs.declared.facts.Fact.{Fact}
 use Rattle.office_events.specs.declared.facts.HeldReading.{HeldReading}
 use Rattle.office_events.specs.declared.questions.Installation.{Installation}
@@ -255,3 +257,27 @@ OneFileStatesItsMeters = (zone : Zone) (range : DayRange) (register : List ℕ) 
     → AreLawful facts → AreMetersOver register (facts ∷ []) meters
     → statements_over zone range meters
     ≡ statements_of zone range facts (installations_of facts register)
+
+-- ---- a meter that is carried
+
+-- an entry after so many of the old file
+abbrev pub moved_entry : (count : ℕ) → MeterEntry → MeterEntry
+moved_entry count (entry.Opening last) = entry.Opening last
+moved_entry count (entry.Later row sf) = entry.Later (moved_row count row) sf
+
+-- What two files have of a meter that is carried from the one into the other, and one file that has its journal in both: there the
+-- entries of the new file but for its opening come after those of the old one, each quarter hour has the energy of both, and the
+-- held readings of the new one come after those of the old one.
+pub record HaveOneJournal (old new both : MeterOver) : Type 0 where
+  pub count : ℕ
+  pub name : both.stands.opening.meter ≡ old.stands.opening.meter
+  pub entries : both.entries
+      ≡ old.entries ++ map (moved_entry count) (own_entries true new.entries)
+  pub rows : AreCountedOnce old.rows new.rows both.rows
+  pub holds : both.holds ≡ old.holds ++ new.holds
+
+-- Both files state of it what that one states.
+abbrev pub BothFilesStateTheJoinedMeter : Type 0
+BothFilesStateTheJoinedMeter = (zone : Zone) (range : DayRange) (old new both : MeterOver)
+    → HaveOneJournal old new both
+    → statement_over zone range (both_of old new) ≡ statement_over zone range both

@@ -1,6 +1,7 @@
 //! Laws of reports and statements over files. Each function's clause is a law over all values; its body calls other laws at most.
 ghost use Rattle.carried_books.specs.Joining.Reports.{BothFilesTellTheJoinedDays};
 ghost use Rattle.carried_books.specs.Joining.Reports.{OneFileTellsItsDays};
+ghost use Rattle.carried_books.specs.Joining.Statements.{BothFilesStateTheJoinedMeter};
 ghost use Rattle.carried_books.specs.Joining.Statements.{OneFileStatesItsMeters};
 
 use office_rules::names_are_distinct;
@@ -21,3 +22,9 @@ pub fn one_file_states_its_meters()
 {
     names_are_distinct();
 }
+
+/// What two files state of a meter that is carried from the one into the other is what one file states that has its journal in
+/// both.
+pub fn both_files_state_the_joined_meter()
+    ensures { BothFilesStateTheJoinedMeter }
+{}
