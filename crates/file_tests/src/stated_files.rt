@@ -30,8 +30,8 @@ m3 5500 0 5500 0 0 0 0 0 0 0
 end 3
 ";
 
-/// Of both files: m2 is one meter, from its opening in the first to its closing in the next, with both numbers by hand. Before the
-/// first file there is no meter; after what was booked there is the one that is open, without an entry.
+/// Of both files: m2 is one meter, from its opening in the first to its closing in the next, with both numbers by hand. Before
+/// the first file there is no meter; after what was booked there is the one that is open, without an entry.
 static OF_BOTH: [Case; 4] = [
     (None, None, BY_BOTH),
     (Some("1970-01-01"), Some("1970-01-02"), BY_BOTH),
@@ -115,8 +115,8 @@ fn book_later<B: Books>(alloc: Global, books: B) -> Result<(), Fail> {
     Ok(())
 }
 
-/// Makes a new file, in which the meter goes on that is open in another, and books what comes later.
-fn carry_on<D: Databases>(
+/// Makes a new file, in which the meter goes on that is open in another.
+fn carry<D: Databases>(
     rt: &HostRuntime,
     databases: &D,
     from: &str,
@@ -125,26 +125,44 @@ fn carry_on<D: Databases>(
     let old = databases.open(from)?;
     let new = databases.make(to)?;
     match carry_stored(rt.alloc(), old, new, None) {
-        Ok(1) => {}
-        Ok(_) | Err(_) => return Err(Fail::from("not carried")),
+        Ok(1) => Ok(()),
+        Ok(_) | Err(_) => Err(Fail::from("not carried")),
     }
-    match SqlBooks::open(rt.alloc(), databases.open(to)?) {
+}
+
+/// Books what comes later in it.
+fn go_on<D: Databases>(rt: &HostRuntime, databases: &D, path: &str) -> Result<(), Fail> {
+    match SqlBooks::open(rt.alloc(), databases.open(path)?) {
         Ok(books) => book_later(rt.alloc(), books),
         Err(_) => Err(Fail::from("no books")),
     }
 }
 
-/// Whether a file and the one that is carried from it are stated as one, and each alone.
-fn are_stated<D: Databases>(rt: &HostRuntime, databases: &D, path: &str) -> Result<bool, Fail> {
-    let next = format!(in rt.alloc(); "{path}-next")?;
-    fill(rt, databases, path)?;
-    carry_on(rt, databases, path, &next)?;
-    let both = [path, next.as_str()];
-    let are_one = state(rt, databases, &both, &OF_BOTH)?;
+/// Whether two files are stated as one, and each alone.
+fn are_stated<D: Databases>(
+    rt: &HostRuntime,
+    databases: &D,
+    path: &str,
+    next: &str,
+) -> Result<bool, Fail> {
+    let are_one = state(rt, databases, &[path, next], &OF_BOTH)?;
     let is_first = state(rt, databases, &[path], &OF_FIRST)?;
-    let is_next = state(rt, databases, &[next.as_str()], &OF_NEXT)?;
-    remove(rt, &next)?;
+    let is_next = state(rt, databases, &[next], &OF_NEXT)?;
     Ok(are_one && is_first && is_next)
+}
+
+/// Whether the file of the day is, and one that is carried from it and goes on.
+fn is_stated_with_next<D: Databases>(
+    rt: &HostRuntime,
+    databases: &D,
+    path: &str,
+) -> Result<bool, Fail> {
+    let next = format!(in rt.alloc(); "{path}-next")?;
+    carry(rt, databases, path, &next)?;
+    go_on(rt, databases, &next)?;
+    let are_stated = are_stated(rt, databases, path, &next)?;
+    remove(rt, &next)?;
+    Ok(are_stated)
 }
 
 #[test]
@@ -152,7 +170,9 @@ fn files_are_stated_as_one_and_each_alone(rt: HostRuntime) -> Result<(), Fail> {
     one_file_states_its_meters();
     both_files_state_the_joined_meter();
     let path = path(&rt)?;
-    assert!(rt; are_stated(&rt, &Files { rt: &rt }, &path)?);
+    let files = Files { rt: &rt };
+    fill(&rt, &files, &path)?;
+    assert!(rt; is_stated_with_next(&rt, &files, &path)?);
     remove(&rt, &path)
 }
 
@@ -217,22 +237,35 @@ fn is_unrecorded_after<D: Databases>(
     }
 }
 
-/// Whether a file is refused after itself, and so is an office without the register.
-fn are_refused<D: Databases>(rt: &HostRuntime, databases: &D, path: &str) -> Result<bool, Fail> {
+/// Whether an office that has no register doesn't join a file that has one.
+fn is_refused_bare<D: Databases>(
+    rt: &HostRuntime,
+    databases: &D,
+    path: &str,
+) -> Result<bool, Fail> {
     let bare = format!(in rt.alloc(); "{path}-bare")?;
-    fill(rt, databases, path)?;
     if create_stored(rt.alloc(), databases.make(&bare)?, "UTC0").is_err() {
         return Err(Fail::from("not made"));
     }
-    let is_apart = is_apart_from_itself(rt, databases, path)?;
-    let is_unrecorded = is_unrecorded_after(rt, databases, path, &bare)?;
+    let is_refused = is_unrecorded_after(rt, databases, path, &bare)?;
     remove(rt, &bare)?;
-    Ok(is_apart && is_unrecorded)
+    Ok(is_refused)
 }
 
 #[test]
 fn files_that_are_apart_are_not_stated(rt: HostRuntime) -> Result<(), Fail> {
     let path = path(&rt)?;
-    assert!(rt; are_refused(&rt, &Files { rt: &rt }, &path)?);
+    let files = Files { rt: &rt };
+    fill(&rt, &files, &path)?;
+    assert!(rt; is_apart_from_itself(&rt, &files, &path)?);
+    remove(&rt, &path)
+}
+
+#[test]
+fn a_file_without_the_register_is_not_stated(rt: HostRuntime) -> Result<(), Fail> {
+    let path = path(&rt)?;
+    let files = Files { rt: &rt };
+    fill(&rt, &files, &path)?;
+    assert!(rt; is_refused_bare(&rt, &files, &path)?);
     remove(&rt, &path)
 }

@@ -55,8 +55,8 @@ meter_in facts row = record {
   holds = holds_of facts row.opening.meter;
 }
 
--- Which entries of a file are its own: all of a meter that begins there. Where it goes on there, its opening is not, since that is
--- the last entry that stands before it, told again: the reading at which it was carried.
+-- Which entries of a file are its own: all of a meter that begins there. Where it goes on there its opening is not, since that
+-- is the last entry that stands before it, told again: the reading at which it was carried.
 abbrev pub own_entries : (goes_on : Bool) → List MeterEntry → List MeterEntry
 own_entries true entries = drop 1 entries
 own_entries false entries = entries
@@ -265,9 +265,9 @@ abbrev pub moved_entry : (count : ℕ) → MeterEntry → MeterEntry
 moved_entry count (entry.Opening last) = entry.Opening last
 moved_entry count (entry.Later row sf) = entry.Later (moved_row count row) sf
 
--- What two files have of a meter that is carried from the one into the other, and one file that has its journal in both: there the
--- entries of the new file but for its opening come after those of the old one, each quarter hour has the energy of both, and the
--- held readings of the new one come after those of the old one.
+-- What two files have of a meter that is carried from the one into the other, and one file that has its journal in both: there
+-- the entries of the new file but for its opening come after those of the old one, each quarter hour has the energy of both, and
+-- the held readings of the new one come after those of the old one.
 pub record HaveOneJournal (old new both : MeterOver) : Type 0 where
   pub count : ℕ
   pub name : both.stands.opening.meter ≡ old.stands.opening.meter
