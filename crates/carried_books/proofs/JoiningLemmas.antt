@@ -7,3 +7,4 @@ pub mod KeptMeters
 pub mod Statements
 pub mod OneFile
 pub mod BothFiles
+mod Examples
