@@ -29,7 +29,7 @@ use Rattle.carried_books.proofs.JoiningLemmas.KeptMeters.{told_alike}
 -- ---- energy, quarter hour by quarter hour
 
 -- what a function of numbers comes to below one
-up_to : ℕ → (ℕ → ℕ) → ℕ
+abbrev up_to : ℕ → (ℕ → ℕ) → ℕ
 up_to zero f = 0
 up_to (suc n) f = up_to n f + f n
 
@@ -76,9 +76,9 @@ either : (b : Bool) (e more m : ℕ) → more ≡ e + m → cond b more 0 ≡ co
 either true e more m is = is
 either false e more m is = refl
 
-nothing : (b : Bool) → cond b 0 0 ≡ 0
-nothing true = refl
-nothing false = refl
+nothing : (b : Bool) (n : ℕ) → n ≡ 0 → cond b n 0 ≡ 0
+nothing true n is = is
+nothing false n is = refl
 
 at_start : (row : Share) (rows : List Share) → energy_from row.start (row ∷ rows) ≡ energy_from row.start rows + row.mwh
 at_start row rows =
@@ -100,12 +100,12 @@ module _ (asked : ℕ → Bool) where
   those_asked rows = filter (λ row. asked row.start) rows
 
   -- no row starts there or later
-  bound : List Share → ℕ
+  abbrev bound : List Share → ℕ
   bound [] = 0
   bound (row ∷ rows) = row.start + 1 + bound rows
 
   by_quarters : (n : ℕ) (rows : List Share) → bound rows ≤ n → energy_of (those_asked rows) ≡ up_to n (of_quarter rows)
-  by_quarters n [] fits = sym (up_to_none n (of_quarter []) (λ s. nothing (asked s)))
+  by_quarters n [] fits = sym (up_to_none n (of_quarter []) (λ s. nothing (asked s) 0 refl))
   by_quarters n (row ∷ rows) fits =
       let fit : row.start + 1 + bound rows ≤ n = fits in
       let rest : energy_of (those_asked rows) ≡ up_to n (of_quarter rows) = by_quarters n rows (omega (arith, fit)) in

@@ -1,5 +1,5 @@
 -- What is kept of one meter over files, for its statement: its entries, its quarter hours and its held readings.
-use Rattle.std.proofs.Common.{◌≡◌, ℕ, ◌+◌, ◌-◌, ◌^◌, ◌<◌, ◌&&◌, nat_le, Bool, true, false, cond, List, [], ◌∷◌, ◌++◌, take, drop, length, inl, inr, refl, sym, ap, subst, ◌∙◌, append-nil, append_assoc, arith}
+use Rattle.std.proofs.Common.{◌≡◌, ℕ, ◌+◌, ◌-◌, ◌^◌, ◌<◌, ◌&&◌, nat_le, Bool, true, false, cond, List, [], ◌∷◌, ◌++◌, take, drop, length, None, inl, inr, refl, sym, ap, subst, ◌∙◌, append-nil, append_assoc, arith}
 use Rattle.std.specs.Prelude.{filter, min}
 use Rattle.std.specs.List.{count_by, sum_by}
 use Rattle.std.proofs.lemmas.Bool.{cases_Bool, cond-false, cond-true}
@@ -66,7 +66,7 @@ module _ (zone : Zone) (range : DayRange) (facts : List Fact) (meter : List ℕ)
         | false ↦ λ e. omega (arith, e)
       ] is in
       let both : k + n ≡ n + k = omega arith in
-      are ∙ ap (λ p. entries_from facts meter p 65536) place ∙ piece_of facts (opening_of facts meter) (n + k) 65536
+      are ∙ ap (λ p. entries_from facts meter p 65536) place ∙ piece_of None facts (opening_of facts meter) (n + k) 65536
       ∙ ap (take 65536) (ap (λ c. drop c (all_entries facts meter)) (sym both) ∙ sym (drop-drop n k (all_entries facts meter))
       ∙ ap (drop n) (sym (own_of goes_on (all_entries facts meter))))
 

@@ -7,8 +7,8 @@ use Rattle.office_rules.specs.Intervals.{rows_of_meter}
 use Rattle.carried_books.proofs.JoiningLemmas.KeptMeters.{energy_told}
 use Rattle.carried_books.proofs.joining.kept_meters.energy.Goals as goal
 
-pub returns-in_ok-intervals-clause-found : goal.returns-in_ok-intervals-clause-found
-returns-in_ok-intervals-clause-found g c known holds clean =
+pub returns-clause-found : goal.returns-clause-found
+returns-clause-found g c known holds clean =
     c.mwh.ensures
     ∙ energy_told c.args.zone.now c.args.range.now (rows_of_meter known c.args.meter.now) c.new-energy.result c.intervals.new.sink c.new-energy.ensures
     (subst (λ (span : Span). TakesAll AddsShare c.new-energy.result (rows_within span (rows_of_meter known c.args.meter.now)) c.intervals.new.sink)

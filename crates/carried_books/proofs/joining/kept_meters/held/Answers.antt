@@ -3,8 +3,8 @@ use Rattle.office_books.specs.Holds.{holds_of}
 use Rattle.carried_books.proofs.JoiningLemmas.KeptMeters.{held_told}
 use Rattle.carried_books.proofs.joining.kept_meters.held.Goals as goal
 
-pub returns-in_ok-holds-clause-found : goal.returns-in_ok-holds-clause-found
-returns-in_ok-holds-clause-found g c known holds clean =
+pub returns-clause-found : goal.returns-clause-found
+returns-clause-found g c known holds clean =
     c.counts.ensures
     ∙ held_told c.args.zone.now c.args.range.now (holds_of known c.args.meter.now) c.new-held.result c.holds.new.sink c.new-held.ensures
     (c.in_ok-holds.ensures.rows.whole known holds clean)

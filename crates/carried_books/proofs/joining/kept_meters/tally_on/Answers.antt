@@ -1,12 +1,15 @@
-use Rattle.std.proofs.Common.{◌≡◌, ◌+◌, ◌*◌, ◌++◌, List, Ok, length, ap, subst, ◌∙◌, arith}
+use Rattle.std.proofs.Common.{◌≡◌, ◌+◌, ◌*◌, ◌++◌, List, Ok, length, refl, ap, subst, ◌∙◌, arith}
 use Rattle.energy_report.specs.Statements.{tally_of}
 use Rattle.office_books.specs.declared.entries.MeterEntry.{MeterEntry}
 use Rattle.office_books.proofs.Moving.{consults_then, passes, passes_well}
 use Rattle.carried_books.proofs.JoiningLemmas.KeptMeters.{HasTallied, tally_all, tally_more, tally_none}
 use Rattle.carried_books.proofs.joining.kept_meters.tally_on.Goals as goal
 
-pub loop-turn-init-clause-found : goal.loop-turn-init-clause-found
-loop-turn-init-clause-found g c known holds clean = tally_none c.args.zone.now c.args.range.now known c.args.meter.now c.args.goes_on c.args.begun
+pub loop-turn-init : goal.loop-turn-init
+loop-turn-init g c = record {
+  found = λ known holds clean. tally_none c.args.zone.now c.args.range.now known c.args.meter.now c.args.goes_on c.args.begun;
+  reads = record { goes = record { clean = λ is. is; faults = refl; zone = refl }; keeps = record { facts = λ known holds. holds; left = λ left may. may } };
+}
 
 pub returns-then-len-lt65536-clause-found : goal.returns-then-len-lt65536-clause-found
 returns-then-len-lt65536-clause-found g c known holds clean =

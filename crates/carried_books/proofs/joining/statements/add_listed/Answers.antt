@@ -11,8 +11,12 @@ use Rattle.carried_books.proofs.JoiningLemmas.Meters.{apart_among, joined_one}
 use Rattle.carried_books.proofs.JoiningLemmas.Statements.{told_all, told_apart, told_none}
 use Rattle.carried_books.proofs.joining.statements.add_listed.Goals as goal
 
-pub loop-row-init-clause-tells : goal.loop-row-init-clause-tells
-loop-row-init-clause-tells g c facts holds clean = told_none c.args.zone.now c.args.range.now facts c.args.known.now.items
+pub loop-row-init : goal.loop-row-init
+loop-row-init g c = record {
+  joins = refl;
+  tells = λ facts holds clean. told_none c.args.zone.now c.args.range.now facts c.args.known.now.items;
+  reads = record { goes = record { clean = λ is. is; faults = refl; zone = refl }; keeps = record { facts = λ known holds. holds; left = λ left may. may } };
+}
 
 pub returns-then-is_some-clause-joins : goal.returns-then-is_some-clause-joins
 returns-then-is_some-clause-joins g c =

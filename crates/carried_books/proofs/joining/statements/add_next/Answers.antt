@@ -18,7 +18,7 @@ returns-in-Some-clause-joins g c =
 pub returns-in_ok-push-in-None-clause-joins : goal.returns-in_ok-push-in-None-clause-joins
 returns-in_ok-push-in-None-clause-joins g c =
     let row = c.args.row.now in
-    stands_next row _ c.args.known.now.items c.push-in-None.new.self.items
+    stands_next row _ c.args.known.now.items c.push.new.self.items
     (stand_earlier row c.args.known.now.items
     (ap (λ (known : List KeptMeter). option_map stands_of (find (λ one. not (is_before one.stands row)) known)) (sym c.as_slice.ensures.value)
     ∙ sym c.not_before.ensures ∙ c.in-None.is))
@@ -29,9 +29,9 @@ returns-in_ok-push-in-None-clause-tells g c facts holds clean =
     let zone = c.args.zone.now in
     let range = c.args.range.now in
     let row = c.args.row.now in
-    comes_after_told zone range facts row _ c.args.known.now.items c.push-in-None.new.self.items
+    comes_after_told zone range facts row _ c.args.known.now.items c.push.new.self.items
     (stand_earlier row c.args.known.now.items
     (ap (λ (known : List KeptMeter). option_map stands_of (find (λ one. not (is_before one.stands row)) known)) (sym c.as_slice.ensures.value)
     ∙ sym c.not_before.ensures ∙ c.in-None.is))
-    (tells_first zone range facts row _ c.new-none-in-None.result (c.new-none-in-None.ensures.none zone range) refl (c.in_ok-told-in-None.ensures.found facts holds clean))
+    (tells_first zone range facts row _ c.new-none.result (c.new-none.ensures.none zone range) refl (c.in_ok-told-in-None.ensures.found facts holds clean))
     c.in_ok-push-in-None.ensures.items

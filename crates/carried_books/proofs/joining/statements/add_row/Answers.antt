@@ -34,17 +34,17 @@ returns-then-goes_on-clause-tells g c facts holds clean =
     (λ m told. tells_both zone range facts row last c.with_part.result c.in_ok-part.part m told c.with_part.ensures (c.in_ok-part.ensures.found facts holds clean))
     c.in_ok-push.ensures.items
 
-pub returns-else-goes_on-clause-joins : goal.returns-else-goes_on-clause-joins
-returns-else-goes_on-clause-joins g c =
+pub returns-clause-joins : goal.returns-clause-joins
+returns-clause-joins g c =
     let last = c.in-Some.last in
     IfOk-weaker c.add_next.result _ _
-    (λ apart adds. stands_otherwise c.args.row.now last c.pop.new.self.items c.args.known.now.items c.push.new.self.items c.add_next.new.known.items apart
-    (rw c.in-Some.is at c.pop.ensures.items) (λ goes. let e = sym c.if-goes_on.false ∙ c.goes_on.ensures.1 goes in cc e) c.in_ok-push.ensures.items adds)
+    (λ apart adds. stands_otherwise c.args.row.now last c.pop.new.self.items c.args.known.now.items c.push-2.new.self.items c.add_next.new.known.items apart
+    (rw c.in-Some.is at c.pop.ensures.items) (λ goes. let e = sym c.if-goes_on.false ∙ c.goes_on.ensures.1 goes in cc e) c.in_ok-push-2.ensures.items adds)
     c.add_next.ensures.joins
 
-pub returns-else-goes_on-clause-tells : goal.returns-else-goes_on-clause-tells
-returns-else-goes_on-clause-tells g c facts holds clean =
+pub returns-clause-tells : goal.returns-clause-tells
+returns-clause-tells g c facts holds clean =
     IfOk-weaker c.add_next.result _ _
-    (λ apart tells. told_from c.args.zone.now c.args.range.now facts (c.args.row.now ∷ []) c.args.known.now.items c.push.new.self.items c.add_next.new.known.items apart
-    ((rw c.in-Some.is at c.pop.ensures.items) ∙ sym c.in_ok-push.ensures.items) tells)
+    (λ apart tells. told_from c.args.zone.now c.args.range.now facts (c.args.row.now ∷ []) c.args.known.now.items c.push-2.new.self.items c.add_next.new.known.items apart
+    ((rw c.in-Some.is at c.pop.ensures.items) ∙ sym c.in_ok-push-2.ensures.items) tells)
     (c.add_next.ensures.tells facts holds clean)

@@ -8,7 +8,7 @@ returns-then-not-was_there c =
     let absent : was_there c.args.zone.now c.args.range.now c.args.one.now.stands ≡ false = search rules in
     row_absent c.args.zone.now c.args.range.now c.args.one.now c.args.rows.now.items absent
 
-pub returns-in_ok-push : goal.returns-in_ok-push
-returns-in_ok-push c =
+pub returns : goal.returns
+returns c =
     let there : was_there c.args.zone.now c.args.range.now c.args.one.now.stands ≡ true = search rules in
     row_there c.args.zone.now c.args.range.now c.args.one.now c.args.rows.now.items c.push.new.self.items there c.in_ok-push.ensures.items

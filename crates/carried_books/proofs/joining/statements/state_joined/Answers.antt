@@ -5,8 +5,8 @@ use Rattle.carried_books.specs.Joining.Statements.{rows_of_those}
 use Rattle.carried_books.proofs.JoiningLemmas.Statements.{rows_told}
 use Rattle.carried_books.proofs.joining.statements.state_joined.Goals as goal
 
-pub returns-in_ok-rows-clause-states : goal.returns-in_ok-rows-clause-states
-returns-in_ok-rows-clause-states g c = λ zone register files has.
+pub returns-clause-states : goal.returns-clause-states
+returns-clause-states g c = λ zone register files has.
     let form = c.args.form.now in
     let rows = c.in_ok-rows.rows.items in
     record {
