@@ -37,14 +37,14 @@ returns-then-goes_on-clause-tells g c facts holds clean =
 pub returns-clause-joins : goal.returns-clause-joins
 returns-clause-joins g c =
     let last = c.in-Some.last in
-    IfOk-weaker c.add_next.result _ _
-    (λ apart adds. stands_otherwise c.args.row.now last c.pop.new.self.items c.args.known.now.items c.push-2.new.self.items c.add_next.new.known.items apart
+    IfOk-weaker c.add_next-2.result _ _
+    (λ apart adds. stands_otherwise c.args.row.now last c.pop.new.self.items c.args.known.now.items c.push-2.new.self.items c.add_next-2.new.known.items apart
     (rw c.in-Some.is at c.pop.ensures.items) (λ goes. let e = sym c.if-goes_on.false ∙ c.goes_on.ensures.1 goes in cc e) c.in_ok-push-2.ensures.items adds)
-    c.add_next.ensures.joins
+    c.add_next-2.ensures.joins
 
 pub returns-clause-tells : goal.returns-clause-tells
 returns-clause-tells g c facts holds clean =
-    IfOk-weaker c.add_next.result _ _
-    (λ apart tells. told_from c.args.zone.now c.args.range.now facts (c.args.row.now ∷ []) c.args.known.now.items c.push-2.new.self.items c.add_next.new.known.items apart
+    IfOk-weaker c.add_next-2.result _ _
+    (λ apart tells. told_from c.args.zone.now c.args.range.now facts (c.args.row.now ∷ []) c.args.known.now.items c.push-2.new.self.items c.add_next-2.new.known.items apart
     ((rw c.in-Some.is at c.pop.ensures.items) ∙ sym c.in_ok-push-2.ensures.items) tells)
-    (c.add_next.ensures.tells facts holds clean)
+    (c.add_next-2.ensures.tells facts holds clean)
