@@ -33,13 +33,7 @@ pub(crate) fn joined_on<D: Databases, K: Keeping>(
 ) -> Result<Result<JoinedOffice<K>, JoinFault>, Fail> {
     let connection = databases.open(path)?;
     let register = Name::new(b"main").ok_or("no name")?;
-    Ok(join_stored(
-        rt.alloc(),
-        connection,
-        before,
-        &register,
-        *range,
-    ))
+    Ok(join_stored(rt.alloc(), connection, before, &register, *range))
 }
 
 /// The same on all days.

@@ -36,11 +36,7 @@ static OF_BOTH: [Case; 4] = [
     (None, None, BY_BOTH),
     (Some("1970-01-01"), Some("1970-01-02"), BY_BOTH),
     (None, Some("1970-01-01"), b"end 0\n"),
-    (
-        Some("1970-01-02"),
-        None,
-        b"m3 - - - - 0 0 0 0 0 0\nend 1\n",
-    ),
+    (Some("1970-01-02"), None, b"m3 - - - - 0 0 0 0 0 0\nend 1\n"),
 ];
 
 /// Of the next file alone: m2 begins where it was carried.
@@ -116,12 +112,7 @@ fn book_later<B: Books>(alloc: Global, books: B) -> Result<(), Fail> {
 }
 
 /// Makes a new file, in which the meter goes on that is open in another.
-fn carry<D: Databases>(
-    rt: &HostRuntime,
-    databases: &D,
-    from: &str,
-    to: &str,
-) -> Result<(), Fail> {
+fn carry<D: Databases>(rt: &HostRuntime, databases: &D, from: &str, to: &str) -> Result<(), Fail> {
     let old = databases.open(from)?;
     let new = databases.make(to)?;
     match carry_stored(rt.alloc(), old, new, None) {

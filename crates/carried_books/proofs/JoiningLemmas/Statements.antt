@@ -63,11 +63,11 @@ module _ (zone : Zone) (range : DayRange) where
       let head : first ≡ kept_of zone range m = cc told in
       let tail : kept ++ one ∷ [] ≡ map (kept_of zone range) meters = cc told in
       let rest = told_last kept one meters tail in (
-          m ∷ rest.0,
-          rest.1,
-          ap (λ (those : List MeterOver). m ∷ those) rest.2,
-          ap (λ (k : KeptMeter). k ∷ kept) head ∙ ap (λ (those : List KeptMeter). kept_of zone range m ∷ those) rest.3,
-          rest.4,
+        m ∷ rest.0,
+        rest.1,
+        ap (λ (those : List MeterOver). m ∷ those) rest.2,
+        ap (λ (k : KeptMeter). k ∷ kept) head ∙ ap (λ (those : List KeptMeter). kept_of zone range m ∷ those) rest.3,
+        rest.4,
       )
 
   pub told_more : (kept : List KeptMeter) (one : KeptMeter) (meters : List MeterOver) (m : MeterOver) → AreTold zone range kept meters → one ≡ kept_of zone range m
@@ -92,19 +92,19 @@ module _ (zone : Zone) (range : DayRange) where
       let found = told_last kept last meters (sym old_is ∙ told) in
       let both = both_of found.1 (meter_in facts row) in
       let now = found.0 ++ both ∷ [] in (
+        now,
+        (
           now,
-          (
-            now,
-            inl (record {
-              before = found.0;
-              one = found.1;
-              known_is = found.2;
-              goes = subst (λ (k : KeptMeter). GoesOn k.stands row) found.4 goes;
-              after_is = refl;
-            }),
-            refl,
-          ),
-          after_is ∙ told_more kept new found.0 both found.3 (tells found.1 found.4),
+          inl (record {
+            before = found.0;
+            one = found.1;
+            known_is = found.2;
+            goes = subst (λ (k : KeptMeter). GoesOn k.stands row) found.4 goes;
+            after_is = refl;
+          }),
+          refl,
+        ),
+        after_is ∙ told_more kept new found.0 both found.3 (tells found.1 found.4),
       )
 
   pub comes_after_told : (facts : List Fact) (row : Installation) (new : KeptMeter) (old after : List KeptMeter)
@@ -113,9 +113,9 @@ module _ (zone : Zone) (range : DayRange) where
   comes_after_told facts row new old after earlier tells after_is = λ meters told.
       let m = meter_in facts row in
       let now = meters ++ m ∷ [] in (
-          now,
-          (now, inr (record { earlier = before_too row old meters told earlier; after_is = refl }), refl),
-          after_is ∙ told_more old new meters m told tells,
+        now,
+        (now, inr (record { earlier = before_too row old meters told earlier; after_is = refl }), refl),
+        after_is ∙ told_more old new meters m told tells,
       )
 
   -- ---- all rows of a file
@@ -130,10 +130,10 @@ module _ (zone : Zone) (range : DayRange) where
   told_all facts before row old mid now None isnt had more = λ meters told.
       let first = had meters told in
       let next = more first.0 first.2 in (
-          next.0,
-          subst (λ (those : List MeterOver). TakesAll AddsOver meters those next.0) (sym (map-append (meter_in facts) before (row ∷ [])))
-          (takes_both AddsOver meters first.0 next.0 (map (meter_in facts) before) (meter_in facts row ∷ []) first.1 next.1),
-          next.2,
+        next.0,
+        subst (λ (those : List MeterOver). TakesAll AddsOver meters those next.0) (sym (map-append (meter_in facts) before (row ∷ [])))
+            (takes_both AddsOver meters first.0 next.0 (map (meter_in facts) before) (meter_in facts row ∷ []) first.1 next.1),
+        next.2,
       )
 
   -- ---- the rows of a statement
@@ -227,8 +227,8 @@ pub added_listed : (zone : Zone) (range : DayRange) (facts : List Fact) (listed 
     (result : Result (Option Apart) BooksFault) → shown ≡ listed → IfOk result (AddOrAreApart (map stands_of old) shown (map stands_of new))
     → IfOk result (TellsAll zone range facts shown old new) → IfOk result (AddsListed zone range facts listed old new)
 added_listed zone range facts listed shown old new (Ok apart) same joins tells = (
-    subst (λ (those : List Installation). AddOrAreApart (map stands_of old) those (map stands_of new) apart) same joins,
-    subst (λ (those : List Installation). TellsAll zone range facts those old new apart) same tells,
+  subst (λ (those : List Installation). AddOrAreApart (map stands_of old) those (map stands_of new) apart) same joins,
+  subst (λ (those : List Installation). TellsAll zone range facts those old new apart) same tells,
 )
 added_listed zone range facts listed shown old new (Err why) same joins tells = tt
 

@@ -149,6 +149,7 @@ fn add_meters<B: Books>(
 /// What its meters come to.
 impl Keeping for JoinedStatement {
     ghost keeps = { HasStated };
+
     ghost parts = { λ range. DoesNotGoOn };
 
     fn none(alloc: Global, zone: Zone, _range: DayRange) -> JoinedStatement {
@@ -214,11 +215,7 @@ fn rows_of(
 }
 
 // Writes a statement.
-fn print_rows<W: Write>(
-    form: &StatementForm,
-    rows: &[MeterStatement],
-    output: &mut W,
-) -> ExitStatus
+fn print_rows<W: Write>(form: &StatementForm, rows: &[MeterStatement], output: &mut W) -> ExitStatus
     ensures { PrintsRows W.contents form.now rows.now result output.old output.new }
 {
     match write_statement(form, rows, output) {

@@ -15,8 +15,8 @@ returns-clause-states g c = λ zone register files has.
         has.meters,
         has.are,
         ap (statement_text form)
-        (c.in_ok-rows.ensures ∙ ap (λ its. rows_of_those its form.range c.deref.result.now) has.zone_is ∙ ap (rows_of_those zone form.range) c.deref.ensures.value
-        ∙ rows_told zone form.range c.args.joined.now.meters.items has.meters has.told),
+            (c.in_ok-rows.ensures ∙ ap (λ its. rows_of_those its form.range c.deref.result.now) has.zone_is ∙ ap (rows_of_those zone form.range) c.deref.ensures.value
+            ∙ rows_told zone form.range c.args.joined.now.meters.items has.meters has.told),
       );
       told = rw c.deref-2.ensures.value at c.print_rows.ensures;
     }
