@@ -469,38 +469,43 @@ def nothing_can_be_made():
     unwritable("folder", lambda folder: os.chmod(folder, 0o555), lambda folder: os.chmod(folder, 0o755), "it can't be written: look at its folder's rights and the disk's room", user)
 
 
-def full_disk():
-    """A disk without room for a new file, but for the log of the one before, of which some 128 KiB are made at once."""
-    folder = f"{ROOM}/full"
+def full_disk(name, left, has_room_for_log):
+    """A disk without room for a new file. The file before goes on while there is room for its log, of which some 128 KiB are made at once;
+    else its rounds fail, which is told, and nothing is lost."""
+    folder = f"{ROOM}/{name}"
     os.mkdir(folder)
     if subprocess.run(["mount", "-t", "tmpfs", "-o", "size=2m", "tmpfs", folder], capture_output=True).returncode != 0:
         print("run_carry: nothing can be mounted here: a full disk isn't tried", flush=True)
         return
     end = moment(2026, 12, 1)
-    clock = Clock("full", end - 7200)
-    made = os.path.dirname(office("roomy", "office.db", "UTC0", clock))
-    for name in os.listdir(made):
-        shutil.copy(f"{made}/{name}", folder)
+    clock = Clock(name, end - 7200)
+    made = os.path.dirname(office(f"{name}-roomy", "office.db", "UTC0", clock))
+    for it in os.listdir(made):
+        shutil.copy(f"{made}/{it}", folder)
     path = f"{folder}/office.db"
     device = Device()
     clock.set(end - 8)
     run = begin(path, "month", device, clock)
-    holds("full: it polls", run.wait_for("round answered", 20), run.told())
+    holds(f"{name}: it polls", run.wait_for("round answered", 20), run.told())
     room = os.statvfs(folder)
     with open(f"{folder}/filling", "wb") as file:
-        file.write(b"\0" * max(0, room.f_bavail * room.f_frsize - 180_000))
-    holds("full: it isn't carried", run.wait_for("it was not carried: books go on in it", 20), run.told())
-    same("full: no new file", files_of(path), ["office.db", "office-2026-11.db"])
-    same("full: and no part", [it for it in os.listdir(folder) if ".part" in it], [])
+        file.write(b"\0" * max(0, room.f_bavail * room.f_frsize - left))
+    holds(f"{name}: it isn't carried", run.wait_for("it was not carried: books go on in it", 20), run.told())
+    same(f"{name}: no new file", files_of(path), ["office.db", "office-2026-11.db"])
+    same(f"{name}: and no part", [it for it in os.listdir(folder) if ".part" in it], [])
     before = len(run.rounds())
     time.sleep(3 * EVERY)
-    holds("full: polling goes on", len(run.rounds()) - before >= 1, run.told())
+    if has_room_for_log:
+        holds(f"{name}: polling goes on", len(run.rounds()) - before >= 1, run.told())
+    else:
+        holds(f"{name}: no round is answered", len(run.rounds()) == before, run.told())
+        holds(f"{name}: it is told why", any("inv: the store failed; look at the disk's room" in it for _, it in run.said), run.told())
     os.unlink(f"{folder}/filling")
     clock.set(end + 3600 - 3)
-    holds("full: it is carried once there is room", run.wait_for(f"carried 1 meters into {folder}/office-2026-12.db", 20), run.told())
+    holds(f"{name}: it is carried once there is room", run.wait_for(f"carried 1 meters into {folder}/office-2026-12.db", 20), run.told())
     time.sleep(2 * EVERY)
     run.end()
-    holds_energy("full", path, clock)
+    holds_energy(name, path, clock)
     subprocess.run(["umount", folder])
 
 
@@ -635,7 +640,8 @@ def main():
     clock_ahead()
     behind()
     nothing_can_be_made()
-    full_disk()
+    full_disk("full", 180_000, True)
+    full_disk("fuller", 40_960, False)
     other_length()
     missing()
     left_empty()
