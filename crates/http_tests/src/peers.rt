@@ -1,10 +1,14 @@
 //! Peers of a run, over sockets that don't wait.
-use crate::cases::reply;
+use crate::cases::text_reply;
 use crate::connections::{REPLY, REQUEST, Stepping, client_of, energy_of_ended};
-use crate::office::metered;
+use crate::energy_over::main_of;
+use crate::office::{metered, polled};
+use carried_books::EarlierRegister;
 use http_peers::{
-    HttpPort, KeptRoom, Now, Outbox, PORT_TOKEN, RunTold, Went, even_milliseconds, went_by,
+    EarlierFiles, HttpPort, KeptRoom, Now, Outbox, PORT_TOKEN, RunTold, Went, even_milliseconds,
+    went_by,
 };
+use interval_core::Zone;
 use memory_books::ListBooks;
 use mio::{Events, Interest, Poll, Token};
 use office_core::Office;
@@ -24,6 +28,8 @@ struct Listening {
     events: Events<Global>,
     port: HttpPort,
     monitor: RunMonitor,
+    zone: Zone,
+    earlier: Vec<EarlierRegister>,
 }
 
 // A listener that doesn't wait, and is registered as that of a port.
@@ -41,24 +47,40 @@ impl Listening {
         poll: Poll,
         listener: mio::net::TcpListener,
         room: KeptRoom,
+        zone: Zone,
+        earlier: Vec<EarlierRegister>,
     ) -> Result<Listening, AllocError> {
         Ok(Listening {
             poll,
             events: Events::with_capacity(alloc, 8)?,
             port: HttpPort::new(alloc, listener, room)?,
             monitor: RunMonitor::new(alloc, &[])?,
+            zone,
+            earlier,
         })
     }
 
     fn open(rt: &HostRuntime, listener: TcpListener, room: KeptRoom) -> Result<Listening, Fail> {
         let poll = Poll::new(rt)?;
         let listener = registered(listener, &poll)?;
-        Ok(Listening::of(rt.alloc(), poll, listener, room)?)
+        let (zone, earlier) = (Zone::read("UTC0")?, main_of(rt.alloc())?);
+        Ok(Listening::of(
+            rt.alloc(),
+            poll,
+            listener,
+            room,
+            zone,
+            earlier,
+        )?)
     }
 
     // What waits is accepted, each peer attended, and those that were replied to are dropped.
     fn turn(&mut self, office: &mut Office<ListBooks>, time: u64) {
         let now = Now { time, moment: 2800 };
+        let earlier = EarlierFiles {
+            zone: self.zone,
+            registers: &self.earlier,
+        };
         self.port.begin_turn();
         self.port.accept(self.poll.registry(), time);
         let first = self.port.first();
@@ -66,6 +88,7 @@ impl Listening {
             let told = RunTold {
                 monitor: &self.monitor,
                 lacks: &[],
+                earlier: &earlier,
             };
             let place = place_at(first, step);
             self.port
@@ -133,28 +156,52 @@ fn replied(
     read_all(rt.alloc(), client)
 }
 
+static MONTHS: &[u8] = b"GET /registers/main/months HTTP/1.1\r\n\r\n";
+
+// The quarter hour from 900 is in both, and counted once.
 #[test]
-fn a_peer_is_replied_to(rt: HostRuntime) -> Result<(), Fail> {
-    let mut office = metered(rt.alloc())?;
-    let room = KeptRoom::new(Some(REQUEST.len() as u64), 0);
-    let got = replied(&rt, room, REQUEST, &mut office, false)?;
-    assert!(rt; got.as_slice() == REPLY);
-    assert!(rt; energy_of_ended(&mut office) == Some(300_000));
+fn a_peer_is_told_of_earlier_files_too(rt: HostRuntime) -> Result<(), Fail> {
+    let mut office = polled(rt.alloc())?;
+    let got = replied(&rt, KeptRoom::new(None, 0), MONTHS, &mut office, false)?;
+    let want = text_reply(
+        rt.alloc(),
+        "1970-01    3                   200012\nend 1\n",
+    )?;
+    assert!(rt; got.as_slice() == want.as_bytes());
     Ok(())
 }
 
 static AFTER_LINES: &[u8] =
     b"\r\n\r\nPOST /registers/main/exchange HTTP/1.1\r\nContent-Length: 68\r\nOffice-Caller: desk\r\nOffice-Request: 7\r\n\r\n{\"ceiling\":100000,\"last\":5300,\"meter\":\"m2\",\"raw\":0,\"rolls\":0,\"sf\":0}";
 
-// Empty lines before a command don't hide it from who counts what is kept.
+static NO_ROOM: &[u8] =
+    b"HTTP/1.1 503 Service Unavailable\r\nContent-Type: application/json\r\nContent-Length: 13\r\nConnection: close\r\n\r\n{\"fault\":503}";
+
+/// How many bytes may be kept and how many are, the request, whether it is told that nothing more is kept, the reply, and the energy
+/// of the meter where the request ended it.
+type Kept = (u64, u64, &'static [u8], bool, &'static [u8], Option<u64>);
+
 #[test]
-fn a_command_has_no_room(rt: HostRuntime) -> Result<(), Fail> {
-    let mut office = metered(rt.alloc())?;
-    let room = KeptRoom::new(Some(300), 200);
-    let got = replied(&rt, room, AFTER_LINES, &mut office, true)?;
-    let want = reply(rt.alloc(), "503 Service Unavailable", "{\"fault\":503}")?;
-    assert!(rt; got.as_slice() == want.as_bytes());
-    assert!(rt; energy_of_ended(&mut office) == None);
+fn a_peer_is_replied_to(rt: HostRuntime) -> Result<(), Fail> {
+    let peers: [Kept; 2] = [
+        (
+            REQUEST.len() as u64,
+            0,
+            REQUEST,
+            false,
+            REPLY,
+            Some(300_000),
+        ),
+        // a command has no room; empty lines before it don't hide it from who counts what is kept
+        (300, 200, AFTER_LINES, true, NO_ROOM, None),
+    ];
+    for (most, kept, request, is_full, reply, energy) in peers {
+        let mut office = metered(rt.alloc())?;
+        let room = KeptRoom::new(Some(most), kept);
+        let got = replied(&rt, room, request, &mut office, is_full)?;
+        assert!(rt; got.as_slice() == reply, "room for {most}");
+        assert!(rt; energy_of_ended(&mut office) == energy, "room for {most}");
+    }
     Ok(())
 }
 

@@ -172,8 +172,8 @@ fn say_carried(rt: &HostRuntime, count: u64) -> Ending<'static> {
     }
 }
 
-// What a refusal means, and of which file it is.
-fn write_refusal<W: Write>(errors: &mut W, path: &str, why: Refusal) -> io::Result<()> {
+/// Writes what a refusal means, and of which file it is.
+pub(crate) fn write_refusal<W: Write>(errors: &mut W, path: &str, why: Refusal) -> io::Result<()> {
     match meaning_of(Kind::Refused, u32::from(why.number())) {
         Some(meaning) => write!(
             errors,

@@ -8,7 +8,7 @@ use crate::entering::enter;
 use crate::explain::explain;
 use crate::joined_reports::report_files;
 use crate::offices::{Files, OWN_HOST, create, over_office, run};
-use crate::period_runs::run_by_periods;
+use crate::period_runs::{PeriodWords, run_by_periods};
 use crate::reports::report;
 use crate::run_words::settings_of;
 use crate::scans::{Target, scan};
@@ -87,12 +87,13 @@ pub(crate) fn carry_out(rt: &HostRuntime, line: &CommandLine<'_>) -> ExitCode {
             form,
         } => report_files(rt, files.as_slice(), *register, form),
         CommandLine::Run {
-            db,
+            dbs,
             listen,
             every,
             devices,
             lasts,
             carry,
+            earlier,
             host_names,
             most_kept,
             verbose,
@@ -106,8 +107,15 @@ pub(crate) fn carry_out(rt: &HostRuntime, line: &CommandLine<'_>) -> ExitCode {
                 *verbose,
             );
             match carry {
-                Some(period) => return run_by_periods(rt, *db, devices, &settings, *period),
-                None => run(rt, *db, devices, &settings),
+                Some(period) => {
+                    let words = PeriodWords {
+                        files: dbs.as_slice(),
+                        period: *period,
+                        earlier: *earlier,
+                    };
+                    return run_by_periods(rt, words, devices, &settings);
+                }
+                None => run(rt, dbs.as_slice(), devices, &settings),
             }
         }
         CommandLine::Enter {

@@ -2,12 +2,14 @@
 use crate::carries::say_refused;
 use crate::command_output::CommandOutput;
 use crate::escaped::Escaped;
-use crate::offices::{Files, Opening, open_in};
-use crate::reports::{form_of, range_of};
-use carried_books::{Apart, JoinedFiles, Keeping, Unjoined, report_joined};
+use crate::offices::{Files, Opening, open_telling};
+use crate::reports::{form_of, range_of, statement_of};
+use carried_books::{
+    Apart, JoinedFiles, JoinedStatement, Keeping, Unjoined, report_joined, state_joined,
+};
 use command_io::ExitStatus;
 use command_words::FormWords;
-use energy_report::ReportForm;
+use energy_report::{ReportForm, StatementForm};
 use interval_core::DayRange;
 use office_events::{Installation, Name, Refusal};
 use std::io::{self, Write};
@@ -24,7 +26,7 @@ fn name_of(row: &Installation) -> &str {
 }
 
 // Says where a meter begins that joins none, and where one stands by the files before.
-fn say_apart(rt: &HostRuntime, before: &str, path: &str, apart: &Apart) {
+fn say_apart<E: Write>(errors: &mut E, before: &str, path: &str, apart: &Apart) {
     let begins = &apart.begins.opening;
     let stands = &apart.stands.last;
     let state = if apart.stands.ended {
@@ -32,7 +34,6 @@ fn say_apart(rt: &HostRuntime, before: &str, path: &str, apart: &Apart) {
     } else {
         "stands"
     };
-    let mut errors = Escaped::new(rt.stderr());
     let _said = write!(
         errors,
         "sunreg: {path}: the meter {} begins there at moment {}, counter {}, scale {}; ",
@@ -53,14 +54,13 @@ fn say_apart(rt: &HostRuntime, before: &str, path: &str, apart: &Apart) {
 }
 
 // Says why a file doesn't join those before it.
-fn say_unjoined(rt: &HostRuntime, before: &str, path: &str, why: &Unjoined) -> Ending<'static> {
-    let mut errors = Escaped::new(rt.stderr());
+fn say_unjoined<E: Write>(errors: &mut E, before: &str, path: &str, why: &Unjoined) {
     match why {
-        Unjoined::Apart(apart) => say_apart(rt, before, path, apart),
+        Unjoined::Apart(apart) => say_apart(errors, before, path, apart),
         Unjoined::NotRecorded => {
             let _said = write!(
                 errors,
-                "sunreg: {path}: the register is not recorded there, but is in {before} or before it: {}\n",
+                "sunreg: {path}: a register is not recorded there, but is in {before} or before it: {}\n",
                 REMEDY
             );
         }
@@ -72,32 +72,50 @@ fn say_unjoined(rt: &HostRuntime, before: &str, path: &str, why: &Unjoined) -> E
             );
         }
     }
-    Ending::Refused
 }
 
 // Says that a file is of another zone.
-fn say_other_zone(rt: &HostRuntime, before: &str, path: &str) -> Ending<'static> {
-    let mut errors = Escaped::new(rt.stderr());
+fn say_other_zone<E: Write>(errors: &mut E, before: &str, path: &str) {
     let _said = write!(
         errors,
         "sunreg: {path}: its days are those of another zone than the days of {before}: {}\n",
         REMEDY
     );
-    Ending::Refused
 }
 
-// Why a file was not joined to those before it.
-fn say_fault<'a>(rt: &HostRuntime, before: &str, path: &'a str, fault: JoinFault) -> Ending<'a> {
+/// Why a file was not joined to those before it.
+#[derive(Drop)]
+pub(crate) enum NotJoined<'a> {
+    Failed(Failure<'a>),
+    /// Its books failed, or memory was wanting.
+    Refused(Refusal),
+    /// It doesn't go on from them, of which it was said why.
+    Apart,
+}
+
+// What comes of why an office in a database was not joined.
+fn not_joined<'a, E: Write>(
+    errors: &mut E,
+    before: &str,
+    path: &'a str,
+    fault: JoinFault,
+) -> NotJoined<'a> {
     match fault {
-        JoinFault::Unopened(fault) => Ending::Failed(Failure::Unopened { path, fault }),
-        JoinFault::OtherZone => say_other_zone(rt, before, path),
-        JoinFault::Unjoined(why) => say_unjoined(rt, before, path, &why),
-        JoinFault::Books(why) => say_refused(rt, path, why),
+        JoinFault::Unopened(fault) => NotJoined::Failed(Failure::Unopened { path, fault }),
+        JoinFault::OtherZone => {
+            say_other_zone(errors, before, path);
+            NotJoined::Apart
+        }
+        JoinFault::Unjoined(why) => {
+            say_unjoined(errors, before, path, &why);
+            NotJoined::Apart
+        }
+        JoinFault::Books(why) => NotJoined::Refused(why),
     }
 }
 
-// Adds what one file tells.
-fn join_in<'a, D: Databases, K: Keeping>(
+/// Adds what one file tells. Why it doesn't go on from those before it is said to a writer.
+pub(crate) fn join_in<'a, D: Databases, K: Keeping, E: Write>(
     rt: &HostRuntime,
     databases: &D,
     joined: Option<JoinedOffice<K>>,
@@ -105,13 +123,15 @@ fn join_in<'a, D: Databases, K: Keeping>(
     path: &'a str,
     register: &Name,
     range: &DayRange,
-) -> Result<JoinedOffice<K>, Ending<'a>> {
-    match open_in(rt, databases, path) {
+    is_new: bool,
+    errors: &mut E,
+) -> Result<JoinedOffice<K>, NotJoined<'a>> {
+    match open_telling(rt, databases, path, is_new, errors) {
         Ok(connection) => match join_stored(rt.alloc(), connection, joined, register, *range) {
             Ok(joined) => Ok(joined),
-            Err(fault) => Err(say_fault(rt, before, path, fault)),
+            Err(fault) => Err(not_joined(errors, before, path, fault)),
         },
-        Err(failure) => Err(Ending::Failed(failure)),
+        Err(failure) => Err(NotJoined::Failed(failure)),
     }
 }
 
@@ -123,12 +143,19 @@ fn join_all<'a, K: Keeping>(
     range: &DayRange,
 ) -> Result<Option<JoinedOffice<K>>, Ending<'a>> {
     let files = Files::opened(rt, Opening::ToRead);
+    let mut errors = Escaped::new(rt.stderr());
     let mut joined = None;
     let mut before = "";
     for path in paths {
-        match join_in(rt, &files, joined, before, *path, register, range) {
+        match join_in(
+            rt, &files, joined, before, *path, register, range, false, &mut errors,
+        ) {
             Ok(next) => joined = Some(next),
-            Err(ending) => return Err(ending),
+            Err(why) => match why {
+                NotJoined::Failed(failure) => return Err(Ending::Failed(failure)),
+                NotJoined::Refused(why) => return Err(say_refused(rt, *path, why)),
+                NotJoined::Apart => return Err(Ending::Refused),
+            },
         }
         before = *path;
     }
@@ -169,8 +196,40 @@ fn report_recorded(
     }
 }
 
-// The last of the files.
-fn last_of<'a>(paths: &[&'a str]) -> &'a str {
+// Prints the statement of what files tell.
+fn print_statement(
+    rt: &HostRuntime,
+    joined: &JoinedStatement,
+    form: &StatementForm,
+) -> Ending<'static> {
+    let mut output = CommandOutput::in_pieces(io::writer(rt));
+    match state_joined(rt.alloc(), joined, form, &mut output) {
+        Ok(status) => ended(&mut output, status),
+        Err(_) => Ending::Failed(Failure::Memory),
+    }
+}
+
+// The same where the register is recorded in one of them.
+fn state_recorded(
+    rt: &HostRuntime,
+    path: &str,
+    joined: Option<JoinedOffice<JoinedStatement>>,
+    form: &StatementForm,
+) -> Ending<'static> {
+    match joined {
+        Some(joined) => {
+            if joined.kept.is_recorded {
+                print_statement(rt, &joined.kept, form)
+            } else {
+                say_refused(rt, path, Refusal::NotFound)
+            }
+        }
+        None => say_refused(rt, path, Refusal::NotFound),
+    }
+}
+
+/// The last of the files.
+pub(crate) fn last_of<'a>(paths: &[&'a str]) -> &'a str {
     match paths.last() {
         Some(path) => *path,
         None => "",
@@ -190,29 +249,35 @@ fn report_register<'a>(
     }
 }
 
-// Says that a statement is of one file.
-fn say_one_file(rt: &HostRuntime) -> Ending<'static> {
-    let mut errors = Escaped::new(rt.stderr());
-    let _said = errors.write_all(b"sunreg: a statement is of one file: ask for each alone\n");
-    Ending::Refused
+// Prints the statement of its meters.
+fn state_register<'a>(
+    rt: &HostRuntime,
+    paths: &[&'a str],
+    register: &Name,
+    form: &StatementForm,
+) -> Ending<'a> {
+    match join_all(rt, paths, register, &form.range) {
+        Err(ending) => ending,
+        Ok(joined) => state_recorded(rt, last_of(paths), joined, form),
+    }
 }
 
-/// Prints the energy of a register over several files of one office, the oldest first, as one.
+/// Prints the energy of a register over several files of one office, the oldest first, as one, or the statement of its meters.
 pub(crate) fn report_files<'a>(
     rt: &HostRuntime,
     paths: &[&'a str],
     register: &str,
     words: &FormWords<'a>,
 ) -> Ending<'a> {
-    if words.statement {
-        return say_one_file(rt);
-    }
     let range = match range_of(words) {
         Ok(range) => range,
         Err(ending) => return ending,
     };
-    match Name::new(register.as_bytes()) {
-        Some(name) => report_register(rt, paths, &name, &form_of(words, range)),
-        None => say_refused(rt, last_of(paths), Refusal::NotFound),
+    let Some(name) = Name::new(register.as_bytes()) else {
+        return say_refused(rt, last_of(paths), Refusal::NotFound);
+    };
+    if words.statement {
+        return state_register(rt, paths, &name, &statement_of(words, range));
     }
+    report_register(rt, paths, &name, &form_of(words, range))
 }

@@ -13,6 +13,7 @@ mod commands;
 mod completions;
 mod copies;
 mod counters;
+mod earlier_files;
 mod entering;
 mod escaped;
 mod explain;

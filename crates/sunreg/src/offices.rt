@@ -4,7 +4,9 @@ ghost use Rattle.stored_office.specs.Tasks.Tasks.{IsOf};
 
 use crate::command_output::CommandOutput;
 use crate::copies::open_copy;
+use crate::earlier_files::{but_last, earlier_registers};
 use crate::escaped::Escaped;
+use crate::joined_reports::last_of;
 use crate::onward_clock::OnwardClock;
 use crate::run_words::sites_of;
 use command_words::Device;
@@ -186,8 +188,7 @@ fn create_in<'a, D: Databases>(
 }
 
 // Says that a file had no log beside it.
-fn say_no_log(rt: &HostRuntime, path: &str) {
-    let mut errors = Escaped::new(rt.stderr());
+fn say_no_log<E: Write>(errors: &mut E, path: &str) {
     let _said = write!(
         errors,
         "sunreg: {path}: it had no log beside it, {path}-wal: a backup needs none, and a file copied alone lacks what stood there\n"
@@ -195,10 +196,8 @@ fn say_no_log(rt: &HostRuntime, path: &str) {
 }
 
 // Says on a terminal that a large file and its log are opened, which reads them whole.
-fn say_opening(rt: &HostRuntime, path: &str, bytes: u64) {
-    let errors = rt.stderr();
-    if bytes >= LARGE && errors.is_terminal() {
-        let mut errors = Escaped::new(errors);
+fn say_opening<E: Write>(rt: &HostRuntime, errors: &mut E, path: &str, bytes: u64) {
+    if bytes >= LARGE && rt.stderr().is_terminal() {
         let megabytes = bytes / 1_000_000;
         let _said = write!(
             errors,
@@ -213,6 +212,18 @@ pub(crate) fn open_in<'a, D: Databases>(
     databases: &D,
     path: &'a str,
 ) -> Result<Connection<D::Store>, Failure<'a>> {
+    let mut errors = Escaped::new(rt.stderr());
+    open_telling(rt, databases, path, false, &mut errors)
+}
+
+/// The same, where what is told goes to a writer. A file that was just made has no log yet, which isn't told.
+pub(crate) fn open_telling<'a, D: Databases, E: Write>(
+    rt: &HostRuntime,
+    databases: &D,
+    path: &'a str,
+    is_new: bool,
+    errors: &mut E,
+) -> Result<Connection<D::Store>, Failure<'a>> {
     let log = log_of(rt, path)?;
     let (length, log_length) = (length_of(rt, path), length_of(rt, log.as_str()));
     if is_blank(length) && !is_blank(log_length) {
@@ -222,12 +233,12 @@ pub(crate) fn open_in<'a, D: Databases>(
         return Err(Failure::Bare { path });
     }
     let bytes = length.unwrap_or(0).saturating_add(log_length.unwrap_or(0));
-    say_opening(rt, path, bytes);
+    say_opening(rt, errors, path, bytes);
     match databases.open(path) {
         Ok(connection) if is_bare(&connection) => Err(Failure::Bare { path }),
         Ok(connection) => {
-            if log_length.is_none() && is_office(&connection) {
-                say_no_log(rt, path);
+            if !is_new && log_length.is_none() && is_office(&connection) {
+                say_no_log(errors, path);
             }
             Ok(connection)
         }
@@ -368,10 +379,11 @@ pub(crate) fn run_opened<'a, D: Databases + NamedFiles, C: Clock>(
     over_connection(rt, surroundings, path, connection, task, clock)
 }
 
-/// Polls devices on a schedule and answers HTTP, as the settings say.
+/// Polls devices on a schedule and answers HTTP, as the settings say. Of several files, the oldest first, books go on in the last, and
+/// energy is told over all.
 pub(crate) fn run<'a>(
     rt: &HostRuntime,
-    path: &'a str,
+    paths: &[&'a str],
     devices: &[Device<'a>],
     settings: &Settings<'_>,
 ) -> Ending<'a> {
@@ -379,6 +391,14 @@ pub(crate) fn run<'a>(
         Ok(sites) => sites,
         Err(failure) => return Ending::Failed(failure),
     };
-    let done = run_over(rt, &Files::of(rt), path, sites.as_slice(), settings);
+    let path = last_of(paths);
+    let mut errors = Escaped::new(rt.stderr());
+    let registers = match earlier_registers(rt, but_last(paths), path, false, &mut errors) {
+        Ok(registers) => registers,
+        Err(ending) => return ending,
+    };
+    let mut settings = *settings;
+    settings.earlier = registers.as_slice();
+    let done = run_over(rt, &Files::of(rt), path, sites.as_slice(), &settings);
     ending_of_done(done, OWN_HOST, settings.listen.port())
 }

@@ -40,8 +40,8 @@ pub(crate) fn form_of(words: &FormWords<'_>, range: DayRange) -> ReportForm {
     }
 }
 
-// The form of a statement that is asked for, on a range of days.
-fn statement_of(words: &FormWords<'_>, range: DayRange) -> StatementForm {
+/// The form of a statement that is asked for, on a range of days.
+pub(crate) fn statement_of(words: &FormWords<'_>, range: DayRange) -> StatementForm {
     StatementForm {
         range,
         unit: words.unit.unwrap_or(EnergyUnit::MilliwattHours),

@@ -36,6 +36,7 @@ pub(crate) fn settings_of<'n>(
             Some(megabytes) => Some(u64::from(megabytes).saturating_mul(MEGABYTE)),
             None => None,
         },
+        earlier: &[],
         verbose,
         descriptors: Some(Descriptors {
             output: STANDARD_OUTPUT,
