@@ -3,7 +3,7 @@ use crate::cases::{reply, text_reply};
 use crate::office::{polled, unmetered};
 use crate::targets::route_of;
 use carried_books::EarlierRegister;
-use http_peers::{place_among, reply_energy_over};
+use http_peers::{EarlierFiles, place_among, reply_energy_over};
 use interval_core::{Share, Zone};
 use memory_books::ListBooks;
 use office_books::RowSink;
@@ -18,15 +18,38 @@ static EARLIER: [Share; 2] = [Share { start: 0, mwh: 5 }, Share { start: 900, mw
 // The office has energy in the quarter hours from 900 and 1800.
 static LATE: [Share; 1] = [Share { start: 901, mwh: 1 }];
 
-/// What earlier files tell of the register `main`.
-pub(crate) fn main_of(alloc: Global) -> Result<Vec<EarlierRegister>, Fail> {
-    let mut it = EarlierRegister::new(alloc, Name::new(b"main").ok_or("no name")?);
+// What earlier files tell of the register `main`.
+fn main_of(alloc: Global) -> Result<Vec<EarlierRegister>, Fail> {
+    let name = Name::new(b"main").ok_or("no name")?;
+    let mut it = EarlierRegister::new(alloc, name);
     for row in &EARLIER {
         it.put(*row);
     }
     let mut registers = Vec::new(alloc);
     registers.push(it)?;
     Ok(registers)
+}
+
+/// What earlier files tell of the registers of a run's office.
+#[derive(Drop)]
+pub(crate) struct Earlier {
+    zone: Zone,
+    registers: Vec<EarlierRegister>,
+}
+
+impl Earlier {
+    pub(crate) fn of_main(alloc: Global) -> Result<Earlier, Fail> {
+        let zone = Zone::read("UTC0")?;
+        let registers = main_of(alloc)?;
+        Ok(Earlier { zone, registers })
+    }
+
+    pub(crate) fn files(&self) -> EarlierFiles<'_> {
+        EarlierFiles {
+            zone: self.zone,
+            registers: &self.registers,
+        }
+    }
 }
 
 // What is replied to a target by an office, with rows of earlier files before its own.
@@ -36,12 +59,12 @@ fn energy_over(
     earlier: &[Share],
     target: &str,
 ) -> Result<Vec<u8>, Fail> {
+    let zone = Zone::read("UTC0")?;
     let Some(RunRoute::Energy { register, form }) = route_of(alloc, target)? else {
         return Err(Fail::from("no energy"));
     };
-    let zone = Zone::read("UTC0")?;
-    let mut text = Vec::new(alloc);
     let name = register.ok_or("no name")?;
+    let mut text = Vec::new(alloc);
     reply_energy_over(alloc, &mut text, office, zone, earlier, &name, &form)?;
     Ok(text)
 }

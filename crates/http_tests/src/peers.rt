@@ -1,14 +1,12 @@
 //! Peers of a run, over sockets that don't wait.
 use crate::cases::text_reply;
 use crate::connections::{REPLY, REQUEST, Stepping, client_of, energy_of_ended};
-use crate::energy_over::main_of;
+use crate::energy_over::Earlier;
 use crate::office::{metered, polled};
-use carried_books::EarlierRegister;
 use http_peers::{
     EarlierFiles, HttpPort, KeptRoom, Now, Outbox, PORT_TOKEN, RunTold, Went, even_milliseconds,
     went_by,
 };
-use interval_core::Zone;
 use memory_books::ListBooks;
 use mio::{Events, Interest, Poll, Token};
 use office_core::Office;
@@ -28,8 +26,6 @@ struct Listening {
     events: Events<Global>,
     port: HttpPort,
     monitor: RunMonitor,
-    zone: Zone,
-    earlier: Vec<EarlierRegister>,
 }
 
 // A listener that doesn't wait, and is registered as that of a port.
@@ -47,40 +43,24 @@ impl Listening {
         poll: Poll,
         listener: mio::net::TcpListener,
         room: KeptRoom,
-        zone: Zone,
-        earlier: Vec<EarlierRegister>,
     ) -> Result<Listening, AllocError> {
         Ok(Listening {
             poll,
             events: Events::with_capacity(alloc, 8)?,
             port: HttpPort::new(alloc, listener, room)?,
             monitor: RunMonitor::new(alloc, &[])?,
-            zone,
-            earlier,
         })
     }
 
     fn open(rt: &HostRuntime, listener: TcpListener, room: KeptRoom) -> Result<Listening, Fail> {
         let poll = Poll::new(rt)?;
         let listener = registered(listener, &poll)?;
-        let (zone, earlier) = (Zone::read("UTC0")?, main_of(rt.alloc())?);
-        Ok(Listening::of(
-            rt.alloc(),
-            poll,
-            listener,
-            room,
-            zone,
-            earlier,
-        )?)
+        Ok(Listening::of(rt.alloc(), poll, listener, room)?)
     }
 
     // What waits is accepted, each peer attended, and those that were replied to are dropped.
-    fn turn(&mut self, office: &mut Office<ListBooks>, time: u64) {
+    fn turn(&mut self, earlier: &EarlierFiles<'_>, office: &mut Office<ListBooks>, time: u64) {
         let now = Now { time, moment: 2800 };
-        let earlier = EarlierFiles {
-            zone: self.zone,
-            registers: &self.earlier,
-        };
         self.port.begin_turn();
         self.port.accept(self.poll.registry(), time);
         let first = self.port.first();
@@ -88,7 +68,7 @@ impl Listening {
             let told = RunTold {
                 monitor: &self.monitor,
                 lacks: &[],
-                earlier: &earlier,
+                earlier,
             };
             let place = place_at(first, step);
             self.port
@@ -108,12 +88,16 @@ impl Listening {
         Ok(())
     }
 
-    fn turns(&mut self, office: &mut Office<ListBooks>) -> io::Result<()> {
+    fn turns(
+        &mut self,
+        earlier: &EarlierFiles<'_>,
+        office: &mut Office<ListBooks>,
+    ) -> io::Result<()> {
         for time in 0..3 {
-            self.turn(office, time);
+            self.turn(earlier, office, time);
             self.look()?;
         }
-        self.turn(office, 3);
+        self.turn(earlier, office, 3);
         Ok(())
     }
 }
@@ -127,8 +111,9 @@ fn serves(
     office: &mut Office<ListBooks>,
     is_full: bool,
 ) -> Result<bool, Fail> {
+    let earlier = Earlier::of_main(rt.alloc())?;
     let mut listening = Listening::open(rt, listener, room)?;
-    listening.turns(office)?;
+    listening.turns(&earlier.files(), office)?;
     let is_idle = !listening.port.is_waiting() && !listening.port.is_ready();
     let is_told = listening.port.take_full() == is_full;
     Ok(is_idle && is_told && !listening.port.take_full())
@@ -163,10 +148,7 @@ static MONTHS: &[u8] = b"GET /registers/main/months HTTP/1.1\r\n\r\n";
 fn a_peer_is_told_of_earlier_files_too(rt: HostRuntime) -> Result<(), Fail> {
     let mut office = polled(rt.alloc())?;
     let got = replied(&rt, KeptRoom::new(None, 0), MONTHS, &mut office, false)?;
-    let want = text_reply(
-        rt.alloc(),
-        "1970-01    3                   200012\nend 1\n",
-    )?;
+    let want = text_reply(rt.alloc(), "1970-01    3                   200012\nend 1\n")?;
     assert!(rt; got.as_slice() == want.as_bytes());
     Ok(())
 }

@@ -97,7 +97,8 @@ static METERS: &str =
 
 #[test]
 fn each_number_of_a_meter_may_be_the_greatest(rt: HostRuntime) -> Result<(), Fail> {
-    let row = polled_row(rt.alloc())?.meter.ok_or("no meter")?;
+    let row = polled_row(rt.alloc())?;
+    let row = row.meter.ok_or("no meter")?;
     let mut closed = row;
     closed.last = Last {
         at: u64::MAX,

@@ -365,10 +365,10 @@ static ENERGY: [Question; 11] = [
     ),
 ];
 
-static VOID: (u64, &[u8]) = (
+static VOID: [(u64, &[u8]); 1] = [(
     2000,
     b"POST /meters/m1/void HTTP/1.1\r\nContent-Length: 11\r\nOffice-Caller: desk\r\nOffice-Request: 4\r\n\r\n{\"place\":2}",
-);
+)];
 
 static EXCHANGE: [(u64, &[u8]); 2] = [
     (
@@ -400,7 +400,7 @@ fn books_of(alloc: Global, booked: Booked) -> Result<ListBooks, Fail> {
         Booked::Nothing => blank(alloc),
         Booked::Register => Ok(unmetered(alloc)?.into_books()),
         Booked::Reading => after(alloc, &[]),
-        Booked::Void => after(alloc, &[VOID]),
+        Booked::Void => after(alloc, &VOID),
         Booked::Exchange => after(alloc, &EXCHANGE),
     }
 }

@@ -95,24 +95,40 @@ const LONG_SPAN: Span = Span::Between {
 // A target may ask for a span, for entries, for voids and for the meters at a register, also of names that are none.
 #[test]
 fn a_target_may_ask_for_rows(rt: HostRuntime) -> Result<(), Fail> {
-    let meter = Name::new(b"m1");
-    let register = Name::new(b"main");
-    let span = LONG_SPAN;
     let targets = [
         (
             "/meters/m1/intervals/0900/9999999999999999999",
-            RunRoute::Intervals { meter, span },
+            RunRoute::Intervals {
+                meter: Name::new(b"m1"),
+                span: LONG_SPAN,
+            },
         ),
         (
             "/meters/1/intervals/900/9999999999999999999",
-            RunRoute::Intervals { meter: None, span },
+            RunRoute::Intervals {
+                meter: None,
+                span: LONG_SPAN,
+            },
         ),
         (
             "/meters/m1/entries/12",
-            RunRoute::Entries { meter, from: 12 },
+            RunRoute::Entries {
+                meter: Name::new(b"m1"),
+                from: 12,
+            },
         ),
-        ("/meters/m1/voids", RunRoute::Voids { meter }),
-        ("/registers/main/meters", RunRoute::Meters { register }),
+        (
+            "/meters/m1/voids",
+            RunRoute::Voids {
+                meter: Name::new(b"m1"),
+            },
+        ),
+        (
+            "/registers/main/meters",
+            RunRoute::Meters {
+                register: Name::new(b"main"),
+            },
+        ),
         ("/registers/1/meters", RunRoute::Meters { register: None }),
         ("/registers//meters", RunRoute::Meters { register: None }),
     ];

@@ -93,6 +93,29 @@ static CASES: [Case; 12] = [
     },
 ];
 
+// What is booked.
+#[derive(Clone, Copy)]
+enum Booked {
+    Device(&'static [u8]),
+    /// A register of a device, at an address.
+    Register(&'static [u8], &'static [u8], ReadFunction, u16, ScaleSource),
+}
+
+const HOLDING: ReadFunction = ReadFunction::HoldingRegisters;
+
+const FIXED: ScaleSource = ScaleSource::Fixed(0);
+
+// The registers of `inv`, and one of another device at the address of the first.
+static HISTORY: [Booked; 7] = [
+    Booked::Device(b"inv"),
+    Booked::Device(b"pv"),
+    Booked::Register(b"fixed", b"inv", HOLDING, 100, FIXED),
+    Booked::Register(b"other", b"pv", HOLDING, 100, FIXED),
+    Booked::Register(b"scaled", b"inv", HOLDING, 102, ScaleSource::Register(104)),
+    Booked::Register(b"input", b"inv", ReadFunction::InputRegisters, 100, FIXED),
+    Booked::Register(b"last", b"inv", HOLDING, 65_534, FIXED),
+];
+
 fn device(name: &[u8]) -> Option<Fact> {
     Some(Fact::Device(Device {
         name: Name::new(name)?,
@@ -118,36 +141,26 @@ fn register(
     }))
 }
 
-// The registers of `inv`, and one of another device at the address of the first.
-fn registers(alloc: Global) -> Option<Vec<Fact>> {
-    let holding = ReadFunction::HoldingRegisters;
-    let input = ReadFunction::InputRegisters;
-    let fixed = ScaleSource::Fixed(0);
-    let told = ScaleSource::Register(104);
+fn fact(booked: &Booked) -> Option<Fact> {
+    match *booked {
+        Booked::Device(name) => device(name),
+        Booked::Register(name, device, function, address, scale) => {
+            register(name, device, function, address, scale)
+        }
+    }
+}
+
+fn facts(alloc: Global) -> Option<Vec<Fact>> {
     let mut facts = Vec::new(alloc);
-    facts.push(device(b"inv")?).ok()?;
-    facts.push(device(b"pv")?).ok()?;
-    facts
-        .push(register(b"fixed", b"inv", holding, 100, fixed)?)
-        .ok()?;
-    facts
-        .push(register(b"other", b"pv", holding, 100, fixed)?)
-        .ok()?;
-    facts
-        .push(register(b"scaled", b"inv", holding, 102, told)?)
-        .ok()?;
-    facts
-        .push(register(b"input", b"inv", input, 100, fixed)?)
-        .ok()?;
-    facts
-        .push(register(b"last", b"inv", holding, 65_534, fixed)?)
-        .ok()?;
+    for booked in &HISTORY {
+        facts.push(fact(booked)?).ok()?;
+    }
     Some(facts)
 }
 
 fn books_of_registers(alloc: Global) -> Option<ListBooks> {
     let mut books = empty_books(alloc)?;
-    books.book(registers(alloc)?).ok()?;
+    books.book(facts(alloc)?).ok()?;
     Some(books)
 }
 

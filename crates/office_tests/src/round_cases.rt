@@ -200,8 +200,9 @@ fn round_over_memory(
 
 // The round of a case, and how many calls of its link failed.
 fn played(alloc: Global, office: &mut Tried, case: &Case, input: &[u8]) -> (Done, u64) {
+    let device = case.device;
     let mut given = [0; 24];
-    match case.device {
+    match device {
         Device::Replies(failing) => {
             round_over_memory(alloc, office, case.moments, input, &mut given, failing)
         }

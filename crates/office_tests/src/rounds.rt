@@ -88,7 +88,7 @@ fn replies_come_byte_by_byte(rt: HostRuntime) {
     for piece in [259, 1] {
         let mut office = listed(&rt, rt.alloc());
         let mut given = [0; 24];
-        let mut link = MemoryLink::new(&input, &mut given, piece, None);
+        let mut link = MemoryLink::new(&input, &mut given, piece.max(1), None);
         let done = round(rt.alloc(), &mut office, &mut link, &[1000]);
         assert!(rt; done.done == Ok(()), "{piece}");
         assert!(rt; link.given() == FRAMES, "{piece}");
