@@ -148,7 +148,15 @@ fn join_all<'a, K: Keeping>(
     let mut before = "";
     for path in paths {
         match join_in(
-            rt, &files, joined, before, *path, register, range, false, &mut errors,
+            rt,
+            &files,
+            joined,
+            before,
+            *path,
+            register,
+            range,
+            false,
+            &mut errors,
         ) {
             Ok(next) => joined = Some(next),
             Err(why) => match why {

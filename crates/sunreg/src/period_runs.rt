@@ -89,7 +89,9 @@ fn say_behind(rt: &HostRuntime, path: &str) {
 }
 
 fn say_alone(rt: &HostRuntime, path: &str) {
-    if let Ok(line) = format!(in rt.alloc(); "sunreg: {path}: energy is told of this file alone\n") {
+    if let Ok(line) = format!(in rt.alloc();
+        "sunreg: {path}: energy is told of this file alone\n"
+    ) {
         say(rt, line.as_bytes());
     }
 }
@@ -293,7 +295,14 @@ fn told_before(
     }
     let count = asked.most_earlier();
     match files_before(rt, asked.file, asked.period, path) {
-        Ok(files) => match registers_before(rt, asked.given, files.as_slice(), count, path, is_new) {
+        Ok(files) => match registers_before(
+            rt,
+            asked.given,
+            files.as_slice(),
+            count,
+            path,
+            is_new,
+        ) {
             Ok(registers) => Ok(registers),
             Err(ending) => untold(rt, path, is_first, &ending),
         },
