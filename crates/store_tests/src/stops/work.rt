@@ -1,6 +1,6 @@
 //! What is done to a file, and what stands afterwards.
-use crate::day::{DAY, FIRST, NEW, OLD, READ, ROWS};
-use crate::shown::{fault, number, shows};
+use crate::stops::day::{DAY, FIRST, NEW, OLD, READ, ROWS};
+use crate::stops::shown::{fault, number, shows};
 use sqlite::{Alter, Connection};
 use std::process::Abort;
 use std::test::Fail;

@@ -1,8 +1,8 @@
 //! What stands after a stop.
-use crate::asked::Asked;
-use crate::offices::acknowledges;
-use crate::printed::opened;
-use crate::shown::shows;
+use crate::stops::asked::Asked;
+use crate::stops::offices::acknowledges;
+use crate::stops::printed::opened;
+use crate::stops::shown::shows;
 use office_store::{OpenFault, SqlBooks};
 use sqlite::{Alter, Connection};
 use std::alloc::Global;

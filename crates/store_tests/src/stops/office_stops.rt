@@ -1,8 +1,8 @@
 //! Stops in each event of a script, and in the request that follows it.
-use crate::asked::Asked;
-use crate::files::{Stop, Stopping, connected, files, restarted};
-use crate::offices::play;
-use crate::standing::stands;
+use crate::stops::asked::Asked;
+use crate::stops::files::{Stop, Stopping, connected, files, restarted};
+use crate::stops::offices::play;
+use crate::stops::standing::stands;
 use sqlite::Files;
 use sqlite_disk::{Fuse, Memory};
 use std::alloc::Global;

@@ -1,6 +1,6 @@
 //! Stops while a file is made, and while a file of version 1 is brought to version 3.
-use crate::files::{STOPS, Stop, Stopping, connected, files, restarted};
-use crate::work::{Work, carry_out, prepare, stands};
+use crate::stops::files::{STOPS, Stop, Stopping, connected, files, restarted};
+use crate::stops::work::{Work, carry_out, prepare, stands};
 use sqlite::Files;
 use sqlite_disk::{Fuse, Memory};
 use std::alloc::Global;

@@ -1,5 +1,5 @@
 //! An office over books in a database, the events of a script, and a request.
-use crate::asked::{Asked, UNAVAILABLE, reply_of, request_of};
+use crate::stops::asked::{Asked, UNAVAILABLE, reply_of, request_of};
 use mb_wire::MemoryLink;
 use office_books::Books;
 use office_core::Office;
