@@ -11,7 +11,7 @@ use energy_report::{EnergyUnit, Format, Period, ReportForm};
 use interval_core::DayRange;
 use office_events::Name;
 use std::test::Fail;
-use stored_office::{Databases, JoinFault, JoinedOffice, join_stored};
+use stored_files::{Databases, JoinFault, JoinedOffice, join_stored};
 
 const ALL: DayRange = DayRange {
     from: None,

@@ -14,7 +14,7 @@ use office_books::Books;
 use office_store::SqlBooks;
 use std::alloc::Global;
 use std::test::Fail;
-use stored_office::{Databases, JoinFault, JoinedOffice, carry_stored, create_stored};
+use stored_files::{Databases, JoinFault, JoinedOffice, carry_stored, create_stored};
 
 /// What is booked in the next file, into which m2 was carried at 3700, where it showed 45 Wh: it is read by hand, and exchanged.
 const LATER: &str = "4600 manual main 60 0

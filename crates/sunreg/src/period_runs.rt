@@ -1,18 +1,18 @@
 //! A run whose books are led in a new file each month or year. Each of its runs ends soon after the period has begun that follows its
 //! own; then the meters are carried into the file of that, and the next run goes on there.
-use crate::backups::is_there;
-use crate::carries::{NotCarried, carry_open, write_why};
-use crate::earlier_files::{but_last, earlier_registers};
 use crate::ended;
-use crate::escaped::Escaped;
-use crate::joined_reports::last_of;
-use crate::offices::{Files, OWN_HOST, open_in, run_opened};
+use crate::offices::{OWN_HOST, run_opened};
 use crate::onward_clock::OnwardClock;
 use crate::period_files::{Led, files_before, leave_one_name, led_file, path_of};
 use crate::run_words::{STANDARD_ERROR, sites_of};
+use crate::surroundings::Surroundings;
 use carried_books::EarlierRegister;
 use command_words::Device;
 use energy_report::{Period, period_name};
+use file_commands::{
+    Escaped, Files, NotCarried, but_last, carry_open, earlier_registers, is_there, last_of,
+    open_in, write_why,
+};
 use interval_core::{Day, LAST_MOMENT, Zone, day_of};
 use office_program::NamedFiles;
 use office_running::{Settings, Site, write_without_waiting};
@@ -26,7 +26,8 @@ use std::io::{self, Write};
 use std::process::ExitCode;
 use std::thread::sleep;
 use std::time::{Duration, Instant};
-use stored_office::{CopyFault, Databases, Ending, Failure, FileFault, ending_of_done, told_zone};
+use stored_files::{CopyFault, Databases, Ending, Failure, FileFault, told_zone};
+use stored_office::ending_of_done;
 
 /// How often a file is tried that another process has open, and one looked for that another may be making; and how many milliseconds
 /// pass between.
@@ -567,7 +568,7 @@ pub(crate) fn run_by_periods<'a>(
         sites: sites.as_slice(),
         settings: *settings,
     };
-    let files = Files::of(rt);
+    let surroundings = Surroundings::of(rt, Files::of(rt));
     let mut clock = OnwardClock::of(SystemClock::new(rt));
     let begun = match Instant::now(rt) {
         Ok(begun) => Some(begun),
@@ -578,7 +579,7 @@ pub(crate) fn run_by_periods<'a>(
         if left == Some(0) {
             break;
         }
-        match turn(&asked, &files, &mut clock, run == 0, left) {
+        match turn(&asked, &surroundings, &mut clock, run == 0, left) {
             Some(code) => return code,
             None => clock.go_on(),
         }
