@@ -52,7 +52,11 @@ fn put_energy<B: Books, W: Write>(
 
 /// Puts the reply to a question for the energy of a register at the end of a text: with the report, or for a refusal. Want of
 /// memory leaves a part of it.
-pub fn put_energy_reply(text: &mut Vec<u8>, answer: &Result<(), Refusal>, body: &[u8]) -> Result<(), AllocError>
+pub fn put_energy_reply(
+    text: &mut Vec<u8>,
+    answer: &Result<(), Refusal>,
+    body: &[u8],
+) -> Result<(), AllocError>
     ensures { OnOk result (text.new.items
         ≡ with_energy_reply answer.now body.now text.old.items) }
 {
