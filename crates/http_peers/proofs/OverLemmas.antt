@@ -1,5 +1,5 @@
 -- Replies for the energy of a register, of which earlier files tell, too.
-use Rattle.std.proofs.Common.{◌≡◌, ℕ, inl, inr, List, [], ◌∷◌, ◌++◌, map, Option, Some, None, Result, Ok, Err, IsErr, refl, sym, ap, subst, ◌∙◌}
+use Rattle.std.proofs.Common.{◌≡◌, ℕ, inl, inr, List, [], ◌∷◌, ◌++◌, map, Some, Result, Ok, Err, IsErr, refl, sym, ap, subst, ◌∙◌}
 use Rattle.std.specs.Prelude.{OnOk}
 use Rattle.std.specs.declared.alloc.Global.{Global}
 use Rattle.std.specs.declared.vec.Vec.{Vec}
@@ -14,7 +14,7 @@ use Rattle.interval_core.specs.declared.zone.Zone.{Zone}
 use Rattle.office_events.specs.declared.facts.Fact.{Fact}
 use Rattle.office_events.specs.declared.refusals.Refusal.{Refusal}
 use Rattle.office_rules.specs.Facts.{register_of}
-use Rattle.office_rules.specs.History.{History, facts_of}
+use Rattle.office_rules.specs.History.{facts_of}
 use Rattle.office_rules.specs.Intervals.{rows_of_register}
 use Rattle.office_books.specs.Ledgers.{Ledger}
 use Rattle.office_books.specs.Spans.{rows_within}
@@ -33,6 +33,11 @@ use Rattle.carried_books.proofs.JoiningLemmas.Reports.{has_number, report_over}
 use Rattle.run_http.specs.RegisterReplies.{with_energy_reply}
 use Rattle.http_peers.specs.EnergyOver.{AsksEnergyOver, RepliesEnergyOver, ReportsOver, TellsReportOver}
 
+-- what was written, where that ended well
+pub put_whole : (text : List ℕ) (status : ExitStatus) (had holds : List ℕ) → status ≡ Fine → IsTold text Fine status (Some had) (Some holds) → holds ≡ had ++ text
+put_whole text status had holds fine (inl told) = told.1
+put_whole text status had holds fine (inr failed) = absurd (let e : Fine ≡ Failed = sym fine ∙ failed.0 in cc e)
+
 -- ---- what days come to
 
 -- the rows of earlier files and of the office are those of all files
@@ -44,12 +49,10 @@ module _ {B : Type 0} (ledger : B → Ledger) (a b : Office B) (zone : Zone) (ea
   abbrev asked : Span
   asked = span_of form.range
 
-  listed : (result : Result (Vec DayTotal Global) Refusal) → TellsDaysOver ledger a b zone earlier register asked result
-      → (past : History) (files : List (List Fact)) → earlier ≡ rows_over register files
-      → HasNumber (rows_over register (facts_of past ∷ files))
-      → HasNumber (rows_of_both asked earlier (facts_of past) register)
-  listed result tells past files are fits =
-      subst HasNumber (sym (of_all asked earlier (facts_of past) files register are)) (has_number asked (rows_over register (facts_of past ∷ files)) fits)
+  fit_both : (facts : List Fact) (files : List (List Fact)) → earlier ≡ rows_over register files → HasNumber (rows_over register (facts ∷ files))
+      → HasNumber (rows_of_both asked earlier facts register)
+  fit_both facts files are fits =
+      subst HasNumber (sym (of_all asked earlier facts files register are)) (has_number asked (rows_over register (facts ∷ files)) fits)
 
   why_not : (why : Refusal) (facts : List Fact) (files : List (List Fact)) (before after : Failures) → earlier ≡ rows_over register files
       → ListsOver zone (rows_of_both asked earlier facts register) (is_there (register_of facts register)) before after (Err why) → (text : List ℕ)
@@ -67,45 +70,41 @@ module _ {B : Type 0} (ledger : B → Ledger) (a b : Office B) (zone : Zone) (ea
     gives = refl;
     tells = λ past stands clean files are fits.
         why_not why (facts_of past) files (failures_of ledger a) (failures_of ledger b) are
-        (tells past stands clean (listed (Err why) tells past files are fits)) [];
-    holds = tt;
+        (tells past stands clean (fit_both (facts_of past) files are fits)) [];
+    puts = tt;
   }
 
   reported : AccountsAreOne → (days : Vec DayTotal Global) → TellsDaysOver ledger a b zone earlier register asked (Ok days)
       → TellsReportOver ledger a b zone earlier register form (Ok tt) (report_text form days.items)
   reported one days tells = λ past stands clean files are fits.
       let facts = facts_of past in
-      let it = tells past stands clean (listed (Ok days) tells past files are fits) in
+      let it = tells past stands clean (fit_both facts files are fits) in
       let P : List Share → Type 0 = λ rows. AreAccounts zone rows (map account_of days.items) in
       (it.0, it.1, report_over zone register (facts ∷ files) form days.items one (subst P (of_all asked earlier facts files register are) it.2))
 
-  put_whole : (text : List ℕ) (status : ExitStatus) (had holds : List ℕ) → status ≡ Fine → IsTold text Fine status (Some had) (Some holds) → holds ≡ had ++ text
-  put_whole text status had holds fine (inl told) = told.1
-  put_whole text status had holds fine (inr failed) = absurd (let e : Fine ≡ Failed = sym fine ∙ failed.0 in cc e)
-
-  pub answered : {E : Type 0} (had holds : List ℕ) (days : Vec DayTotal Global) (status : ExitStatus) → AccountsAreOne → OnlyAsks ledger a b (Ok days)
-      → TellsDaysOver ledger a b zone earlier register asked (Ok days) → status ≡ Fine
-      → IsTold (report_text form days.items) Fine status (Some had) (Some holds)
+  pub answered : {E : Type 0} (had holds : List ℕ) (days : Vec DayTotal Global) → AccountsAreOne → OnlyAsks ledger a b (Ok days)
+      → TellsDaysOver ledger a b zone earlier register asked (Ok days) → holds ≡ had ++ report_text form days.items
       → AsksEnergyOver ledger a b zone earlier register form had holds {E = E} (Ok (Ok tt))
-  answered had holds days status one asks tells fine told = record {
+  answered had holds days one asks tells puts = record {
     answer = Ok tt;
     report = report_text form days.items;
-    asks = now_as ledger a b days tt asks;
+    asks = now_as ledger {T = Vec DayTotal Global} {U = Unit {0}} a b days tt asks;
     gives = refl;
     tells = reported one days tells;
-    holds = put_whole (report_text form days.items) status had holds fine told;
+    puts = puts;
   }
 
   -- there was no memory for the report
-  pub unwritten : {E : Type 0} (had holds : List ℕ) (days : Vec DayTotal Global) (fault : E) → OnlyAsks ledger a b (Ok days)
-      → AsksEnergyOver ledger a b zone earlier register form had holds {E = E} (Err fault)
-  unwritten had holds days fault asks = record {
+  pub unwritten : {E : Type 0} (had holds : List ℕ) (days : Vec DayTotal Global) (result : Result (Result (Unit {0}) Refusal) E) → OnlyAsks ledger a b (Ok days)
+      → IsErr result → AsksEnergyOver ledger a b zone earlier register form had holds result
+  unwritten had holds days (Ok told) asks fault = cc fault
+  unwritten had holds days (Err why) asks fault = record {
     answer = Ok tt;
     report = [];
-    asks = now_as ledger a b days tt asks;
+    asks = now_as ledger {T = Vec DayTotal Global} {U = Unit {0}} a b days tt asks;
     gives = tt;
     tells = tt;
-    holds = tt;
+    puts = tt;
   }
 
   -- ---- the reply
@@ -122,17 +121,17 @@ module _ {B : Type 0} (ledger : B → Ledger) (a b : Office B) (zone : Zone) (ea
   pub replied : {E F : Type 0} (had body from to : List ℕ) (told : Result (Unit {0}) Refusal) (result : Result (Unit {0}) E)
       → AsksEnergyOver ledger a b zone earlier register form had body {E = F} (Ok told) → had ≡ []
       → OnOk result (to ≡ with_energy_reply told body from) → RepliesEnergyOver ledger a b zone earlier register form from to result
-  replied had body from to told (Ok done) asked none puts = record {
-    answer = asked.answer;
-    report = asked.report;
-    asks = asked.asks;
-    tells = asked.tells;
-    puts = put_as asked.answer told body asked.report from to asked.gives (alone asked.answer had body asked.report none asked.holds) puts;
+  replied had body from to told (Ok done) asks none puts = record {
+    answer = asks.answer;
+    report = asks.report;
+    asks = asks.asks;
+    tells = asks.tells;
+    puts = put_as asks.answer told body asks.report from to asks.gives (alone asks.answer had body asks.report none asks.puts) puts;
   }
-  replied had body from to told (Err why) asked none puts = record {
-    answer = asked.answer;
-    report = asked.report;
-    asks = asked.asks;
+  replied had body from to told (Err why) asks none puts = record {
+    answer = asks.answer;
+    report = asks.report;
+    asks = asks.asks;
     tells = tt;
     puts = tt;
   }

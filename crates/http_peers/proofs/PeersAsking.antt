@@ -9,7 +9,7 @@ use Rattle.interval_core.specs.declared.shares.Share.{Share}
 use Rattle.interval_core.specs.declared.zone.Zone.{Zone}
 use Rattle.office_books.specs.Ledgers.{Ledger}
 use Rattle.office_core.specs.Asking.{OnlyAsks}
-use Rattle.office_core.specs.Standing.{After, Stands, books_in}
+use Rattle.office_core.specs.Standing.{After, Stands}
 use Rattle.office_core.specs.declared.office.Office.{Office}
 use Rattle.office_core.specs.declared.site.SiteRow.{SiteRow}
 use Rattle.office_events.specs.declared.facts.Fact.{Fact}

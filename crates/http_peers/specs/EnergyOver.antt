@@ -1,6 +1,6 @@
 -- The replies to questions for the energy of a register, of which earlier files tell, too. What these have of it is there as rows,
 -- one file after the other.
-use Rattle.std.specs.Prelude.{◌≡◌, ◌⊎◌, ℕ, List, ◌∷◌, ◌++◌, Option, Some, Result, Ok, Err, IfOk, OnOk}
+use Rattle.std.specs.Prelude.{◌≡◌, ◌⊎◌, ℕ, List, ◌∷◌, ◌++◌, Some, Result, Ok, Err, IfOk, OnOk}
 use Rattle.energy_report.specs.declared.form.ReportForm.{ReportForm}
 use Rattle.interval_core.specs.declared.shares.Share.{Share}
 use Rattle.interval_core.specs.declared.zone.Zone.{Zone}
@@ -60,7 +60,7 @@ pub record AsksEnergyOver {B : Type 0} (ledger : B → Ledger) (old new : Office
   pub gives : IfOk result (λ told. told ≡ answer)
   pub tells : OnOk result
       (TellsReportOver ledger old new zone earlier register form answer report)
-  pub holds : OnOk result (OnOk answer (holds ≡ had ++ report))
+  pub puts : OnOk result (OnOk answer (holds ≡ had ++ report))
 
 -- The office is asked, and what it answers is the reply, unless there was no memory for that.
 pub record RepliesEnergyOver {B : Type 0} (ledger : B → Ledger) (old new : Office B) (zone : Zone)

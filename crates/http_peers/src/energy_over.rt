@@ -1,12 +1,13 @@
 //! What a peer is replied who asks for the energy of a register, of which earlier files tell, too.
-ghost use Rattle.std.specs.Prelude.{◌≡◌, ◌<◌, IfSome, length, position};
+ghost use Rattle.std.specs.Prelude.{◌≡◌, ◌++◌, ◌<◌, IfSome, OnOk, length, position};
+ghost use Rattle.energy_report.specs.Texts.{report_text};
 ghost use Rattle.office_rules.specs.Facts.{is_named};
 ghost use Rattle.http_peers.specs.EnergyOver.{AsksEnergyOver, RepliesEnergyOver};
 
 use carried_books::{EarlierRegister, days_over, report_days};
 use command_io::ExitStatus;
 use energy_report::ReportForm;
-use interval_core::{Share, Zone, accounts_are_one};
+use interval_core::{DayTotal, Share, Zone, accounts_are_one};
 use office_books::Books;
 use office_core::{Office, span_around};
 use office_events::{Name, Refusal};
@@ -20,8 +21,18 @@ pub struct EarlierFiles<'a> {
     pub registers: &'a [EarlierRegister],
 }
 
-// Asks for the days of a register over earlier files and an office, and writes the report on them in a form. There was no memory
-// for it where that failed.
+// Writes the report on days, in a form. There was no memory for it where that failed.
+fn put_days(days: &[DayTotal], form: &ReportForm, output: &mut Vec<u8>) -> Result<(), AllocError>
+    ensures { OnOk result (output.new.items
+        ≡ output.old.items ++ report_text form.now days.now) }
+{
+    match report_days(days, form, output) {
+        ExitStatus::Fine => Ok(()),
+        ExitStatus::Refused | ExitStatus::Failed => Err(AllocError),
+    }
+}
+
+// Asks for the days of a register over earlier files and an office, and writes the report on them in a form.
 fn put_energy_over<B: Books>(
     alloc: Global,
     office: &mut Office<B>,
@@ -44,10 +55,10 @@ fn put_energy_over<B: Books>(
         span_around(form.range),
     ) {
         Err(why) => Ok(Err(why)),
-        Ok(days) => match report_days(&days, form, output) {
-            ExitStatus::Fine => Ok(Ok(())),
-            ExitStatus::Refused | ExitStatus::Failed => Err(AllocError),
-        },
+        Ok(days) => {
+            put_days(&days, form, output)?;
+            Ok(Ok(()))
+        }
     }
 }
 
@@ -81,10 +92,17 @@ fn is_of(it: &EarlierRegister, register: &Option<Name>) -> bool
     }
 }
 
+// The first place where what is told is of a register of this name.
+fn first_of(registers: &[EarlierRegister], register: &Option<Name>) -> Option<usize>
+    ensures { result ≡ position (λ it. is_named register.now it.name) registers.now }
+{
+    registers.iter().position(|it| is_of(it, register))
+}
+
 /// The first place of a register among those of which earlier files tell.
 pub fn place_among(registers: &[EarlierRegister], register: &Option<Name>) -> Option<usize>
     ensures first { result ≡ position (λ it. is_named register.now it.name) registers.now }
     ensures within { IfSome result (λ place. place < length registers.now) }
 {
-    registers.iter().position(|it| is_of(it, register))
+    first_of(registers, register)
 }

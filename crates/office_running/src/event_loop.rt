@@ -192,7 +192,7 @@ impl Running {
             let told = RunTold {
                 monitor: &self.voice.monitor,
                 lacks: &self.voice.lacks,
-                earlier,
+                earlier: &*earlier,
             };
             self.port.attend(rt, place, names, office, &told, now);
         }
