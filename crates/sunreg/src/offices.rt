@@ -160,8 +160,10 @@ pub(crate) fn run<'a>(
         Ok(registers) => registers,
         Err(ending) => return ending,
     };
-    let mut settings = *settings;
-    settings.earlier = registers.as_slice();
+    let settings = Settings {
+        earlier: registers.as_slice(),
+        ..*settings
+    };
     let surroundings = Surroundings::of(rt, Files::of(rt));
     let done = run_over(rt, &surroundings, path, sites.as_slice(), &settings);
     ending_of_done(done, OWN_HOST, settings.listen.port())

@@ -323,10 +323,12 @@ fn run_in<D: Databases + NamedFiles, C: Clock + Drop>(
     left: Option<u64>,
 ) -> Option<ExitCode> {
     let rt = asked.rt;
-    let mut settings = asked.settings;
-    settings.lasts = left;
-    settings.ends = until;
-    settings.earlier = registers;
+    let settings = Settings {
+        lasts: left,
+        ends: until,
+        earlier: registers,
+        ..asked.settings
+    };
     let done = run_opened(
         rt,
         databases,
