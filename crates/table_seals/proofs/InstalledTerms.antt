@@ -1,5 +1,5 @@
 -- Sets of the terms that rows of installations tell.
-use Rattle.std.proofs.Common.{◌≡◌, ◌↔◌, ◌⊎◌, ◌&&◌, ℕ, ◌+◌, ◌-◌, ◌<◌, ◌≤◌, Bool, true, false, cond, List, [], ◌∷◌, ◌++◌, take, length, get_or, Some, None, inl, inr, refl, sym, ap, subst, ◌∙◌, length-append, string_bytes, arith}
+use Rattle.std.proofs.Common.{◌≡◌, ◌↔◌, ◌⊎◌, ◌&&◌, ℕ, ◌+◌, ◌-◌, ◌<◌, Bool, true, false, cond, List, [], ◌∷◌, ◌++◌, take, length, get_or, Some, None, inl, inr, refl, sym, ap, subst, ◌∙◌, length-append, string_bytes, arith}
 use Rattle.std.specs.Prelude.{IsTrue, Any}
 use Rattle.std.specs.BTreeSet.{BTreeSet}
 use Rattle.std.specs.Cmp.Lexicographic.{slice_cmp}
@@ -118,8 +118,7 @@ any_of_more P xs y h = elim (cases_lt h.0 (length xs)) [
 pub with_terms : (row : Row) (terms : Terms) (old new : BTreeSet Terms) → TermsAreRead row (Some terms) → AddsTerms terms old new
     → AddsTermsOf row old new
 with_terms row terms old new read adds rows are other =
-    let Reads : Row → Type 0 = λ r. TermsAreRead r (Some other) in
-    (
+    let Reads : Row → Type 0 = λ r. TermsAreRead r (Some other) in (
       λ has. elim ((adds other).0 has) [
         | inl same ↦ Any-push Reads rows row (terms_there row _ _ _ _ _ _ read same.meter same.register same.ceiling)
         | inr before ↦ any_more Reads rows row ((are other).0 before)
@@ -134,8 +133,7 @@ with_terms row terms old new read adds rows are other =
 
 pub without_terms : (row : Row) (known : BTreeSet Terms) → TermsAreRead row None → AddsTermsOf row known known
 without_terms row known none rows are other =
-    let Reads : Row → Type 0 = λ r. TermsAreRead r (Some other) in
-    (
+    let Reads : Row → Type 0 = λ r. TermsAreRead r (Some other) in (
       λ has. any_more Reads rows row ((are other).0 has),
       λ any. elim (any_of_more Reads rows row any) [
         | inl before ↦ (are other).1 before
@@ -166,8 +164,7 @@ pub installed_by : (known : BTreeSet Terms) (terms : Terms) (seal : Sealed) (the
     → TellsInstalled known seal there
 installed_by known terms seal there is meter register ceiling installed are =
     let Reads : Row → Type 0 = λ row. TermsAreRead row (Some terms) in
-    let Has : Row → Type 0 = λ row. HasTerms row seal.meter seal.register seal.ceiling in
-    (
+    let Has : Row → Type 0 = λ row. HasTerms row seal.meter seal.register seal.ceiling in (
       λ t. any_as Reads Has installed (λ row h. terms_there row _ _ _ _ _ _ h meter register ceiling) ((are terms).0 (sym is ∙ t)),
       λ any. is ∙ (are terms).1 (any_as Has Reads installed (λ row h. terms_there row _ _ _ _ _ _ h (sym meter) (sym register) (sym ceiling)) any),
     )
