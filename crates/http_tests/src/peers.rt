@@ -68,7 +68,7 @@ impl Listening {
             let told = RunTold {
                 monitor: &self.monitor,
                 lacks: &[],
-                earlier,
+                earlier: &*earlier,
             };
             let place = place_at(first, step);
             self.port

@@ -205,10 +205,23 @@ static OTHERS: [(&str, Option<StatusRoute>); 39] = [
     ("/register/main/meters", None),
 ];
 
+// Whether this is what is answered to a target without asking the office.
+fn is_answered(
+    alloc: Global,
+    target: &str,
+    route: &Option<StatusRoute>,
+) -> Result<bool, AllocError> {
+    match route_of(alloc, target) {
+        Ok(asked) => Ok(asked == own(route)),
+        Err(error) => Err(error),
+    }
+}
+
 #[test]
 fn other_targets_ask_for_no_rows(rt: HostRuntime) -> Result<(), Fail> {
     for (target, route) in &OTHERS {
-        assert!(rt; route_of(rt.alloc(), target)? == own(route), "{target}");
+        let is_so = is_answered(rt.alloc(), target, route)?;
+        assert!(rt; is_so, "{target}");
     }
     Ok(())
 }
