@@ -11,7 +11,7 @@ use std::fmt::Display;
 use std::fs::File;
 use std::io::{self, ErrorKind, Read, Write};
 use std::str::from_utf8;
-use stored_files::{Databases, Ending, Failure, ending_of};
+use stored_files::{Ending, Failure, ending_of};
 use stored_office::{Task, ending_of_done};
 
 // Says why a file, or the counter of a register, that a line names isn't read.
@@ -37,7 +37,7 @@ fn read_within(rt: &HostRuntime, alloc: Global, name: &str) -> io::Result<Vec<u8
     Ok(whole)
 }
 
-impl<D: Databases + Drop> NamedFiles for Surroundings<'_, D> {
+impl NamedFiles for Surroundings<'_> {
     fn read(&self, alloc: Global, name: &[u8]) -> Result<Option<Vec<u8>>, AllocError> {
         let Ok(name) = from_utf8(name) else {
             say_unread(self.rt, "a list", &"the name of its file is no text");
