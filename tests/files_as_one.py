@@ -1,8 +1,9 @@
-"""Reports over several files of one office: files_as_one.py PROGRAM; tests/files_as_one.sh calls it.
+"""Reports and statements over several files of one office: files_as_one.py PROGRAM; tests/files_as_one.sh calls it.
 
 A site has a meter whose counter turns over, is reset, is corrected by hand and has a reading voided, and that is exchanged for another.
 One file gets all of it. Three files get it in parts, the second and the third of them begun by `sunreg carry`: the first carry falls into
-a quarter hour, the second on the begin of one. What the program prints of the three is what it prints of the one, byte for byte.
+a quarter hour, the second on the begin of one. What the program prints of the three is what it prints of the one, byte for byte, and their
+statement is what Python computes of the entries. Of a second, small site it is held to numbers that were reckoned by hand.
 """
 import datetime
 import itertools
@@ -173,6 +174,45 @@ def fill(db, meters, held):
     write(db, statements + list(polls(held)))
 
 
+def build(room, names, meters, carries, held):
+    """Makes files that get what comes to the meters in parts, each but the first begun by a carry from the one before, where its meter stands."""
+    parts = [str(room / f"{name}.db") for name in names]
+    begins, ends = [0, *carries], [*carries, BEGIN + 1000 * DAY]
+    new_office(parts[0])
+    for at, db in enumerate(parts):
+        if at:
+            same(f"carry {at}", run("carry", "--from", parts[at - 1], "--to", db)[:2], (0, "carried 1 meters\n"))
+        there = [it for it in (meter.part(begins[at], ends[at]) for meter in meters) if it]
+        fill(db, there, [it for it in held if begins[at] < it[1] <= ends[at]])
+        same(f"the audit of {db}", run("audit", "--db", db)[1][:5], "fine:")
+    return parts
+
+
+def midnight(day):
+    """When a day begins by the clocks of the zone, which go forward on 2024-03-31."""
+    begin = datetime.datetime.fromisoformat(f"{day}T00:00+00:00")
+    return int(begin.timestamp()) - (3600 if day <= "2024-03-31" else 7200)
+
+
+def stated(meters, held, first, till):
+    """What a statement of meters says in text and mWh."""
+    begin, end = midnight(first) if first else 0, midnight(till) if till else BEGIN + 1000 * DAY
+    rows = []
+    for meter in meters:
+        standing = [it for it in meter.entries if not it.voided]
+        if standing[0].moment >= end or standing[-1].kind == CLOSING and standing[-1].moment < begin:
+            continue
+        within = [it for it in standing if begin <= it.moment < end]
+        ends = [f"{it.moment} {it.shown() * 10 ** (it.sf + 3)}" for it in (within[0], within[-1])] if within else ["- -", "- -"]
+        energy = sum(mwh for start, mwh in meter.intervals() if begin <= start < end)
+        counts = [sum(it.kind == kind for it in within) for kind in (MANUAL, RESET, RESCALE)]
+        voids = sum(begin <= it.moment < end for it in meter.entries if it.voided)
+        causes = sorted(cause for name, moment, cause in held if name == meter.name and begin <= moment < end)
+        by_cause = ",".join(f"{it}={causes.count(it)}" for it in sorted(set(causes)))
+        rows.append(" ".join(map(str, [meter.name, *ends, energy, *counts, voids, by_cause or "0"])))
+    return "".join(f"{it}\n" for it in [*rows, f"end {len(rows)}"])
+
+
 def copy(db, name):
     there = str(pathlib.Path(db).with_name(name))
     for it in (db, db + "-wal"):
@@ -197,10 +237,70 @@ def hold_reports(whole, parts, ranges):
     same("it has rows", len(over(parts)[1].splitlines()) > 90, True)
 
 
+def hold_statements(whole, parts, ranges, meters, held):
+    """Holds each form of the statement over the parts to that of the whole, and its text to what is computed."""
+    for (first, till), unit, form in itertools.product(ranges, ("mwh", "kwh"), ("text", "csv", "json")):
+        words = ["--statement", "--unit", unit, "--format", form]
+        words += ["--from", first] if first else []
+        words += ["--till", till] if till else []
+        found = over(parts, *words)
+        same(" ".join(words), found, over([whole], *words))
+        if (unit, form) == ("mwh", "text"):
+            same(f"computed: {' '.join(words)}", found, (0, stated(meters, held, first, till), []))
+    same("the plain statement", over(parts, "--statement"), (0, stated(meters, held, None, None), []))
+
+
+def small_site():
+    """A meter that is carried twice, first at midnight by the clocks of the zone, and is closed then, and the one after it."""
+    at = 1704148200  # 2024-01-01 23:30 by the clocks
+    one = [Entry(OPENING, at, 1000, 0), Entry(READING, at + 900, 1100, 0), Entry(READING, at + 1800, 1300, 0), Entry(MANUAL, at + 2700, 1350, 0),
+           Entry(READING, at + 3600, 1400, 0), Entry(READING, at + 4500, 1500, 0), Entry(CLOSING, at + 5400, 1600, 0)]
+    one[4].voided = at + 4505
+    two = [Entry(OPENING, at + 5400, 7, 0), Entry(RESET, at + 6300, 17, 0, after=0)]
+    held = [("m1", at + 1000, 2), ("m1", at + 4600, 2), ("m1", at + 4700, 5)]
+    return [Meter("m1", 65536, one), Meter("m2", 65536, two)], [at + 1800, at + 4500], held
+
+
+# Words, which of the three files are asked, and the statement.
+SMALL = [
+    ([], "one two three", """m1 1704148200 1000000 1704153600 1600000 600000 1 0 0 1 2=2,5=1
+m2 1704153600 7000 1704154500 0 10000 0 1 0 0 0
+end 2
+"""),
+    # (the reading at which it was carried is of the second day)
+    (["--till", "2024-01-02"], "one two three", "m1 1704148200 1000000 1704149100 1100000 300000 0 0 0 0 2=1\nend 1\n"),
+    (["--from", "2024-01-02"], "one two three", """m1 1704150000 1300000 1704153600 1600000 300000 1 0 0 1 2=1,5=1
+m2 1704153600 7000 1704154500 0 10000 0 1 0 0 0
+end 2
+"""),
+    # (a file that the meter was carried from is left out, or has nothing yet of what comes after it)
+    ([], "two three", """m1 1704150000 1300000 1704153600 1600000 300000 1 0 0 1 2=1,5=1
+m2 1704153600 7000 1704154500 0 10000 0 1 0 0 0
+end 2
+"""),
+    ([], "one two", "m1 1704148200 1000000 1704152700 1500000 500000 1 0 0 1 2=1\nend 1\n"),
+    # (before the first file, on no day, and after the last entry)
+    (["--till", "2024-01-01"], "one two three", "end 0\n"),
+    (["--from", "2024-01-01", "--till", "2024-01-01"], "one two three", "end 0\n"),
+    (["--from", "2024-01-03"], "one two three", "m2 - - - - 0 0 0 0 0 0\nend 1\n"),
+]
+
+
+def hold_by_hand(room):
+    """Holds statements of the small site to numbers that were reckoned by hand."""
+    room.mkdir()
+    meters, carries, held = small_site()
+    build(room, ["one", "two", "three"], meters, carries, held)
+    for words, names, wanted in SMALL:
+        files = [str(room / f"{name}.db") for name in names.split()]
+        same(f"by hand: {names} {' '.join(words)}", over(files, "--statement", *words), (0, wanted, []))
+
+
 def unjoined(what, files, begin, *words):
-    """Holds a report over files that don't join to its refusal."""
-    status, printed, said = over(files, *words)
-    same(what, (status, printed, [it.startswith(f"sunreg: {begin}") for it in said]), (1, "", [True]))
+    """Holds a report and a statement over files that don't join to their refusal."""
+    for form in ([], ["--statement"]):
+        status, printed, said = over(files, *words, *form)
+        same(f"{what} {' '.join(form)}", (status, printed, [it.startswith(f"sunreg: {begin}") for it in said]), (1, "", [True]))
 
 
 def hold_refusals(room, parts, carries):
@@ -221,24 +321,29 @@ def hold_refusals(room, parts, carries):
     write(later, [f"INSERT INTO voids VALUES ('m1', {last + 1}, {moment + 1000});",
                   f"UPDATE installations SET last_moment = {moment}, last_raw = {raw} WHERE meter = 'm1';"])
     same("and that was voided", over([later, two, three]), over(parts))
+    name, *fields, held = over(parts, "--statement")[1].splitlines()[0].split(" ")
+    fields[-1] = str(int(fields[-1]) + 1)
+    same("which is stated as a void", over([later, two, three], "--statement")[1].splitlines()[0], " ".join([name, *fields, held]))
     zone = copy(two, "zone.db")
     write(zone, ["UPDATE meta SET zone = 'UTC0';"])
     unjoined("another zone", [one, zone], f"{zone}: its days are those of another zone than the days of {one}: ")
     none = str(room / "none.db")
     subprocess.run(["bash", str(HERE / "schema.sh"), none, ZONE], check=True)
-    unjoined("it is not recorded later", [one, none], f"{none}: the register is not recorded there, ")
+    unjoined("it is not recorded later", [one, none], f"{none}: a register is not recorded there, ")
     same("but before", over([none, *parts]), over(parts))
+    same("and a statement", over([none, *parts], "--statement"), over(parts, "--statement"))
     same("nowhere", run("report", "--db", one, "--db", two, "--register", "far")[:2], (1, "refused 1\n"))
     same("no name", run("report", "--db", one, "--db", two, "--register", "?")[:2], (1, "refused 1\n"))
     same("no meter", run("report", "--db", one, "--db", two, "--register", "spare"), (0, "end 0\n", []))
     same("no file", over([one, str(room / "gone.db")])[:2], (3, ""))
-    same("a statement", over(parts, "--statement"), (1, "", ["sunreg: a statement is of one file: ask for each alone"]))
+    same("a statement of no meter", run("report", "--db", one, "--db", two, "--register", "spare", "--statement"), (0, "end 0\n", []))
+    same("a statement of nowhere", run("report", "--db", one, "--db", two, "--register", "far", "--statement")[:2], (1, "refused 1\n"))
+    same("a statement of no name", run("report", "--db", one, "--db", two, "--register", "?", "--statement")[:2], (1, "refused 1\n"))
     same("no day", over(parts, "--from", "2024-02-30")[0], 2)
 
 
-def main():
-    room = tempfile.TemporaryDirectory()
-    place = pathlib.Path(room.name)
+def carry_parts(place):
+    """Makes the file that gets all, and the three that go on from each other; and when these were carried."""
     meters, on_time = site()
     first = [it.moment for it in meters[0].entries if it.moment < BEGIN + 33 * DAY and not it.voided][-1]
     carries = [first, on_time]
@@ -247,25 +352,28 @@ def main():
     new_office(whole)
     fill(whole, meters, held)
     same("the audit of the whole", run("audit", "--db", whole)[1][:5], "fine:")
-    parts, ends = [str(place / f"{name}.db") for name in ("one", "two", "three")], [*carries, BEGIN + 1000 * DAY]
-    begins = [0, *carries]
-    new_office(parts[0])
-    for at, db in enumerate(parts):
-        if at:
-            same(f"carry {at}", run("carry", "--from", parts[at - 1], "--to", db)[:2], (0, "carried 1 meters\n"))
-        there = [it for it in (meter.part(begins[at], ends[at]) for meter in meters) if it]
-        fill(db, there, [it for it in held if begins[at] < it[1] <= ends[at]])
-        same(f"the audit of {db}", run("audit", "--db", db)[1][:5], "fine:")
+    parts = build(place, ["one", "two", "three"], meters, carries, held)
+    return whole, parts, carries, meters, held
+
+
+def main():
+    room = tempfile.TemporaryDirectory()
+    place = pathlib.Path(room.name)
+    whole, parts, carries, meters, held = carry_parts(place)
+    first, on_time = carries
     same("a carry cuts a quarter hour", [first % 900 != 0, on_time % 900], [True, 0])
     cut = datetime.datetime.fromtimestamp(first, datetime.timezone.utc).date()
     days = [None, "2024-01-01", str(cut), str(cut + datetime.timedelta(1)), "2024-02-29", "2024-03-31", "2024-05-01"]
     ranges = [(a, b) for a, b in itertools.product(days, days) if not (a and b) or a <= b]
     hold_reports(whole, parts, ranges)
+    hold_statements(whole, parts, ranges, meters, held)
     hold_refusals(place, parts, carries)
+    hold_by_hand(place / "small")
     room.cleanup()
     print(f"{counts['passed']} passed, {counts['failed']} failed")
     sys.exit(1 if counts["failed"] else 0)
 
 
 PROGRAM = sys.argv[1]
-main()
+if __name__ == "__main__":
+    main()

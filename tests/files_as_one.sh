@@ -1,5 +1,5 @@
 #!/bin/sh
-# Carries an office into a second file and a third, goes on in each, and holds reports over the three to what one file tells that was never
+# Carries an office into a second file and a third, goes on in each, and holds reports and statements over the three to what one file tells that was never
 # carried: `tests/files_as_one.sh [PROGRAM]`, out/sunreg by default, which `./sunreg-build` makes. It needs python3 and sqlite3, and is no
 # part of the gate. It ends on 'N passed, M failed'.
 set -eu

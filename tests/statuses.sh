@@ -118,6 +118,19 @@ port=${STATUSES_PORT:-18691}
 run '' run --db "$office" --listen "$port" --every 86400 --devices d=127.0.0.1:1 --for 1
 is 'run: for a second' 0 "$(printf 'books to 0 lost 0\nlistening %s' "$port")" 'sunreg: d: the office has no device of that name: POST /devices'
 
+other=$room/other.db
+run '' create --db "$other" --zone CET-1
+run '' run --db "$other" --db "$office" --listen "$port" --every 86400 --devices d=127.0.0.1:1 --for 1
+is 'run: an earlier file of another zone' 1 '' "sunreg: $office: its days are those of another zone than the days of $other: name the oldest first, each carried from the one before it, and void in that what it booked after the carry"
+run '' run --db "$room/none.db" --db "$office" --listen "$port" --every 86400 --devices d=127.0.0.1:1 --for 1
+is 'run: no such earlier file' 3 '' 'failed'
+says 'run: no such earlier file' "$room/none.db: there is no such file: sunreg create makes it"
+head -c 8192 /dev/zero | tr '\0' 'x' > "$room/damaged.db"
+run '' run --db "$room/damaged.db" --db "$office" --listen "$port" --every 86400 --devices d=127.0.0.1:1 --for 1
+is 'run: an earlier file that is none' 3 '' 'failed'
+run '' run --db "$office" --listen "$port" --every 86400 --devices d=127.0.0.1:1 --earlier 1
+is 'run: earlier files of no periods' 2 '' "error: the argument '--earlier' cannot be used without '--carry'"
+
 if [ -w /dev/full ]; then
     printf '1000 tick\n' | "$program" > /dev/full 2> "$room/err"
     status=$?

@@ -66,7 +66,7 @@ replays() {
 zone=$(sed -n 's/^pub const ZONE: &str = "\(.*\)";$/\1/p' "$checkout/crates/command_words/src/table.rt")
 same 'the zone' "$(grep -c -F "Zone::read(\"${zone:-none}\")" "$checkout/sunreg")" 1
 said=$(sed -n 's/^const FAILED: .* b"failed\\nsunreg: \(.*\)\\n";$/\1/p' "$checkout/sunreg")
-same 'what it says where a stream fails' "$(cat "$checkout/crates/stored_office/src/ends/failure.rt" | grep -c -F "\"${said:-none}\"")" 1
+same 'what it says where a stream fails' "$(cat "$checkout/crates/stored_files/src/ends/failure.rt" | grep -c -F "\"${said:-none}\"")" 1
 
 # A command rt that tells where and how it was called, and ends with the status that it reads.
 mkdir "$room/telling" "$room/waiting" "$room/without"

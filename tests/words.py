@@ -85,6 +85,19 @@ def check_wrong(program):
         holds(f"explain {words}", (it.returncode, it.stdout, it.stderr.splitlines()[0]), (2, "", said))
 
 
+def check_run(program):
+    begun = ["run", "--db", "a.db", "--listen", "1", "--every", "1", "--devices", "d=127.0.0.1:1"]
+    for words, said in {
+        ("--carry", "month", "--earlier", "3", "--db", "b.db"): "error: the argument '--earlier' cannot be used with several '--db'",
+        ("--earlier", "3"): "error: the argument '--earlier' cannot be used without '--carry'",
+        ("--carry", "month", "--earlier", "0"): "error: invalid value '0' for '--earlier <COUNT>': not a number from 1 to 1200",
+        ("--carry", "month", "--earlier", "1201"): "error: invalid value '1201' for '--earlier <COUNT>': not a number from 1 to 1200",
+        ("--carry", "day", "--earlier", "3"): "error: invalid value 'day' for '--carry <PERIOD>': none of month, year",
+    }.items():
+        it = run(program, *begun, *words)
+        holds(f"run {words}", (it.returncode, it.stdout, it.stderr.splitlines()[0]), (2, "", said))
+
+
 def check_manual(program):
     page = HERE.parent / "docs/sunreg.1"
     holds("docs/sunreg.1 (tests/words.sh --manual makes it anew)", page.read_text(), manual.page(program))
@@ -179,6 +192,7 @@ def main(words):
     with tempfile.TemporaryDirectory() as room:
         check_numbers(program)
         check_wrong(program)
+        check_run(program)
         check_manual(program)
         check_completions(program, pathlib.Path(room))
         check_examples(program, pathlib.Path(room))

@@ -2,4 +2,11 @@ pub mod Days
 pub mod Meters
 pub mod Files
 pub mod Reports
+pub mod Offices
 pub mod Keeping
+pub mod Earlier
+pub mod KeptMeters
+pub mod Statements
+pub mod OneFile
+pub mod BothFiles
+mod Examples

@@ -2,15 +2,28 @@
 //! stands in the file before, and its energy by days.
 
 mod days;
+mod earlier;
 mod files;
 mod keeping;
+mod kept_meters;
 mod laws;
 mod meters;
+mod offices;
 mod reports;
+mod statements;
 
 pub use days::JoinedDays;
+pub use earlier::{
+    EarlierRegister, HeldRegisters, KeptRegister, KeptRegisters, add_kept, hold_kept,
+};
 pub use files::{JoinedFiles, Unjoined, add_books, no_files};
 pub use keeping::Keeping;
-pub use laws::{both_files_tell_the_joined_days, one_file_tells_its_days};
+pub use kept_meters::KeptMeter;
+pub use laws::{
+    both_files_state_the_joined_meter, both_files_tell_the_joined_days, one_file_states_its_meters,
+    one_file_tells_its_days,
+};
 pub use meters::Apart;
-pub use reports::report_joined;
+pub use offices::days_over;
+pub use reports::{report_days, report_joined};
+pub use statements::{JoinedStatement, state_joined};

@@ -1,5 +1,5 @@
 -- The command that the words spell.
-use Rattle.std.specs.Prelude.{ℕ, Bool, true, false, ◌&&◌, is_some, length, nat_lt, List, [], Option, Some, None, codes, map, option_map, if◌then◌else◌}
+use Rattle.std.specs.Prelude.{ℕ, Bool, true, false, ◌&&◌, ◌||◌, is_some, is_none, length, nat_lt, List, [], Option, Some, None, codes, map, option_map, if◌then◌else◌}
 use Rattle.std.specs.Str.{bytes_eq}
 use Rattle.clap.specs.Words.{Row, Text}
 use Rattle.energy_report.specs.Words.{format_of, period_of, unit_of}
@@ -49,8 +49,9 @@ pub data Line : Type 0 where
   Scan : (host : Text) (port unit timeout : ℕ) (list : Bool) (setup : Option Text) → Line
   StandIn : (host : Text) (port connections : ℕ) → Line
   Loop : (zone : Text) → Line
-  Run : (db : Text) (listen every : ℕ) (devices : List Place) (lasts : Option ℕ)
-      (carry : Option Period) (hosts : List Text) (most_kept : Option ℕ) (verbose : Bool) → Line
+  Run : (dbs : List Text) (listen every : ℕ) (devices : List Place) (lasts : Option ℕ)
+      (carry : Option Period) (earlier : Option ℕ) (hosts : List Text) (most_kept : Option ℕ)
+      (verbose : Bool) → Line
   Explain : (what number : Text) → Line
   Completions : Line
 
@@ -89,9 +90,9 @@ seen (line.Scan host port unit timeout list setup) =
     Scan host.now port unit timeout list (option_map (λ text. text.now) setup)
 seen (line.StandIn host port connections) = StandIn host.now port connections
 seen (line.Loop zone) = Loop zone.now
-seen (line.Run db listen every devices lasts carry hosts most_kept verbose) =
-    Run db.now listen every (map place_of devices.items) lasts carry (texts hosts.items)
-    most_kept verbose
+seen (line.Run dbs listen every devices lasts carry earlier hosts most_kept verbose) =
+    Run (texts dbs.items) listen every (map place_of devices.items) lasts carry earlier
+    (texts hosts.items) most_kept verbose
 seen (line.Explain what number) = Explain what.now number.now
 seen line.Completions = Completions
 
@@ -242,17 +243,25 @@ carried_by word =
     if bytes_eq word (codes "month") then Some Month
     else (if bytes_eq word (codes "year") then Some Year else None)
 
+-- Over how many earlier files of periods energy is told, too: of a run that begins new ones, where no files are named before.
+abbrev pub earlier_in : (are_several : Bool) → (carry : Option Period) → List Row
+    → Option (Option ℕ)
+earlier_in are_several carry rows =
+    given (number_if 1200 (codes "earlier") rows) (λ earlier.
+    if is_some earlier && (are_several || is_none carry) then None else Some earlier)
+
 abbrev pub run_in : List Row → Option Line
 run_in rows =
-    given (db_in rows) (λ db.
+    given (several_at (codes "db") rows) (λ dbs.
     given (number_at 65535 (codes "listen") rows) (λ listen.
     given (number_at 86400 (codes "every") rows) (λ every.
     given (number_if 4000000000 (codes "for") rows) (λ lasts.
     given (devices_at rows) (λ devices.
     given (if_some carried_by (text_at (codes "carry") rows)) (λ carry.
+    given (earlier_in (nat_lt 1 (length dbs)) carry rows) (λ earlier.
     given (number_if 1000000 (codes "most-kept") rows) (λ most_kept.
-    Some (Run db listen every devices lasts carry (hosts_in rows) most_kept
-    (is_set (codes "verbose") rows)))))))))
+    Some (Run dbs listen every devices lasts carry earlier (hosts_in rows) most_kept
+    (is_set (codes "verbose") rows))))))))))
 
 abbrev pub explain_in : List Row → Option Line
 explain_in rows =

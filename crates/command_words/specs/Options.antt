@@ -64,6 +64,7 @@ IsDue (fault.Choice option value choices word) due = None ≡ due
 IsDue (fault.Command name) due = None ≡ due
 IsDue (fault.Shell word) due = None ≡ due
 IsDue (fault.Alone option other) due = None ≡ due
+IsDue (fault.Without option other) due = None ≡ due
 IsDue (fault.Device part fault) due = None ≡ due
 
 -- what reading answers of the value that is due, which `seen` compares

@@ -42,6 +42,11 @@ pub enum ValueFault<'a> {
         option: &'a str,
         other: &'a str,
     },
+    /// An option stands without another that it needs.
+    Without {
+        option: &'a str,
+        other: &'a str,
+    },
     /// A part of the list is no device of it.
     Device {
         part: &'a str,
@@ -109,6 +114,10 @@ impl<'a> Display for ValueFault<'a> {
             ValueFault::Alone { option, other } => write!(
                 f,
                 "error: the argument '--{option}' cannot be used with several '--{other}'"
+            )?,
+            ValueFault::Without { option, other } => write!(
+                f,
+                "error: the argument '--{option}' cannot be used without '--{other}'"
             )?,
             ValueFault::Device { part, fault } => {
                 write!(

@@ -113,15 +113,18 @@ pub enum CommandLine<'a> {
     Loop {
         zone: &'a str,
     },
-    /// Rounds of devices every so many seconds, and HTTP, until it is ended or the seconds of `lasts` are over.
+    /// Rounds of devices every so many seconds, and HTTP, until it is ended or the seconds of `lasts` are over. Of several files, the
+    /// oldest first, books go on in the last.
     Run {
-        db: &'a str,
+        dbs: Vec<&'a str>,
         listen: u16,
         every: u32,
         devices: Vec<Device<'a>>,
         lasts: Option<u32>,
         /// By which periods it begins a new file.
         carry: Option<Period>,
+        /// Over how many earlier ones of its files by periods energy is told, too; where several files are named, over all.
+        earlier: Option<u32>,
         host_names: Vec<&'a str>,
         /// How many megabytes of requests may be kept.
         most_kept: Option<u32>,

@@ -4,7 +4,7 @@ ghost use Rattle.clap.specs.Words.{subcommand_rows_of};
 ghost use Rattle.command_words.specs.ClapTable.Table.{texts};
 ghost use Rattle.command_words.specs.Values.Devices.{devices_in, places_of};
 ghost use Rattle.command_words.specs.Lines.{asks_seal, audit_in, backup_in, carry_in, command_in, completions_in, create_in};
-ghost use Rattle.command_words.specs.Lines.{devices_at, devices_if};
+ghost use Rattle.command_words.specs.Lines.{devices_at, devices_if, earlier_in};
 ghost use Rattle.command_words.specs.Lines.{enter_in, explain_in, form_in, line_in, one_sealed, report_in, round_in, run_in, scan_in, seen};
 ghost use Rattle.command_words.specs.Lines.{sealing_in, seen_form, seen_sealing, serve_in, stand_in_in};
 ghost use Rattle.command_words.specs.Options.{Reads, rows_in};
@@ -16,11 +16,12 @@ use crate::options::{
     is_set, number, number_if, number_or, several, text, text_if, text_or, texts,
 };
 use crate::table::{
-    CONNECTIONS, EVERY, FIRST_UNIT, HOST, HOST_NAME, LASTS, LISTEN, MOST_KEPT, PATIENCE, PORT,
-    TIMEOUT, UNIT, UNTIL, ZONE,
+    CONNECTIONS, EARLIER, EVERY, FIRST_UNIT, HOST, HOST_NAME, LASTS, LISTEN, MOST_KEPT, PATIENCE,
+    PORT, TIMEOUT, UNIT, UNTIL, ZONE,
 };
 use crate::values::{Device, ListFault, devices_in};
 use clap::ArgMatches;
+use energy_report::Period;
 use std::alloc::Global;
 
 fn create_line<'a>(found: &ArgMatches<'a>) -> Result<CommandLine<'a>, ValueFault<'a>>
@@ -256,24 +257,54 @@ fn enter_line<'a>(alloc: Global, found: &ArgMatches<'a>) -> Result<CommandLine<'
     })
 }
 
+// Over how many earlier files of periods energy is told, too. Only who begins new ones has them, and where files are named before
+// those, all are told of.
+fn earlier_if<'a>(
+    found: &ArgMatches<'a>,
+    are_several: bool,
+    carry: Option<Period>,
+) -> Result<Option<u32>, ValueFault<'a>>
+    ensures { Reads (λ earlier. earlier) (earlier_in are_several carry (rows_in found.now)) result }
+{
+    let earlier = number_if(found, EARLIER)?;
+    if earlier.is_none() {
+        return Ok(None);
+    }
+    if are_several {
+        return Err(ValueFault::Alone {
+            option: "earlier",
+            other: "db",
+        });
+    }
+    if carry.is_none() {
+        return Err(ValueFault::Without {
+            option: "earlier",
+            other: "carry",
+        });
+    }
+    Ok(earlier)
+}
+
 fn run_line<'a>(alloc: Global, found: &ArgMatches<'a>) -> Result<CommandLine<'a>, ValueFault<'a>>
     ensures { Reads seen (run_in (rows_in found.now)) result }
 {
-    let db = text(found, "db")?;
+    let dbs = several(alloc, found, "db")?;
     let listen = number(found, LISTEN)?;
     let every = number(found, EVERY)?;
     let lasts = number_if(found, LASTS)?;
     let devices = devices(alloc, found)?;
     let carry = carry_if(found)?;
+    let earlier = earlier_if(found, dbs.len() > 1, carry)?;
     let host_names = texts(alloc, found, HOST_NAME)?;
     let most_kept = number_if(found, MOST_KEPT)?;
     Ok(CommandLine::Run {
-        db,
+        dbs,
         listen: listen as u16,
         every,
         devices,
         lasts,
         carry,
+        earlier,
         host_names,
         most_kept,
         verbose: is_set(found, "verbose"),

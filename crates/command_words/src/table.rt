@@ -59,6 +59,12 @@ pub const MOST_KEPT: NumberOption<'static> = NumberOption {
     most: 1_000_000,
 };
 
+pub const EARLIER: NumberOption<'static> = NumberOption {
+    name: "earlier",
+    value: "COUNT",
+    most: 1200,
+};
+
 pub const UNTIL: NumberOption<'static> = NumberOption {
     name: "until",
     value: "MOMENT",
@@ -103,6 +109,12 @@ const DBS: OptionText<'static> = OptionText {
     name: "db",
     value: Value::Several("FILE"),
     help: "The office's file; of an office that was carried several, oldest first",
+};
+
+const RUN_DBS: OptionText<'static> = OptionText {
+    name: "db",
+    value: Value::Several("FILE"),
+    help: "The office's file; of an office that was carried several, books go on in the last",
 };
 
 const NEW_DB: OptionText<'static> = OptionText {
@@ -398,7 +410,7 @@ const RUN: CommandText<'static> = CommandText {
     about: "Polls devices on a schedule and answers HTTP, until it is ended",
     after: "Example:\n  sunreg run --db office.db --listen 8080 --every 60 --devices inv=192.0.2.7:502",
     options: &[
-        DB,
+        RUN_DBS,
         OptionText {
             name: "listen",
             value: Value::Required("PORT"),
@@ -426,6 +438,11 @@ const RUN: CommandText<'static> = CommandText {
                 choices: CARRIES,
             },
             help: "Begins a new file each month or year: month or year",
+        },
+        OptionText {
+            name: "earlier",
+            value: Value::Optional("COUNT"),
+            help: "Tells energy over so many earlier ones of these files too, 1 to 1200",
         },
         ASKED_NAME,
         OptionText {

@@ -121,6 +121,16 @@ impl Books for FailingBooks {
         self.failures.noted(found)
     }
 
+    fn registers_read(
+        &mut self,
+        device: &Name,
+        span: ReadSpan,
+    ) -> Result<Vec<Register>, BooksFault> {
+        self.called()?;
+        let found = self.books.registers_read(device, span);
+        self.failures.noted(found)
+    }
+
     fn register_count(&mut self, device: &Name) -> Result<usize, BooksFault> {
         self.called()?;
         let found = self.books.register_count(device);

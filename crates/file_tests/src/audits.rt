@@ -2,7 +2,7 @@
 use crate::commands::fill;
 use crate::files::{Files, path, remove};
 use std::test::Fail;
-use stored_office::{
+use stored_files::{
     AuditFault, Databases, Joining, audit_stored, hold_to_earlier, meters_stored, told_zone,
     write_audit, write_joins,
 };

@@ -4,7 +4,7 @@ use crate::files::{Files, path, remove};
 use sqlite::{Alter, Connection, Error, Unknown};
 use std::fs;
 use std::test::Fail;
-use stored_office::{CopyFault, Databases, is_bare, is_office, whole_file, whole_files};
+use stored_files::{CopyFault, Databases, is_bare, is_office, whole_file, whole_files};
 
 fn copy_log(rt: &HostRuntime, from: &str, to: &str) -> Result<(), Fail> {
     let log = format!(in rt.alloc(); "{from}-wal")?;

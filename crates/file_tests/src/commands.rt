@@ -9,7 +9,8 @@ use office_store::{OpenFault, SqlBooks};
 use socket_link::FixedClock;
 use std::alloc::{AllocError, Global};
 use std::test::Fail;
-use stored_office::{Databases, Done, Task, carry_out_stored, create_stored, told_zone};
+use stored_files::{Databases, create_stored, told_zone};
+use stored_office::{Done, Task, carry_out_stored};
 
 /// How a report ends, and what it prints.
 type Report = (Result<ExitStatus, OpenFault>, Vec<u8>);

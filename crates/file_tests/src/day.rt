@@ -8,7 +8,7 @@ use std::test::Fail;
 
 /// A device, its register and its meter; a read of them, and the counter shows 5200 at the scale 0. Then the meter is
 /// exchanged, and the new one is read by hand.
-const DAY: &str = "1000 device inv 1 5 1
+pub(crate) const DAY: &str = "1000 device inv 1 5 1
 1000 register main inv 3 40094 @40096
 1000 install main m1 5000 0 100000
 1898 connect inv
@@ -45,13 +45,14 @@ fn event_of(alloc: Global, line: &str) -> Result<(u64, Event), Fail> {
     }
 }
 
-/// An office over these books to which the events of these lines came.
-pub(crate) fn office_after<B: Books>(
+/// An office that was opened over these books at a moment, and to which the events of these lines came.
+pub(crate) fn office_from<B: Books>(
     alloc: Global,
     books: B,
+    opened: u64,
     lines: &str,
 ) -> Result<Office<B>, Fail> {
-    let Ok(mut office) = Office::open(alloc, books, 0) else {
+    let Ok(mut office) = Office::open(alloc, books, opened) else {
         return Err(Fail::from("not opened"));
     };
     for line in lines.lines() {
@@ -61,6 +62,15 @@ pub(crate) fn office_after<B: Books>(
         }
     }
     Ok(office)
+}
+
+/// The same, opened at moment 0.
+pub(crate) fn office_after<B: Books>(
+    alloc: Global,
+    books: B,
+    lines: &str,
+) -> Result<Office<B>, Fail> {
+    office_from(alloc, books, 0, lines)
 }
 
 /// Books that day, in an office over these books.

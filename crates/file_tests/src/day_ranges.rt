@@ -9,7 +9,7 @@ use office_events::{Name, Refusal};
 use office_store::SqlBooks;
 use sqlite::Alter;
 use std::test::Fail;
-use stored_office::Databases;
+use stored_files::Databases;
 
 /// How many days were told, and their energy in mWh.
 #[derive(Drop)]

@@ -4,7 +4,7 @@ use office_store::OpenFault;
 use std::alloc::Global;
 use std::process::Abort;
 use std::test::Fail;
-use stored_office::{AuditFault, CopyFault, Failure, FileFault};
+use stored_files::{AuditFault, CopyFault, Failure, FileFault};
 
 // What stands after the name of a file where its tables were not made, or where no office was opened in it.
 const UNMADE: [(OpenFault, &str); 4] = [

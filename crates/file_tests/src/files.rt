@@ -3,7 +3,7 @@ use sqlite::{FileFrom, FileStore, Unknown};
 use std::hash::{BuildHasher, RandomState};
 use std::test::Fail;
 use std::{env, fs};
-use stored_office::{Databases, FileConnection, FileFault, make_file, open_file};
+use stored_files::{Databases, FileConnection, FileFault, make_file, open_file};
 
 /// The files of the system.
 #[derive(Clone, Copy)]

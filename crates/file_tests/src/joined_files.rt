@@ -11,7 +11,7 @@ use energy_report::{EnergyUnit, Format, Period, ReportForm};
 use interval_core::DayRange;
 use office_events::Name;
 use std::test::Fail;
-use stored_office::{Databases, JoinFault, JoinedOffice, join_stored};
+use stored_files::{Databases, JoinFault, JoinedOffice, join_stored};
 
 const ALL: DayRange = DayRange {
     from: None,
@@ -23,16 +23,27 @@ static FORMS: [(Period, EnergyUnit, &[u8]); 2] = [
     (Period::Month, EnergyUnit::KilowattHours, MONTH),
 ];
 
-/// What a file tells after those before it.
+/// What a file tells after those before it, on the days of a range.
+pub(crate) fn joined_on<D: Databases, K: Keeping>(
+    rt: &HostRuntime,
+    databases: &D,
+    path: &str,
+    before: Option<JoinedOffice<K>>,
+    range: &DayRange,
+) -> Result<Result<JoinedOffice<K>, JoinFault>, Fail> {
+    let connection = databases.open(path)?;
+    let register = Name::new(b"main").ok_or("no name")?;
+    Ok(join_stored(rt.alloc(), connection, before, &register, *range))
+}
+
+/// The same on all days.
 fn joined<D: Databases, K: Keeping>(
     rt: &HostRuntime,
     databases: &D,
     path: &str,
     before: Option<JoinedOffice<K>>,
 ) -> Result<Result<JoinedOffice<K>, JoinFault>, Fail> {
-    let connection = databases.open(path)?;
-    let register = Name::new(b"main").ok_or("no name")?;
-    Ok(join_stored(rt.alloc(), connection, before, &register, ALL))
+    joined_on(rt, databases, path, before, &ALL)
 }
 
 /// The report of what was kept, and how it ends.
@@ -77,7 +88,7 @@ fn are_two(why: &Unjoined) -> bool {
     }
 }
 
-fn is_apart(fault: &JoinFault) -> bool {
+pub(crate) fn is_apart(fault: &JoinFault) -> bool {
     match fault {
         JoinFault::Unjoined(why) => are_two(why),
         JoinFault::Unopened(_) | JoinFault::OtherZone | JoinFault::Books(_) => false,

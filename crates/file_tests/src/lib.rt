@@ -15,6 +15,8 @@ mod day;
 #[cfg(test)]
 mod day_ranges;
 #[cfg(test)]
+mod earlier_files;
+#[cfg(test)]
 mod failures;
 #[cfg(test)]
 mod files;
@@ -24,6 +26,8 @@ mod joined_files;
 mod made_files;
 #[cfg(test)]
 mod said;
+#[cfg(test)]
+mod stated_files;
 #[cfg(test)]
 mod statuses;
 #[cfg(test)]

@@ -3,7 +3,7 @@ use crate::files::{Files, path, remove};
 use sqlite::{Alter, Connection, Error};
 use std::fs;
 use std::test::Fail;
-use stored_office::{Databases, FileFault};
+use stored_files::{Databases, FileFault};
 
 /// Why a database isn't opened, if it isn't.
 fn unopened<D: Databases>(databases: &D, path: &str) -> Option<FileFault> {

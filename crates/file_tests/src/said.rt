@@ -1,6 +1,6 @@
 //! What is said of an ending on standard error: nothing of one that is fine or refused, `failed` and a line more of a failure.
 use std::test::Fail;
-use stored_office::{Ending, Failure, say};
+use stored_files::{Ending, Failure, say};
 
 // What is said, as a text.
 fn said(rt: &HostRuntime, ending: &Ending<'_>) -> Result<String, Fail> {

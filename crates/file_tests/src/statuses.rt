@@ -1,7 +1,7 @@
 //! The exit status of each ending: 0 fine; 1 refused; 2 wrong words; 3 a failed file, stream or socket, or no memory.
 use command_io::ExitStatus;
 use std::test::Fail;
-use stored_office::{Ending, Failure, ending_of};
+use stored_files::{Ending, Failure, ending_of};
 
 #[test]
 fn each_ending_has_its_status(rt: HostRuntime) -> Result<(), Fail> {

@@ -7,7 +7,8 @@ use office_running::RunFault;
 use std::alloc::Global;
 use std::process::Abort;
 use std::test::Fail;
-use stored_office::{Done, Ending, Failure, ending_of_done};
+use stored_files::{Ending, Failure};
+use stored_office::{Done, ending_of_done};
 
 const REPORTS: [(ExitStatus, u8, &str); 3] = [
     (ExitStatus::Fine, 0, ""),

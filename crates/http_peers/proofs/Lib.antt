@@ -1,1 +1,2 @@
 pub mod PeersAsking
+pub mod OverLemmas

@@ -6,9 +6,10 @@ use Rattle.energy_report.specs.declared.form.ReportForm.{ReportForm}
 use Rattle.http_request.specs.Hosts.{may_ask_in}
 use Rattle.http_request.specs.declared.head.head.HeadState.{HeadState}
 use Rattle.interval_core.specs.declared.shares.Share.{Share}
+use Rattle.interval_core.specs.declared.zone.Zone.{Zone}
 use Rattle.office_books.specs.Ledgers.{Ledger}
 use Rattle.office_core.specs.Asking.{OnlyAsks}
-use Rattle.office_core.specs.Standing.{After, Stands, books_in}
+use Rattle.office_core.specs.Standing.{After, Stands}
 use Rattle.office_core.specs.declared.office.Office.{Office}
 use Rattle.office_core.specs.declared.site.SiteRow.{SiteRow}
 use Rattle.office_events.specs.declared.facts.Fact.{Fact}
@@ -28,6 +29,7 @@ use Rattle.run_http.specs.StatusRoute.{IsFor, IsRunRoute}
 use Rattle.run_http.specs.declared.answer.PeerReply.{PeerReply}
 use Rattle.run_http.specs.declared.answer.PeerReply.TheVariants.{Open, Replied, Failed}
 use Rattle.run_http.specs.declared.pieces.RowsLeft.{RowsLeft}
+use Rattle.http_peers.specs.EnergyOver.{RepliesEnergyOver}
 use Rattle.http_peers.specs.PeersAsk.{AreAt, PeersAsk}
 
 pub nobody_asks : {B : Type 0} (names : List (List ℕ)) (at : ℕ) (ledger : B → Ledger) (office : Office B) → PeersAsk names at ledger office office
@@ -134,6 +136,11 @@ asks_energy names ledger at old new register form from to result replies = recor
   clean = replies.asks.clean;
   zone = replies.asks.zone;
 }
+
+pub asks_energy_over : {B E : Type 0} (names : List (List ℕ)) (ledger : B → Ledger) (at : ℕ) (old new : Office B) (zone : Zone) (earlier : List Share)
+    (register : List ℕ) (form : ReportForm) (from to : List ℕ) (result : Result (Unit {0}) E)
+    → RepliesEnergyOver ledger old new zone earlier register form from to result → PeersAsk names at ledger old new
+asks_energy_over names ledger at old new zone earlier register form from to result replies = only_asks names ledger at old new replies.answer replies.asks
 
 pub asks_begun : {B E : Type 0} (names : List (List ℕ)) (ledger : B → Ledger) (at : ℕ) (old new : Office B) (it : Installation) (from till : ℕ)
     (reply : List Share → List ℕ) (put : List ℕ) (result : Result (Result RowsLeft Refusal) E) → BeginsReply ledger old new it from till reply put result

@@ -1,3 +1,4 @@
+pub mod EnergyOver
 pub mod KeptRoom
 pub mod Outbox
 pub mod PeersAsk

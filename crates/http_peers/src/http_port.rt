@@ -3,12 +3,15 @@ ghost use Rattle.std.specs.Prelude.{◌≡◌, ℕ, false, List};
 ghost use Rattle.http_request.specs.Hosts.{texts};
 ghost use Rattle.http_peers.specs.PeersAsk.{PeersAsk};
 
+use crate::energy_over::{EarlierFiles, place_among, reply_energy_over};
 use crate::kept_room::KeptRoom;
 use crate::moments::{Now, even_milliseconds};
 use crate::peers::Peer;
 use crate::run_told::RunTold;
+use carried_books::EarlierRegister;
 use energy_report::ReportForm;
 use http_request::{Route, Status, router};
+use interval_core::Zone;
 use matchit::Router;
 use mio::net::{TcpListener, TcpStream};
 use mio::{Interest, Registry, Token};
@@ -483,6 +486,44 @@ impl HttpPort {
         }
     }
 
+    // The same over earlier files, too.
+    #[tactic(auto, using(crate::proofs::PeersAsking::asks_energy_over))]
+    fn reply_energy_over<B: Books>(
+        &self,
+        office: &mut Office<B>,
+        zone: Zone,
+        it: &EarlierRegister,
+        form: &ReportForm,
+    ) -> PeerReply
+        ensures { (names : List (List ℕ)) (at : ℕ) → PeersAsk names at B.ledger office.old office.new }
+    {
+        let mut text = Vec::new(self.alloc);
+        match reply_energy_over(
+            self.alloc, &mut text, office, zone, &it.rows, &it.name, form,
+        ) {
+            Ok(()) => PeerReply::Replied(text),
+            Err(_) => PeerReply::Failed,
+        }
+    }
+
+    // The reply to the question for the energy of a register: over earlier files, too, where these tell of it.
+    fn reply_days<B: Books>(
+        &self,
+        office: &mut Office<B>,
+        earlier: &EarlierFiles<'_>,
+        register: &Option<Name>,
+        form: &ReportForm,
+    ) -> PeerReply
+        ensures { (names : List (List ℕ)) (at : ℕ) → PeersAsk names at B.ledger office.old office.new }
+    {
+        match place_among(earlier.registers, register) {
+            Some(place) => {
+                self.reply_energy_over(office, earlier.zone, &earlier.registers[place], form)
+            }
+            None => self.reply_energy(office, register, form),
+        }
+    }
+
     // The reply to the question which meters are at a register.
     #[tactic(auto, using(crate::proofs::PeersAsking::asks_rows))]
     fn reply_meters<B: Books>(&self, office: &mut Office<B>, register: &Option<Name>) -> PeerReply
@@ -519,7 +560,7 @@ impl HttpPort {
             Some(RunRoute::Entries { meter, from }) => self.reply_entries(office, &meter, from),
             Some(RunRoute::Voids { meter }) => self.reply_voids(office, &meter),
             Some(RunRoute::Energy { register, form }) => {
-                self.reply_energy(office, &register, &form)
+                self.reply_days(office, told.earlier, &register, &form)
             }
             Some(RunRoute::Meters { register }) => self.reply_meters(office, &register),
             None => {
@@ -679,7 +720,7 @@ impl HttpPort {
         self.tell_on(rt, place, peer, office, now);
     }
 
-    /// PeersAsk on with the connection of a place, where something may have come.
+    /// Goes on with the connection of a place, where something may have come.
     #[tactic(auto, using(crate::proofs::PeersAsking::nobody_asks, crate::proofs::PeersAsking::both_ask))]
     pub fn attend<R: std::rt::Clock, B: Books>(
         &mut self,

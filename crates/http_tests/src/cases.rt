@@ -35,6 +35,14 @@ pub(crate) fn reply(alloc: Global, status: &str, body: &str) -> Result<String, A
     )
 }
 
+/// The bytes of a reply of text whose size is told.
+pub(crate) fn text_reply(alloc: Global, body: &str) -> Result<String, AllocError> {
+    let size = body.len();
+    format!(in alloc;
+        "HTTP/1.1 200 OK\r\nContent-Type: text/plain\r\nContent-Length: {size}\r\nConnection: close\r\n\r\n{body}"
+    )
+}
+
 /// Serves a request over a link that takes and gives so many bytes a call, and of which one call fails.
 pub(crate) fn serve_over<B: Books>(
     alloc: Global,

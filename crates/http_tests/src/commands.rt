@@ -13,157 +13,149 @@ fn command(alloc: Global, route: Route, body: &[u8]) -> Result<Command, CommandF
     command_in(alloc, route, Name::new(b"main"), body)
 }
 
-#[test]
-fn a_device(rt: HostRuntime) -> Result<(), Fail> {
-    let body = b"{\"name\":\"inv\",\"unit\":300,\"timeout\":5,\"window\":2}";
-    let device_made = command(rt.alloc(), Route::Devices, body);
-    let Ok(Command::AddDevice(device)) = &device_made else {
-        return Err(Fail::from("no device"));
+// Whether this command was asked for. None with a list is.
+fn is_asked(made: &Result<Command, CommandFault>, wanted: &Command) -> bool {
+    let Ok(made) = made else {
+        return false;
     };
-    let want = AddDevice {
-        name: Name::new(b"inv"),
-        unit: 300,
-        timeout: 5,
-        window: 2,
-    };
-    assert!(rt; *device == want);
-    Ok(())
+    match wanted {
+        Command::AddDevice(it) => matches!(made, Command::AddDevice(that) if that == it),
+        Command::AddRegister(it) => matches!(made, Command::AddRegister(that) if that == it),
+        Command::Install(it) => matches!(made, Command::Install(that) if that == it),
+        Command::Exchange(it) => matches!(made, Command::Exchange(that) if that == it),
+        Command::Reset(it) => matches!(made, Command::Reset(that) if that == it),
+        Command::Rescale(it) => matches!(made, Command::Rescale(that) if that == it),
+        Command::Manual(it) => matches!(made, Command::Manual(that) if that == it),
+        Command::Close(it) => matches!(made, Command::Close(that) if that == it),
+        Command::Void(it) => matches!(made, Command::Void(that) if that == it),
+        Command::PutList(_) | Command::StartPoll(_) | Command::StartRound(_) => false,
+    }
 }
 
 #[test]
-fn a_register(rt: HostRuntime) -> Result<(), Fail> {
-    let body =
-        b"{\"name\":\"9\",\"device\":\"inv\",\"function\":3,\"address\":40094,\"scale_at\":40096}";
-    let register_made = command(rt.alloc(), Route::Registers, body);
-    let Ok(Command::AddRegister(register)) = &register_made else {
-        return Err(Fail::from("no register"));
-    };
-    let want = AddRegister {
-        name: None,
-        device: Name::new(b"inv"),
-        function: 3,
-        address: 40_094,
-        scale: GivenScale::Register(40_096),
-    };
-    assert!(rt; *register == want);
-    Ok(())
+fn bodies_ask_for_meters(rt: HostRuntime) {
+    let commands: [(&str, Route, &[u8], Command); 4] = [
+        (
+            "a device",
+            Route::Devices,
+            b"{\"name\":\"inv\",\"unit\":300,\"timeout\":5,\"window\":2}",
+            Command::AddDevice(AddDevice {
+                name: Name::new(b"inv"),
+                unit: 300,
+                timeout: 5,
+                window: 2,
+            }),
+        ),
+        (
+            "a register, whose name is none",
+            Route::Registers,
+            b"{\"name\":\"9\",\"device\":\"inv\",\"function\":3,\"address\":40094,\"scale_at\":40096}",
+            Command::AddRegister(AddRegister {
+                name: None,
+                device: Name::new(b"inv"),
+                function: 3,
+                address: 40_094,
+                scale: GivenScale::Register(40_096),
+            }),
+        ),
+        (
+            "a meter has the full range",
+            Route::Install,
+            b"{\"meter\":\"m1\",\"raw\":5000,\"sf\":-1,\"ceiling\":100000}",
+            Command::Install(Install {
+                register: Name::new(b"main"),
+                meter: Name::new(b"m1"),
+                raw: 5000,
+                sf: -1,
+                ceiling: 100_000,
+                range: 4_294_967_296,
+            }),
+        ),
+        (
+            "an exchange with a range",
+            Route::Exchange,
+            b"{\"ceiling\":100000,\"last\":5300,\"meter\":\"m2\",\"raw\":4,\"rolls\":1,\"sf\":0,\"range\":1000000}",
+            Command::Exchange(Exchange {
+                register: Name::new(b"main"),
+                last: 5300,
+                rolls: 1,
+                meter: Name::new(b"m2"),
+                raw: 4,
+                sf: 0,
+                ceiling: 100_000,
+                range: 1_000_000,
+            }),
+        ),
+    ];
+    for (name, route, body, wanted) in &commands {
+        assert!(rt;
+            is_asked(&command(rt.alloc(), *route, body), wanted),
+            "{name}"
+        );
+    }
 }
 
 #[test]
-fn a_meter_has_the_full_range(rt: HostRuntime) -> Result<(), Fail> {
-    let body = b"{\"meter\":\"m1\",\"raw\":5000,\"sf\":-1,\"ceiling\":100000}";
-    let install_made = command(rt.alloc(), Route::Install, body);
-    let Ok(Command::Install(install)) = &install_made else {
-        return Err(Fail::from("no meter"));
-    };
-    let want = Install {
-        register: Name::new(b"main"),
-        meter: Name::new(b"m1"),
-        raw: 5000,
-        sf: -1,
-        ceiling: 100_000,
-        range: 4_294_967_296,
-    };
-    assert!(rt; *install == want);
-    Ok(())
-}
-
-#[test]
-fn an_exchange_with_a_range(rt: HostRuntime) -> Result<(), Fail> {
-    let body =
-        b"{\"ceiling\":100000,\"last\":5300,\"meter\":\"m2\",\"raw\":4,\"rolls\":1,\"sf\":0,\"range\":1000000}";
-    let exchange_made = command(rt.alloc(), Route::Exchange, body);
-    let Ok(Command::Exchange(exchange)) = &exchange_made else {
-        return Err(Fail::from("no exchange"));
-    };
-    let want = Exchange {
-        register: Name::new(b"main"),
-        last: 5300,
-        rolls: 1,
-        meter: Name::new(b"m2"),
-        raw: 4,
-        sf: 0,
-        ceiling: 100_000,
-        range: 1_000_000,
-    };
-    assert!(rt; *exchange == want);
-    Ok(())
-}
-
-#[test]
-fn a_counter_is_set(rt: HostRuntime) -> Result<(), Fail> {
-    let body = b"{\"before\":5250,\"after\":3}";
-    let reset_made = command(rt.alloc(), Route::Reset, body);
-    let Ok(Command::Reset(reset)) = &reset_made else {
-        return Err(Fail::from("no reset"));
-    };
-    let want = Reset {
-        register: Name::new(b"main"),
-        before: 5250,
-        after: 3,
-    };
-    assert!(rt; *reset == want);
-    Ok(())
-}
-
-#[test]
-fn a_counter_is_set_at_another_scale(rt: HostRuntime) -> Result<(), Fail> {
-    let body = b"{\"before\":5250,\"after\":3,\"sf\":-2}";
-    let rescale_made = command(rt.alloc(), Route::Rescale, body);
-    let Ok(Command::Rescale(rescale)) = &rescale_made else {
-        return Err(Fail::from("no rescaling"));
-    };
-    let want = Rescale {
-        register: Name::new(b"main"),
-        before: 5250,
-        after: 3,
-        sf: -2,
-    };
-    assert!(rt; *rescale == want);
-    Ok(())
-}
-
-#[test]
-fn a_reading_by_hand(rt: HostRuntime) -> Result<(), Fail> {
-    let body = b"{\"raw\":5300,\"rolls\":1,\"at\":1900}";
-    let manual_made = command(rt.alloc(), Route::Manual, body);
-    let Ok(Command::Manual(manual)) = &manual_made else {
-        return Err(Fail::from("no reading"));
-    };
-    let want = Manual {
-        register: Name::new(b"main"),
-        raw: 5300,
-        rolls: 1,
-        at: Some(1900),
-    };
-    assert!(rt; *manual == want);
-    Ok(())
-}
-
-#[test]
-fn a_closing(rt: HostRuntime) -> Result<(), Fail> {
-    let close_made = command(rt.alloc(), Route::Close, b"{\"raw\":5300,\"rolls\":1}");
-    let Ok(Command::Close(close)) = &close_made else {
-        return Err(Fail::from("no closing"));
-    };
-    let want = Close {
-        register: Name::new(b"main"),
-        raw: 5300,
-        rolls: 1,
-    };
-    assert!(rt; *close == want);
-    Ok(())
-}
-
-#[test]
-fn a_void(rt: HostRuntime) -> Result<(), Fail> {
-    let void_made = command(rt.alloc(), Route::Void, b"{\"place\":2}");
-    let Ok(Command::Void(void)) = &void_made else {
-        return Err(Fail::from("no void"));
-    };
-    let meter = Name::new(b"main");
-    assert_eq!(rt; *void, VoidEntry { meter, place: 2 });
-    Ok(())
+fn bodies_ask_for_entries(rt: HostRuntime) {
+    let commands: [(&str, Route, &[u8], Command); 5] = [
+        (
+            "a counter is set",
+            Route::Reset,
+            b"{\"before\":5250,\"after\":3}",
+            Command::Reset(Reset {
+                register: Name::new(b"main"),
+                before: 5250,
+                after: 3,
+            }),
+        ),
+        (
+            "a counter is set at another scale",
+            Route::Rescale,
+            b"{\"before\":5250,\"after\":3,\"sf\":-2}",
+            Command::Rescale(Rescale {
+                register: Name::new(b"main"),
+                before: 5250,
+                after: 3,
+                sf: -2,
+            }),
+        ),
+        (
+            "a reading by hand",
+            Route::Manual,
+            b"{\"raw\":5300,\"rolls\":1,\"at\":1900}",
+            Command::Manual(Manual {
+                register: Name::new(b"main"),
+                raw: 5300,
+                rolls: 1,
+                at: Some(1900),
+            }),
+        ),
+        (
+            "a closing",
+            Route::Close,
+            b"{\"raw\":5300,\"rolls\":1}",
+            Command::Close(Close {
+                register: Name::new(b"main"),
+                raw: 5300,
+                rolls: 1,
+            }),
+        ),
+        (
+            "a void",
+            Route::Void,
+            b"{\"place\":2}",
+            Command::Void(VoidEntry {
+                meter: Name::new(b"main"),
+                place: 2,
+            }),
+        ),
+    ];
+    for (name, route, body, wanted) in &commands {
+        assert!(rt;
+            is_asked(&command(rt.alloc(), *route, body), wanted),
+            "{name}"
+        );
+    }
 }
 
 // How a body fails.
@@ -256,26 +248,27 @@ fn bodies_that_ask_for_nothing(rt: HostRuntime) {
     }
 }
 
-static LIST: &[u8] =
-    b"name,function,area,address,type,scale\nwh,3,0,40094,acc32,whsf\nwhsf,3,0,40096,sunssf,\n";
+// A list, how many points it has, and how many reads its plan.
+static LISTS: [(&[u8], usize, usize); 2] = [
+    // a list is put with its plan
+    (
+        b"name,function,area,address,type,scale\nwh,3,0,40094,acc32,whsf\nwhsf,3,0,40096,sunssf,\n",
+        2,
+        1,
+    ),
+    // a list may have no points
+    (b"name,function,area,address,type,scale\n", 0, 0),
+];
 
 #[test]
-fn a_list_is_put_with_its_plan(rt: HostRuntime) -> Result<(), Fail> {
-    let Ok(Command::PutList(put)) = command(rt.alloc(), Route::List, LIST) else {
-        return Err(Fail::from("no list"));
-    };
-    assert!(rt; put.device == Name::new(b"main"));
-    assert!(rt; put.list.points().len() == 2);
-    assert!(rt; put.list.reads().len() == 1);
-    Ok(())
-}
-
-#[test]
-fn a_list_may_have_no_points(rt: HostRuntime) -> Result<(), Fail> {
-    let header = b"name,function,area,address,type,scale\n";
-    let Ok(Command::PutList(put)) = command(rt.alloc(), Route::List, header) else {
-        return Err(Fail::from("no list"));
-    };
-    assert!(rt; put.list.points().len() == 0);
+fn lists_are_put_with_their_plans(rt: HostRuntime) -> Result<(), Fail> {
+    for (text, points, reads) in &LISTS {
+        let Ok(Command::PutList(put)) = command(rt.alloc(), Route::List, text) else {
+            return Err(Fail::from("no list"));
+        };
+        assert!(rt; put.device == Name::new(b"main"));
+        assert!(rt; put.list.points().len() == *points);
+        assert!(rt; put.list.reads().len() == *reads);
+    }
     Ok(())
 }

@@ -162,56 +162,54 @@ impl std::rt::Clock for Stepping {
     }
 }
 
-// Whether three clients are replied while such a clock is read, and the meter is exchanged once.
-fn are_served(rt: &HostRuntime, clients: &[Client; 3], step: u64) -> Result<bool, Fail> {
+// Whether an office serves as many clients as there are. So many seconds pass each time that the clock of their waits is read; where
+// none is given, `serve_on` serves them.
+fn serves(
+    alloc: Global,
+    listener: &TcpListener,
+    clients: u64,
+    step: Option<u64>,
+    office: &mut Office<ListBooks>,
+) -> bool {
+    let mut clock = FixedClock::new(&[2800]);
+    match step {
+        Some(step) => {
+            let time = Stepping::of(7, step);
+            let names = ["office.example"];
+            serve_named_on(&time, alloc, listener, clients, &names, office, &mut clock).is_ok()
+        }
+        None => serve_on(alloc, listener, clients, office, &mut clock).is_ok(),
+    }
+}
+
+// Whether clients have their replies, and the meter is exchanged once.
+fn are_served(rt: &HostRuntime, clients: &[Client], step: Option<u64>) -> Result<bool, Fail> {
     let mut office = metered(rt.alloc())?;
     let listener = TcpListener::bind(rt, "127.0.0.1:0")?;
     let mut streams = streams_of(rt, &listener, clients)?;
-    let mut clock = FixedClock::new(&[2800]);
-    let time = Stepping::of(7, step);
-    let served = serve_named_on(
-        &time,
+    let is_done = serves(
         rt.alloc(),
         &listener,
-        3,
-        &["office.example"],
+        clients.len() as u64,
+        step,
         &mut office,
-        &mut clock,
-    );
-    if served.is_err() || energy_of_ended(&mut office) != Some(300_000) {
+    ) && energy_of_ended(&mut office) == Some(300_000);
+    if !is_done {
         return Ok(false);
     }
     are_replied(rt.alloc(), &mut streams, clients)
 }
 
 #[test]
-fn each_connection_has_its_reply(rt: HostRuntime) -> Result<(), Fail> {
-    assert!(rt; are_served(&rt, &ASKING, 0)?);
-    assert!(rt; are_served(&rt, &NAMED, 0)?);
-    Ok(())
-}
-
-#[test]
-fn a_fault_ends_its_connection_alone(rt: HostRuntime) -> Result<(), Fail> {
-    assert!(rt; are_served(&rt, &FAILING, 3)?);
-    Ok(())
-}
-
-// Whether the first of the clients is replied by `serve_on`, and the meter is exchanged.
-fn is_served_alone(rt: &HostRuntime) -> Result<bool, Fail> {
-    let mut office = metered(rt.alloc())?;
-    let listener = TcpListener::bind(rt, "127.0.0.1:0")?;
-    let mut streams = streams_of(rt, &listener, &ASKING[..1])?;
-    let mut clock = FixedClock::new(&[2800]);
-    let served = serve_on(rt.alloc(), &listener, 1, &mut office, &mut clock);
-    if served.is_err() || energy_of_ended(&mut office) != Some(300_000) {
-        return Ok(false);
+fn clients_are_served(rt: HostRuntime) -> Result<(), Fail> {
+    let served: [(&str, &[Client], Option<u64>); 4] = [
+        ("each connection has its reply", &ASKING, Some(0)),
+        ("each name has its reply", &NAMED, Some(0)),
+        ("a fault ends its connection alone", &FAILING, Some(3)),
+        ("one connection is served", &ASKING[..1], None),
+    ];
+    for (name, clients, step) in served {
+        assert!(rt; are_served(&rt, clients, step)?, "{name}");
     }
-    are_replied(rt.alloc(), &mut streams, &ASKING[..1])
-}
-
-#[test]
-fn one_connection_is_served(rt: HostRuntime) -> Result<(), Fail> {
-    assert!(rt; is_served_alone(&rt)?);
     Ok(())
 }

@@ -11,6 +11,7 @@ use office_program::{
 };
 use socket_link::FixedClock;
 use std::alloc::{AllocError, Global};
+use std::process::Abort;
 use std::test::Fail;
 
 /// One file in a folder.
@@ -78,12 +79,15 @@ fn check(
 const SITE: &[u8] =
     b"1 device inv 1 5 1\n\n# main\n2 list inv @inv.csv\n3 register main inv 3 40094 0\n4 install main m1 5000 0 100000\n";
 
+const READ_SITE: &[u8] =
+    b"1 device inv 1 5 1\n3 register main inv 3 40094 0\n4 register other inv 3 40190 0\n5 install main m1 @read 100000\n";
+
 /// A text, a file, a moment, how entering ends, and what it prints.
 type Row = (&'static [u8], OneFile, u64, ExitStatus, &'static [u8]);
 
-// Over the same books, one after the other: a site, the same again, a changed line and a new one, a changed file, a bad line, one
-// that can't be entered, a file that isn't there, and a clock that was set back.
-static TEXTS: [Row; 9] = [
+// An input acts once: a site, the same again, a changed line and a new one, a changed file, a bad line, lines that can't be entered, a
+// file that isn't there, and a clock that was set back.
+static ONCE: [Row; 9] = [
     (SITE, LIST, 1000, ExitStatus::Fine, b"ok\nok\nok\nok\n"),
     (SITE, LIST, 2000, ExitStatus::Fine, b"ok\nok\nok\nok\n"),
     (
@@ -131,81 +135,121 @@ static TEXTS: [Row; 9] = [
     (SITE, LIST, 999, ExitStatus::Refused, b"refused 3\n"),
 ];
 
-#[test]
-fn an_input_acts_once(rt: HostRuntime) -> Result<(), Fail> {
-    let mut books = blank(rt.alloc())?;
-    for (text, files, moment, end, printed) in &TEXTS {
-        let (done, shown) = enter(rt.alloc(), books, files, text, *moment);
-        assert_eq!(rt; done.end, *end);
-        assert_eq!(rt; shown.as_slice(), *printed);
-        books = done.books;
-    }
-    Ok(())
-}
-
-/// A text of entries by hand, its moment, how entering ends, and what it prints.
-type ByHand = (&'static [u8], u64, ExitStatus, &'static [u8]);
-
-// Over the same books, one after the other, of a meter at which at most 100 kW can flow: an entry past that and the last that is
-// not; the same again; one that is meant, again, and without its mark; others that the office refuses; full turns, and an exchange;
-// and marks where none may be.
-static ENTRIES: [ByHand; 9] = [
-    (SITE, 1000, ExitStatus::Fine, b"ok\nok\nok\nok\n"),
+// An entry past the ceiling is doubted, of a meter at which at most 100 kW can flow: an entry past that and the last that is not; the
+// same again; one that is meant, again, and without its mark; others that the office refuses; full turns, and an exchange; and marks
+// where none may be.
+static BY_HAND: [Row; 9] = [
+    (SITE, LIST, 1000, ExitStatus::Fine, b"ok\nok\nok\nok\n"),
     (
         b"5 manual main 105002 0\n6 manual main 105001 0\n",
+        LIST,
         4600,
         ExitStatus::Refused,
         b"doubted 100002000\nok\n",
     ),
-    (b"6 manual main 105001 0\n", 4600, ExitStatus::Fine, b"ok\n"),
+    (
+        b"6 manual main 105001 0\n",
+        LIST,
+        4600,
+        ExitStatus::Fine,
+        b"ok\n",
+    ),
     (
         b"7 reset main 105030 0\n7 reset main 105030 0 !\n7 reset main 105030 0 !\n7 reset main 105030 0\n",
+        LIST,
         4601,
         ExitStatus::Refused,
         b"doubted 29000\nok\nok\nrefused 11\n",
     ),
     (
         b"8 manual main 900 0\n8 close none 900 0\n",
+        LIST,
         4601,
         ExitStatus::Refused,
         b"refused 6\nrefused 1\n",
     ),
     (
         b"8 manual main 100 1 8000\n8 exchange main 100002 0 m2 0 0 100000\n8 exchange main 100001 0 m2 0 0 100000\n",
+        LIST,
         8201,
         ExitStatus::Refused,
         b"doubted 4294967396000\ndoubted 100002000\nok\n",
     ),
     (
         b"9 device other 2 5 1 !\n",
+        LIST,
         8201,
         ExitStatus::Refused,
         b"bad line 1\n",
     ),
     (
         b"9 list inv @inv.csv !\n",
+        LIST,
         8201,
         ExitStatus::Refused,
         b"bad line 1\n",
     ),
     (
         b"9 close main 900 0!\n",
+        LIST,
         8201,
         ExitStatus::Refused,
         b"bad line 1\n",
     ),
 ];
 
-#[test]
-fn an_entry_past_the_ceiling_is_doubted(rt: HostRuntime) -> Result<(), Fail> {
-    let mut books = blank(rt.alloc())?;
-    for (text, moment, end, printed) in &ENTRIES {
-        let (done, shown) = enter(rt.alloc(), books, &LIST, text, *moment);
-        assert_eq!(rt; done.end, *end);
-        assert_eq!(rt; shown.as_slice(), *printed);
+// A counter is read: a meter that is installed at what its counter shows; the same again; an exchange whose last number is doubted, and
+// one that is not; a register that can't be read, one that is none; and a mark where none may be.
+static COUNTERS: [Row; 6] = [
+    (READ_SITE, LIST, 1000, ExitStatus::Fine, b"ok\nok\nok\nok\n"),
+    (READ_SITE, LIST, 1001, ExitStatus::Fine, b"ok\nok\nok\nok\n"),
+    (
+        b"6 exchange main 107002 0 m2 @read 100000\n",
+        LIST,
+        4600,
+        ExitStatus::Refused,
+        b"doubted 100002000\n",
+    ),
+    (
+        b"6 exchange main 107001 0 m2 @read 100000 65536\n",
+        LIST,
+        4600,
+        ExitStatus::Fine,
+        b"ok\n",
+    ),
+    (
+        b"7 install other m3 @read 100000\n8 install none m3 @read 100000\n",
+        LIST,
+        4600,
+        ExitStatus::Refused,
+        b"unread\nunread\n",
+    ),
+    (
+        b"7 install other m3 @read 100000 !\n",
+        LIST,
+        4600,
+        ExitStatus::Refused,
+        b"bad line 1\n",
+    ),
+];
+
+// The rows come one after the other over the same books, which held nothing.
+fn enter_all(rt: &impl Abort, alloc: Global, rows: &[Row]) -> Result<(), Fail> {
+    let mut books = blank(alloc)?;
+    for (place, (text, files, moment, end, printed)) in rows.iter().enumerate() {
+        let (done, shown) = enter(alloc, books, files, text, *moment);
+        assert_eq!(rt; done.end, *end, "row {place}");
+        assert_eq!(rt; shown.as_slice(), *printed, "row {place}");
         books = done.books;
     }
     Ok(())
+}
+
+#[test]
+fn inputs_are_entered(rt: HostRuntime) -> Result<(), Fail> {
+    enter_all(&rt, rt.alloc(), &ONCE)?;
+    enter_all(&rt, rt.alloc(), &BY_HAND)?;
+    enter_all(&rt, rt.alloc(), &COUNTERS)
 }
 
 // Where a call of the books fails, nothing is known of the line, and it isn't asked.
@@ -222,52 +266,6 @@ fn a_doubt_that_is_not_told_is_a_refusal(rt: HostRuntime) -> Result<(), Fail> {
         };
         assert_eq!(rt; done.end, ExitStatus::Refused);
         assert_eq!(rt; shown.as_slice(), printed, "{failing}");
-    }
-    Ok(())
-}
-
-const READ_SITE: &[u8] =
-    b"1 device inv 1 5 1\n3 register main inv 3 40094 0\n4 register other inv 3 40190 0\n5 install main m1 @read 100000\n";
-
-// Over the same books, one after the other: a meter that is installed at what its counter shows; the same again; an exchange whose last
-// number is doubted, and one that is not; a register that can't be read, one that is none; and a mark where none may be.
-static COUNTERS: [ByHand; 6] = [
-    (READ_SITE, 1000, ExitStatus::Fine, b"ok\nok\nok\nok\n"),
-    (READ_SITE, 1001, ExitStatus::Fine, b"ok\nok\nok\nok\n"),
-    (
-        b"6 exchange main 107002 0 m2 @read 100000\n",
-        4600,
-        ExitStatus::Refused,
-        b"doubted 100002000\n",
-    ),
-    (
-        b"6 exchange main 107001 0 m2 @read 100000 65536\n",
-        4600,
-        ExitStatus::Fine,
-        b"ok\n",
-    ),
-    (
-        b"7 install other m3 @read 100000\n8 install none m3 @read 100000\n",
-        4600,
-        ExitStatus::Refused,
-        b"unread\nunread\n",
-    ),
-    (
-        b"7 install other m3 @read 100000 !\n",
-        4600,
-        ExitStatus::Refused,
-        b"bad line 1\n",
-    ),
-];
-
-#[test]
-fn a_counter_is_read(rt: HostRuntime) -> Result<(), Fail> {
-    let mut books = blank(rt.alloc())?;
-    for (text, moment, end, printed) in &COUNTERS {
-        let (done, shown) = enter(rt.alloc(), books, &LIST, text, *moment);
-        assert_eq!(rt; done.end, *end);
-        assert_eq!(rt; shown.as_slice(), *printed);
-        books = done.books;
     }
     Ok(())
 }

@@ -24,40 +24,46 @@ fn a_head_ends_at_an_empty_line(rt: HostRuntime) {
     }
 }
 
-static OPEN: [&[u8]; 4] = [
-    b"",
-    b"GET / HTTP/1.1\r\n",
-    b"GET / HTTP/1.1\r\nfoo bar\r\n",
-    b"no request at all",
-];
+// What a look at a head finds.
+#[derive(Clone, Copy, PartialEq, Eq)]
+enum Found {
+    Open,
+    NoHead,
+    TooLarge,
+    Whole,
+}
 
-static BAD: [&[u8]; 7] = [
-    b"GET / HTTP/1.1\r\nfoo bar\r\n\r\n",
-    b"GET  / HTTP/1.1\r\n\r\n",
-    b"GET / HTTP/2.0\r\n\r\n",
-    b"GET /\r\n\r\n",
-    b"GET / HTTP/1.1\r\nA : b\r\n\r\n",
-    b"GET / HTTP/1.1\r\nA: b\r\n c\r\n\r\n",
-    b"GET /\xff HTTP/1.1\r\n\r\n",
-];
+fn look(bytes: &[u8]) -> Found {
+    match parse_head(bytes) {
+        HeadState::Open => Found::Open,
+        HeadState::NoHead => Found::NoHead,
+        HeadState::TooLarge => Found::TooLarge,
+        HeadState::Whole(_) => Found::Whole,
+    }
+}
 
-static WHOLE: [&[u8]; 4] = [
-    b"GET / HTTP/1.1\r\n\r\n",
-    b"\r\nGET / HTTP/1.0\nHost: a\n\n",
-    b"POST /devices HTTP/1.1\r\nA:\r\n\r\n{}",
-    b"get /%20 HTTP/1.1\r\nA: \xff\r\n\r\n",
+static LOOKS: [(&[u8], Found); 15] = [
+    (b"", Found::Open),
+    (b"GET / HTTP/1.1\r\n", Found::Open),
+    (b"GET / HTTP/1.1\r\nfoo bar\r\n", Found::Open),
+    (b"no request at all", Found::Open),
+    (b"GET / HTTP/1.1\r\nfoo bar\r\n\r\n", Found::NoHead),
+    (b"GET  / HTTP/1.1\r\n\r\n", Found::NoHead),
+    (b"GET / HTTP/2.0\r\n\r\n", Found::NoHead),
+    (b"GET /\r\n\r\n", Found::NoHead),
+    (b"GET / HTTP/1.1\r\nA : b\r\n\r\n", Found::NoHead),
+    (b"GET / HTTP/1.1\r\nA: b\r\n c\r\n\r\n", Found::NoHead),
+    (b"GET /\xff HTTP/1.1\r\n\r\n", Found::NoHead),
+    (b"GET / HTTP/1.1\r\n\r\n", Found::Whole),
+    (b"\r\nGET / HTTP/1.0\nHost: a\n\n", Found::Whole),
+    (b"POST /devices HTTP/1.1\r\nA:\r\n\r\n{}", Found::Whole),
+    (b"get /%20 HTTP/1.1\r\nA: \xff\r\n\r\n", Found::Whole),
 ];
 
 #[test]
 fn a_look_reads_on_until_the_head_has_ended(rt: HostRuntime) {
-    for bytes in &OPEN {
-        assert!(rt; matches!(parse_head(bytes), HeadState::Open));
-    }
-    for bytes in &BAD {
-        assert!(rt; matches!(parse_head(bytes), HeadState::NoHead));
-    }
-    for bytes in &WHOLE {
-        assert!(rt; matches!(parse_head(bytes), HeadState::Whole(_)));
+    for (place, (bytes, wanted)) in LOOKS.iter().enumerate() {
+        assert!(rt; look(bytes) == *wanted, "at {place}");
     }
 }
 
@@ -73,38 +79,38 @@ pub(crate) fn head_of(
     [b"GET / HTTP/1.1".as_slice(), &headers, &value, b"\r\n\r\n"].concat(alloc)
 }
 
-// A look at so many bytes at the front.
-fn look_at_first(bytes: &[u8], count: usize) -> HeadState {
-    parse_head(bytes.get(..count).unwrap_or(bytes))
+/// A header, how often it comes, the bytes of a value after the last, the size of the head, the bytes at its front that are looked at,
+/// and what is found.
+type Limit = (&'static [u8], usize, usize, usize, usize, Found);
+
+static LIMITS: [Limit; 8] = [
+    // a head has at most 64 headers
+    (b"\r\nA: b", 64, 0, 402, 402, Found::Whole),
+    (b"\r\nA: b", 65, 0, 408, 407, Found::Open),
+    (b"\r\nA: b", 65, 0, 408, 408, Found::TooLarge),
+    // a head has at most 8192 bytes
+    (b"\r\nA:", 1, 8170, 8192, 8191, Found::Open),
+    (b"\r\nA:", 1, 8170, 8192, 8192, Found::Whole),
+    // a head of 8193 bytes is past the limit
+    (b"\r\nA:", 1, 8171, 8193, 8191, Found::Open),
+    (b"\r\nA:", 1, 8171, 8193, 8192, Found::TooLarge),
+    (b"\r\nA:", 1, 8171, 8193, 8193, Found::TooLarge),
+];
+
+fn look_at_front(bytes: &[u8], count: usize) -> Found {
+    look(bytes.get(..count).unwrap_or(bytes))
 }
 
 #[test]
-fn a_head_has_at_most_64_headers(rt: HostRuntime) -> Result<(), Fail> {
-    let most = head_of(rt.alloc(), b"\r\nA: b", 64, 0)?;
-    assert!(rt; matches!(parse_head(&most), HeadState::Whole(_)));
-    let over = head_of(rt.alloc(), b"\r\nA: b", 65, 0)?;
-    assert!(rt; matches!(parse_head(&over), HeadState::TooLarge));
-    assert!(rt; matches!(look_at_first(&over, 407), HeadState::Open));
-    Ok(())
-}
-
-// But for the value it has 22 bytes.
-#[test]
-fn a_head_has_at_most_8192_bytes(rt: HostRuntime) -> Result<(), Fail> {
-    let most = head_of(rt.alloc(), b"\r\nA:", 1, 8170)?;
-    assert!(rt; most.len() == 8192);
-    assert!(rt; matches!(parse_head(&most), HeadState::Whole(_)));
-    assert!(rt; matches!(look_at_first(&most, 8191), HeadState::Open));
-    Ok(())
-}
-
-#[test]
-fn a_head_of_8193_bytes_is_past_the_limit(rt: HostRuntime) -> Result<(), Fail> {
-    let over = head_of(rt.alloc(), b"\r\nA:", 1, 8171)?;
-    assert!(rt; over.len() == 8193);
-    assert!(rt; matches!(parse_head(&over), HeadState::TooLarge));
-    assert!(rt; matches!(look_at_first(&over, 8192), HeadState::TooLarge));
-    assert!(rt; matches!(look_at_first(&over, 8191), HeadState::Open));
+fn heads_have_limits(rt: HostRuntime) -> Result<(), Fail> {
+    for (header, count, value, size, front, wanted) in &LIMITS {
+        let head = head_of(rt.alloc(), header, *count, *value)?;
+        assert!(rt; head.len() == *size, "{size}");
+        assert!(rt;
+            look_at_front(&head, *front) == *wanted,
+            "{front} of {size}"
+        );
+    }
     Ok(())
 }
 

@@ -18,6 +18,8 @@ mod commands;
 #[cfg(test)]
 mod connections;
 #[cfg(test)]
+mod energy_over;
+#[cfg(test)]
 mod entering;
 #[cfg(test)]
 mod faults;
@@ -34,10 +36,6 @@ mod lines;
 #[cfg(test)]
 mod links;
 #[cfg(test)]
-mod meter_rows;
-#[cfg(test)]
-mod metrics;
-#[cfg(test)]
 mod narrow;
 #[cfg(test)]
 mod office;
@@ -52,10 +50,6 @@ mod pieces;
 #[cfg(test)]
 mod program_commands;
 #[cfg(test)]
-mod register_energy;
-#[cfg(test)]
-mod register_meters;
-#[cfg(test)]
 mod replies;
 #[cfg(test)]
 mod report_forms;
@@ -66,12 +60,16 @@ mod requests;
 #[cfg(test)]
 mod rounds;
 #[cfg(test)]
-mod site;
+mod row_lines;
+#[cfg(test)]
+mod run_questions;
 #[cfg(test)]
 mod sockets;
 #[cfg(test)]
 mod stops;
 #[cfg(test)]
 mod tables;
+#[cfg(test)]
+mod targets;
 #[cfg(test)]
 mod times;

@@ -5,44 +5,37 @@ use crate::office::polled;
 use std::alloc::{AllocError, Global};
 use std::test::Fail;
 
-// So many headers, so many bytes of a value at the last, and what is replied. With one header a head has 22 bytes more.
-static HEADS: [(usize, usize, &str, &str); 4] = [
-    (64, 0, "404 Not Found", "{\"fault\":404}"),
-    (
-        65,
-        0,
-        "431 Request Header Fields Too Large",
-        "{\"fault\":431}",
-    ),
-    (1, 8170, "404 Not Found", "{\"fault\":404}"),
-    (
-        1,
-        8171,
-        "431 Request Header Fields Too Large",
-        "{\"fault\":431}",
-    ),
-];
-
-#[test]
-fn heads_have_limits(rt: HostRuntime) -> Result<(), Fail> {
-    let mut office = polled(rt.alloc())?;
-    for (headers, value, status, body) in &HEADS {
-        let request = head_of(rt.alloc(), b"\r\nA:", *headers, *value)?;
-        let case = Case {
-            at: 2800,
-            request: &request,
-            status,
-            body,
-        };
-        play(&rt, rt.alloc(), &mut office, &case, 400)?;
-    }
-    Ok(())
+/// What is large of a request.
+#[derive(Clone, Copy)]
+enum Large {
+    /// A head of so many headers, with so many bytes of a value at the last. With one header it has 22 bytes more.
+    Head(usize, usize),
+    /// A body of so many bytes.
+    Body(usize),
 }
 
-// So many bytes of a body, and what is replied.
-static BODIES: [(usize, &str, &str); 2] = [
-    (65_536, "200 OK", "{\"done\":\"device\"}"),
-    (65_537, "413 Content Too Large", "{\"fault\":413}"),
+// What is large, and the reply: its status with its reason, and its body.
+static LIMITS: [(Large, &str, &str); 6] = [
+    // heads have limits
+    (Large::Head(64, 0), "404 Not Found", "{\"fault\":404}"),
+    (
+        Large::Head(65, 0),
+        "431 Request Header Fields Too Large",
+        "{\"fault\":431}",
+    ),
+    (Large::Head(1, 8170), "404 Not Found", "{\"fault\":404}"),
+    (
+        Large::Head(1, 8171),
+        "431 Request Header Fields Too Large",
+        "{\"fault\":431}",
+    ),
+    // bodies have limits
+    (Large::Body(65_536), "200 OK", "{\"done\":\"device\"}"),
+    (
+        Large::Body(65_537),
+        "413 Content Too Large",
+        "{\"fault\":413}",
+    ),
 ];
 
 static DEVICE: &[u8] = b"{\"name\":\"b\",\"unit\":2,\"timeout\":5,\"window\":16}";
@@ -58,11 +51,18 @@ fn device(alloc: Global, size: usize) -> Result<Vec<u8>, AllocError> {
     [head.as_bytes(), DEVICE, &spaces].concat(alloc)
 }
 
+fn request_of(alloc: Global, large: Large) -> Result<Vec<u8>, AllocError> {
+    match large {
+        Large::Head(headers, value) => head_of(alloc, b"\r\nA:", headers, value),
+        Large::Body(size) => device(alloc, size),
+    }
+}
+
 #[test]
-fn bodies_have_limits(rt: HostRuntime) -> Result<(), Fail> {
+fn requests_have_limits(rt: HostRuntime) -> Result<(), Fail> {
     let mut office = polled(rt.alloc())?;
-    for (size, status, body) in &BODIES {
-        let request = device(rt.alloc(), *size)?;
+    for (large, status, body) in &LIMITS {
+        let request = request_of(rt.alloc(), *large)?;
         let case = Case {
             at: 2800,
             request: &request,

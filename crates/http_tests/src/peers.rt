@@ -1,9 +1,11 @@
 //! Peers of a run, over sockets that don't wait.
-use crate::cases::reply;
+use crate::cases::text_reply;
 use crate::connections::{REPLY, REQUEST, Stepping, client_of, energy_of_ended};
-use crate::office::metered;
+use crate::energy_over::Earlier;
+use crate::office::{metered, polled};
 use http_peers::{
-    HttpPort, KeptRoom, Now, Outbox, PORT_TOKEN, RunTold, Went, even_milliseconds, went_by,
+    EarlierFiles, HttpPort, KeptRoom, Now, Outbox, PORT_TOKEN, RunTold, Went, even_milliseconds,
+    went_by,
 };
 use memory_books::ListBooks;
 use mio::{Events, Interest, Poll, Token};
@@ -57,7 +59,7 @@ impl Listening {
     }
 
     // What waits is accepted, each peer attended, and those that were replied to are dropped.
-    fn turn(&mut self, office: &mut Office<ListBooks>, time: u64) {
+    fn turn(&mut self, earlier: &EarlierFiles<'_>, office: &mut Office<ListBooks>, time: u64) {
         let now = Now { time, moment: 2800 };
         self.port.begin_turn();
         self.port.accept(self.poll.registry(), time);
@@ -66,6 +68,7 @@ impl Listening {
             let told = RunTold {
                 monitor: &self.monitor,
                 lacks: &[],
+                earlier: &*earlier,
             };
             let place = place_at(first, step);
             self.port
@@ -85,12 +88,16 @@ impl Listening {
         Ok(())
     }
 
-    fn turns(&mut self, office: &mut Office<ListBooks>) -> io::Result<()> {
+    fn turns(
+        &mut self,
+        earlier: &EarlierFiles<'_>,
+        office: &mut Office<ListBooks>,
+    ) -> io::Result<()> {
         for time in 0..3 {
-            self.turn(office, time);
+            self.turn(earlier, office, time);
             self.look()?;
         }
-        self.turn(office, 3);
+        self.turn(earlier, office, 3);
         Ok(())
     }
 }
@@ -104,8 +111,9 @@ fn serves(
     office: &mut Office<ListBooks>,
     is_full: bool,
 ) -> Result<bool, Fail> {
+    let earlier = Earlier::of_main(rt.alloc())?;
     let mut listening = Listening::open(rt, listener, room)?;
-    listening.turns(office)?;
+    listening.turns(&earlier.files(), office)?;
     let is_idle = !listening.port.is_waiting() && !listening.port.is_ready();
     let is_told = listening.port.take_full() == is_full;
     Ok(is_idle && is_told && !listening.port.take_full())
@@ -133,28 +141,49 @@ fn replied(
     read_all(rt.alloc(), client)
 }
 
+static MONTHS: &[u8] = b"GET /registers/main/months HTTP/1.1\r\n\r\n";
+
+// The quarter hour from 900 is in both, and counted once.
 #[test]
-fn a_peer_is_replied_to(rt: HostRuntime) -> Result<(), Fail> {
-    let mut office = metered(rt.alloc())?;
-    let room = KeptRoom::new(Some(REQUEST.len() as u64), 0);
-    let got = replied(&rt, room, REQUEST, &mut office, false)?;
-    assert!(rt; got.as_slice() == REPLY);
-    assert!(rt; energy_of_ended(&mut office) == Some(300_000));
+fn a_peer_is_told_of_earlier_files_too(rt: HostRuntime) -> Result<(), Fail> {
+    let mut office = polled(rt.alloc())?;
+    let got = replied(&rt, KeptRoom::new(None, 0), MONTHS, &mut office, false)?;
+    let want = text_reply(rt.alloc(), "1970-01    3                   200012\nend 1\n")?;
+    assert!(rt; got.as_slice() == want.as_bytes());
     Ok(())
 }
 
 static AFTER_LINES: &[u8] =
     b"\r\n\r\nPOST /registers/main/exchange HTTP/1.1\r\nContent-Length: 68\r\nOffice-Caller: desk\r\nOffice-Request: 7\r\n\r\n{\"ceiling\":100000,\"last\":5300,\"meter\":\"m2\",\"raw\":0,\"rolls\":0,\"sf\":0}";
 
-// Empty lines before a command don't hide it from who counts what is kept.
+static NO_ROOM: &[u8] =
+    b"HTTP/1.1 503 Service Unavailable\r\nContent-Type: application/json\r\nContent-Length: 13\r\nConnection: close\r\n\r\n{\"fault\":503}";
+
+/// How many bytes may be kept and how many are, the request, whether it is told that nothing more is kept, the reply, and the energy
+/// of the meter where the request ended it.
+type Kept = (u64, u64, &'static [u8], bool, &'static [u8], Option<u64>);
+
 #[test]
-fn a_command_has_no_room(rt: HostRuntime) -> Result<(), Fail> {
-    let mut office = metered(rt.alloc())?;
-    let room = KeptRoom::new(Some(300), 200);
-    let got = replied(&rt, room, AFTER_LINES, &mut office, true)?;
-    let want = reply(rt.alloc(), "503 Service Unavailable", "{\"fault\":503}")?;
-    assert!(rt; got.as_slice() == want.as_bytes());
-    assert!(rt; energy_of_ended(&mut office) == None);
+fn a_peer_is_replied_to(rt: HostRuntime) -> Result<(), Fail> {
+    let peers: [Kept; 2] = [
+        (
+            REQUEST.len() as u64,
+            0,
+            REQUEST,
+            false,
+            REPLY,
+            Some(300_000),
+        ),
+        // a command has no room; empty lines before it don't hide it from who counts what is kept
+        (300, 200, AFTER_LINES, true, NO_ROOM, None),
+    ];
+    for (most, kept, request, is_full, reply, energy) in peers {
+        let mut office = metered(rt.alloc())?;
+        let room = KeptRoom::new(Some(most), kept);
+        let got = replied(&rt, room, request, &mut office, is_full)?;
+        assert!(rt; got.as_slice() == reply, "room for {most}");
+        assert!(rt; energy_of_ended(&mut office) == energy, "room for {most}");
+    }
     Ok(())
 }
 

@@ -1,6 +1,5 @@
 //! Replies with quarter hours of a meter that are told piece by piece.
-use crate::cases::serve;
-use crate::meter_rows::text_reply;
+use crate::cases::{serve, text_reply};
 use crate::office::polled;
 use http_request::router;
 use memory_books::ListBooks;

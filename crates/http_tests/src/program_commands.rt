@@ -1,9 +1,9 @@
-//! Commands of the program over books in memory, also where the clock was set back.
-use crate::office::{metered, polled};
+//! Commands of the program at a port over books in memory, also where the clock was set back.
+use crate::office::metered;
 use command_io::ExitStatus;
 use memory_books::ListBooks;
 use office_events::Refusal;
-use office_program::{PollEnd, ServeEnd, poll_books, report_books, serve_books};
+use office_program::{PollEnd, ServeEnd, poll_books, serve_books};
 use office_rounds::RoundFault;
 use socket_link::FixedClock;
 use std::alloc::Global;
@@ -20,40 +20,6 @@ fn taken(rt: &HostRuntime) -> Result<(TcpListener, u16), Fail> {
     let listener = TcpListener::bind(rt, "127.0.0.1:0")?;
     let port = listener.local_addr()?.port();
     Ok((listener, port))
-}
-
-// A register that isn't there is `refused 1`, also where the clock was set back; a clock past the last moment of all `refused 12`.
-static REPORTS: [(u64, &[u8]); 2] = [(999, b"refused 1\n"), (4_102_444_801, b"refused 12\n")];
-
-#[test]
-fn a_report_is_refused(rt: HostRuntime) -> Result<(), Fail> {
-    for (moment, text) in &REPORTS {
-        let books = books(rt.alloc())?;
-        let moments = [*moment];
-        let mut clock = FixedClock::new(&moments);
-        let mut printed = Vec::new(rt.alloc());
-        let done = report_books(rt.alloc(), books, "none", &mut clock, &mut printed);
-        assert!(rt; done.end == ExitStatus::Refused);
-        assert!(rt; printed.as_slice() == *text);
-    }
-    Ok(())
-}
-
-// A reading of 200 Wh at moment 1900, in the first day of all, by a clock that was set back and by one that was not.
-const REPORTED: &[u8] = b"1970-01-01   2                   200000\nend 1\n";
-
-#[test]
-fn a_report_needs_no_clock(rt: HostRuntime) -> Result<(), Fail> {
-    for moment in [0, 1899, 5000] {
-        let books = polled(rt.alloc())?.into_books();
-        let moments = [moment];
-        let mut clock = FixedClock::new(&moments);
-        let mut printed = Vec::new(rt.alloc());
-        let done = report_books(rt.alloc(), books, "main", &mut clock, &mut printed);
-        assert!(rt; done.end == ExitStatus::Fine);
-        assert!(rt; printed.as_slice() == REPORTED);
-    }
-    Ok(())
 }
 
 /// How serving at a port ends, where the clock tells a moment, and what it prints.

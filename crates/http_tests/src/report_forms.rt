@@ -1,16 +1,6 @@
-//! Reports on ranges of days, by periods, in both units and three formats.
-use crate::narrow::Narrow;
-use crate::office::{metered, polled};
-use command_io::ExitStatus;
-use energy_report::{EnergyUnit, Format, Period, ReportForm, Row, read_day};
+//! The words of forms of reports, ranges of days, and rows of periods.
+use energy_report::{EnergyUnit, Format, Period, Row, read_day};
 use interval_core::{Day, DayRange, DayTotal};
-use memory_books::ListBooks;
-use office_core::Office;
-use office_events::Name;
-use office_program::{report_range, report_range_books};
-use socket_link::FixedClock;
-use std::alloc::Global;
-use std::process::Abort;
 use std::test::Fail;
 
 /// A day as it is spelled.
@@ -153,101 +143,5 @@ fn a_row_adds_its_days_up(rt: HostRuntime) -> Result<(), Fail> {
     let row = Row::of(&total("2024-02-28", 96, 5)?).and(&total("2024-02-29", 4, 7)?);
     assert!(rt; row.first == day("2024-02-28")?);
     assert!(rt; (row.count, row.mwh) == (100, 12));
-    Ok(())
-}
-
-/// A form of all days.
-fn form(period: Period, unit: EnergyUnit, format: Format) -> ReportForm {
-    ReportForm {
-        range: DayRange::all(),
-        period,
-        unit,
-        format,
-    }
-}
-
-/// Prints the report of a register of an office in a form.
-fn reports(
-    rt: &impl Abort,
-    alloc: Global,
-    office: &mut Office<ListBooks>,
-    register: &[u8],
-    format: Format,
-    wanted: (ExitStatus, &[u8]),
-) {
-    let mut printed = Vec::new(alloc);
-    let form = form(Period::Month, EnergyUnit::KilowattHours, format);
-    let ended = report_range(office, &Name::new(register), &form, &mut printed);
-    assert!(rt; ended == wanted.0);
-    assert!(rt; printed.as_slice() == wanted.1);
-}
-
-#[test]
-fn a_register_is_reported_in_a_form(rt: HostRuntime) -> Result<(), Fail> {
-    let mut office = polled(rt.alloc())?;
-    let cases: [(&[u8], Format, ExitStatus, &[u8]); 4] = [
-        (
-            b"main",
-            Format::Text,
-            ExitStatus::Fine,
-            b"1970-01    2                 0.200000\nend 1\n",
-        ),
-        (
-            b"main",
-            Format::Csv,
-            ExitStatus::Fine,
-            b"month,energy_kwh\r\n1970-01,0.200000\r\n",
-        ),
-        (
-            b"main",
-            Format::Json,
-            ExitStatus::Fine,
-            b"[{\"month\":\"1970-01\",\"kwh\":\"0.200000\"}]\n",
-        ),
-        (b"none", Format::Json, ExitStatus::Refused, b"refused 1\n"),
-    ];
-    for (register, format, status, text) in cases {
-        reports(
-            &rt,
-            rt.alloc(),
-            &mut office,
-            register,
-            format,
-            (status, text),
-        );
-    }
-    Ok(())
-}
-
-// The row and what stands before it have 38 bytes, and the last line 6.
-static NARROW: [(usize, &[u8]); 4] = [(0, b"main"), (37, b"main"), (43, b"main"), (9, b"none")];
-
-#[test]
-fn a_row_that_is_not_written_is_told(rt: HostRuntime) -> Result<(), Fail> {
-    let mut office = polled(rt.alloc())?;
-    for (room, register) in &NARROW {
-        let mut narrow = Narrow { room: *room };
-        let form = form(Period::Month, EnergyUnit::KilowattHours, Format::Text);
-        let status = report_range(&mut office, &Name::new(register), &form, &mut narrow);
-        assert!(rt; status.number() == 3);
-    }
-    Ok(())
-}
-
-// A register that isn't there is `refused 1`, also where the clock was set back; a clock past the last moment of all `refused 12`.
-static REFUSED: [(u64, &[u8]); 2] = [(999, b"refused 1\n"), (4_102_444_801, b"refused 12\n")];
-
-#[test]
-fn a_report_in_a_form_is_refused(rt: HostRuntime) -> Result<(), Fail> {
-    for (moment, text) in &REFUSED {
-        let books = metered(rt.alloc())?.into_books();
-        let moments = [*moment];
-        let mut clock = FixedClock::new(&moments);
-        let mut printed = Vec::new(rt.alloc());
-        let form = ReportForm::plain();
-        let done = report_range_books(rt.alloc(), books, "none", &form, &mut clock, &mut printed);
-        assert!(rt; done.end == ExitStatus::Refused);
-        assert!(rt; printed.as_slice() == *text);
-    }
     Ok(())
 }

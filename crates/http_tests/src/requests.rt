@@ -23,13 +23,13 @@ fn are_answered(
     rt: &impl Abort,
     alloc: Global,
     front: &[u8],
-    cases: &[(&[u8], u16)],
+    texts: &[(&[u8], u16)],
     back: &[u8],
 ) -> Result<(), Fail> {
     let router = router(alloc)?;
-    for (text, status) in cases {
+    for (place, (text, status)) in texts.iter().enumerate() {
         let head = [front, text, back].concat(alloc)?;
-        assert!(rt; status_of(&router, &head) == *status);
+        assert!(rt; status_of(&router, &head) == *status, "{status} at {place}");
     }
     Ok(())
 }
@@ -60,11 +60,6 @@ static LINES: [(&[u8], u16); 24] = [
     (b"POST /meters/m1/void", 411),
     (b"POST /registers/main/close", 411),
 ];
-
-#[test]
-fn routes_come_before_methods(rt: HostRuntime) -> Result<(), Fail> {
-    are_answered(&rt, rt.alloc(), b"", &LINES, b" HTTP/1.1\r\n\r\n")
-}
 
 static HEADERS: [(&[u8], u16); 14] = [
     (b"", 411),
@@ -101,17 +96,6 @@ static HEADERS: [(&[u8], u16); 14] = [
     (b"Content-Length: 70000\r\n", 413),
 ];
 
-#[test]
-fn the_headers_of_a_command_are_tested_in_turn(rt: HostRuntime) -> Result<(), Fail> {
-    are_answered(
-        &rt,
-        rt.alloc(),
-        b"POST /devices HTTP/1.1\r\n",
-        &HEADERS,
-        b"\r\n",
-    )
-}
-
 static SIZES: [(&[u8], u16); 12] = [
     (b"0", 200),
     (b"007", 200),
@@ -127,13 +111,6 @@ static SIZES: [(&[u8], u16); 12] = [
     (b"2 2", 400),
 ];
 
-#[test]
-fn a_length_has_1_to_19_digits(rt: HostRuntime) -> Result<(), Fail> {
-    let front = b"POST /devices HTTP/1.1\r\nContent-Length: ";
-    let back = b"\r\nOffice-Caller: anna\r\nOffice-Request: 7\r\n\r\n";
-    are_answered(&rt, rt.alloc(), front, &SIZES, back)
-}
-
 static NUMBERS: [(&[u8], u16); 8] = [
     (b"0", 200),
     (b"007", 200),
@@ -144,13 +121,6 @@ static NUMBERS: [(&[u8], u16); 8] = [
     (b"", 400),
     (b"7a", 400),
 ];
-
-#[test]
-fn a_request_is_numbered_up_to_an_i64(rt: HostRuntime) -> Result<(), Fail> {
-    let front =
-        b"POST /devices HTTP/1.1\r\nContent-Length: 2\r\nOffice-Caller: anna\r\nOffice-Request: ";
-    are_answered(&rt, rt.alloc(), front, &NUMBERS, b"\r\n\r\n")
-}
 
 static CALLERS: [(&[u8], u16); 9] = [
     (b"a", 200),
@@ -165,10 +135,35 @@ static CALLERS: [(&[u8], u16); 9] = [
 ];
 
 #[test]
-fn a_caller_is_a_name(rt: HostRuntime) -> Result<(), Fail> {
-    let front = b"POST /devices HTTP/1.1\r\nContent-Length: 2\r\nOffice-Caller: ";
-    let back = b"\r\nOffice-Request: 7\r\n\r\n";
-    are_answered(&rt, rt.alloc(), front, &CALLERS, back)
+fn heads_are_tested_in_turn(rt: HostRuntime) -> Result<(), Fail> {
+    let heads: [(&[u8], &[(&[u8], u16)], &[u8]); 5] = [
+        // routes come before methods
+        (b"", &LINES, b" HTTP/1.1\r\n\r\n"),
+        // the headers of a command are tested in turn
+        (b"POST /devices HTTP/1.1\r\n", &HEADERS, b"\r\n"),
+        // a length has 1 to 19 digits
+        (
+            b"POST /devices HTTP/1.1\r\nContent-Length: ",
+            &SIZES,
+            b"\r\nOffice-Caller: anna\r\nOffice-Request: 7\r\n\r\n",
+        ),
+        // a request is numbered up to an i64
+        (
+            b"POST /devices HTTP/1.1\r\nContent-Length: 2\r\nOffice-Caller: anna\r\nOffice-Request: ",
+            &NUMBERS,
+            b"\r\n\r\n",
+        ),
+        // a caller is a name
+        (
+            b"POST /devices HTTP/1.1\r\nContent-Length: 2\r\nOffice-Caller: ",
+            &CALLERS,
+            b"\r\nOffice-Request: 7\r\n\r\n",
+        ),
+    ];
+    for (front, texts, back) in heads {
+        are_answered(&rt, rt.alloc(), front, texts, back)?;
+    }
+    Ok(())
 }
 
 // The route that a request line leads to, and its name.

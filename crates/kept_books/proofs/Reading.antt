@@ -24,6 +24,13 @@ pub passed_on : {T : Type 0} (old new : Ledger) (kept : Known) (result : Result 
     → OnlyReads old new result → OnlyReads (keeping kept old) (keeping kept new) result
 passed_on old new kept result reads = asked old new kept kept result (λ facts holds clean are. are) reads
 
+-- what was found is answered in part
+pub answered_with : {T S : Type 0} (old new : Ledger) (x : T) (y : S) → OnlyReads old new (Ok x) → OnlyReads old new (Ok y)
+answered_with old new x y reads = record {
+  goes = record { clean = reads.goes.clean; faults = reads.goes.faults; zone = reads.goes.zone };
+  keeps = reads.keeps;
+}
+
 -- nothing was asked
 pub unasked : {T : Type 0} (ledger : Ledger) (x : T) → OnlyReads ledger ledger (Ok x)
 unasked ledger x = record {

@@ -5,7 +5,7 @@ ghost use Rattle.kept_books.specs.Keeping.{StandsAs, beneath, ledger_over};
 use crate::known::Known;
 use interval_core::{Share, Zone};
 use mb_wire::ReadSpan;
-use office_books::{Books, BooksFault, MeterEntry, Repeat, RowSink, Span, read_count};
+use office_books::{Books, BooksFault, MeterEntry, Repeat, RowSink, Span, keep_read, read_count};
 use office_events::{
     Device, EntryPlace, Fact, HeldReading, Installation, Name, PlannedList, Poll, PollRow, Register,
 };
@@ -106,6 +106,20 @@ impl<B: Books> Books for KeptBooks<B> {
         }
         let found = self.books.registers(device)?;
         self.known.keep_registers(device, &found);
+        Ok(found)
+    }
+
+    fn registers_read(
+        &mut self,
+        device: &Name,
+        span: ReadSpan,
+    ) -> Result<Vec<Register>, BooksFault> {
+        if let Some(read) = self.known.registers_read(device, span) {
+            return Ok(read);
+        }
+        let mut found = self.books.registers(device)?;
+        self.known.keep_registers(device, &found);
+        keep_read(&mut found, span);
         Ok(found)
     }
 

@@ -1,11 +1,12 @@
 //! What is kept, and how facts change it.
 ghost use Rattle.std.specs.Prelude.{◌≡◌, ◌∷◌, List, length, IfSome, Some};
+ghost use Rattle.std.specs.List.{filter};
 ghost use Rattle.office_events.specs.declared.facts.Fact.{Fact};
 ghost use Rattle.office_rules.specs.Facts.{list_of, polls_in, registers_of};
 ghost use Rattle.office_rules.specs.Lawful.{AreLawful};
 ghost use Rattle.office_rules.specs.Meters.{installation_at};
 ghost use Rattle.office_rules.specs.Ranges.{IsSound};
-ghost use Rattle.office_rules.specs.Readings.{poll_row_of};
+ghost use Rattle.office_rules.specs.Readings.{is_read_by, poll_row_of};
 ghost use Rattle.office_books.specs.Ledgers.{with_facts};
 ghost use Rattle.office_books.specs.Plans.{read_count_of, reads_from};
 
@@ -13,7 +14,7 @@ use crate::answers::Answers;
 use crate::polls::Polls;
 use crate::standing::go_on;
 use mb_wire::ReadSpan;
-use office_books::{is_sound, read_count, reads_from};
+use office_books::{is_sound, read_count, reads_from, registers_read};
 use office_events::{
     Fact, Installation, MAX_DEVICES, MAX_INSTALLATIONS, MAX_REGISTERS, Name, PlannedList, PollRow,
     Register,
@@ -119,6 +120,21 @@ impl Known {
         };
         match registers.as_slice().to_vec(self.alloc) {
             Ok(copy) => Some(copy),
+            Err(_) => None,
+        }
+    }
+
+    /// Those of them of which a read of the span gives a reading. The others are not copied.
+    pub(crate) fn registers_read(&self, device: &Name, span: ReadSpan) -> Option<Vec<Register>>
+        ensures { (known : List Fact) → AreTrue self.now known
+            → IfSome result (λ v.
+            v.items ≡ filter (is_read_by span) (registers_of known device.now)) }
+    {
+        let Some(registers) = self.registers.get(device) else {
+            return None;
+        };
+        match registers_read(self.alloc, registers, span) {
+            Ok(read) => Some(read),
             Err(_) => None,
         }
     }

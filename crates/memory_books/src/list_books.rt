@@ -168,6 +168,17 @@ impl Books for ListBooks {
         told(&mut self.last_failure, found)
     }
 
+    fn registers_read(
+        &mut self,
+        device: &Name,
+        span: ReadSpan,
+    ) -> Result<Vec<Register>, BooksFault> {
+        self.ready()?;
+        let alloc = *self.facts.allocator();
+        let found = self.tables.registers_read(alloc, &self.facts, device, span);
+        told(&mut self.last_failure, found)
+    }
+
     fn register_count(&mut self, device: &Name) -> Result<usize, BooksFault> {
         self.ready()?;
         Ok(self.tables.register_count(device))

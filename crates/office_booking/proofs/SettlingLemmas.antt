@@ -1,6 +1,7 @@
 pub mod Words
 pub mod Told
 pub mod Overlays
+pub mod ReadRegisters
 pub mod Growing
 pub mod Turning
 pub mod SettledSlots

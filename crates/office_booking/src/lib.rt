@@ -10,5 +10,5 @@ mod starting;
 pub use commands::{carry_out, puts_planned};
 pub use opening::{book_opening, opening_refusal};
 pub use sessions::{Slot, has_device, is_connected, place_of};
-pub use settling::{is_read_by, settle_event};
+pub use settling::settle_event;
 pub use starting::Outgoing;

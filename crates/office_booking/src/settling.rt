@@ -9,4 +9,3 @@ mod sessions;
 mod slots;
 
 pub use events::settle_event;
-pub use readings::is_read_by;

@@ -35,11 +35,12 @@ pub enum Repeat {
 /// are noted, a look-up keeps what was known, the zone stays, an installation's numbers are in their ranges.
 pub trait Books: Drop {
     ghost use Rattle.std.specs.Prelude.{◌≡◌, List, reverse, length};
+    ghost use Rattle.std.specs.List.{filter};
     ghost use Rattle.office_events.specs.declared.facts.Fact.{Fact};
     ghost use Rattle.office_rules.specs.Facts.{devices_in, register_of, registers_of, list_of};
     ghost use Rattle.office_rules.specs.Facts.{openings_in, polls_in, pending_in, latest_in};
     ghost use Rattle.office_rules.specs.Meters.{meter_of, installation_at, entry_at};
-    ghost use Rattle.office_rules.specs.Readings.{poll_row_of};
+    ghost use Rattle.office_rules.specs.Readings.{is_read_by, poll_row_of};
     ghost use Rattle.office_rules.specs.Intervals.{rows_of_meter, rows_of_register};
     ghost use Rattle.office_books.specs.Entries.{entries_from, installations_of};
     ghost use Rattle.office_books.specs.Holds.{holds_of, holds_within};
@@ -102,6 +103,12 @@ pub trait Books: Drop {
     fn registers(&mut self, device: &Name) -> Result<Vec<Register>, BooksFault>
         ensures found { Finds (ledger self.old) (ledger self.new) result
             (λ known v. v.items ≡ registers_of known device.now) }
+        ensures reads { OnlyReads (ledger self.old) (ledger self.new) result };
+
+    /// The registers of a device of which a read of the span gives a reading, in the order in which they were added.
+    fn registers_read(&mut self, device: &Name, span: ReadSpan) -> Result<Vec<Register>, BooksFault>
+        ensures found { Finds (ledger self.old) (ledger self.new) result
+            (λ known v. v.items ≡ filter (is_read_by span) (registers_of known device.now)) }
         ensures reads { OnlyReads (ledger self.old) (ledger self.new) result };
 
     /// How many registers a device has.

@@ -11,6 +11,7 @@ mod near;
 mod next_entry;
 mod openings;
 mod plans;
+mod readings;
 mod soundness;
 mod spans;
 
@@ -24,5 +25,6 @@ pub use near::with_whole_energy;
 pub use next_entry::{after_entry, moved, verdict_at};
 pub use openings::{begun, has_numbers, installed, opened};
 pub use plans::{read_count, reads_from};
+pub use readings::{is_read_by, keep_read, registers_read};
 pub use soundness::is_sound;
 pub use spans::Span;

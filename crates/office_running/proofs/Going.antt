@@ -9,6 +9,7 @@ use Rattle.office_rules.specs.Refusals.{with_answer}
 use Rattle.office_books.specs.declared.failures.Failures.{Failures}
 use Rattle.office_books.specs.Ledgers.{KeepsFacts, Ledger}
 use Rattle.office_core.specs.Leaving.{BooksStand}
+use Rattle.office_core.specs.Asking.{OnlyAsks}
 use Rattle.office_core.specs.EventRun.{Answered}
 use Rattle.office_core.specs.Standing.{After, Stands, books_in}
 use Rattle.office_core.specs.Taking.{Ends}
@@ -34,7 +35,7 @@ use Rattle.office_rounds.specs.declared.driver.device_events.DeviceEvent.TheVari
 use Rattle.office_program.specs.Texts.OpenedOffice.{Opens}
 use Rattle.office_program.specs.Texts.Passing.{Lasts}
 use Rattle.run_status.specs.Advice.Lacks.{LooksUp}
-use Rattle.office_running.specs.Runs.{AreAt, BooksRun, Goes, IsOfRound, ReadsClock, RunsOn, Step, Fed, Asks, TakesTurns, history_with, latest_of, steps_of, with_step}
+use Rattle.office_running.specs.Runs.{AreAt, BooksRun, Goes, IsOfRound, ReadsClock, RunsOn, Step, Fed, Asks, TakesTurns, TurnsFrom, history_with, latest_of, steps_of, with_step}
 
 -- ---- At one moment
 
@@ -276,6 +277,18 @@ next_begins names ledger first latest later at begun now after a b c d same begi
   between = now;
   turns = turn_ends names ledger first latest at begun now a b d same begins (goes_both names at ledger b c d goes heard);
   reads = reads;
+}
+
+-- a question before them changes nothing
+pub turns_after_asking : {B T : Type 0} (names : List (List ℕ)) (ledger : B → Ledger) (first : ℕ) (begun now : Option (List ℕ)) (a b c : Office B)
+    (answer : Result T Refusal) → OnlyAsks ledger a b answer → TurnsFrom names ledger first begun now b c → TurnsFrom names ledger first begun now a c
+turns_after_asking names ledger first begun now a b c answer asks goes = record {
+  latest = goes.latest;
+  turns = record {
+    stands = λ past stands clean. goes.turns.stands past (asks.stands past stands) clean;
+    clean = λ clean. asks.clean (goes.turns.clean clean);
+    zone = goes.turns.zone ∙ asks.zone;
+  };
 }
 
 -- ---- A run

@@ -10,7 +10,8 @@ use crate::leftovers::{Left, print_left};
 use crate::outlet::Outlet;
 use crate::settings::{Settings, Site};
 use crate::voice::Voice;
-use http_peers::{HttpPort, KeptRoom, Now, PORT_TOKEN, RunTold};
+use http_peers::{EarlierFiles, HttpPort, KeptRoom, Now, PORT_TOKEN, RunTold};
+use interval_core::Zone;
 use mio::net::TcpListener;
 use mio::{Events, Interest, Poll, Registry, Token};
 use office_books::Books;
@@ -178,6 +179,7 @@ impl Running {
         &mut self,
         rt: &R,
         names: &[&str],
+        earlier: &EarlierFiles<'_>,
         office: &mut Office<B>,
         now: Now,
     )
@@ -190,6 +192,7 @@ impl Running {
             let told = RunTold {
                 monitor: &self.voice.monitor,
                 lacks: &self.voice.lacks,
+                earlier: &*earlier,
             };
             self.port.attend(rt, place, names, office, &told, now);
         }
@@ -202,6 +205,7 @@ impl Running {
         rt: &R,
         place: usize,
         names: &[&str],
+        earlier: &EarlierFiles<'_>,
         events: &mut Events<Global>,
         office: &mut Office<B>,
         now: Now,
@@ -210,7 +214,7 @@ impl Running {
     {
         let has_fed = self.polling.attend(place, office, &mut self.voice, now);
         if has_fed && self.look(events, 0).is_ok() {
-            self.attend_peers(rt, names, office, now);
+            self.attend_peers(rt, names, earlier, office, now);
         }
     }
 
@@ -219,6 +223,7 @@ impl Running {
         &mut self,
         rt: &R,
         names: &[&str],
+        earlier: &EarlierFiles<'_>,
         events: &mut Events<Global>,
         office: &mut Office<B>,
         now: Now,
@@ -226,7 +231,7 @@ impl Running {
         ensures { Goes (texts names.now) now.moment B.ledger office.old office.new }
     {
         for place in 0..self.polling.count() {
-            self.attend_device(rt, place, names, events, office, now);
+            self.attend_device(rt, place, names, earlier, events, office, now);
         }
     }
 
@@ -235,6 +240,7 @@ impl Running {
         &mut self,
         rt: &R,
         names: &[&str],
+        earlier: &EarlierFiles<'_>,
         events: &mut Events<Global>,
         office: &mut Office<B>,
         now: Now,
@@ -243,8 +249,8 @@ impl Running {
     {
         self.port.begin_turn();
         self.tick(rt, office, now);
-        self.attend_devices(rt, names, events, office, now);
-        self.attend_peers(rt, names, office, now);
+        self.attend_devices(rt, names, earlier, events, office, now);
+        self.attend_peers(rt, names, earlier, office, now);
     }
 
     // Ends the rounds that go on.
@@ -267,6 +273,7 @@ impl Running {
         &mut self,
         rt: &R,
         names: &[&str],
+        earlier: &EarlierFiles<'_>,
         events: &mut Events<Global>,
         office: &mut Office<B>,
         now: Now,
@@ -274,7 +281,7 @@ impl Running {
     ) -> bool
         ensures { Goes (texts names.now) now.moment B.ledger office.old office.new }
     {
-        self.go_on(rt, names, events, office, now);
+        self.go_on(rt, names, earlier, events, office, now);
         if !end.has_come(now) {
             return false;
         }
@@ -368,6 +375,7 @@ impl Running {
         &mut self,
         rt: &R,
         names: &[&str],
+        earlier: &EarlierFiles<'_>,
         office: &mut Office<B>,
         time: &mut RunTime,
         events: &mut Events<Global>,
@@ -378,7 +386,7 @@ impl Running {
     ) -> Result<bool, RunFault>
         ensures { Goes (texts names.now) now.moment B.ledger office.old office.new }
     {
-        let is_over = self.act(rt, names, events, office, now, end);
+        let is_over = self.act(rt, names, earlier, events, office, now, end);
         self.rest(rt, time, events, now, output, errors, is_over)?;
         Ok(is_over)
     }
@@ -415,6 +423,7 @@ impl Running {
         &mut self,
         rt: &R,
         names: &[&str],
+        earlier: &EarlierFiles<'_>,
         office: &mut Office<B>,
         clock: &mut C,
         steady: &mut SteadyClock,
@@ -433,7 +442,9 @@ impl Running {
                 time: self.time,
                 moment,
             };
-            let is_over = self.turn(rt, names, office, time, events, now, end, output, errors)?;
+            let is_over = self.turn(
+                rt, names, earlier, office, time, events, now, end, output, errors,
+            )?;
             if is_over {
                 return Ok(());
             }
@@ -485,6 +496,7 @@ fn run_from<R: Net + std::rt::Clock, B: Books, C: Clock, W: Write, E: Write>(
     lacks: Vec<DeviceLack>,
     settings: &Settings<'_>,
     sites: &[Site],
+    zone: Zone,
     office: &mut Office<B>,
     moment: u64,
     clock: &mut C,
@@ -501,9 +513,14 @@ fn run_from<R: Net + std::rt::Clock, B: Books, C: Clock, W: Write, E: Write>(
     let begun = time.seconds();
     let mut running = open(rt, alloc, left, lacks, settings, sites, begun, output)?;
     let end = end_of(settings, begun);
+    let earlier = EarlierFiles {
+        zone,
+        registers: settings.earlier,
+    };
     running.turns(
         rt,
         settings.host_names,
+        &earlier,
         office,
         clock,
         &mut steady,
@@ -515,7 +532,8 @@ fn run_from<R: Net + std::rt::Clock, B: Books, C: Clock, W: Write, E: Write>(
     )
 }
 
-/// Tells what was left in the books of an open office, polls its devices and answers HTTP, until the time is up.
+/// Tells what was left in the books of an open office, polls its devices and answers HTTP, until the time is up. What the page asks first is
+/// asked once before: where books keep what look-ups answered, no device waits for that later.
 pub(crate) fn run_open<R: Net + std::rt::Clock, B: Books, C: Clock, W: Write, E: Write>(
     rt: &R,
     alloc: Global,
@@ -523,6 +541,7 @@ pub(crate) fn run_open<R: Net + std::rt::Clock, B: Books, C: Clock, W: Write, E:
     lacks: Vec<DeviceLack>,
     settings: &Settings<'_>,
     sites: &[Site],
+    zone: Zone,
     office: &mut Office<B>,
     clock: &mut C,
     output: &mut W,
@@ -531,8 +550,9 @@ pub(crate) fn run_open<R: Net + std::rt::Clock, B: Books, C: Clock, W: Write, E:
     ensures { RunsOn (texts settings.now.host_names.now) B.ledger
         (C.moments clock.old) (C.moments clock.new) office.old office.new }
 {
+    drop(office.site());
     let moment = clock.now();
     run_from(
-        rt, alloc, left, lacks, settings, sites, office, moment, clock, output, errors,
+        rt, alloc, left, lacks, settings, sites, zone, office, moment, clock, output, errors,
     )
 }

@@ -1,4 +1,5 @@
 //! How a process runs.
+use carried_books::EarlierRegister;
 use office_events::Name;
 use std::net::SocketAddr;
 use std::os::fd::RawFd;
@@ -34,6 +35,8 @@ pub struct Settings<'n> {
     /// no room is left is answered 503. Without a limit where that is `None`.
     pub kept: u64,
     pub most_kept: Option<u64>,
+    /// What earlier files of the office tell of its registers, over which energy is told, too; none where it isn't.
+    pub earlier: &'n [EarlierRegister],
     /// Whether each poll has a line.
     pub verbose: bool,
     /// The descriptors behind output and errors, so that neither is waited for; `None` where they never make a write wait.

@@ -62,6 +62,15 @@ impl<S: Alter + Drop> Books for SqlBooks<S> {
         answered(&mut self.failures, found)
     }
 
+    fn registers_read(
+        &mut self,
+        device: &Name,
+        span: ReadSpan,
+    ) -> Result<Vec<Register>, BooksFault> {
+        let found = store_queries::registers_read(&mut self.connection, device, span);
+        answered(&mut self.failures, found)
+    }
+
     fn register_count(&mut self, device: &Name) -> Result<usize, BooksFault> {
         let found = store_queries::register_count(&mut self.connection, device);
         answered(&mut self.failures, found)

@@ -53,6 +53,8 @@ mod questions;
 #[cfg(test)]
 mod random_acts;
 #[cfg(test)]
+mod read_registers;
+#[cfg(test)]
 mod refusals;
 #[cfg(test)]
 mod refusing_books;
@@ -60,6 +62,8 @@ mod refusing_books;
 mod requests;
 #[cfg(test)]
 mod round_breaks;
+#[cfg(test)]
+mod round_cases;
 #[cfg(test)]
 mod round_faults;
 #[cfg(test)]

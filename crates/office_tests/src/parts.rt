@@ -35,13 +35,6 @@ fn a_register_has_its_meters_in_order(rt: HostRuntime) {
     assert!(rt; rows.expect(&rt, "no row").is_empty());
 }
 
-#[test]
-fn meters_are_asked_of_registers_alone(rt: HostRuntime) {
-    let mut office = built(&rt, rt.alloc(), 0);
-    assert!(rt; office.meters(&Name::new(b"m1")) == Err(Refusal::NotFound));
-    assert!(rt; office.meters(&None) == Err(Refusal::NotFound));
-}
-
 const BEGUN: MeterEntry = MeterEntry::Opening(Last {
     at: 1000,
     raw: 5000,
@@ -121,13 +114,6 @@ fn entries_are_listed_from_a_place_on(rt: HostRuntime) {
     for asked in &ASKED {
         assert!(rt; lists(&mut office, asked), "{} {}", asked.from, asked.most);
     }
-}
-
-#[test]
-fn entries_are_asked_of_meters_alone(rt: HostRuntime) {
-    let mut office = built(&rt, rt.alloc(), 0);
-    assert!(rt; office.entries(&Name::new(b"main"), 1, 9) == Err(Refusal::NotFound));
-    assert!(rt; office.entries(&None, 1, 9) == Err(Refusal::NotFound));
 }
 
 // The reading of m1 is voided, and its counter has another scale from then on.
@@ -252,9 +238,14 @@ fn quarter_hours_of_a_span_are_handed_on(rt: HostRuntime) {
     }
 }
 
+// Meters are asked of registers alone, entries and quarter hours of meters alone.
 #[test]
-fn quarter_hours_are_asked_of_meters_alone(rt: HostRuntime) {
+fn parts_are_asked_of_what_has_them(rt: HostRuntime) {
     let mut office = built(&rt, rt.alloc(), 0);
+    assert!(rt; office.meters(&Name::new(b"m1")) == Err(Refusal::NotFound));
+    assert!(rt; office.meters(&None) == Err(Refusal::NotFound));
+    assert!(rt; office.entries(&Name::new(b"main"), 1, 9) == Err(Refusal::NotFound));
+    assert!(rt; office.entries(&None, 1, 9) == Err(Refusal::NotFound));
     let mut kept = KeptRows::new(rt.alloc());
     let answer = office.intervals_within(&Name::new(b"main"), Span::All, &mut kept);
     assert!(rt; answer == Err(Refusal::NotFound));

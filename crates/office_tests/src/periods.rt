@@ -29,7 +29,8 @@ macro_rules! end {
     };
 }
 
-static MONTHS: [Case; 12] = [
+static ENDS: [Case; 21] = [
+    // months end at local midnight
     end!(CENTRAL_EUROPE, Period::Month, 1_795_780_800, 1_796_079_600),
     end!(CENTRAL_EUROPE, Period::Month, 1_796_079_599, 1_796_079_600),
     end!(CENTRAL_EUROPE, Period::Month, 1_798_757_999, 1_798_758_000),
@@ -42,9 +43,7 @@ static MONTHS: [Case; 12] = [
     end!("AAA12", Period::Month, 1_796_032_800, 1_796_126_400),
     end!("UTC0", Period::Month, 4_102_444_799, 4_102_444_800),
     end!("AAA5", Period::Month, 4_102_444_799, 0),
-];
-
-static OTHERS: [Case; 9] = [
+    // years and days end so too
     end!(CENTRAL_EUROPE, Period::Year, 1_795_780_800, 1_798_758_000),
     end!(CENTRAL_EUROPE, Period::Year, 1_798_758_000, 1_830_294_000),
     end!("UTC0", Period::Year, 4_083_955_200, 4_102_444_800),
@@ -64,19 +63,8 @@ fn end_of(rt: &impl Abort, case: &Case) -> Option<u64> {
 }
 
 #[test]
-fn months_end_at_local_midnight(rt: HostRuntime) {
-    for case in &MONTHS {
-        assert!(rt;
-            end_of(&rt, case).unwrap_or(0) == case.end,
-            "{}",
-            case.moment
-        );
-    }
-}
-
-#[test]
-fn years_and_days_end_so_too(rt: HostRuntime) {
-    for case in &OTHERS {
+fn periods_end_at_local_midnight(rt: HostRuntime) {
+    for case in &ENDS {
         assert!(rt;
             end_of(&rt, case).unwrap_or(0) == case.end,
             "{}",

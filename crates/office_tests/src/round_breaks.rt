@@ -1,7 +1,7 @@
-//! Rounds that are broken off, by each fault.
+//! Rounds of a device that can't be polled, rounds that can't be printed, and one that never ends.
 use crate::links::{IdleLink, replies};
 use crate::offices::{inv, office_with};
-use crate::rounds::{ANSWERED, Done, Ends, LOST, ONE_BY_ONE, ends, listed, round};
+use crate::rounds::{ANSWERED, Ends, LOST, ONE_BY_ONE, ends, listed, round};
 use crate::writers::Narrow;
 use mb_wire::{Link, MemoryLink};
 use office_events::{Name, Refusal};
@@ -37,64 +37,6 @@ fn a_device_without_a_list_is_gone_again(rt: HostRuntime) {
         let refused = Err(RoundFault::Refused(Refusal::NotFound));
         done.same(&rt, refused, "ok\nok\n");
     }
-}
-
-const SET_BACK: &str = "ok
-started 1 1 2 00000000000601030000007d
-poll 1 lost 3
-ok
-";
-
-// The clock is set back, and it is past the last moment.
-#[test]
-fn a_moment_that_is_refused_loses_the_poll(rt: HostRuntime) {
-    let moments = [(1001, Refusal::ClockBack), (4_102_444_801, Refusal::Limit)];
-    for (moment, why) in moments {
-        let mut office = listed(&rt, rt.alloc());
-        let moments = [1000, 1002, moment];
-        let done = round(rt.alloc(), &mut office, &mut IdleLink::new(), &moments);
-        done.same(&rt, Err(RoundFault::Refused(why)), SET_BACK);
-    }
-}
-
-// How a round ends whose call of the link of a number fails, and how its polls ended.
-fn fail_at(rt: &impl Abort, alloc: Global, input: &[u8], number: u64) -> (Done, Ends) {
-    let mut office = listed(rt, alloc);
-    let mut given = [0; 24];
-    let mut link = MemoryLink::new(input, &mut given, 259, Some(number));
-    let done = round(alloc, &mut office, &mut link, &[1000]);
-    (done, ends(&mut office))
-}
-
-// The calls are a give and a take for each read; the fifth never comes.
-#[test]
-fn each_call_of_the_link_may_fail(rt: HostRuntime) {
-    let failed = Err(RoundFault::Link);
-    let first = [LOST, None, None];
-    let second = [ANSWERED, LOST, None];
-    let both = [ANSWERED, ANSWERED, None];
-    let calls = [
-        (failed, first),
-        (failed, first),
-        (failed, second),
-        (failed, second),
-        (Ok(()), both),
-    ];
-    let input = replies(rt.alloc()).expect(&rt, "replies");
-    for (number, (wanted, polls)) in (1..).zip(calls) {
-        let (done, ended) = fail_at(&rt, rt.alloc(), &input, number);
-        assert!(rt; done.done == wanted, "call {number}");
-        assert!(rt; ended == polls);
-    }
-}
-
-#[test]
-fn a_give_that_takes_nothing_is_the_links(rt: HostRuntime) {
-    let mut office = listed(&rt, rt.alloc());
-    let mut link = MemoryLink::new(&[], &mut [], 260, None);
-    let done = round(rt.alloc(), &mut office, &mut link, &[1000]);
-    done.same(&rt, Err(RoundFault::Link), SET_BACK);
-    assert!(rt; link.failures() == 1);
 }
 
 // How the polls end of a round whose writer has so much room, which is too little.

@@ -1,5 +1,5 @@
-//! Rounds over links in memory that come to their end, and what such rounds leave.
-use crate::links::{IdleLink, replies};
+//! Rounds over links in memory, and what they leave.
+use crate::links::replies;
 use crate::offices::{Tried, inv, list, office_with};
 use mb_wire::{Link, MemoryLink};
 use office_rounds::{RoundFault, round_over};
@@ -58,10 +58,6 @@ pub(crate) fn round<L: Link>(
 /// How the first three polls ended, of those that there are; a poll that waits has not.
 pub(crate) type Ends = [Option<Option<Outcome>>; 3];
 
-fn ended(outcome: Outcome) -> Option<Option<Outcome>> {
-    Some(Some(outcome))
-}
-
 pub(crate) const ANSWERED: Option<Option<Outcome>> = Some(Some(Outcome::Answered));
 
 /// A failure of the link ended it.
@@ -82,76 +78,20 @@ pub(crate) fn ends(office: &mut Tried) -> Ends {
     [end_of(office, 1), end_of(office, 2), end_of(office, 3)]
 }
 
-const BOTH_ANSWERED: &str = "ok
-started 1 1 2 00000000000601030000007d
-poll 1 answered
-ok
-started 2 1 2 0001000000060103007d0001
-poll 2 answered
-ok
-ok
-";
-
-const GONE: &str = "ok
-started 1 1 2 00000000000601030000007d
-poll 1 lost 1
-ok
-";
-
-// Five seconds are the device's patience.
-const SILENT: &str = "ok
-started 1 1 2 00000000000601030000007d
-ok
-poll 1 silent
-ok
-started 2 1 2 0001000000060103007d0001
-ok
-poll 2 silent
-ok
-ok
-";
-
 static FRAMES: &[u8] =
     b"\x00\x00\x00\x00\x00\x06\x01\x03\x00\x00\x00\x7d\x00\x01\x00\x00\x00\x06\x01\x03\x00\x7d\x00\x01";
 
-#[test]
-fn each_read_of_the_plan_is_answered(rt: HostRuntime) {
-    let input = replies(rt.alloc()).expect(&rt, "replies");
-    let mut office = listed(&rt, rt.alloc());
-    let mut given = [0; 24];
-    let mut link = MemoryLink::new(&input, &mut given, 259, None);
-    let done = round(rt.alloc(), &mut office, &mut link, &[1000, 1001]);
-    done.same(&rt, Ok(()), BOTH_ANSWERED);
-    assert!(rt; link.given() == FRAMES);
-}
-
+// Each read of the plan is sent once, also where replies come byte by byte.
 #[test]
 fn replies_come_byte_by_byte(rt: HostRuntime) {
     let input = replies(rt.alloc()).expect(&rt, "replies");
-    let mut office = listed(&rt, rt.alloc());
-    let mut given = [0; 24];
-    let mut link = MemoryLink::new(&input, &mut given, 1, None);
-    let done = round(rt.alloc(), &mut office, &mut link, &[1000]);
-    assert!(rt; done.done == Ok(()));
-    assert!(rt; link.given() == FRAMES);
-    assert!(rt; ends(&mut office) == [ANSWERED, ANSWERED, None]);
-}
-
-#[test]
-fn an_end_of_the_link_is_the_devices(rt: HostRuntime) {
-    let mut office = listed(&rt, rt.alloc());
-    let mut given = [0; 24];
-    let mut link = MemoryLink::new(&[], &mut given, 260, None);
-    let done = round(rt.alloc(), &mut office, &mut link, &[1000]);
-    done.same(&rt, Ok(()), GONE);
-    let lost = Outcome::Lost(LostCause::Gone);
-    assert!(rt; ends(&mut office) == [ended(lost), None, None]);
-}
-
-#[test]
-fn a_silent_device_is_asked_for_each_read(rt: HostRuntime) {
-    let mut office = listed(&rt, rt.alloc());
-    let moments = [1000, 1000, 1004, 1005, 1005, 1009, 1010];
-    let done = round(rt.alloc(), &mut office, &mut IdleLink::new(), &moments);
-    done.same(&rt, Ok(()), SILENT);
+    for piece in [259, 1] {
+        let mut office = listed(&rt, rt.alloc());
+        let mut given = [0; 24];
+        let mut link = MemoryLink::new(&input, &mut given, piece.max(1), None);
+        let done = round(rt.alloc(), &mut office, &mut link, &[1000]);
+        assert!(rt; done.done == Ok(()), "{piece}");
+        assert!(rt; link.given() == FRAMES, "{piece}");
+        assert!(rt; ends(&mut office) == [ANSWERED, ANSWERED, None], "{piece}");
+    }
 }

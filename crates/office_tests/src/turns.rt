@@ -10,8 +10,18 @@ fn seen(rt: &impl Abort, alloc: Global, moments: &[Moment]) -> Bench<Seen> {
     play(rt, alloc, moments, Seen::new(alloc))
 }
 
-// What happens, and what is seen of it.
-static TURNS: [(&[Moment], &str); 6] = [
+// What happens, what is seen of it, and the bytes of the frames: 12 for each read.
+static TURNS: [(&[Moment], &str, usize); 7] = [
+    // a device is polled to its end
+    (
+        &[
+            (1001, Step::Stands(0)),
+            (1002, Step::First(0)),
+            (1003, Step::Second(0)),
+        ],
+        "0C 0S 0Ba 0S 0Ba 0G ",
+        24,
+    ),
     // two devices are polled at once
     (
         &[
@@ -23,6 +33,7 @@ static TURNS: [(&[Moment], &str); 6] = [
             (1002, Step::Second(1)),
         ],
         "1C 1S 0C 0S 1Ba 1S 0Ba 0S 0Ba 0G 1Ba 1G ",
+        48,
     ),
     // both wait at once, and both are silent at one tick
     (
@@ -34,6 +45,7 @@ static TURNS: [(&[Moment], &str); 6] = [
             (1011, Step::Tick),
         ],
         "0C 0S 1C 1S T Tss 0S 1S Tss 0G 1G ",
+        48,
     ),
     // an end loses the polls of that device alone
     (
@@ -45,6 +57,7 @@ static TURNS: [(&[Moment], &str); 6] = [
             (1003, Step::First(1)),
         ],
         "0C 0S 1C 1S 0Fl 1Ba 1S ",
+        36,
     ),
     // a device comes again after it failed
     (
@@ -54,6 +67,7 @@ static TURNS: [(&[Moment], &str); 6] = [
             (1003, Step::Stands(0)),
         ],
         "0C 0S 0Fl 0C 0S ",
+        24,
     ),
     // bytes of a device that is not polled, and a place at which no device is
     (
@@ -63,33 +77,23 @@ static TURNS: [(&[Moment], &str); 6] = [
             (1001, Step::Ended(1, Closing::Gone)),
         ],
         "",
+        0,
     ),
     // a moment before the latest breaks the round off; the hub itself never feeds one: `SteadyClock` sees to that
     (
         &[(1001, Step::Stands(0)), (999, Step::First(0))],
         "0C 0S 0B! 0F! ",
+        12,
     ),
 ];
 
 #[test]
 fn turns_feed_what_rounds_wish(rt: HostRuntime) {
-    for (moments, text) in TURNS {
+    for (moments, text, frames) in TURNS {
         let bench = seen(&rt, rt.alloc(), moments);
         assert!(rt; bench.observer.text.as_str() == text);
+        assert!(rt; bench.observer.frames == frames, "{text}");
     }
-}
-
-static TO_ITS_END: [Moment; 3] = [
-    (1001, Step::Stands(0)),
-    (1002, Step::First(0)),
-    (1003, Step::Second(0)),
-];
-
-#[test]
-fn a_device_is_polled_to_its_end(rt: HostRuntime) {
-    let bench = seen(&rt, rt.alloc(), &TO_ITS_END);
-    assert!(rt; bench.observer.text.as_str() == "0C 0S 0Ba 0S 0Ba 0G ");
-    assert!(rt; bench.observer.frames == 24);
 }
 
 static COME_AGAIN: [Moment; 3] = [

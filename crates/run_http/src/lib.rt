@@ -30,7 +30,7 @@ pub use pieces::{
     tell_rows, text_stays,
 };
 pub use register_meters::reply_meters;
-pub use register_replies::reply_energy;
+pub use register_replies::{put_energy_reply, reply_energy};
 pub use route::{RunRoute, StatusRoute, reply_status, run_route};
 pub use site::reply_site;
 pub use texts::{put_entries, put_metrics, put_register_meters, put_site};

@@ -50,8 +50,13 @@ fn put_energy<B: Books, W: Write>(
     put_rest(told, &mut rows)
 }
 
-// Puts the reply for a report, or for a refusal.
-fn put_told(text: &mut Vec<u8>, answer: &Result<(), Refusal>, body: &[u8]) -> Result<(), AllocError>
+/// Puts the reply to a question for the energy of a register at the end of a text: with the report, or for a refusal. Want of
+/// memory leaves a part of it.
+pub fn put_energy_reply(
+    text: &mut Vec<u8>,
+    answer: &Result<(), Refusal>,
+    body: &[u8],
+) -> Result<(), AllocError>
     ensures { OnOk result (text.new.items
         ≡ with_energy_reply answer.now body.now text.old.items) }
 {
@@ -76,5 +81,5 @@ pub fn reply_energy<B: Books>(
 {
     let mut body = Vec::new(alloc);
     let answer = put_energy(office, register, form, &mut body)?;
-    put_told(text, &answer, &body)
+    put_energy_reply(text, &answer, &body)
 }

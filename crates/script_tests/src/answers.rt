@@ -23,11 +23,33 @@ const STARTED: Answer = Answer::Started {
     of: 2,
 };
 
-static ANSWERS: [(Answer, &[u8], &str); 4] = [
+// 65 bytes.
+const FRAMES: &[u8] = b"abcdefghijklmnopqrstuvwxyz0123456789abcdefghijklmnopqrstuvwxyz012";
+
+const FRAMES_WRITTEN: &str =
+    "started 1 1 2 6162636465666768696a6b6c6d6e6f707172737475767778797a303132333435363738396162636465666768696a6b6c6d6e6f707172737475767778797a303132\n";
+
+static ANSWERS: [(Answer, &[u8], &str); 8] = [
     (Answer::Done(CommandKind::Device), b"", "ok\n"),
     (Answer::Again(CommandKind::Exchange), b"", "ok\n"),
     (Answer::Noted, b"", "ok\n"),
     (STARTED, FRAME, "started 1 1 2 00000000000601039c9e0003\n"),
+    (
+        STARTED,
+        b"abcdefghijklmnopqrstuvwxyz01234",
+        "started 1 1 2 6162636465666768696a6b6c6d6e6f707172737475767778797a3031323334\n",
+    ),
+    (
+        STARTED,
+        b"abcdefghijklmnopqrstuvwxyz012345",
+        "started 1 1 2 6162636465666768696a6b6c6d6e6f707172737475767778797a303132333435\n",
+    ),
+    (
+        STARTED,
+        b"abcdefghijklmnopqrstuvwxyz0123456",
+        "started 1 1 2 6162636465666768696a6b6c6d6e6f707172737475767778797a30313233343536\n",
+    ),
+    (STARTED, FRAMES, FRAMES_WRITTEN),
 ];
 
 #[test]
@@ -88,6 +110,18 @@ fn each_failing_write_is_told(rt: HostRuntime) -> Result<(), Fail> {
         assert!(rt; whole || failing < 79);
     }
     Ok(())
+}
+
+// Fifty bytes are written with each call: the frames go in pieces of 64, 64 and 2 digits.
+#[test]
+fn each_failing_write_of_frames_is_told(rt: HostRuntime) {
+    for failing in 1..10 {
+        let mut kept = Kept::new(rt.alloc(), failing, 50);
+        let ended = write_answer(&STARTED, FRAMES, &mut kept);
+        let whole = kept.is_whole(&rt, FRAMES_WRITTEN);
+        assert!(rt; ended.is_ok() == whole);
+        assert!(rt; whole == (failing > 7));
+    }
 }
 
 static OUTCOMES: [(Outcome, &str); 8] = [

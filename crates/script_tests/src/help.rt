@@ -103,12 +103,13 @@ Polls devices on a schedule and answers HTTP, until it is ended
 Usage: sunreg run [OPTIONS] --db <FILE> --listen <PORT> --every <SECONDS> --devices <LIST>
 
 Options:
-      --db <FILE>         The office's file
+      --db <FILE>         The office's file; of an office that was carried several, books go on in the last
       --listen <PORT>     Port of HTTP on 127.0.0.1, 1 to 65535
       --every <SECONDS>   From one round of a device to its next, 1 to 86400
       --devices <LIST>    1 to 64 of NAME=HOST:PORT, joined by commas
       --for <SECONDS>     Ends after this long, 1 to 4000000000
       --carry <PERIOD>    Begins a new file each month or year: month or year
+      --earlier <COUNT>   Tells energy over so many earlier ones of these files too, 1 to 1200
       --host-name <NAME>  Another name that Host may say; may stand several times
       --most-kept <MB>    Answers commands 503 past so many megabytes of kept ones, 1 to 1000000
       --verbose           Prints more of what goes on

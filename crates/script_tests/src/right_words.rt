@@ -488,20 +488,22 @@ fn run_goes_on_where_no_end_is_given(rt: HostRuntime) {
     match command_of(rt.alloc(), &RUN) {
         Ok(
             CommandLine::Run {
-                db,
+                dbs,
                 listen,
                 every,
                 devices,
                 lasts,
                 carry,
+                earlier,
                 host_names,
                 most_kept,
                 verbose,
             },
         ) => {
-            assert!(rt; carry == None);
+            assert!(rt; carry == None && earlier == None);
             assert!(rt; host_names.is_empty() && most_kept == None);
-            assert!(rt; db == "o.db" && listen == 8080 && every == 60);
+            assert!(rt; dbs.as_slice() == ["o.db"].as_slice());
+            assert!(rt; listen == 8080 && every == 60);
             assert!(rt; lasts == None && !verbose);
             assert!(rt; devices.as_slice() == DEVICES.as_slice());
         }
@@ -533,7 +535,7 @@ fn run_takes_an_end_and_verbose(rt: HostRuntime) {
     }
 }
 
-static RUN_BY_YEARS: [&str; 11] = [
+static RUN_BY_YEARS: [&str; 13] = [
     "run",
     "--db",
     "o.db",
@@ -545,12 +547,44 @@ static RUN_BY_YEARS: [&str; 11] = [
     "inv=192.0.2.7:502",
     "--carry",
     "year",
+    "--earlier",
+    "1200",
 ];
 
 #[test]
 fn run_takes_a_file_each_year(rt: HostRuntime) {
     match command_of(rt.alloc(), &RUN_BY_YEARS) {
-        Ok(CommandLine::Run { carry, .. }) => assert!(rt; carry == Some(Period::Year)),
+        Ok(CommandLine::Run { carry, earlier, .. }) => {
+            assert!(rt; carry == Some(Period::Year));
+            assert!(rt; earlier == Some(1200));
+        }
+        _ => panic!(rt; "no run"),
+    }
+}
+
+static RUN_SEVERAL: [&str; 13] = [
+    "run",
+    "--db",
+    "2025.db",
+    "--listen",
+    "8080",
+    "--every",
+    "60",
+    "--devices",
+    "inv=192.0.2.7:502",
+    "--carry",
+    "month",
+    "--db",
+    "o.db",
+];
+
+#[test]
+fn run_takes_several_files(rt: HostRuntime) {
+    match command_of(rt.alloc(), &RUN_SEVERAL) {
+        Ok(CommandLine::Run { dbs, earlier, .. }) => {
+            assert!(rt; dbs.as_slice() == ["2025.db", "o.db"].as_slice());
+            assert!(rt; earlier == None);
+        }
         _ => panic!(rt; "no run"),
     }
 }

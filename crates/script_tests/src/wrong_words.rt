@@ -1,7 +1,7 @@
 //! Words that spell no command.
 use command_words::{WordsFault, command_of};
 
-static WRONG: [&[&str]; 56] = [
+static WRONG: [&[&str]; 59] = [
     &["bogus"],
     &[""],
     &["Plan"],
@@ -89,6 +89,51 @@ static WRONG: [&[&str]; 56] = [
         "--carry",
         "day",
     ],
+    &[
+        "run",
+        "--db",
+        "x",
+        "--listen",
+        "1",
+        "--every",
+        "1",
+        "--devices",
+        "a=h:1",
+        "--earlier",
+        "3",
+    ],
+    &[
+        "run",
+        "--db",
+        "x",
+        "--listen",
+        "1",
+        "--every",
+        "1",
+        "--devices",
+        "a=h:1",
+        "--carry",
+        "month",
+        "--earlier",
+        "1201",
+    ],
+    &[
+        "run",
+        "--db",
+        "x",
+        "--db",
+        "y",
+        "--listen",
+        "1",
+        "--every",
+        "1",
+        "--devices",
+        "a=h:1",
+        "--carry",
+        "month",
+        "--earlier",
+        "3",
+    ],
 ];
 
 #[test]
@@ -145,6 +190,33 @@ fn two_files_have_no_seal(rt: HostRuntime) {
         panic!(rt; "not wrong");
     };
     assert!(rt; text.as_str() == TWO_SEALED_TEXT);
+}
+
+static NO_PERIODS: [&str; 11] = [
+    "run",
+    "--db",
+    "x",
+    "--listen",
+    "1",
+    "--every",
+    "1",
+    "--devices",
+    "a=h:1",
+    "--earlier",
+    "3",
+];
+
+static NO_PERIODS_TEXT: &str = "error: the argument '--earlier' cannot be used without '--carry'
+
+For more information, try '--help'.
+";
+
+#[test]
+fn earlier_files_are_those_of_periods(rt: HostRuntime) {
+    let Err(WordsFault::Wrong(text)) = command_of(rt.alloc(), &NO_PERIODS) else {
+        panic!(rt; "not wrong");
+    };
+    assert!(rt; text.as_str() == NO_PERIODS_TEXT);
 }
 
 static WEEK: [&str; 7] = ["report", "--db", "x", "--register", "r", "--by", "week"];

@@ -13,7 +13,7 @@ appends_both (Some xs) (Some ys) None x y z first second joined = absurd second
 appends_both (Some xs) (Some ys) (Some zs) x y z first second joined =
     second ∙ ap (λ (front : List ℕ). front ++ y) first ∙ append_assoc xs x y ∙ ap (λ (more : List ℕ). xs ++ more) joined
 
-part_after : (a b c : Option (List ℕ)) (x y z : List ℕ) → Appends a b x → GotPart y b c → x ++ y ≡ z → GotPart z a c
+pub part_after : (a b c : Option (List ℕ)) (x y z : List ℕ) → Appends a b x → GotPart y b c → x ++ y ≡ z → GotPart z a c
 part_after a b c x y z first second joined = (
   x ++ second.0,
   second.1,

@@ -1,13 +1,16 @@
 //! Texts that are written one after the other.
-ghost use Rattle.std.specs.Prelude.{◌∷◌, [], ◌++◌};
+ghost use Rattle.std.specs.Prelude.{◌≡◌, ◌++◌, ◌*◌, ◌≤◌, length};
 ghost use Rattle.hex.specs.Hex.{encode_lower};
 ghost use Rattle.sun_points.specs.Writing.{GotText};
 
 use std::io::{self, Write};
 use sun_points::Sink;
 
-/// The digits of bytes in hex.
-const DIGITS: [u8; 16] = *b"0123456789abcdef";
+/// So many bytes at most are written as hex in one piece.
+const PIECE: usize = 32;
+
+/// The digits of so many.
+const DIGITS: usize = 2 * PIECE;
 
 /// Writes a text.
 pub(crate) fn write_text<W: Write>(text: &[u8], output: &mut W) -> io::Result<()>
@@ -38,23 +41,36 @@ pub(crate) fn write_named<W: Write>(
     write_both(name, rest, output)
 }
 
-/// Writes bytes in lower-case hex.
+/// Writes bytes in lower-case hex, piece after piece.
 pub(crate) fn write_hex<W: Write>(bytes: &[u8], output: &mut W) -> io::Result<()>
     ensures { GotText result (encode_lower bytes.now)
         (W.contents output.old) (W.contents output.new) }
 {
-    for byte in bytes {
-        write_byte(*byte, output)?;
+    let mut rest = bytes;
+    while !rest.is_empty() {
+        let (piece, after) = rest.split_at(rest.len().min(PIECE));
+        write_piece(piece, output)?;
+        rest = after;
     }
     Ok(())
 }
 
-#[tactic(auto, unfolding(hex::specs::Hex::encode_with))]
-fn write_byte<W: Write>(byte: u8, output: &mut W) -> io::Result<()>
-    ensures { GotText result (encode_lower (byte ∷ []))
+fn write_piece<W: Write>(bytes: &[u8], output: &mut W) -> io::Result<()>
+    requires { length bytes.now ≤ PIECE }
+    ensures { GotText result (encode_lower bytes.now)
         (W.contents output.old) (W.contents output.new) }
 {
-    let high = DIGITS[usize::from(byte / 16)];
-    let low = DIGITS[usize::from(byte % 16)];
-    write_text(&[high, low], output)
+    let mut digits = [0; DIGITS];
+    let text = &mut digits[..2 * bytes.len()];
+    put_digits(bytes, text);
+    write_text(text, output)
+}
+
+/// Fills a text that has two digits for each byte.
+fn put_digits(bytes: &[u8], text: &mut [u8])
+    requires { length text.old ≡ 2 * length bytes.now }
+    ensures { text.new ≡ encode_lower bytes.now }
+{
+    // (it fails at another length alone)
+    let _ = hex::encode_to_slice(bytes, text);
 }

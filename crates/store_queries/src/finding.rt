@@ -15,4 +15,4 @@ pub use last_moment::latest;
 pub(crate) use memory::{put, want_of_memory};
 pub use point_lists::{list, read_count, reads};
 pub use poll_rows::{pending, poll, poll_count};
-pub use register_rows::{register, register_count, registers};
+pub use register_rows::{register, register_count, registers, registers_read};

@@ -6,7 +6,7 @@ mod metering;
 
 pub use finding::{
     devices, latest, list, pending, poll, poll_count, read_count, reads, register, register_count,
-    registers, repeat,
+    registers, registers_read, repeat,
 };
 pub use metering::{
     entry, entry_near, holds, installation, installation_count, intervals, meter, meter_entries,

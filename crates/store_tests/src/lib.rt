@@ -1,6 +1,6 @@
 //! Tests of the tables of the books, of the file that has them all, of what is booked and looked up in them, and of an office
-//! over them, over databases in memory. Scripts give the answers that they give over books in memory, and each column of each
-//! table is set to what it can't be, and the books say so.
+//! over them, over databases in memory. Scripts give the answers that they give over books in memory, each column of each table is set
+//! to what it can't be, and the books say so, and the machine stops at each call of a database's files.
 #![tactic(auto)]
 
 #[cfg(test)]
@@ -63,6 +63,8 @@ mod scripts;
 mod seals;
 #[cfg(test)]
 mod shares;
+#[cfg(test)]
+mod stops;
 #[cfg(test)]
 mod stories;
 #[cfg(test)]

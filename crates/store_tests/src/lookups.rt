@@ -12,7 +12,7 @@ use sqlite::{Connection, Error, MemStore};
 use std::alloc::Global;
 use std::test::Fail;
 use store_queries::{
-    devices, pending, poll, poll_count, register, register_count, registers, repeat,
+    devices, pending, poll, poll_count, register, register_count, registers, registers_read, repeat,
 };
 use store_tables::RowFault;
 
@@ -98,6 +98,41 @@ fn registers_are_those_of_their_device(rt: HostRuntime) -> Result<(), Fail> {
     let all = registers(&mut conn, &name(b"inv")?)?;
     assert!(rt; all.len() == 1);
     assert!(rt; Some(all[0]) == main());
+    Ok(())
+}
+
+/// Reads of a device, and whether they give a reading of its register.
+static READS: [(&[u8], u8, u16, u16, bool); 9] = [
+    (b"inv", 3, 40_094, 3, true),
+    (b"inv", 3, 40_093, 4, true),
+    (b"inv", 3, 40_094, 2, false),
+    (b"inv", 3, 40_095, 3, false),
+    (b"inv", 4, 40_094, 3, false),
+    (b"pv", 4, 8, 2, true),
+    (b"pv", 4, 8, 1, false),
+    (b"pv", 4, 9, 2, false),
+    (b"pv", 3, 8, 2, false),
+];
+
+fn count_of_read(
+    conn: &mut Connection<MemStore>,
+    device: &[u8],
+    span: Option<ReadSpan>,
+) -> Result<usize, RowFault> {
+    ready(conn)?;
+    let span = span.ok_or(Error::InvalidQuery)?;
+    Ok(registers_read(conn, &name(device)?, span)?.len())
+}
+
+/// The counter and the scale of a register lie in a read that gives a reading of it, which has its function.
+#[test]
+fn registers_are_told_by_their_read(rt: HostRuntime) -> Result<(), Fail> {
+    let mut conn = books(rt.alloc())?;
+    for (device, function, address, count, is_read) in &READS {
+        let span = ReadSpan::new(*function, *address, *count);
+        let found = count_of_read(&mut conn, device, span);
+        assert!(rt; found == Ok(usize::from(*is_read)), "{address} {count}");
+    }
     Ok(())
 }
 

@@ -1,5 +1,6 @@
 //! All look-ups of books.
 use interval_core::Share;
+use mb_wire::ReadSpan;
 use office_books::{Books, BooksFault, RowSink, Span, StoreFault};
 use office_events::{HeldReading, Name};
 
@@ -19,10 +20,11 @@ impl RowSink<HeldReading> for NoRows {
     fn put(&mut self, _row: HeldReading) {}
 }
 
-/// The names that are looked up.
+/// The names that are looked up, and a read of the device.
 #[derive(Clone, Copy)]
 struct AskedNames {
     inv: Name,
+    span: ReadSpan,
     main: Name,
     m1: Name,
     desk: Name,
@@ -31,6 +33,7 @@ struct AskedNames {
 fn names() -> Option<AskedNames> {
     Some(AskedNames {
         inv: Name::new(b"inv")?,
+        span: ReadSpan::new(3, 40_094, 3)?,
         main: Name::new(b"main")?,
         m1: Name::new(b"m1")?,
         desk: Name::new(b"desk")?,
@@ -47,6 +50,7 @@ fn ask_devices<B: Books>(books: &mut B, names: &AskedNames) -> bool {
         && look(books.list(&names.inv))
         && look(books.register(&names.main))
         && look(books.registers(&names.inv))
+        && look(books.registers_read(&names.inv, names.span))
         && look(books.register_count(&names.inv))
 }
 

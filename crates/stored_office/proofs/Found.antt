@@ -9,8 +9,9 @@ use Rattle.office_store.specs.Database.{HoldsAlone}
 use Rattle.office_store.specs.declared.books.SqlBooks.{SqlBooks}
 use Rattle.kept_books.specs.declared.kept.KeptBooks.{KeptBooks}
 use Rattle.kept_books.specs.Keeping.{StandsAs, beneath}
-use Rattle.stored_office.proofs.RunsLemmas.Standing.{stands_alone}
-use Rattle.stored_office.specs.BooksFound.{OverBooks, ledger_beneath, ledger_in}
+use Rattle.stored_files.proofs.Standing.{stands_alone}
+use Rattle.stored_files.specs.BooksFound.{ledger_beneath}
+use Rattle.stored_office.specs.OverBooks.{OverBooks, ledger_in}
 
 -- books that stand as others stand after what was accepted
 stands_so : (before after : Ledger) (past : History) → StandsAs before after → BooksStand before past → BooksStand after past

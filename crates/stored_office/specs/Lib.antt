@@ -1,9 +1,3 @@
 pub mod Advice
-pub mod BooksFound
-pub mod NewOffice
+pub mod OverBooks
 pub mod Tasks
-pub mod Ends
-pub mod Files
-pub mod Backups
-pub mod Carries
-pub mod Joins

@@ -1,19 +1,17 @@
 //! The commands, over the streams and sockets of the process.
-use crate::audits::{audit, audit_several};
-use crate::backups::backup;
-use crate::carries::carry;
 use crate::completions::completions;
 use crate::ended;
 use crate::entering::enter;
 use crate::explain::explain;
-use crate::joined_reports::report_files;
-use crate::offices::{Files, OWN_HOST, create, over_office, run};
-use crate::period_runs::run_by_periods;
+use crate::offices::{OWN_HOST, over_office, run};
+use crate::period_runs::{PeriodWords, run_by_periods};
 use crate::reports::report;
 use crate::run_words::settings_of;
 use crate::scans::{Target, scan};
+use crate::surroundings::Surroundings;
 use command_io::{Buffered, ExitStatus};
 use command_words::CommandLine;
+use file_commands::{Files, audit, audit_several, backup, carry, create, report_files};
 use interval_core::Zone;
 use mb_device::answer_all;
 use script_run::{Loopback, SetupParts, loop_text, replay, set_up};
@@ -21,7 +19,8 @@ use std::io;
 use std::io::Write;
 use std::net::TcpListener;
 use std::process::ExitCode;
-use stored_office::{Ending, Failure, Task, ending_of, ending_of_done};
+use stored_files::{Ending, Failure, ending_of};
+use stored_office::{Task, ending_of_done};
 use sunspec_text::{chain_text, plan_text};
 
 /// Carries a command out, says how it ended, and answers the exit status.
@@ -65,7 +64,8 @@ pub(crate) fn carry_out(rt: &HostRuntime, line: &CommandLine<'_>) -> ExitCode {
                 names: host_names.as_slice(),
                 connections: *connections,
             };
-            ending_of_done(over_office(rt, &Files::of(rt), *db, task), OWN_HOST, *port)
+            let surroundings = Surroundings::of(rt, Files::of(rt));
+            ending_of_done(over_office(rt, &surroundings, *db, task), OWN_HOST, *port)
         }
         CommandLine::Round {
             db,
@@ -78,7 +78,8 @@ pub(crate) fn carry_out(rt: &HostRuntime, line: &CommandLine<'_>) -> ExitCode {
                 host: *host,
                 port: *port,
             };
-            ending_of_done(over_office(rt, &Files::of(rt), *db, task), *host, *port)
+            let surroundings = Surroundings::of(rt, Files::of(rt));
+            ending_of_done(over_office(rt, &surroundings, *db, task), *host, *port)
         }
         CommandLine::Report { db, register, form } => report(rt, *db, *register, form),
         CommandLine::ReportFiles {
@@ -87,12 +88,13 @@ pub(crate) fn carry_out(rt: &HostRuntime, line: &CommandLine<'_>) -> ExitCode {
             form,
         } => report_files(rt, files.as_slice(), *register, form),
         CommandLine::Run {
-            db,
+            dbs,
             listen,
             every,
             devices,
             lasts,
             carry,
+            earlier,
             host_names,
             most_kept,
             verbose,
@@ -106,8 +108,15 @@ pub(crate) fn carry_out(rt: &HostRuntime, line: &CommandLine<'_>) -> ExitCode {
                 *verbose,
             );
             match carry {
-                Some(period) => return run_by_periods(rt, *db, devices, &settings, *period),
-                None => run(rt, *db, devices, &settings),
+                Some(period) => {
+                    let words = PeriodWords {
+                        files: dbs.as_slice(),
+                        period: *period,
+                        earlier: *earlier,
+                    };
+                    return run_by_periods(rt, words, devices, &settings);
+                }
+                None => run(rt, dbs.as_slice(), devices, &settings),
             }
         }
         CommandLine::Enter {

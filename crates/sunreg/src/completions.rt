@@ -2,7 +2,7 @@
 use command_io::Buffered;
 use command_words::{CommandText, OptionText, ProgramText, Value, program};
 use std::io::{self, Write};
-use stored_office::{Ending, Failure};
+use stored_files::{Ending, Failure};
 
 const HEAD: &str = "\
 # The words of sunreg, for bash. Have them now by: source <(sunreg completions bash)

@@ -10,7 +10,7 @@ use socket_link::{Clock, DeadlineLink, SystemClock};
 use std::fmt;
 use std::fmt::{Display, Formatter};
 use std::str::from_utf8;
-use stored_office::Failure;
+use stored_files::Failure;
 
 /// Why it isn't known what a counter shows.
 #[derive(Clone, Copy, Debug, Drop)]

@@ -1,8 +1,9 @@
 //! Entering lines of standard input into an office in a file.
 use crate::counters::shown_at;
-use crate::escaped::Escaped;
-use crate::offices::{Files, OWN_HOST, Opening, over_office};
+use crate::offices::{OWN_HOST, over_office};
+use crate::surroundings::Surroundings;
 use command_io::{Buffered, read_input};
+use file_commands::{Escaped, Files};
 use office_events::{Device, Register};
 use office_program::{MOST_FILE, NamedFiles, Shown};
 use std::alloc::{AllocError, Global};
@@ -10,7 +11,8 @@ use std::fmt::Display;
 use std::fs::File;
 use std::io::{self, ErrorKind, Read, Write};
 use std::str::from_utf8;
-use stored_office::{Ending, Failure, Task, ending_of, ending_of_done};
+use stored_files::{Ending, Failure, ending_of};
+use stored_office::{Task, ending_of_done};
 
 // Says why a file, or the counter of a register, that a line names isn't read.
 fn say_unread<D: Display>(rt: &HostRuntime, name: &str, why: &D) {
@@ -35,7 +37,7 @@ fn read_within(rt: &HostRuntime, alloc: Global, name: &str) -> io::Result<Vec<u8
     Ok(whole)
 }
 
-impl NamedFiles for Files<'_> {
+impl NamedFiles for Surroundings<'_> {
     fn read(&self, alloc: Global, name: &[u8]) -> Result<Option<Vec<u8>>, AllocError> {
         let Ok(name) = from_utf8(name) else {
             say_unread(self.rt, "a list", &"the name of its file is no text");
@@ -98,12 +100,8 @@ pub(crate) fn enter<'a>(
             } else {
                 Task::Enter { caller, text }
             };
-            let files = Files {
-                rt,
-                places,
-                opening: Opening::InPlace,
-            };
-            ending_of_done(over_office(rt, &files, path, task), OWN_HOST, 0)
+            let surroundings = Surroundings::with(rt, Files::of(rt), places);
+            ending_of_done(over_office(rt, &surroundings, path, task), OWN_HOST, 0)
         }
     }
 }

@@ -2,7 +2,7 @@
 use command_io::Buffered;
 use printed_numbers::{Kind, Meaning, kinds, meaning_of};
 use std::io::{self, Write};
-use stored_office::{Ending, Failure};
+use stored_files::{Ending, Failure};
 
 /// No printed number is greater.
 const MOST_NUMBER: u32 = 999;

@@ -3,20 +3,14 @@
 
 ghost use Rattle.std.specs.Prelude.{◌≡◌};
 ghost use Rattle.std.specs.Process.{exit_status};
-ghost use Rattle.stored_office.specs.Ends.Endings.{ending_number};
+ghost use Rattle.stored_files.specs.Ends.Endings.{ending_number};
 
-mod audits;
-mod backups;
-mod carries;
 mod command_output;
 mod commands;
 mod completions;
-mod copies;
 mod counters;
 mod entering;
-mod escaped;
 mod explain;
-mod joined_reports;
 mod offices;
 mod onward_clock;
 mod period_files;
@@ -24,19 +18,20 @@ mod period_runs;
 mod reports;
 mod run_words;
 mod scans;
+mod surroundings;
 mod version;
 mod waiting;
 
 use crate::commands::carry_out;
-use crate::escaped::Escaped;
 use crate::version::version;
 use crate::waiting::say_waiting;
 use command_words::{WordsFault, command_of};
+use file_commands::Escaped;
 use std::alloc::{AllocError, Global};
 use std::env;
 use std::io::{self, ErrorKind, Write};
 use std::process::ExitCode;
-use stored_office::{Ending, Failure, say};
+use stored_files::{Ending, Failure, say};
 
 fn main(rt: HostRuntime) -> ExitCode {
     let args = match env::args(&rt) {

@@ -1,12 +1,12 @@
 //! The files of a run that begins a new one each month or year, by their names.
-use crate::backups::part_name;
-use crate::offices::{is_blank, length_of, log_of};
 use energy_report::Period;
-use run_schedule::{LedPeriod, file_of_period};
+use file_commands::{is_blank, length_of, log_of, part_name};
+use run_schedule::{LedPeriod, file_of_period, period_of_file};
 use std::fs::{self, File};
 use std::io::{self, ErrorKind};
 use std::os::unix::fs::MetadataExt;
-use stored_office::{Failure, FileFault};
+use std::str::from_utf8;
+use stored_files::{Failure, FileFault};
 
 /// How many files are taken away in a row that a kill left empty.
 const TRIES: u32 = 8;
@@ -118,6 +118,82 @@ pub(crate) fn led_file<'a>(
         let _gone = fs::remove_file(rt, led.path.as_str());
     }
     named_file(rt, file, period)
+}
+
+// The texts of the periods whose files are beside a run's own, before one of them, in their order.
+fn periods_before(
+    rt: &HostRuntime,
+    file: &str,
+    period: Period,
+    current: &str,
+) -> io::Result<Vec<String>> {
+    let (folder, name) = split_path(file);
+    let mut texts = Vec::new(rt.alloc());
+    for entry in fs::read_dir(rt, folder)? {
+        match entry {
+            Ok(entry) => {
+                let other = entry.file_name();
+                let found = period_of_file(name.as_bytes(), period, other.as_bytes());
+                let text = from_utf8(found.unwrap_or(b"")).unwrap_or("");
+                if !text.is_empty() && text < current {
+                    texts.push(String::from_str(rt.alloc(), text)?)?;
+                }
+            }
+            Err(error) if error.kind() == ErrorKind::InvalidFilename => {}
+            Err(error) => return Err(error),
+        }
+    }
+    texts.sort()?;
+    Ok(texts)
+}
+
+// The paths of these files. A run's own is the first, where it is there.
+fn paths_before<'a>(
+    rt: &HostRuntime,
+    file: &str,
+    texts: &[String],
+) -> Result<Vec<String>, Failure<'a>> {
+    let mut paths = Vec::new(rt.alloc());
+    if length_of(rt, file).is_some() {
+        let Ok(own) = String::from_str(rt.alloc(), file) else {
+            return Err(Failure::Memory);
+        };
+        if paths.push(own).is_err() {
+            return Err(Failure::Memory);
+        }
+    }
+    for text in texts {
+        let path = path_of(rt, file, text.as_bytes())?;
+        if paths.push(path).is_err() {
+            return Err(Failure::Memory);
+        }
+    }
+    Ok(paths)
+}
+
+/// The files of a run that are beside its own and before the one at a path, the oldest first, of which books were led in the first: its
+/// own, and then those of periods. Before its own there is none.
+pub(crate) fn files_before<'a>(
+    rt: &HostRuntime,
+    file: &'a str,
+    period: Period,
+    path: &str,
+) -> Result<Vec<String>, Failure<'a>> {
+    let (_, own) = split_path(file);
+    let (_, name) = split_path(path);
+    let found = period_of_file(own.as_bytes(), period, name.as_bytes());
+    let current = from_utf8(found.unwrap_or(b"")).unwrap_or("");
+    if current.is_empty() {
+        return Ok(Vec::new(rt.alloc()));
+    }
+    match periods_before(rt, file, period, current) {
+        Ok(texts) => paths_before(rt, file, &texts),
+        Err(error) if error.kind() == ErrorKind::OutOfMemory => Err(Failure::Memory),
+        Err(_) => {
+            let fault = FileFault::Unreadable;
+            Err(Failure::File { path: file, fault })
+        }
+    }
 }
 
 // Whether two paths are names of one file.

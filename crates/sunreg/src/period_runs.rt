@@ -1,15 +1,18 @@
 //! A run whose books are led in a new file each month or year. Each of its runs ends soon after the period has begun that follows its
 //! own; then the meters are carried into the file of that, and the next run goes on there.
-use crate::backups::is_there;
-use crate::carries::{NotCarried, carry_open, write_why};
 use crate::ended;
-use crate::escaped::Escaped;
-use crate::offices::{Files, OWN_HOST, open_in, run_opened};
+use crate::offices::{OWN_HOST, run_opened};
 use crate::onward_clock::OnwardClock;
-use crate::period_files::{Led, leave_one_name, led_file, path_of};
+use crate::period_files::{Led, files_before, leave_one_name, led_file, path_of};
 use crate::run_words::{STANDARD_ERROR, sites_of};
+use crate::surroundings::Surroundings;
+use carried_books::EarlierRegister;
 use command_words::Device;
 use energy_report::{Period, period_name};
+use file_commands::{
+    Escaped, Files, NotCarried, but_last, carry_open, earlier_registers, is_there, last_of,
+    open_in, write_why,
+};
 use interval_core::{Day, LAST_MOMENT, Zone, day_of};
 use office_program::NamedFiles;
 use office_running::{Settings, Site, write_without_waiting};
@@ -18,11 +21,13 @@ use run_schedule::{Plan, next_try, period_until, plan_of};
 use socket_link::{Clock, SystemClock};
 use sqlite::types::ValueRef;
 use sqlite::{Alter, Connection};
+use std::alloc::AllocError;
 use std::io::{self, Write};
 use std::process::ExitCode;
 use std::thread::sleep;
 use std::time::{Duration, Instant};
-use stored_office::{CopyFault, Databases, Ending, Failure, FileFault, ending_of_done, told_zone};
+use stored_files::{CopyFault, Databases, Ending, Failure, FileFault, told_zone};
+use stored_office::ending_of_done;
 
 /// How often a file is tried that another process has open, and one looked for that another may be making; and how many milliseconds
 /// pass between.
@@ -84,6 +89,14 @@ fn say_behind(rt: &HostRuntime, path: &str) {
     }
 }
 
+fn say_alone(rt: &HostRuntime, path: &str) {
+    if let Ok(line) = format!(in rt.alloc();
+        "sunreg: {path}: energy is told of this file alone\n"
+    ) {
+        say(rt, line.as_bytes());
+    }
+}
+
 // Says why a file was not carried, and what comes of that.
 fn say_not_carried(rt: &HostRuntime, from: &str, why: &NotCarried<'_>, comes: &str) {
     let mut lines = Vec::new(rt.alloc());
@@ -92,14 +105,42 @@ fn say_not_carried(rt: &HostRuntime, from: &str, why: &NotCarried<'_>, comes: &s
     say(rt, lines.as_slice());
 }
 
-// What is run: the file that was given, and the periods of its files.
+/// What the words say of the files of a run by periods: that which was given, after earlier ones, their periods, and over how many
+/// earlier ones of periods energy is told, too, where none was given before it.
+#[derive(Clone, Copy)]
+pub(crate) struct PeriodWords<'r> {
+    pub(crate) files: &'r [&'r str],
+    pub(crate) period: Period,
+    pub(crate) earlier: Option<u32>,
+}
+
+// What is run: the file that was given, and the periods of its files; and the earlier files over which energy is told, too: those that
+// were given, and how many of the periods.
 #[derive(Clone, Copy)]
 struct Asked<'r> {
     rt: &'r HostRuntime,
     file: &'r str,
     period: Period,
+    given: &'r [&'r str],
+    earlier: Option<u32>,
     sites: &'r [Site],
     settings: Settings<'r>,
+}
+
+impl Asked<'_> {
+    // Whether energy is told over earlier files, too.
+    fn has_earlier(&self) -> bool {
+        self.earlier.is_some() || !self.given.is_empty()
+    }
+
+    // Over how many of periods at most: all are between those that were given and the one in which books go on.
+    fn most_earlier(&self) -> u32 {
+        if self.given.is_empty() {
+            self.earlier.unwrap_or(0)
+        } else {
+            u32::MAX
+        }
+    }
 }
 
 // Where books go on, and until which moment where one is told.
@@ -179,20 +220,115 @@ fn course_at<'a, S: Alter + Drop>(
     }
 }
 
+// Adds so many of these paths, from the end, to others.
+fn add_last<'p>(
+    paths: &mut Vec<&'p str>,
+    files: &'p [String],
+    count: u32,
+) -> Result<(), AllocError> {
+    let first = files.len().saturating_sub(count as usize);
+    for place in first..files.len() {
+        paths.push(files[place].as_str())?;
+    }
+    Ok(())
+}
+
+// These paths, and then so many of others, from the end.
+fn paths_of<'p>(
+    rt: &HostRuntime,
+    given: &'p [&'p str],
+    files: &'p [String],
+    count: u32,
+) -> Result<Vec<&'p str>, AllocError> {
+    let mut paths = Vec::new(rt.alloc());
+    for path in given {
+        paths.push(*path)?;
+    }
+    add_last(&mut paths, files, count)?;
+    Ok(paths)
+}
+
+// What the files before the one at a path tell of their registers. What is said of it isn't waited for.
+fn registers_before<'a>(
+    rt: &HostRuntime,
+    given: &'a [&'a str],
+    files: &'a [String],
+    count: u32,
+    path: &'a str,
+    is_new: bool,
+) -> Result<Vec<EarlierRegister>, Ending<'a>> {
+    let mut errors = Escaped::new(Unwaited { rt });
+    match paths_of(rt, given, files, count) {
+        Ok(paths) => earlier_registers(rt, paths.as_slice(), path, is_new, &mut errors),
+        Err(_) => Err(Ending::Failed(Failure::Memory)),
+    }
+}
+
+// What comes of earlier files that can't be read, or don't join: a run that has just begun ends, and one that goes on in another file
+// tells that alone.
+fn untold(
+    rt: &HostRuntime,
+    path: &str,
+    is_first: bool,
+    ending: &Ending<'_>,
+) -> Result<Vec<EarlierRegister>, ExitCode> {
+    if is_first {
+        return Err(ended(rt, ending));
+    }
+    if let Ending::Failed(failure) = ending {
+        let mut errors = Escaped::new(Unwaited { rt });
+        let _said = write!(errors, "sunreg: {failure}\n");
+    }
+    say_alone(rt, path);
+    Ok(Vec::new(rt.alloc()))
+}
+
+// What is told of the registers of the files before the one at a path, where that is asked for.
+fn told_before(
+    asked: &Asked<'_>,
+    path: &str,
+    is_first: bool,
+    is_new: bool,
+) -> Result<Vec<EarlierRegister>, ExitCode> {
+    let rt = asked.rt;
+    if !asked.has_earlier() {
+        return Ok(Vec::new(rt.alloc()));
+    }
+    let count = asked.most_earlier();
+    match files_before(rt, asked.file, asked.period, path) {
+        Ok(files) => match registers_before(
+            rt,
+            asked.given,
+            files.as_slice(),
+            count,
+            path,
+            is_new,
+        ) {
+            Ok(registers) => Ok(registers),
+            Err(ending) => untold(rt, path, is_first, &ending),
+        },
+        Err(failure) => untold(rt, path, is_first, &Ending::Failed(failure)),
+    }
+}
+
 // Runs over a connection to the file at a path, until a moment. None: it ended since that has come, or the time is up.
 fn run_in<D: Databases + NamedFiles, C: Clock + Drop>(
     asked: &Asked<'_>,
     databases: &D,
     path: &str,
     connection: Connection<D::Store>,
+    registers: &[EarlierRegister],
     clock: &mut OnwardClock<C>,
     until: Option<u64>,
     left: Option<u64>,
 ) -> Option<ExitCode> {
     let rt = asked.rt;
-    let mut settings = asked.settings;
-    settings.lasts = left;
-    settings.ends = until;
+    let settings = Settings {
+        lasts: left,
+        ends: until,
+        earlier: registers,
+        ..asked.settings
+    };
     let done = run_opened(
         rt,
         databases,
@@ -250,18 +386,32 @@ fn open_again<'a, D: Databases>(
     open_once(rt, databases, path, is_new)
 }
 
-// Opens the file at a path that was just made, or was open before, and runs over it.
+// Reads the files before the one at a path that was just made, or was open before, opens that, and runs over it.
 fn run_at<D: Databases + NamedFiles, C: Clock + Drop>(
     asked: &Asked<'_>,
     databases: &D,
     path: &str,
+    is_first: bool,
     is_new: bool,
     clock: &mut OnwardClock<C>,
     until: Option<u64>,
     left: Option<u64>,
 ) -> Option<ExitCode> {
+    let registers = match told_before(asked, path, is_first, is_new) {
+        Ok(registers) => registers,
+        Err(code) => return Some(code),
+    };
     match open_again(asked.rt, databases, path, is_new) {
-        Ok(connection) => run_in(asked, databases, path, connection, clock, until, left),
+        Ok(connection) => run_in(
+            asked,
+            databases,
+            path,
+            connection,
+            registers.as_slice(),
+            clock,
+            until,
+            left,
+        ),
         Err(failure) => Some(ended(asked.rt, &Ending::Failed(failure))),
     }
 }
@@ -298,6 +448,7 @@ fn carry_on<D: Databases + NamedFiles, C: Clock + Drop>(
     from: &str,
     connection: Connection<D::Store>,
     to: &str,
+    is_first: bool,
     clock: &mut OnwardClock<C>,
     until: Option<u64>,
     left: Option<u64>,
@@ -309,13 +460,13 @@ fn carry_on<D: Databases + NamedFiles, C: Clock + Drop>(
             if !is_made(rt, to, &why) {
                 say_not_carried(rt, from, &why, NOT_CARRIED);
                 let until = next_try(asked.settings.every, clock.now());
-                return run_at(asked, databases, from, false, clock, until, left);
+                return run_at(asked, databases, from, is_first, false, clock, until, left);
             }
             // (it has its name, which can't be brought to the disk; or another process made it, and has it)
             say_not_carried(rt, from, &why, NAMED);
         }
     }
-    run_at(asked, databases, to, true, clock, until, left)
+    run_at(asked, databases, to, is_first, true, clock, until, left)
 }
 
 // Opens the file in which books are led: where a run has just let it go, with some patience.
@@ -362,7 +513,14 @@ fn turn<D: Databases + NamedFiles, C: Clock + Drop>(
         Err(failure) => return Some(ended(rt, &Ending::Failed(failure))),
     };
     match course {
-        Course::Stay(until) => run_in(asked, databases, path, connection, clock, until, left),
+        Course::Stay(until) => {
+            if asked.has_earlier() {
+                // (it is read before, by a connection of its own)
+                drop(connection);
+                return run_at(asked, databases, path, is_first, false, clock, until, left);
+            }
+            run_in(asked, databases, path, connection, &[], clock, until, left)
+        }
         Course::Carry(to, until) => {
             carry_on(
                 asked,
@@ -370,6 +528,7 @@ fn turn<D: Databases + NamedFiles, C: Clock + Drop>(
                 path,
                 connection,
                 to.as_str(),
+                is_first,
                 clock,
                 until,
                 left,
@@ -394,10 +553,9 @@ fn left_of(rt: &HostRuntime, lasts: Option<u64>, begun: Option<Instant>) -> Opti
 /// Polls devices on a schedule and answers HTTP, as the settings say, and begins a new file with each period.
 pub(crate) fn run_by_periods<'a>(
     rt: &HostRuntime,
-    file: &'a str,
+    words: PeriodWords<'a>,
     devices: &[Device<'a>],
     settings: &Settings<'_>,
-    period: Period,
 ) -> ExitCode {
     let sites = match sites_of(rt, devices) {
         Ok(sites) => sites,
@@ -405,12 +563,14 @@ pub(crate) fn run_by_periods<'a>(
     };
     let asked = Asked {
         rt,
-        file,
-        period,
+        file: last_of(words.files),
+        period: words.period,
+        given: but_last(words.files),
+        earlier: words.earlier,
         sites: sites.as_slice(),
         settings: *settings,
     };
-    let files = Files::of(rt);
+    let surroundings = Surroundings::of(rt, Files::of(rt));
     let mut clock = OnwardClock::of(SystemClock::new(rt));
     let begun = match Instant::now(rt) {
         Ok(begun) => Some(begun),
@@ -421,7 +581,7 @@ pub(crate) fn run_by_periods<'a>(
         if left == Some(0) {
             break;
         }
-        match turn(&asked, &files, &mut clock, run == 0, left) {
+        match turn(&asked, &surroundings, &mut clock, run == 0, left) {
             Some(code) => return code,
             None => clock.go_on(),
         }

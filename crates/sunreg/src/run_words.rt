@@ -3,7 +3,7 @@ use command_words::Device;
 use office_events::Name;
 use office_running::{Descriptors, Settings, Site};
 use std::net::{SocketAddr, ToSocketAddrs};
-use stored_office::Failure;
+use stored_files::Failure;
 
 /// The descriptors that each program has (POSIX, unistd.h).
 const STANDARD_OUTPUT: i32 = 1;
@@ -36,6 +36,7 @@ pub(crate) fn settings_of<'n>(
             Some(megabytes) => Some(u64::from(megabytes).saturating_mul(MEGABYTE)),
             None => None,
         },
+        earlier: &[],
         verbose,
         descriptors: Some(Descriptors {
             output: STANDARD_OUTPUT,

@@ -7,7 +7,7 @@ use socket_link::{Clock, DeadlineLink, SocketLink, SystemClock};
 use std::io::{self, IsTerminal, Write};
 use std::net::{Net, TcpStream, ToSocketAddrs};
 use std::time::Duration;
-use stored_office::{Ending, Failure, ending_of};
+use stored_files::{Ending, Failure, ending_of};
 use sun_chain::Model;
 use sunspec_text::{ScanForm, Site, scan_text};
 

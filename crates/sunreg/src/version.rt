@@ -1,7 +1,7 @@
 //! The program's version, and by what its sources are proved.
 use command_words::program;
 use std::io::{self, Write};
-use stored_office::{Ending, Failure};
+use stored_files::{Ending, Failure};
 
 /// The logic of the kit: what `rt version` ends on.
 const LOGIC: &str = "dac8208d650f15bf";

@@ -3,6 +3,7 @@ pub mod Rows
 pub mod Words
 pub mod Opened
 pub mod Read
+pub mod InstalledTerms
 pub mod Following
 pub mod PollNumbers
 pub mod PollRows

@@ -6,6 +6,7 @@ pub mod PollTexts
 pub mod PollSealing
 pub mod Sealing
 pub mod Checking
+pub mod Installed
 pub mod Reading
 pub mod Lines
 pub mod Laws

@@ -3,33 +3,22 @@ ghost use Rattle.std.specs.Prelude.{◌≡◌, ◌↔◌, ◌++◌, false, map, 
 ghost use Rattle.std.specs.List.{list_all};
 ghost use Rattle.table_audit.specs.Looking.{Finds};
 ghost use Rattle.table_audit.specs.Reading as values;
-ghost use Rattle.table_seals.specs.Checking.{IsInstalled, HasSealed, Keeps};
-ghost use Rattle.table_seals.specs.Checking.{TellsKept, TellsMeter, unless_kept};
-ghost use Rattle.table_seals.specs.Checking.{TellsNames, TellsMeters, TellsTables};
+ghost use Rattle.table_seals.specs.Checking.{HasSealed, TellsMeters, TellsTables, unless_kept};
+ghost use Rattle.table_seals.specs.Installed.{KeepsAt, TellsKeptAt, TellsMeterAt, TellsNamesAt};
 ghost use Rattle.table_seals.specs.Sealed.{sealed_of, sealed_tables_of};
 
 use crate::checks::Checked;
+use crate::installed::{is_installed, terms_in};
 use crate::poll_sealing::check_polls;
 use crate::sealing::memory;
 use crate::seals::{MeterSeal, Seal};
-use crate::tables::{has_terms, read_rows};
+use crate::tables::{Terms, read_rows};
 use crate::texts::digest_of;
-use sqlite::{Alter, Connection, Row};
+use sqlite::{Alter, Connection};
 use std::alloc::{AllocError, Global};
+use std::collections::BTreeSet;
 use store_tables::RowFault;
 use table_audit::{MeterRows, installations, meter_rows};
-
-/// Whether a row of installations has the meter of a seal on the same terms.
-fn is_installed(installed: &[Row], seal: &MeterSeal) -> Result<bool, AllocError>
-    ensures { IfOk result (λ is. IsTrue is ↔ IsInstalled installed.now (sealed_of seal.now)) }
-{
-    for row in installed {
-        if has_terms(row, &seal.meter, &seal.register, seal.ceiling)? {
-            return Ok(true);
-        }
-    }
-    Ok(false)
-}
 
 /// Whether one of these voids names a place.
 fn is_named(voids: &[u64], place: u64) -> bool
@@ -68,17 +57,16 @@ fn has_sealed(alloc: Global, rows: &MeterRows, seal: &MeterSeal) -> Result<bool,
     Ok(digest.as_slice() == seal.digest.as_slice())
 }
 
-/// Whether a meter is installed on the terms of a seal, and its rows have what was sealed.
+/// Whether a meter is installed on the terms of a seal, by all terms on which meters are, and its rows have what was sealed.
 fn keeps(
     alloc: Global,
-    installed: &[Row],
+    known: &BTreeSet<Terms>,
     rows: &MeterRows,
     seal: &MeterSeal,
 ) -> Result<bool, AllocError>
-    ensures { IfOk result (λ kept.
-        IsTrue kept ↔ Keeps installed.now rows.now (sealed_of seal.now)) }
+    ensures { IfOk result (KeepsAt known.now rows.now (sealed_of seal.now)) }
 {
-    let there = is_installed(installed, seal)?;
+    let there = is_installed(known, seal)?;
     let has = has_sealed(alloc, rows, seal)?;
     Ok(there && has)
 }
@@ -87,15 +75,15 @@ fn keeps(
 fn check_meter<S: Alter>(
     alloc: Global,
     conn: &mut Connection<S>,
-    installed: &[Row],
+    known: &BTreeSet<Terms>,
     seal: &MeterSeal,
 ) -> Result<bool, RowFault>
     requires { conn.old.in_transaction ≡ false }
     ensures { Finds S.Store conn.old conn.new result
-        (TellsKept installed.now (sealed_of seal.now)) }
+        (TellsKeptAt known.now (sealed_of seal.now)) }
 {
     let rows = meter_rows(conn, &seal.meter)?;
-    match keeps(alloc, installed, &rows, seal) {
+    match keeps(alloc, known, &rows, seal) {
         Ok(kept) => Ok(kept),
         Err(_) => Err(memory()),
     }
@@ -123,16 +111,16 @@ fn tell(
 fn check_told<S: Alter>(
     alloc: Global,
     conn: &mut Connection<S>,
-    installed: &[Row],
+    known: &BTreeSet<Terms>,
     seal: &MeterSeal,
     differing: &mut Vec<String>,
 ) -> Result<(), RowFault>
     requires { conn.old.in_transaction ≡ false }
     ensures { Finds S.Store conn.old conn.new result (λ content _.
-        TellsMeter installed.now (sealed_of seal.now) content
+        TellsMeterAt known.now (sealed_of seal.now) content
         (map string_bytes differing.old.items) (map string_bytes differing.new.items)) }
 {
-    let kept = check_meter(alloc, conn, installed, seal)?;
+    let kept = check_meter(alloc, conn, known, seal)?;
     match tell(alloc, kept, &seal.meter, differing) {
         Ok(()) => Ok(()),
         Err(_) => Err(memory()),
@@ -143,17 +131,17 @@ fn check_told<S: Alter>(
 fn check_each<S: Alter>(
     alloc: Global,
     conn: &mut Connection<S>,
-    installed: &[Row],
+    known: &BTreeSet<Terms>,
     seals: &[MeterSeal],
 ) -> Result<Vec<String>, RowFault>
     requires { conn.old.in_transaction ≡ false }
     ensures { Finds S.Store conn.old conn.new result (λ content differing.
-        TellsNames installed.now (map sealed_of seals.now) content
+        TellsNamesAt known.now (map sealed_of seals.now) content
         (map string_bytes differing.items)) }
 {
     let mut differing = Vec::new(alloc);
     for seal in seals {
-        check_told(alloc, conn, installed, seal, &mut differing)?;
+        check_told(alloc, conn, known, seal, &mut differing)?;
     }
     Ok(differing)
 }
@@ -169,12 +157,15 @@ fn check_meters<S: Alter>(
         TellsMeters (map sealed_of seals.now) content (map string_bytes differing.items)) }
 {
     let installed = installations(conn)?;
-    check_each(alloc, conn, &installed, seals)
+    match terms_in(alloc, &installed) {
+        Ok(known) => check_each(alloc, conn, &known, seals),
+        Err(_) => Err(memory()),
+    }
 }
 
 /// Which meters of a seal the tables don't have any more as they were sealed, and whether their polls differ. More meters, entries,
 /// voids and polls are no difference, nor are outcomes of polls that were pending. The rows of one meter, or of one run of polls,
-/// are held in memory at a time, with their text, and those of `installations`.
+/// are held in memory at a time, with their text, and those of `installations` with their terms.
 pub fn check_seal<S: Alter>(
     alloc: Global,
     conn: &mut Connection<S>,

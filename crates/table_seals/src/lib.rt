@@ -6,6 +6,7 @@ mod checking;
 mod checks;
 mod filed;
 mod filing;
+mod installed;
 mod join_faults;
 mod join_laws;
 mod join_lines;

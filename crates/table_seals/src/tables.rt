@@ -1,8 +1,8 @@
 //! Rows of the tables, as values of which a seal speaks.
-ghost use Rattle.std.specs.Prelude.{◌≡◌, ◌↔◌, IsTrue, IfOk, string_bytes};
+ghost use Rattle.std.specs.Prelude.{◌≡◌, IfOk};
 ghost use Rattle.sqlite.specs.Order.{column};
 ghost use Rattle.table_audit.specs.Reading.{IsTextIn};
-ghost use Rattle.table_seals.specs.Tables.{HasTerms, TermsAreRead, RowsAreRead};
+ghost use Rattle.table_seals.specs.Tables.{TermsAreRead, RowsAreRead};
 ghost use Rattle.table_seals.specs.Tables as tables;
 
 use energy_core::MAX_CEILING;
@@ -13,7 +13,7 @@ use store_tables::whole;
 use table_audit::{MeterRows, entries, places, range};
 
 /// What a row of installations tells of a meter.
-#[derive(Drop)]
+#[derive(Drop, PartialEq, Eq, PartialOrd, Ord)]
 pub(crate) struct Terms {
     pub(crate) meter: String,
     pub(crate) register: String,
@@ -87,23 +87,4 @@ pub(crate) fn is_word(text: &str) -> bool
     ensures { result ≡ tables.is_word text.now }
 {
     text.as_bytes().iter().all(|&byte| byte > 32)
-}
-
-/// Whether a row of installations has the meter of this name, at this register, with this ceiling.
-pub(crate) fn has_terms(
-    row: &Row,
-    meter: &str,
-    register: &str,
-    ceiling: u64,
-) -> Result<bool, AllocError>
-    ensures { IfOk result (λ has. IsTrue has ↔ HasTerms row.now meter.now register.now ceiling) }
-{
-    let Some(terms) = terms_of(row)? else {
-        return Ok(false);
-    };
-    Ok(
-        terms.meter.as_str() == meter
-            && terms.register.as_str() == register
-            && terms.ceiling == ceiling,
-    )
 }

@@ -21,12 +21,12 @@ use Rattle.carried_books.proofs.JoiningLemmas.Days.{add_all, first_has, same_zon
 
 -- ---- a register that is in a file is in each later one
 
-is_in_both : (here before : Bool) → (before ≡ true → here ≡ true) → here ≡ (here || before)
+pub is_in_both : (here before : Bool) → (before ≡ true → here ≡ true) → here ≡ (here || before)
 is_in_both true before stays = refl
 is_in_both false true stays = stays refl
 is_in_both false false stays = refl
 
-is_kept : (was is there : Bool) → (was && not is) ≡ false → is ≡ there → was ≡ true → there ≡ true
+pub is_kept : (was is there : Bool) → (was && not is) ≡ false → is ≡ there → was ≡ true → there ≡ true
 is_kept true true there test same so = sym same
 is_kept true false there test same so = absurd (cc test)
 is_kept false is there test same so = absurd (cc so)

@@ -39,11 +39,11 @@ use Rattle.carried_books.specs.declared.joining.files.JoinedFiles.{JoinedFiles}
 
 -- ---- the rows that are asked for
 
-both_within : (span : Span) (rows more : List Share) → rows_within span (rows ++ more) ≡ rows_within span rows ++ rows_within span more
+pub both_within : (span : Span) (rows more : List Share) → rows_within span (rows ++ more) ≡ rows_within span rows ++ rows_within span more
 both_within All rows more = refl
 both_within (Between from till) rows more = filter-append (λ (row : Share). is_within (Between from till) row.start) rows more
 
-none_within : (span : Span) → rows_within span [] ≡ []
+pub none_within : (span : Span) → rows_within span [] ≡ []
 none_within All = refl
 none_within (Between from till) = refl
 
@@ -53,7 +53,7 @@ over_within span register (facts ∷ files) =
     ap (λ (rows : List Share). rows ++ rows_within span (rows_of_register facts register)) (over_within span register files)
     ∙ sym (both_within span (rows_over register files) (rows_of_register facts register))
 
-has_number : (span : Span) (rows : List Share) → HasNumber rows → HasNumber (rows_within span rows)
+pub has_number : (span : Span) (rows : List Share) → HasNumber rows → HasNumber (rows_within span rows)
 has_number All rows fits = fits
 has_number (Between from till) rows fits =
     let asked : Share → Bool = λ row. is_within (Between from till) row.start in
@@ -75,6 +75,18 @@ same_text form days =
 
 -- ---- the report
 
+-- days of the rows that are asked for are shown as those of all rows that the range has
+pub report_over : (zone : Zone) (register : List ℕ) (files : List (List Fact)) (form : ReportForm) (days : List DayTotal) → AccountsAreOne
+    → AreAccounts zone (rows_within (span_of form.range) (rows_over register files)) (map account_of days)
+    → IsReportOver zone register files form (report_text form days)
+report_over zone register files form days one totals =
+    let asked = days_within zone form.range (span_of form.range) (λ start is. has_each form.range.from form.range.till zone start is)
+    one (rows_over register files) days (days_in form.range days) totals refl in (
+      days_in form.range days,
+      record { all = asked.0; are = asked.1; asked = asked.2 },
+      sym (same_text form days),
+    )
+
 pub is_over : (zone : Zone) (register : List ℕ) (files : List (List Fact)) (form : ReportForm) (joined : JoinedFiles) (days : List DayTotal) → AccountsAreOne
     → HasJoined zone (span_of form.range) register files joined → HasNumber (rows_over register files)
     → map account_of days ≡ joined.days.fold.accounts → IsReportOver zone register files form (report_text form days)
@@ -84,12 +96,7 @@ is_over zone register files form joined days one has fits are =
     let same = over_within span register files in
     let taken = has.days (subst HasNumber (sym same) (has_number span rows fits)) in
     let totals = subst (λ (accounts : List DayAccount). AreAccounts zone (rows_over_within span register files) accounts) (sym are) taken.accounts in
-    let asked = days_within zone form.range span (λ start is. has_each form.range.from form.range.till zone start is)
-    one rows days (days_in form.range days) (subst (λ (those : List Share). AreAccounts zone those (map account_of days)) same totals) refl in (
-      days_in form.range days,
-      record { all = asked.0; are = asked.1; asked = asked.2 },
-      sym (same_text form days),
-    )
+    report_over zone register files form days one (subst (λ (those : List Share). AreAccounts zone those (map account_of days)) same totals)
 
 -- the writer is the one that it was
 pub taken_by : {W : Type 0} (contents : W → Option (List ℕ)) (days : List DayTotal) (from to : ReportRows W) → TakesAll (TakesDay contents) from days to

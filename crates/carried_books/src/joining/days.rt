@@ -4,6 +4,7 @@ ghost use Rattle.std.proofs.Props.{props};
 
 use interval_core::{DayFault, DayFold, DayTotal, LAST_MOMENT, Share, Zone};
 use office_books::RowSink;
+use office_events::{Refusal, StoreCause};
 use std::alloc::Global;
 
 /// Adds interval rows up to days as they come. A row out of turn, which starts before one that came earlier or past the last
@@ -21,6 +22,7 @@ impl JoinedDays {
     ghost use Rattle.std.specs.Prelude.{◌≡◌, [], None};
     ghost use Rattle.interval_core.specs.Days.{account_of};
     ghost use Rattle.interval_core.specs.Fold.{HasTaken};
+    ghost use Rattle.office_core.specs.DaySums.{EndsAs};
     ghost use Rattle.carried_books.specs.Joining.Days.{AddsRow};
 
     /// No rows yet. No memory is taken.
@@ -64,6 +66,17 @@ impl JoinedDays {
         ensures { result ≡ self.now.fault }
     {
         self.fault
+    }
+
+    /// The days, in order, or what failed first: a row out of turn is refused as one without a day.
+    pub(crate) fn into_days(self) -> Result<Vec<DayTotal>, Refusal>
+        ensures { EndsAs self.fault self.fold.accounts result }
+    {
+        match self.fault {
+            None => Ok(self.fold.into_rows()),
+            Some(DayFault::Zone) => Err(Refusal::Store(StoreCause::NoDay)),
+            Some(DayFault::Memory) => Err(Refusal::Memory),
+        }
     }
 
     /// The days so far, in order.

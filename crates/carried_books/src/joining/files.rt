@@ -47,8 +47,8 @@ pub fn no_files(alloc: Global, zone: Zone) -> JoinedFiles
     }
 }
 
-// Whether a register is recorded.
-fn is_recorded<B: Books>(books: &mut B, register: &Name) -> Result<bool, BooksFault>
+/// Whether a register is recorded.
+pub(crate) fn is_recorded<B: Books>(books: &mut B, register: &Name) -> Result<bool, BooksFault>
     ensures found { Finds (B.ledger books.old) (B.ledger books.new) result
         (λ known is. is ≡ files.is_recorded register.now known) }
     ensures reads { Consults (B.ledger books.old) (B.ledger books.new) result }

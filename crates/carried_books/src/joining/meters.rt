@@ -41,8 +41,8 @@ fn goes_on_as(meter: &Installed, last: &Last, ended: bool, next: &Installed) -> 
         && is_same(&next.opening, last)
 }
 
-// Whether a meter goes on as the one of its name in a later file.
-fn goes_on(stands: &Installation, row: &Installation) -> bool
+/// Whether a meter goes on as the one of its name in a later file.
+pub(crate) fn goes_on(stands: &Installation, row: &Installation) -> bool
     ensures { IsTrue result ↔ GoesOn stands.now row.now }
 {
     let is_one = row.opening.meter.is(&stands.opening.meter);
@@ -54,8 +54,8 @@ fn goes_on(stands: &Installation, row: &Installation) -> bool
     )
 }
 
-// The meter of both files.
-fn as_one(stands: &Installation, row: &Installation) -> Installation
+/// The meter of both files.
+pub(crate) fn as_one(stands: &Installation, row: &Installation) -> Installation
     ensures { result ≡ meters.as_one stands.now row.now }
 {
     Installation {
@@ -66,8 +66,8 @@ fn as_one(stands: &Installation, row: &Installation) -> Installation
     }
 }
 
-// Whether a meter was there before another.
-fn is_before(stands: &Installation, row: &Installation) -> bool
+/// Whether a meter was there before another.
+pub(crate) fn is_before(stands: &Installation, row: &Installation) -> bool
     ensures { result ≡ meters.is_before stands.now row.now }
 {
     let is_same = row.opening.meter.is(&stands.opening.meter);

@@ -1,6 +1,8 @@
 //! The report of a register over files of one office.
 ghost use Rattle.std.specs.Prelude.{◌≡◌, ◌<◌, ◌^◌, length, if◌then◌else◌};
+ghost use Rattle.energy_report.specs.Texts.{report_text};
 ghost use Rattle.office_books.specs.Rows.{TakesAll};
+ghost use Rattle.office_program.specs.Texts.EndTexts.{IsTold};
 ghost use Rattle.office_program.specs.Texts.RangedReports.{PrintsLast};
 ghost use Rattle.carried_books.specs.Joining.Reports.{ReportsJoined};
 
@@ -33,6 +35,16 @@ fn finish<W: Write>(rows: &mut ReportRows<'_, W>) -> ExitStatus
     }
 }
 
+/// Prints the energy of days, by periods, in a unit and a format: of those that the range of the form has.
+pub fn report_days<W: Write>(days: &[DayTotal], form: &ReportForm, output: &mut W) -> ExitStatus
+    ensures { IsTold (report_text form.now days.now) ExitStatus.Fine result
+        (W.contents output.old) (W.contents output.new) }
+{
+    let mut rows = ReportRows::to(*form, output);
+    hand_on(days, &mut rows);
+    finish(&mut rows)
+}
+
 /// Prints the energy of a register in files that join, on the days of a range, by periods, in a unit and a format. What was kept
 /// of them has the quarter hours around the days of the range.
 pub fn report_joined<W: Write>(joined: JoinedFiles, form: &ReportForm, output: &mut W) -> ExitStatus
@@ -41,7 +53,5 @@ pub fn report_joined<W: Write>(joined: JoinedFiles, form: &ReportForm, output: &
     accounts_are_one();
     let JoinedFiles { days, .. } = joined;
     let days = days.into_rows();
-    let mut rows = ReportRows::to(*form, output);
-    hand_on(&days, &mut rows);
-    finish(&mut rows)
+    report_days(&days, form, output)
 }

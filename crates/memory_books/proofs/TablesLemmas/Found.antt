@@ -1,7 +1,8 @@
 -- What is found by its key.
-use Rattle.std.proofs.Common.{◌≡◌, ℕ, ◌==◌, ◌&&◌, Bool, true, false, List, reverse, length, Option, Some, None, refl, ap, ◌∙◌, Result, Ok, Err, IfOk}
-use Rattle.std.specs.List.{filter_map, slice_get}
+use Rattle.std.proofs.Common.{◌≡◌, ℕ, ◌==◌, ◌&&◌, Bool, true, false, cond, List, [], ◌∷◌, reverse, length, Option, Some, None, refl, ap, ◌∙◌, Result, Ok, Err, IfOk}
+use Rattle.std.specs.List.{filter, filter_map, cons_option, slice_get}
 use Rattle.std.specs.Option.{option_and_then, option_map}
+use Rattle.mb_wire.specs.declared.span.ReadSpan.{ReadSpan}
 use Rattle.office_events.specs.declared.facts.Register.{Register}
 use Rattle.office_events.specs.declared.facts.Opening.{Opening}
 use Rattle.office_events.specs.declared.facts.DeviceList.{DeviceList}
@@ -12,13 +13,14 @@ use Rattle.read_plan.specs.PlannedLists.{Planned}
 use Rattle.office_books.specs.Repeats.{as_repeat, repeat_of}
 use Rattle.office_rules.specs.Facts.{same, if_some, as_list, as_register, as_opening, as_reply, register_of, registers_of, installed_at, list_of}
 use Rattle.office_rules.specs.Intervals.{installations_at}
+use Rattle.office_rules.specs.Readings.{is_read_by}
 use Rattle.memory_books.specs.declared.tables.keys.Key.{Key}
 use Rattle.memory_books.specs.declared.tables.places.Kind.{Kind}
 use Rattle.memory_books.specs.declared.tables.places.Kind.TheVariants.{DeviceLists, Registers, DeviceRegisters, RegisterOpenings, Replies}
 use Rattle.memory_books.specs.Tables.Keys.{named, numbered}
 use Rattle.memory_books.specs.Tables.Places.{has_key, places_of, latest_place}
-use Rattle.memory_books.specs.Tables.Lookups.{register_at, opening_at, list_at, repeat_at}
-use Rattle.memory_books.proofs.TablesLemmas.Standing.{passes, all_at, latest_at, counted_at}
+use Rattle.memory_books.specs.Tables.Lookups.{register_at, if_read, register_read_at, opening_at, list_at, repeat_at}
+use Rattle.memory_books.proofs.TablesLemmas.Standing.{passes, all_at, latest_at, counted_at, filter_map_twice}
 
 and_true : (b : Bool) → (b && true) ≡ b
 and_true true = refl
@@ -109,6 +111,38 @@ pub registers_counted : (known : List Fact) (device : List ℕ)
     → length (reverse (places_of (has_key DeviceRegisters (named device)) known)) ≡ length (registers_of known device)
 registers_counted known device = counted_at as_register (has_key DeviceRegisters (named device)) (λ (r : Register). same r.device device) (by_device device) known
 
+and_then_both : {X Y Z : Type 0} (g : X → Option Y) (h : Y → Option Z) (o : Option X)
+    → option_and_then (λ x. option_and_then h (g x)) o ≡ option_and_then h (option_and_then g o)
+and_then_both g h None = refl
+and_then_both g h (Some x) = refl
+
+filter_map_same : {X Y : Type 0} (g k : X → Option Y) → ((x : X) → g x ≡ k x) → (xs : List X) → filter_map g xs ≡ filter_map k xs
+filter_map_same g k is [] = refl
+filter_map_same g k is (x ∷ xs) = ap (λ o. cons_option o (filter_map g xs)) (is x) ∙ ap (cons_option (k x)) (filter_map_same g k is xs)
+
+-- those of which a read gives a reading
+if_chosen : {X : Type 0} (b : Bool) (x : X) (ys zs : List X) → ys ≡ zs → cons_option (cond b (Some x) None) ys ≡ cond b (x ∷ zs) zs
+if_chosen true x ys zs is = ap (λ l. x ∷ l) is
+if_chosen false x ys zs is = is
+
+those_read : (span : ReadSpan) (registers : List Register) → filter_map (if_read span) registers ≡ filter (is_read_by span) registers
+those_read span [] = refl
+those_read span (r ∷ rs) = if_chosen (is_read_by span r) r (filter_map (if_read span) rs) (filter (is_read_by span) rs) (those_read span rs)
+
+reads_at : (span : ReadSpan) (facts : List Fact) (i : ℕ) → register_read_at span facts i ≡ option_and_then (if_read span) (register_at facts i)
+reads_at span facts i = and_then_both as_register (if_read span) (slice_get facts i)
+
+pub registers_read_found : (known : List Fact) (device : List ℕ) (span : ReadSpan)
+    → filter_map (register_read_at span (reverse known)) (reverse (places_of (has_key DeviceRegisters (named device)) known))
+    ≡ filter (is_read_by span) (registers_of known device)
+registers_read_found known device span =
+    let places : List ℕ = reverse (places_of (has_key DeviceRegisters (named device)) known) in
+    let found : ℕ → Option Register = register_at (reverse known) in
+    filter_map_same (register_read_at span (reverse known)) (λ (i : ℕ). option_and_then (if_read span) (found i)) (reads_at span (reverse known)) places
+    ∙ filter_map_twice found (if_read span) places
+    ∙ ap (filter_map (if_read span)) (registers_found known device)
+    ∙ those_read span (registers_of known device)
+
 pub opening_found : (known : List Fact) (register : List ℕ)
     → option_and_then (opening_at (reverse known)) (latest_place (has_key RegisterOpenings (named register)) known) ≡ installed_at known register
 opening_found known register = latest_at as_opening (has_key RegisterOpenings (named register)) (λ (o : Opening). same o.register register) (at_register register) known
@@ -117,11 +151,6 @@ pub openings_found : (known : List Fact) (register : List ℕ)
     → filter_map (opening_at (reverse known)) (reverse (places_of (has_key RegisterOpenings (named register)) known)) ≡ installations_at known register
 openings_found known register =
     all_at as_opening (has_key RegisterOpenings (named register)) (λ (o : Opening). same o.register register) (at_register register) known
-
-and_then_both : {X Y Z : Type 0} (g : X → Option Y) (h : Y → Option Z) (o : Option X)
-    → option_and_then (λ x. option_and_then h (g x)) o ≡ option_and_then h (option_and_then g o)
-and_then_both g h None = refl
-and_then_both g h (Some x) = refl
 
 map_and_then : {X Y Z : Type 0} (g : X → Option Y) (h : Y → Z) (o : Option X)
     → option_and_then (λ x. option_map h (g x)) o ≡ option_map h (option_and_then g o)

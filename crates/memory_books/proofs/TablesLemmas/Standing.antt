@@ -121,7 +121,7 @@ cons_twice : {Y Z : Type 0} (h : Y → Option Z) (o : Option Y) (zs : List Z) (y
 cons_twice h None zs ys is = is
 cons_twice h (Some y) zs ys is = ap (cons_option (h y)) is
 
-filter_map_twice : {X Y Z : Type 0} (g : X → Option Y) (h : Y → Option Z) (xs : List X)
+pub filter_map_twice : {X Y Z : Type 0} (g : X → Option Y) (h : Y → Option Z) (xs : List X)
     → filter_map (λ x. option_and_then h (g x)) xs ≡ filter_map h (filter_map g xs)
 filter_map_twice g h [] = refl
 filter_map_twice g h (x ∷ xs) = cons_twice h (g x) (filter_map (λ y. option_and_then h (g y)) xs) (filter_map g xs) (filter_map_twice g h xs)

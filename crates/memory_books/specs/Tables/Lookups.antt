@@ -1,7 +1,8 @@
 -- What stands at a place of facts, from 0 on, in the order in which they came.
-use Rattle.std.specs.Prelude.{ℕ, List, Option}
+use Rattle.std.specs.Prelude.{ℕ, List, Option, Some, None, if◌then◌else◌}
 use Rattle.std.specs.List.{slice_get}
 use Rattle.std.specs.Option.{option_and_then, option_map}
+use Rattle.mb_wire.specs.declared.span.ReadSpan.{ReadSpan}
 use Rattle.office_events.specs.declared.facts.Register.{Register}
 use Rattle.office_events.specs.declared.facts.Opening.{Opening}
 use Rattle.office_events.specs.declared.facts.Fact.{Fact}
@@ -9,6 +10,7 @@ use Rattle.read_plan.specs.PlannedLists.{Planned}
 use Rattle.office_books.specs.declared.books.Repeat.{Repeat}
 use Rattle.office_books.specs.Repeats.{as_repeat}
 use Rattle.office_rules.specs.Facts.{as_register, as_opening, as_list, as_reply, if_some}
+use Rattle.office_rules.specs.Readings.{is_read_by}
 
 -- the list that a fact puts; one without points counts as none
 abbrev pub listed : Fact → Option Planned
@@ -20,6 +22,16 @@ repeated request f = option_map (as_repeat request) (as_reply f)
 
 abbrev pub register_at : List Fact → ℕ → Option Register
 register_at facts place = option_and_then as_register (slice_get facts place)
+
+-- the register, and that of a fact, if a read of the span gives a reading of it
+abbrev pub if_read : ReadSpan → Register → Option Register
+if_read span register = if is_read_by span register then Some register else None
+
+abbrev pub register_read : ReadSpan → Fact → Option Register
+register_read span f = option_and_then (if_read span) (as_register f)
+
+abbrev pub register_read_at : ReadSpan → List Fact → ℕ → Option Register
+register_read_at span facts place = option_and_then (register_read span) (slice_get facts place)
 
 abbrev pub opening_at : List Fact → ℕ → Option Opening
 opening_at facts place = option_and_then as_opening (slice_get facts place)

@@ -6,7 +6,8 @@ ghost use Rattle.office_rules.specs.Facts as kinds;
 ghost use Rattle.office_books.specs.Repeats as repeats;
 ghost use Rattle.memory_books.specs.Tables.Lookups as spots;
 
-use office_books::Repeat;
+use mb_wire::ReadSpan;
+use office_books::{Repeat, is_read_by};
 use office_events::{Fact, Opening, PlannedList, Register, Reply};
 use std::alloc::{AllocError, Global};
 
@@ -53,6 +54,49 @@ pub(crate) fn registers_at(
     places
         .iter()
         .filter_map(|place| register_at(facts, *place))
+        .collect(alloc)
+}
+
+/// The register, if a read of the span gives a reading of it.
+fn if_read(register: &Register, span: ReadSpan) -> Option<Register>
+    ensures { result ≡ spots.if_read span register.now }
+{
+    if is_read_by(span, register) {
+        Some(*register)
+    } else {
+        None
+    }
+}
+
+fn as_register_read(fact: &Fact, span: ReadSpan) -> Option<Register>
+    ensures { result ≡ spots.register_read span fact.now }
+{
+    match fact {
+        Fact::Register(register) => if_read(register, span),
+        _ => None,
+    }
+}
+
+/// The register at a place, if a read of the span gives a reading of it.
+fn register_read_at(facts: &[Fact], place: usize, span: ReadSpan) -> Option<Register>
+    ensures { result ≡ spots.register_read_at span facts.now place }
+{
+    as_register_read(facts.get(place)?, span)
+}
+
+/// The registers at places of which a read of the span gives a reading. The others are not copied.
+pub(crate) fn registers_read_at(
+    alloc: Global,
+    facts: &[Fact],
+    places: &[usize],
+    span: ReadSpan,
+) -> Result<Vec<Register>, AllocError>
+    ensures { IfOk result (λ v. v.items
+        ≡ filter_map (spots.register_read_at span facts.now) places.now) }
+{
+    places
+        .iter()
+        .filter_map(|place| register_read_at(facts, *place, span))
         .collect(alloc)
 }
 

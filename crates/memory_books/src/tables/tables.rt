@@ -1,6 +1,6 @@
 //! All tables of some facts.
 ghost use Rattle.std.specs.Prelude.{◌≡◌, ◌∷◌, List, [], map, reverse, length, IfOk, IfSome, OnOk};
-ghost use Rattle.std.specs.List.{filter_map};
+ghost use Rattle.std.specs.List.{filter, filter_map};
 ghost use Rattle.std.specs.Option.{option_copied, option_map};
 ghost use Rattle.office_events.specs.declared.facts.Fact.{Fact};
 ghost use Rattle.office_rules.specs.Facts.{polls_in, pending_in, list_of, register_of, registers_of, installed_at};
@@ -13,13 +13,15 @@ ghost use Rattle.office_books.specs.Plans.{read_count_of, reads_from};
 ghost use Rattle.office_rules.specs.Intervals.{rows_of_meter, rows_of_register};
 ghost use Rattle.office_rules.specs.Lawful.{AreLawful};
 ghost use Rattle.office_rules.specs.Meters.{meter_of, installation_at, installation_of, entry_at};
-ghost use Rattle.office_rules.specs.Readings.{poll_row_of};
+ghost use Rattle.office_rules.specs.Readings.{is_read_by, poll_row_of};
 ghost use Rattle.memory_books.specs.Tables.Growing.{latest_first};
 ghost use Rattle.memory_books.specs.Tables.Lookups as spots;
 ghost use Rattle.memory_books.specs.Tables.IntervalRows.{TakesSome, TakesWithin, rows_at};
 
 use crate::tables::keys::Key;
-use crate::tables::lookups::{list_at, opening_at, register_at, registers_at, repeat_at};
+use crate::tables::lookups::{
+    list_at, opening_at, register_at, registers_at, registers_read_at, repeat_at,
+};
 use crate::tables::meters::Meters;
 use crate::tables::places::{Kind, Places, named};
 use crate::tables::polls::{Pending, Polls};
@@ -178,6 +180,22 @@ impl Tables {
             → IfOk result (λ v. v.items ≡ registers_of known device.now) }
     {
         registers_at(alloc, facts, self.device_registers.table.all(named(device)))
+    }
+
+    /// Those of them of which a read of the span gives a reading.
+    pub fn registers_read(
+        &self,
+        alloc: Global,
+        facts: &[Fact],
+        device: &Name,
+        span: ReadSpan,
+    ) -> Result<Vec<Register>, AllocError>
+        ensures { (known : List Fact) → facts.now ≡ reverse known → AreWhole self.now known
+            → IfOk result (λ v.
+            v.items ≡ filter (is_read_by span) (registers_of known device.now)) }
+    {
+        let places = self.device_registers.table.all(named(device));
+        registers_read_at(alloc, facts, places, span)
     }
 
     /// How many registers a device has. This takes no memory.

@@ -32,6 +32,7 @@ use Rattle.office_rules.specs.Lawful.{AreLawful}
 use Rattle.office_booking.specs.declared.settling.drafts.Draft.{Draft}
 use Rattle.office_booking.specs.Settling.Drafts.{so_far, HasMore, IsTold, AreTold, Grows}
 use Rattle.office_booking.proofs.SettlingLemmas.Told.{SkipsTold, told_skipped, told_last}
+use Rattle.office_booking.proofs.SettlingLemmas.ReadRegisters.{with_read, told_read}
 
 -- What is lawful was lawful before.
 abbrev pub KeepsLawful : (List Fact → List Fact) → Type 0
@@ -241,20 +242,22 @@ reply_to_none holds clean draft at number words found = λ recorded h c told law
 
 pub reply_to : (holds mid : List Fact → Type 0) (clean : Type 0) (old new : Draft) (at number : ℕ) (words : List ℕ) (row : PollRow) (rs : List Register)
     → ((recorded : List Fact) → holds recorded → clean → Some row ≡ poll_row_of recorded number)
-    → ((recorded : List Fact) → holds recorded → clean → rs ≡ registers_of recorded row.poll.device)
+    → ((recorded : List Fact) → holds recorded → clean → rs ≡ filter (is_read_by row.poll.span) (registers_of recorded row.poll.device))
     → ((recorded : List Fact) → holds recorded → mid recorded)
     → Grows mid clean old new (with_registers at row.poll words rs) (registers_notes at row.poll words rs)
     → Grows holds clean old new (λ facts. with_reply at (poll_of facts number) words facts) (λ facts. reply_notes at (poll_of facts number) words facts)
 reply_to holds mid clean old new at number words row rs found known kept on = λ recorded h c told lawful.
     let F : List Fact = so_far old recorded in
     let p : poll_of F number ≡ Some row.poll = poll_after old recorded number told ∙ its_row recorded row (poll_of recorded number) (found recorded h c) in
-    let r : rs ≡ registers_of F row.poll.device = known recorded h c ∙ sym (registers_after old recorded row.poll.device told) in
+    let all : List Register = registers_of F row.poll.device in
+    let r : rs ≡ filter (is_read_by row.poll.span) all =
+    known recorded h c ∙ ap (filter (is_read_by row.poll.span)) (sym (registers_after old recorded row.poll.device told)) in
     let is : with_registers at row.poll words rs F ≡ with_reply at (poll_of F number) words F =
-    ap (λ xs. with_registers at row.poll words xs F) r ∙ ap (λ o. with_reply at o words F) (sym p) in
+    ap (λ xs. with_registers at row.poll words xs F) r ∙ with_read at row.poll words all F ∙ ap (λ o. with_reply at o words F) (sym p) in
     let told_so : registers_notes at row.poll words rs F ≡ reply_notes at (poll_of F number) words F =
-    ap (λ xs. registers_notes at row.poll words xs F) r ∙ ap (λ o. reply_notes at o words F) (sym p) in
-    let all = on recorded (kept recorded h) c told (subst AreLawful (sym is) lawful) in
-    record { facts = all.facts ∙ is; notes = all.notes ∙ ap (λ xs. old.notes.items ++ xs) told_so; told = all.told }
+    ap (λ xs. registers_notes at row.poll words xs F) r ∙ told_read at row.poll words all F ∙ ap (λ o. reply_notes at o words F) (sym p) in
+    let added = on recorded (kept recorded h) c told (subst AreLawful (sym is) lawful) in
+    record { facts = added.facts ∙ is; notes = added.notes ∙ ap (λ xs. old.notes.items ++ xs) told_so; told = added.told }
 
 -- an outcome, and what its reply means
 outcome_again : (o : plain.Outcome) (r : Option Reply) → outcome_of (told_as o r) ≡ o

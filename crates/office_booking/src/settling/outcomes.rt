@@ -13,10 +13,10 @@ ghost use Rattle.office_booking.specs.Settling.Replies.{words_of};
 
 use crate::settling::drafts::Draft;
 use crate::settling::following::open_installation;
-use crate::settling::readings::{is_read_by, reading_of};
+use crate::settling::readings::reading_of;
 use energy_core::{Entry, Reading, Verdict};
 use mb_wire::Reply;
-use office_books::{Books, BooksFault, verdict_at};
+use office_books::{Books, BooksFault, is_read_by, verdict_at};
 use office_events::{
     BookedEntry, EndedPoll, EntryKind, Fact, HeldReading, Installation, Name, Note, Poll, Register,
 };
@@ -140,7 +140,7 @@ fn add_reply<B: Books>(
     let Some(row) = books.poll(number)? else {
         return Ok(());
     };
-    let registers = books.registers(&row.poll.device)?;
+    let registers = books.registers_read(&row.poll.device, row.poll.span)?;
     add_readings(books, draft, at, &row.poll, reply, &registers)
 }
 

@@ -1,5 +1,5 @@
 //! What a reply tells of a register.
-ghost use Rattle.std.specs.Prelude.{◌≡◌, ◌≤◌, ◌+◌};
+ghost use Rattle.std.specs.Prelude.{◌≡◌};
 ghost use Rattle.office_rules.specs.Readings as readings;
 ghost use Rattle.office_booking.specs.Settling.Replies.{words_of};
 
@@ -7,37 +7,6 @@ use energy_core::Reading;
 use mb_wire::{ReadSpan, Reply};
 use office_events::{Register, ScaleSource};
 use sun_points::{acc32, sunssf};
-
-/// Whether these registers lie in the span.
-fn contains(span: ReadSpan, address: u16, count: u32) -> bool
-    requires { count ≤ 2 }
-    ensures { result ≡ readings.contains span address count }
-{
-    let address = u32::from(address);
-    let from = u32::from(span.address);
-    from <= address && address + count <= from + u32::from(span.count)
-}
-
-/// Whether the register of the scale lies in the span, if the device tells it.
-fn contains_scale(span: ReadSpan, scale: ScaleSource) -> bool
-    ensures { result ≡ readings.contains_scale span scale }
-{
-    match scale {
-        ScaleSource::Fixed(_) => true,
-        ScaleSource::Register(address) => contains(span, address, 1),
-    }
-}
-
-/// Whether a read of the span gives a reading of the register: it is made by the register's
-/// function, and contains both registers of its counter, and that of its scale, if the device tells
-/// the scale.
-pub fn is_read_by(span: ReadSpan, register: &Register) -> bool
-    ensures { result ≡ readings.is_read_by span register.now }
-{
-    span.function.code() == register.function.code()
-        && contains(span, register.address, 2)
-        && contains_scale(span, register.scale)
-}
 
 /// The word of the reply at an address; 0 where it has none.
 fn word_at(span: ReadSpan, reply: &Reply, address: u32) -> u16

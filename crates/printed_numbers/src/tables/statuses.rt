@@ -16,7 +16,7 @@ static FINE: Meaning = Meaning {
 static REFUSED_INPUT: Meaning = Meaning {
     kind: Kind::Status,
     number: 1,
-    means: "a line fits no form, the input is too long, a point list or a chain has a fault, also of a device that was scanned, enter doubts a line or reads none, an audit tells differences, files that are reported as one don't join, or the office refused: its opening, or what round, report and carry asked (refused N)",
+    means: "a line fits no form, the input is too long, a point list or a chain has a fault, also of a device that was scanned, enter doubts a line or reads none, an audit tells differences, files that are told of as one don't join, or the office refused: its opening, or what round, report and carry asked (refused N)",
     cause: "a mistyped line, or a name that the office doesn't have",
     remedy: "look at the last line of standard output, and ask for its number here; where nothing is printed, at standard error",
 };

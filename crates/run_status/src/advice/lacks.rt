@@ -5,8 +5,7 @@ ghost use Rattle.office_books.specs.Ledgers.{Finds, OnlyReads};
 ghost use Rattle.run_status.specs.Advice.Lacks as specs;
 ghost use Rattle.run_status.specs.Advice.Lacks.{Adds, LooksUp};
 
-use office_booking::is_read_by;
-use office_books::{Books, BooksFault};
+use office_books::{Books, BooksFault, is_read_by};
 use office_events::{Device, Installation, Name, PlannedList, Register};
 use read_plan::PlannedRead;
 use std::alloc::AllocError;

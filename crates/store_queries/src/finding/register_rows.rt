@@ -1,6 +1,8 @@
 //! Registers.
 ghost use Rattle.std.specs.Prelude.{◌≡◌, false, length, string_bytes, IsUtf8};
+ghost use Rattle.std.specs.List.{filter};
 ghost use Rattle.office_rules.specs.Facts as facts_of;
+ghost use Rattle.office_rules.specs.Readings.{is_read_by};
 ghost use Rattle.store_tables.specs.Asking.{ReadsRow};
 ghost use Rattle.store_devices.specs.Devices.Rows.{register_shown};
 ghost use Rattle.store_queries.specs.Finding.Finding.{Finds, OfLawful, ReadsAll};
@@ -9,6 +11,8 @@ ghost use Rattle.store_queries.specs.Finding.Showing.{ShowsRegisters, FindsRegis
 ghost use Rattle.store_queries.specs.Finding.Sound.{IsReadableRegister, HasReadableRegisters};
 
 use crate::finding::memory::put;
+use mb_wire::ReadSpan;
+use office_books::keep_read;
 use office_events::{Name, Register, ScaleSource};
 use sqlite::{Alter, Connection, Row};
 use store_devices::{RegisterScale, read_register, register_of, register_rows};
@@ -114,6 +118,22 @@ pub fn registers<S: Alter>(
     let device = text(device)?;
     let rows = rows_of(conn, device)?;
     registers_in(&rows)
+}
+
+/// Those of them of which a read of the span gives a reading. All are read from the table.
+pub fn registers_read<S: Alter>(
+    conn: &mut Connection<S>,
+    device: &Name,
+    span: ReadSpan,
+) -> Result<Vec<Register>, RowFault>
+    requires { conn.old.in_transaction ≡ false }
+    ensures { Finds S.Store conn.old conn.new result
+        (λ facts v. v.items ≡ filter (is_read_by span) (facts_of.registers_of facts device.now))
+        (λ facts. IsUtf8 device.now × HasReadableRegisters facts) }
+{
+    let mut found = registers(conn, device)?;
+    keep_read(&mut found, span);
+    Ok(found)
 }
 
 /// How many registers a device has.

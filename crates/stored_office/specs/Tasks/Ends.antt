@@ -8,7 +8,7 @@ use Rattle.office_program.specs.declared.http_port.ServeEnd.{ServeEnd}
 use Rattle.office_program.specs.declared.http_port.ServeEnd.TheVariants as serving
 use Rattle.office_running.specs.declared.fault.RunFault.{RunFault}
 use Rattle.office_running.specs.declared.fault.RunFault.TheVariants as run
-use Rattle.stored_office.specs.declared.ends.failure.Failure.{Failure}
+use Rattle.stored_files.specs.declared.ends.failure.Failure.{Failure}
 use Rattle.stored_office.specs.declared.tasks.tasks.Done.{Done}
 use Rattle.stored_office.specs.declared.tasks.tasks.Done.TheVariants.{Reported, Served, Entered, Checked, Polled, Ran}
 

@@ -6,7 +6,7 @@ use Rattle.http_request.specs.Hosts.{texts}
 use Rattle.office_program.specs.HttpPort.{port as port_of}
 use Rattle.office_program.specs.Entering.Lines.{Telling}
 use Rattle.office_running.specs.Runs.{BooksRun}
-use Rattle.stored_office.specs.BooksFound.{OverBooks, Reports, ReportsRange, States, Serves, Enters, Looks, Polls, ledger_in}
+use Rattle.stored_office.specs.OverBooks.{OverBooks, Reports, ReportsRange, States, Serves, Enters, Looks, Polls, ledger_in}
 use Rattle.stored_office.specs.declared.tasks.tasks.Task.{Task}
 use Rattle.stored_office.specs.declared.tasks.tasks.Task.TheVariants as task
 use Rattle.stored_office.specs.declared.tasks.tasks.Done.{Done}

@@ -2,14 +2,14 @@
 ghost use Rattle.std.specs.Prelude.{◌≡◌};
 ghost use Rattle.command_io.specs.Statuses.{status_number};
 ghost use Rattle.office_program.specs.Texts.Rounds.{round_status};
-ghost use Rattle.stored_office.specs.Ends.Endings.{ending_number};
+ghost use Rattle.stored_files.specs.Ends.Endings.{ending_number};
 ghost use Rattle.stored_office.specs.Tasks.Ends.{done_number, polling_number, run_number, serving_number};
 
-use crate::ends::{Ending, Failure, ending_of};
 use crate::tasks::tasks::Done;
 use office_program::{PollEnd, ServeEnd};
 use office_rounds::RoundFault;
 use office_running::RunFault;
+use stored_files::{Ending, Failure, ending_of};
 
 // The ending of a round that was begun.
 fn ending_of_round<'a>(done: Result<(), RoundFault>, host: &'a str, port: u16) -> Ending<'a>

@@ -4,7 +4,7 @@ ghost use Rattle.office_rules.specs.History.{History};
 ghost use Rattle.store_files.specs.declared.layouts.Layout.{Layout as TheLayout};
 ghost use Rattle.store_files.specs.Layouts.{IsNamedAs};
 ghost use Rattle.office_program.specs.Entering.Lines.{telling_of};
-ghost use Rattle.stored_office.specs.BooksFound.{HasPast};
+ghost use Rattle.stored_files.specs.BooksFound.{HasPast};
 ghost use Rattle.stored_office.specs.Tasks.Tasks.{IsOf, Does};
 
 use crate::advice::say_lacks;

@@ -12,6 +12,6 @@ returns-in_err-answer g c =
 pub returns : goal.returns
 returns g c =
     let body = c.put_energy.new.output.items in
-    let puts : OnOk c.put_told.result (c.put_told.new.text.items ≡ with_energy_reply c.in_ok-answer.answer body c.args.text.now.items) = search rules in
+    let puts : OnOk c.put_energy_reply.result (c.put_energy_reply.new.text.items ≡ with_energy_reply c.in_ok-answer.answer body c.args.text.now.items) = search rules in
     replied g.B.Books.ledger c.args.office.now c.put_energy.new.office c.args.register.now c.args.form.now c.new-body.result.items body c.args.text.now.items
-    c.put_told.new.text.items c.in_ok-answer.answer c.put_told.result c.in_ok-answer.ensures c.new-body.ensures.items puts
+    c.put_energy_reply.new.text.items c.in_ok-answer.answer c.put_energy_reply.result c.in_ok-answer.ensures c.new-body.ensures.items puts

@@ -1,17 +1,29 @@
-use Rattle.std.proofs.Common.{◌≡◌, ap, ◌∙◌, take, arith}
-use Rattle.std.specs.List.{flat_map}
-use Rattle.std.proofs.lemmas.List.{take_all}
-use Rattle.script_text.proofs.Got.{appends_this, got_at, got_this}
-use Rattle.script_text.proofs.HexText.{byte_text, each_byte}
+use Rattle.std.proofs.Common.{◌≡◌, [], ◌++◌, refl, arith}
+use Rattle.std.proofs.lemmas.Grind.{common_steps}
+use Rattle.script_text.proofs.HexText.{none_got, cut_off, piece_got, piece_failed, all_got}
 use Rattle.script_text.proofs.parts.write_hex.Goals as goal
 
-pub returns-in_err-write_byte : goal.returns-in_err-write_byte
-returns-in_err-write_byte g c =
-    got_this c.from_residual.result _ _ _ _ (each_byte c.args.bytes.now)
-    (got_at byte_text c.args.bytes.now c.loop-byte.byte-index _ c.from_residual.result _ _ _ c.loop-byte-test.true
-    c.from_residual.ensures.0 c.loop-byte.invariant c.in_err-write_byte.ensures)
+pub loop-rest-init : goal.loop-rest-init
+loop-rest-init g c = ([], refl, none_got _)
+
+pub loop-rest-preserved : goal.loop-rest-preserved
+loop-rest-preserved g c =
+    let (done, split, got) = c.loop-rest.invariant in
+    let cut = c.split_at.ensures in (
+      done ++ c.split_at.result.0.now,
+      cut_off c.args.bytes.now done c.loop-rest.rest.now c.split_at.result.0.now c.split_at.result.1.now _ split cut.front cut.back,
+      piece_got _ _ _ done c.split_at.result.0.now got c.in_ok-write_piece.ensures,
+    )
+
+pub returns-in_err-write_piece : goal.returns-in_err-write_piece
+returns-in_err-write_piece g c =
+    let (done, split, got) = c.loop-rest.invariant in
+    let cut = c.split_at.ensures in
+    piece_failed c.from_residual.result _ _ _ c.args.bytes.now done c.split_at.result.0.now c.split_at.result.1.now c.from_residual.ensures.0
+    (cut_off c.args.bytes.now done c.loop-rest.rest.now c.split_at.result.0.now c.split_at.result.1.now _ split cut.front cut.back) got c.in_err-write_piece.ensures
 
 pub returns : goal.returns
 returns g c =
-    let all : take c.loop-byte.byte-index c.args.bytes.now ≡ c.args.bytes.now = take_all _ _ (omega arith) in
-    appends_this _ _ _ _ (ap (flat_map byte_text) all ∙ each_byte c.args.bytes.now) c.loop-byte.invariant
+    let (done, split, got) = c.loop-rest.invariant in
+    let none : c.loop-rest.rest.now ≡ [] = grind (arith, common_steps, c.is_empty.ensures, c.loop-rest-test.false) in
+    all_got _ _ c.args.bytes.now done c.loop-rest.rest.now split none got

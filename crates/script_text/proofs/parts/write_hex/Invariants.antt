@@ -1,8 +1,12 @@
-use Rattle.std.proofs.Common.{take}
-use Rattle.std.specs.List.{flat_map}
+-- What is gone from the rest was written.
+use Rattle.std.proofs.Common.{◌≡◌, ℕ, List, ◌++◌, length}
 use Rattle.std.specs.Io.KnownBytes.{Appends}
-use Rattle.script_text.proofs.HexText.{byte_text}
+use Rattle.hex.specs.Hex.{encode_lower}
 use Rattle.script_text.proofs.parts.write_hex.Given as goal
 
-abbrev pub invariant-loop-byte : goal.invariant-loop-byte
-invariant-loop-byte g l = Appends (g.W.Write.contents l.fn.output) (g.W.Write.contents l.output) (flat_map byte_text (take l.byte-index l.bytes))
+abbrev pub invariant-loop-rest : goal.invariant-loop-rest
+invariant-loop-rest g l =
+    (done : List ℕ) × (l.bytes ≡ done ++ l.rest) × Appends (g.W.Write.contents l.fn.output) (g.W.Write.contents l.output) (encode_lower done)
+
+abbrev pub decreases-loop-rest : goal.decreases-loop-rest
+decreases-loop-rest g l = length l.rest

@@ -2,20 +2,23 @@ use Rattle.std.proofs.Common.{rules, ◌≡◌, List, map, subst, string_bytes}
 use Rattle.sqlite.specs.Order.{Row}
 use Rattle.table_audit.specs.Showing.{ShowsInstallations}
 use Rattle.table_audit.proofs.Looking.{finds_then}
-use Rattle.table_seals.specs.Checking.{TellsNames, TellsMeters}
+use Rattle.table_seals.specs.Checking.{TellsMeters}
+use Rattle.table_seals.specs.Installed.{AreTermsOf, TellsNamesAt}
 use Rattle.table_seals.specs.Sealed.{sealed_of}
 use Rattle.table_seals.proofs.checking.check_meters.Goals as goal
 
-pub returns : goal.returns
-returns g c =
+pub returns-in-Ok : goal.returns-in-Ok
+returns-in-Ok g c =
     let same : c.deref.result.now ≡ c.in_ok-installed.installed.items = search rules in
+    let are : AreTermsOf c.in_ok-installed.installed.items c.in-Ok.known =
+    subst (λ (rows : List Row). AreTermsOf rows c.in-Ok.known) same c.in-Ok.ensures in
     finds_then g.S.Store c.args.conn.now c.installations.new.conn c.check_each.new.conn c.in_ok-installed.installed c.check_each.result
     (λ content rows. ShowsInstallations content rows.items)
-    (λ content differing. TellsNames c.deref.result.now (map sealed_of c.args.seals.now) content (map string_bytes differing.items))
+    (λ content differing. TellsNamesAt c.in-Ok.known (map sealed_of c.args.seals.now) content (map string_bytes differing.items))
     (λ content differing. TellsMeters (map sealed_of c.args.seals.now) content (map string_bytes differing.items))
     c.in_ok-installed.ensures c.check_each.ensures
     (λ content differing shown tells. record {
       installed = c.in_ok-installed.installed.items;
       shown = shown;
-      tells = subst (λ (rows : List Row). TellsNames rows (map sealed_of c.args.seals.now) content (map string_bytes differing.items)) same tells;
+      tells = tells c.in_ok-installed.installed.items are;
     })

@@ -25,7 +25,7 @@ pub returns-in-Some-Voids : goal.returns-in-Some-Voids
 returns-in-Some-Voids g c = c.reply_voids.ensures (texts c.args.names.now) c.args.now.moment
 
 pub returns-in-Some-Energy : goal.returns-in-Some-Energy
-returns-in-Some-Energy g c = c.reply_energy.ensures (texts c.args.names.now) c.args.now.moment
+returns-in-Some-Energy g c = c.reply_days.ensures (texts c.args.names.now) c.args.now.moment
 
 pub returns-in-Some-Meters : goal.returns-in-Some-Meters
 returns-in-Some-Meters g c = c.reply_meters.ensures (texts c.args.names.now) c.args.now.moment

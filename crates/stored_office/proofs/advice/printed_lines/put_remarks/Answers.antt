@@ -1,4 +1,4 @@
-use Rattle.std.proofs.Common.{ℕ, List, refl, sym, subst}
+use Rattle.std.proofs.Common.{List, subst}
 use Rattle.command_io.specs.Lines.{Line}
 use Rattle.stored_office.specs.Advice.PrintedLines.{Explains}
 use Rattle.stored_office.proofs.advice.printed_lines.put_remarks.Goals as goal

@@ -1,4 +1,4 @@
-use Rattle.stored_office.proofs.RunsLemmas.Standing.{stands_alone}
+use Rattle.stored_files.proofs.Standing.{stands_alone}
 use Rattle.stored_office.proofs.runs.runs.run_stored.Goals as goal
 
 pub returns-clause-headline : goal.returns-clause-headline

@@ -1,0 +1,93 @@
+-- A worked example, computed from the definitions: a meter was read in an old file, carried into a new one, and read there by hand.
+use Rattle.std.proofs.Common.{◌≡◌, ℕ, pos, List, [], ◌∷◌, Some, inl, inr, refl, arith}
+use Rattle.std.specs.Prelude.{codes}
+use Rattle.energy_core.specs.Value.{unit_of}
+use Rattle.energy_core.specs.declared.entries.Entry.TheVariants as entry
+use Rattle.energy_report.specs.Held.{none_held}
+use Rattle.interval_core.specs.Ranges.{all_days}
+use Rattle.interval_core.specs.declared.zone.Zone.{Zone}
+use Rattle.mb_wire.specs.declared.span.ReadFunction.TheVariants.{InputRegisters}
+use Rattle.meter_journal.specs.declared.lines.EntryKind.TheVariants as kind
+use Rattle.office_events.specs.declared.facts.Device.{Device}
+use Rattle.office_events.specs.declared.facts.Fact.{Fact}
+use Rattle.office_events.specs.declared.facts.Fact.TheVariants as fact
+use Rattle.office_events.specs.declared.facts.Opening.{Opening}
+use Rattle.office_events.specs.declared.facts.Register.{Register}
+use Rattle.office_events.specs.declared.facts.ScaleSource.TheVariants as source
+use Rattle.office_rules.specs.Meters.{installation_of}
+use Rattle.carried_books.specs.Joining.Statements.{AreMetersOver, MeterOver, both_of, meter_in, statement_over}
+
+abbrev main : List ℕ
+main = codes "main"
+
+abbrev device : Device
+device = record { name = codes "roof"; unit = 17; timeout = 5; window = 2 }
+
+abbrev register : Register
+register = record { name = main; device = codes "roof"; function = InputRegisters; address = 40; scale = source.Register 42 }
+
+abbrev opening : (at raw : ℕ) → Opening
+opening at raw = record { meter = codes "m1"; register = main; ceiling = 100000; range = 65536; at = at; raw = raw; sf = pos 0 }
+
+-- It was opened at 1000, and read at 1900, where it showed 10 Wh.
+abbrev old : List Fact
+old =
+    fact.Entry (record { meter = codes "m1"; kind = kind.Reading; entry = entry.Step 1900 10 0 })
+    ∷ fact.Opening (opening 1000 0)
+    ∷ fact.Register register
+    ∷ fact.Device device
+    ∷ []
+
+-- So it was opened anew, and read by hand at 2800, where it showed 25 Wh.
+abbrev new : List Fact
+new =
+    fact.Entry (record { meter = codes "m1"; kind = kind.Manual; entry = entry.Step 2800 25 0 })
+    ∷ fact.Opening (opening 1900 10)
+    ∷ fact.Register register
+    ∷ fact.Device device
+    ∷ []
+
+abbrev in_old : MeterOver
+in_old = meter_in old (installation_of old (opening 1000 0))
+
+abbrev in_new : MeterOver
+in_new = meter_in new (installation_of new (opening 1900 10))
+
+-- It is one meter of both files,
+one_meter : AreMetersOver main (new ∷ old ∷ []) (both_of in_old in_new ∷ [])
+unfolding unit_of
+one_meter = record {
+  recorded = (λ is. refl, (λ is. refl, tt));
+  joined = (
+    in_old ∷ [],
+    inr (record { earlier = λ k d less. absurd (omega (arith, less)); after_is = refl }),
+    (
+      both_of in_old in_new ∷ [],
+      inl (record {
+        before = [];
+        one = in_old;
+        known_is = refl;
+        goes = record { name = refl; goes = record { unended = refl; range = refl; ceiling = refl; opening = refl } };
+        after_is = refl;
+      }),
+      refl,
+    ),
+  );
+}
+
+-- stated from its opening to the number by hand.
+stated : (zone : Zone) → statement_over zone all_days (both_of in_old in_new) ≡ record {
+  meter = codes "m1";
+  entries = record {
+    first = Some (record { at = 1000; raw = 0; sf = pos 0 });
+    last = Some (record { at = 2800; raw = 25; sf = pos 0 });
+    by_hand = 1;
+    resets = 0;
+    rescales = 0;
+    voids = 0;
+  };
+  mwh = 25000;
+  held = none_held;
+}
+unfolding unit_of
+stated zone = refl

@@ -1,0 +1,103 @@
+-- What earlier files and an office that goes on tell together of the days of a register. What the earlier files have of it is there
+-- as rows, one file after the other.
+use Rattle.std.specs.Prelude.{◌≡◌, ◌⊎◌, ℕ, List, ◌++◌, map, All, Option, Some, Result, Ok, Err, MatchResult, OnOk}
+use Rattle.std.specs.List.{flat_map}
+use Rattle.std.specs.declared.alloc.Global.{Global}
+use Rattle.std.specs.declared.vec.Vec.{Vec}
+use Rattle.interval_core.specs.Days.{AreAccounts, account_of}
+use Rattle.interval_core.specs.declared.shares.Share.{Share}
+use Rattle.interval_core.specs.declared.totals.DayTotal.{DayTotal}
+use Rattle.interval_core.specs.declared.zone.Zone.{Zone}
+use Rattle.office_events.specs.declared.facts.Fact.{Fact}
+use Rattle.office_events.specs.declared.facts.Opening.{Opening}
+use Rattle.office_events.specs.declared.questions.Installation.{Installation}
+use Rattle.office_events.specs.declared.refusals.Refusal.{Refusal}
+use Rattle.office_events.specs.declared.refusals.Refusal.TheVariants as refusal
+use Rattle.office_events.specs.declared.refusals.StoreCause.TheVariants as store
+use Rattle.office_rules.specs.Facts.{opening_of, register_of}
+use Rattle.office_rules.specs.History.{facts_of}
+use Rattle.office_rules.specs.Intervals.{rows_of_opening, rows_of_register}
+use Rattle.office_rules.specs.Meters.{installation_of}
+use Rattle.office_books.specs.Ledgers.{Ledger}
+use Rattle.office_books.specs.Rows.{TakesAll}
+use Rattle.office_books.specs.Spans.{rows_within}
+use Rattle.office_books.specs.declared.failures.Failures.{Failures}
+use Rattle.office_books.specs.declared.spans.Span.{Span}
+use Rattle.office_core.specs.Asking.{IsFound, IsRowFound, is_there}
+use Rattle.office_core.specs.Failing.{IsOutside}
+use Rattle.office_core.specs.Several.{KeepsUnlessRefused}
+use Rattle.office_core.specs.Standing.{After}
+use Rattle.office_core.specs.Taking.{failures_of}
+use Rattle.office_core.specs.declared.office.Office.{Office}
+use Rattle.carried_books.specs.Joining.Days.{AreOutOfTurn, HasNumber, TakesShare}
+use Rattle.carried_books.specs.declared.joining.days.JoinedDays.{JoinedDays}
+
+-- ---- the quarter hours that an office has
+
+-- the opening is the one that is found by the name of its meter
+abbrev pub IsInstalled : List Fact → Opening → Type 0
+IsInstalled facts opening = opening_of facts opening.meter ≡ Some opening
+
+-- The quarter hours of these meters that are asked for were taken, one meter after the other; or the books failed.
+abbrev pub TakesMeters : List Fact → List Opening → Span → (before after : Failures)
+    → (from to : JoinedDays) → Result (Unit {0}) Refusal → Type 0
+TakesMeters facts openings span before after from to result =
+    MatchResult result
+    (λ done. TakesAll TakesShare from
+    (rows_within span (flat_map (rows_of_opening facts) openings)) to)
+    (IsOutside ⊥ before after)
+
+-- So it is where these are, as they stand, the meters of openings that are recorded. The office was only asked.
+pub record AsksMeters {B : Type 0} (ledger : B → Ledger) (old new : Office B)
+    (listed : List Installation) (span : Span) (from to : JoinedDays)
+    (result : Result (Unit {0}) Refusal) : Type 0 where
+  pub left : KeepsUnlessRefused ledger old new result
+  pub takes : After ledger old new (λ past. (openings : List Opening)
+      → listed ≡ map (installation_of (facts_of past)) openings
+      → All (IsInstalled (facts_of past)) openings
+      → TakesMeters (facts_of past) openings span
+      (failures_of ledger old) (failures_of ledger new) from to result)
+
+-- The quarter hours of a register that are asked for were taken, as the facts have them; or there is no register of the name, or the
+-- books failed.
+pub record TakesRegister (facts : List Fact) (register : List ℕ) (span : Span)
+    (before after : Failures) (from to : JoinedDays) (result : Result (Unit {0}) Refusal) :
+    Type 0 where
+  pub answer : IsRowFound (is_there (register_of facts register)) before after result
+  pub whole : OnOk result (TakesAll TakesShare from
+      (rows_within span (rows_of_register facts register)) to)
+
+-- So it is by what an office had accepted.
+abbrev pub AsksRegister : {B : Type 0} → (B → Ledger) → (old new : Office B)
+    → (register : List ℕ) → Span → (from to : JoinedDays) → Result (Unit {0}) Refusal → Type 0
+AsksRegister ledger old new register span from to result = After ledger old new (λ past.
+    TakesRegister (facts_of past) register span (failures_of ledger old) (failures_of ledger new)
+    from to result)
+
+-- ---- the days of both
+
+-- They are told of these rows; or why not: there is no register of the name, the books or memory failed, or the office had stopped;
+-- or one of the rows is out of turn.
+abbrev pub ListsOver : Zone → (rows : List Share) → (there : Option (Unit {0}))
+    → (before after : Failures) → Result (Vec DayTotal Global) Refusal → Type 0
+ListsOver zone rows there before after (Ok days) =
+    (there ≡ Some tt) × (after ≡ before) × AreAccounts zone rows (map account_of days.items)
+ListsOver zone rows there before after (Err why) =
+    IsFound {T = Unit {0}} (there ≡ Some tt) there before after (Err why)
+    ⊎ ((why ≡ refusal.Store store.NoDay) × (after ≡ before) × AreOutOfTurn rows)
+
+-- the rows of earlier files and those of an office with these facts, as far as they are asked for
+abbrev pub rows_of_both : Span → (earlier : List Share) → List Fact → (register : List ℕ)
+    → List Share
+rows_of_both span earlier facts register =
+    rows_within span (earlier ++ rows_of_register facts register)
+
+-- So it is with these, by what an office had accepted, where the sum of their energy has a number of 128 bits.
+abbrev pub TellsDaysOver : {B : Type 0} → (B → Ledger) → (old new : Office B) → Zone
+    → (earlier : List Share) → (register : List ℕ) → Span
+    → Result (Vec DayTotal Global) Refusal → Type 0
+TellsDaysOver ledger old new zone earlier register span result = After ledger old new (λ past.
+    HasNumber (rows_of_both span earlier (facts_of past) register)
+    → ListsOver zone (rows_of_both span earlier (facts_of past) register)
+    (is_there (register_of (facts_of past) register))
+    (failures_of ledger old) (failures_of ledger new) result)

@@ -1,0 +1,283 @@
+-- What files of one office tell of the meters at a register on a range of days, one file after the other, for the statement over
+-- them. Each file is there by its facts, and lists of files have the latest one first.
+use Rattle.std.specs.Prelude.{◌≡◌, ◌⊎◌, ℕ, ◌+◌, ◌-◌, ◌^◌, min, Bool, true, false, List, [], ◌∷◌, ◌++◌, map, filter, drop, All, Option, Some, None}
+use Rattle.std.specs.declared.io.Write as writers
+use Rattle.command_io.specs.declared.status.ExitStatus.{ExitStatus}
+use Rattle.command_io.specs.declared.status.ExitStatus.TheVariants.{Fine}
+use Rattle.energy_report.specs.Held.{held_within}
+use Rattle.energy_report.specs.RowLines.{counted}
+use Rattle.energy_report.specs.Statements.{energy_within, tally_of, was_there}
+use Rattle.energy_report.specs.StatementTexts.{statement_text}
+use Rattle.energy_report.specs.declared.form.StatementForm.{StatementForm}
+use Rattle.energy_report.specs.declared.held_counts.HeldCounts.{HeldCounts}
+use Rattle.energy_report.specs.declared.meter_statement.MeterStatement.{MeterStatement}
+use Rattle.energy_report.specs.declared.tallies.EntryTally.{EntryTally}
+use Rattle.interval_core.specs.declared.day_range.DayRange.{DayRange}
+use Rattle.interval_core.specs.declared.shares.Share.{Share}
+use Rattle.interval_core.specs.declared.zone.Zone.{Zone}
+use Rattle.meter_audit.specs.Carried.{AreCountedOnce, moved_row}
+use Rattle.office_books.specs.Entries.{all_entries, installations_of}
+use Rattle.office_books.specs.Holds.{holds_of}
+use Rattle.office_books.specs.Rows.{TakesAll}
+use Rattle.office_books.specs.declared.entries.MeterEntry.{MeterEntry}
+use Rattle.office_books.specs.declared.entries.MeterEntry.TheVariants as entry
+use Rattle.office_events.specs.declared.facts.Fact.{Fact}
+use Rattle.office_events.specs.declared.facts.HeldReading.{HeldReading}
+use Rattle.office_events.specs.declared.questions.Installation.{Installation}
+use Rattle.office_program.specs.Texts.EndTexts.{IsTold}
+use Rattle.office_program.specs.Texts.Statements.{statements_of}
+use Rattle.office_rules.specs.Intervals.{rows_of_meter}
+use Rattle.office_rules.specs.Lawful.{AreLawful}
+use Rattle.carried_books.specs.Joining.Files.{StaysRecorded, is_recorded, is_recorded_in}
+use Rattle.carried_books.specs.Joining.Meters.{AddOrAreApart, AreApart, GoesOn, as_one, is_before}
+use Rattle.carried_books.specs.declared.joining.files.Unjoined.{Unjoined}
+use Rattle.carried_books.specs.declared.joining.files.Unjoined.TheVariants as unjoined
+use Rattle.carried_books.specs.declared.joining.meters.Apart.{Apart}
+use Rattle.carried_books.specs.declared.joining.kept_meters.KeptMeter.{KeptMeter}
+use Rattle.carried_books.specs.declared.joining.statements.JoinedStatement.{JoinedStatement}
+
+-- ---- a meter over files
+
+-- What files have of a meter: as it stands, its entries in their order with voided ones, its quarter hours, and its readings that
+-- were held.
+pub record MeterOver : Type 0 where
+  pub stands : Installation
+  pub entries : List MeterEntry
+  pub rows : List Share
+  pub holds : List HeldReading
+
+-- what one file has of a meter that it lists
+abbrev pub meter_in : List Fact → Installation → MeterOver
+meter_in facts row = record {
+  stands = row;
+  entries = all_entries facts row.opening.meter;
+  rows = rows_of_meter facts row.opening.meter;
+  holds = holds_of facts row.opening.meter;
+}
+
+-- Which entries of a file are its own: all of a meter that begins there. Where it goes on there its opening is not, since that
+-- is the last entry that stands before it, told again: the reading at which it was carried.
+abbrev pub own_entries : (goes_on : Bool) → List MeterEntry → List MeterEntry
+own_entries true entries = drop 1 entries
+own_entries false entries = entries
+
+-- what files have of a meter, with the next one, in which it goes on
+abbrev pub both_of : (one next : MeterOver) → MeterOver
+both_of one next = record {
+  stands = as_one one.stands next.stands;
+  entries = one.entries ++ own_entries true next.entries;
+  rows = one.rows ++ next.rows;
+  holds = one.holds ++ next.holds;
+}
+
+-- ---- the meters at a register
+
+-- The last of these goes on as this one.
+pub record IsOneOver (known : List MeterOver) (next : MeterOver) (after : List MeterOver) :
+    Type 0 where
+  pub before : List MeterOver
+  pub one : MeterOver
+  pub known_is : known ≡ before ++ one ∷ []
+  pub goes : GoesOn one.stands next.stands
+  pub after_is : after ≡ before ++ both_of one next ∷ []
+
+-- All of these were there before this one, which comes after them.
+pub record IsNextOver (known : List MeterOver) (next : MeterOver) (after : List MeterOver) :
+    Type 0 where
+  pub earlier : All (λ one. is_before one.stands next.stands ≡ true) known
+  pub after_is : after ≡ known ++ next ∷ []
+
+-- A meter joins those of the files before it, and those before it in its file, as reports over files ask it too.
+abbrev pub AddsOver : (known : List MeterOver) → MeterOver → (after : List MeterOver) → Type 0
+AddsOver known next after = IsOneOver known next after ⊎ IsNextOver known next after
+
+-- What each file has of its meters: those of the first, in the order in which they were installed, then those of the next, and so
+-- on.
+abbrev pub parts_over : (register : List ℕ) → (files : List (List Fact)) → List MeterOver
+parts_over register [] = []
+parts_over register (facts ∷ files) =
+    parts_over register files ++ map (meter_in facts) (installations_of facts register)
+
+-- The files join at the register, and these are its meters over all of them. One that a file doesn't have is there as the files
+-- before have it.
+pub record AreMetersOver (register : List ℕ) (files : List (List Fact)) (meters : List MeterOver) :
+    Type 0 where
+  pub recorded : StaysRecorded register files
+  pub joined : TakesAll AddsOver [] (parts_over register files) meters
+
+-- ---- what is stated
+
+-- Of its entries the first and the last in the range, and how many corrections; the energy of its quarter hours that start in the
+-- range; and how many of its readings in the range were held: as of a meter of one file.
+abbrev pub statement_over : Zone → DayRange → MeterOver → MeterStatement
+statement_over zone range m = record {
+  meter = m.stands.opening.meter;
+  entries = tally_of zone range m.entries;
+  mwh = energy_within zone range m.rows;
+  held = held_within zone range m.holds;
+}
+
+-- That of each meter that was there in the range, from its first opening on.
+abbrev pub statements_over : Zone → DayRange → List MeterOver → List MeterStatement
+statements_over zone range meters =
+    map (statement_over zone range) (filter (λ m. was_there zone range m.stands) meters)
+
+-- The statement of the register's meters over the files.
+abbrev pub IsStatementOver : Zone → (register : List ℕ) → (files : List (List Fact))
+    → StatementForm → (text : List ℕ) → Type 0
+IsStatementOver zone register files form text = (meters : List MeterOver)
+    × AreMetersOver register files meters
+    × (text ≡ statement_text form (statements_over zone form.range meters))
+
+-- ---- what is kept of a meter
+
+abbrev pub kept_of : Zone → DayRange → MeterOver → KeptMeter
+kept_of zone range m = record { stands = m.stands; told = statement_over zone range m }
+
+-- Each is kept of the meter at its place.
+abbrev pub AreTold : Zone → DayRange → List KeptMeter → List MeterOver → Type 0
+AreTold zone range kept meters = kept ≡ map (kept_of zone range) meters
+
+abbrev pub stands_of : KeptMeter → Installation
+stands_of kept = kept.stands
+
+abbrev pub told_of : KeptMeter → MeterStatement
+told_of kept = kept.told
+
+-- the rows of those of them that were there in the range
+abbrev pub rows_of_those : Zone → DayRange → List KeptMeter → List MeterStatement
+rows_of_those zone range kept =
+    map told_of (filter (λ one. was_there zone range one.stands) kept)
+
+-- What was kept of files that join: what their meters come to on the days of the range, by the clocks of the zone.
+pub record HasStated (zone : Zone) (range : DayRange) (register : List ℕ)
+    (files : List (List Fact)) (kept : JoinedStatement) : Type 0 where
+  pub recorded : kept.is_recorded ≡ is_recorded_in register files
+  pub zone_is : kept.zone ≡ zone
+  pub meters : List MeterOver
+  pub are : AreMetersOver register files meters
+  pub told : AreTold zone range kept.meters.items meters
+
+-- ---- one file more
+
+-- Entries are tallied after those before.
+abbrev pub TalliesOn : Zone → DayRange → List MeterEntry → (old new : EntryTally) → Type 0
+TalliesOn zone range entries old new = (before : List MeterEntry)
+    → old ≡ tally_of zone range before → new ≡ tally_of zone range (before ++ entries)
+
+-- What a file has of a meter, which goes on or begins there: its entries are tallied after those before, and the rest is told of
+-- the file alone.
+pub record TellsPart (zone : Zone) (range : DayRange) (meter : List ℕ) (goes_on : Bool)
+    (facts : List Fact) (begun : EntryTally) (told : MeterStatement) : Type 0 where
+  pub meter_is : told.meter ≡ meter
+  pub entries : TalliesOn zone range (own_entries goes_on (all_entries facts meter)) begun
+      told.entries
+  pub energy : told.mwh ≡ energy_within zone range (rows_of_meter facts meter)
+  pub held : told.held ≡ held_within zone range (holds_of facts meter)
+
+-- how many readings were held in both; a count stays at the greatest number of 64 bits
+abbrev pub both_held : (one more : HeldCounts) → HeldCounts
+both_held one more = record {
+  not_accumulated = counted (one.not_accumulated + more.not_accumulated);
+  scale_changed = counted (one.scale_changed + more.scale_changed);
+  not_later = counted (one.not_later + more.not_later);
+  span_too_long = counted (one.span_too_long + more.span_too_long);
+  gap_too_long = counted (one.gap_too_long + more.gap_too_long);
+  too_fast = counted (one.too_fast + more.too_fast);
+  total_full = counted (one.total_full + more.total_full);
+  not_below_range = counted (one.not_below_range + more.not_below_range);
+}
+
+-- What is kept of a meter that goes on in a file which has this part of it.
+abbrev pub with_part : KeptMeter → Installation → (part : MeterStatement) → KeptMeter
+with_part kept row part = record {
+  stands = as_one kept.stands row;
+  told = record {
+    meter = kept.told.meter;
+    entries = part.entries;
+    mwh = min (kept.told.mwh + part.mwh) (2 ^ 128 - 1);
+    held = both_held kept.told.held part.held;
+  };
+}
+
+-- What was kept of meters becomes what is kept of them and those that a file lists, which join them, unless two are apart.
+abbrev pub TellsAll : Zone → DayRange → (facts : List Fact) → (listed : List Installation)
+    → (old new : List KeptMeter) → Option Apart → Type 0
+TellsAll zone range facts listed old new None = (meters : List MeterOver)
+    → AreTold zone range old meters
+    → (after : List MeterOver) × TakesAll AddsOver meters (map (meter_in facts) listed) after
+    × AreTold zone range new after
+TellsAll zone range facts listed old new (Some apart) = Unit {0}
+
+-- They were added so, or two are apart.
+abbrev pub AddsListed : Zone → DayRange → (facts : List Fact) → (listed : List Installation)
+    → (old new : List KeptMeter) → Option Apart → Type 0
+AddsListed zone range facts listed old new apart =
+    AddOrAreApart (map stands_of old) listed (map stands_of new) apart
+    × TellsAll zone range facts listed old new apart
+
+-- A file doesn't join those before it, for one of the reasons for which it doesn't in a report over files. That quarter hours
+-- come in turn is not asked: their energies are added up, in whichever order they come.
+abbrev pub DoesNotGoOn : (register : List ℕ) → (facts : List Fact) → (old : JoinedStatement)
+    → Unjoined → Type 0
+DoesNotGoOn register facts old unjoined.NotRecorded =
+    (old.is_recorded ≡ true) × (is_recorded register facts ≡ false)
+DoesNotGoOn register facts old (unjoined.Apart apart) =
+    AreApart (map stands_of old.meters.items) (installations_of facts register) apart
+DoesNotGoOn register facts old unjoined.OutOfTurn = ⊥
+
+-- ---- what is printed
+
+abbrev pub PrintsRows : {W : Type 0} → (contents : W → Option (List ℕ)) → StatementForm
+    → List MeterStatement → ExitStatus → (had holds : W) → Type 0
+PrintsRows contents form rows status had holds =
+    IsTold (statement_text form rows) Fine status (contents had) (contents holds)
+
+-- The statement was printed, or a part of it, since a write failed.
+pub record PrintsStatement (zone : Zone) (register : List ℕ) (files : List (List Fact))
+    (form : StatementForm) (status : ExitStatus) (had holds : Option (List ℕ)) : Type 0 where
+  pub text : List ℕ
+  pub is : IsStatementOver zone register files form text
+  pub told : IsTold text Fine status had holds
+
+-- So it is of files that join, by what was kept of them for the days of the form.
+abbrev pub StatesJoined : {W : Type 0} → writers.Ghosts W → JoinedStatement → StatementForm
+    → (had holds : W) → ExitStatus → Type 0
+StatesJoined w joined form had holds status =
+    (zone : Zone) (register : List ℕ) (files : List (List Fact))
+    → HasStated zone form.range register files joined
+    → PrintsStatement zone register files form status (w.contents had) (w.contents holds)
+
+-- ---- one file
+
+-- Of one file alone, which an office wrote, that is the statement of its meters.
+abbrev pub OneFileStatesItsMeters : Type 0
+OneFileStatesItsMeters = (zone : Zone) (range : DayRange) (register : List ℕ) (facts : List Fact)
+    (meters : List MeterOver)
+    → AreLawful facts → AreMetersOver register (facts ∷ []) meters
+    → statements_over zone range meters
+    ≡ statements_of zone range facts (installations_of facts register)
+
+-- ---- a meter that is carried
+
+-- an entry after so many of the old file
+abbrev pub moved_entry : (count : ℕ) → MeterEntry → MeterEntry
+moved_entry count (entry.Opening last) = entry.Opening last
+moved_entry count (entry.Later row sf) = entry.Later (moved_row count row) sf
+
+-- What two files have of a meter that is carried from the one into the other, and one file that has its journal in both: there
+-- the entries of the new file but for its opening come after those of the old one, each quarter hour has the energy of both, and
+-- the held readings of the new one come after those of the old one.
+pub record HaveOneJournal (old new both : MeterOver) : Type 0 where
+  pub count : ℕ
+  pub name : both.stands.opening.meter ≡ old.stands.opening.meter
+  pub entries : both.entries
+      ≡ old.entries ++ map (moved_entry count) (own_entries true new.entries)
+  pub rows : AreCountedOnce old.rows new.rows both.rows
+  pub holds : both.holds ≡ old.holds ++ new.holds
+
+-- Both files state of it what that one states.
+abbrev pub BothFilesStateTheJoinedMeter : Type 0
+BothFilesStateTheJoinedMeter = (zone : Zone) (range : DayRange) (old new both : MeterOver)
+    → HaveOneJournal old new both
+    → statement_over zone range (both_of old new) ≡ statement_over zone range both

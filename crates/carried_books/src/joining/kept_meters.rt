@@ -1,0 +1,150 @@
+//! What is kept of a meter over files for its statement.
+ghost use Rattle.std.specs.Prelude.{◌≡◌, ◌≤◌, if◌then◌else◌};
+ghost use Rattle.office_books.specs.Entries.{all_entries};
+ghost use Rattle.office_books.specs.Holds.{holds_of};
+ghost use Rattle.office_books.specs.Ledgers.{Consults, Finds};
+ghost use Rattle.office_rules.specs.Intervals.{rows_of_meter};
+ghost use Rattle.energy_report.specs.Held.{held_within};
+ghost use Rattle.energy_report.specs.Statements.{energy_within};
+ghost use Rattle.carried_books.specs.Joining.Statements as statements;
+ghost use Rattle.carried_books.specs.Joining.Statements.{TalliesOn, TellsPart, own_entries};
+
+use crate::joining::meters::as_one;
+use energy_report::{EnergyWithin, EntryTally, HeldCounts, HeldWithin, MeterStatement};
+use interval_core::{DayRange, Zone};
+use office_books::{Books, BooksFault, Span};
+use office_core::span_around;
+use office_events::{Installation, Name};
+
+/// A meter over files, as it stands, and what it comes to in a range of days.
+#[derive(Clone, Copy, Debug, PartialEq, Eq)]
+pub struct KeptMeter {
+    pub stands: Installation,
+    pub told: MeterStatement,
+}
+
+// How many entries are asked for at a time, and how often at most: places are numbers of 64 bits.
+const PIECE: u32 = 65536;
+
+const MOST_PIECES: u64 = 281_474_976_710_655;
+
+// The place of its first entry of its own.
+fn first_place(goes_on: bool) -> u64
+    ensures place { result ≡ if goes_on then 2 else 1 }
+    ensures few { result ≤ 2 }
+{
+    if goes_on { 2 } else { 1 }
+}
+
+// What its entries come to with its own ones in a file, which are asked for piece by piece.
+fn tally_on<B: Books>(
+    books: &mut B,
+    begun: EntryTally,
+    zone: &Zone,
+    range: &DayRange,
+    meter: &Name,
+    goes_on: bool,
+) -> Result<EntryTally, BooksFault>
+    ensures found { Finds (B.ledger books.old) (B.ledger books.new) result
+        (λ known new. TalliesOn zone.now range.now
+        (own_entries goes_on (all_entries known meter.now)) begun new) }
+    ensures reads { Consults (B.ledger books.old) (B.ledger books.new) result }
+{
+    let first = first_place(goes_on);
+    let mut tally = begun;
+    for turn in 0..MOST_PIECES {
+        let piece = books.entries(meter, turn * 65536 + first, PIECE)?;
+        tally.take_all(zone, range, &piece);
+        if piece.len() < 65536 {
+            return Ok(tally);
+        }
+    }
+    Err(BooksFault::Memory)
+}
+
+// Its energy in the range. Of its quarter hours those around the days of the range are asked for.
+fn energy<B: Books>(
+    books: &mut B,
+    zone: &Zone,
+    range: &DayRange,
+    meter: &Name,
+) -> Result<u128, BooksFault>
+    ensures found { Finds (B.ledger books.old) (B.ledger books.new) result
+        (λ known mwh. mwh ≡ energy_within zone.now range.now (rows_of_meter known meter.now)) }
+    ensures reads { Consults (B.ledger books.old) (B.ledger books.new) result }
+{
+    let mut energy = EnergyWithin::new(*zone, *range);
+    books.intervals(meter, span_around(*range), &mut energy)?;
+    Ok(energy.mwh())
+}
+
+// How many of its readings in the range were held.
+fn held<B: Books>(
+    books: &mut B,
+    zone: &Zone,
+    range: &DayRange,
+    meter: &Name,
+) -> Result<HeldCounts, BooksFault>
+    ensures found { Finds (B.ledger books.old) (B.ledger books.new) result
+        (λ known counts. counts ≡ held_within zone.now range.now (holds_of known meter.now)) }
+    ensures reads { Consults (B.ledger books.old) (B.ledger books.new) result }
+{
+    let mut held = HeldWithin::new(*zone, *range);
+    books.holds(meter, Span::All, &mut held)?;
+    Ok(held.counts())
+}
+
+/// What a file has of a meter, which goes on there or begins; its entries are tallied after those before.
+pub(crate) fn told_in<B: Books>(
+    books: &mut B,
+    begun: EntryTally,
+    zone: &Zone,
+    range: &DayRange,
+    meter: &Name,
+    goes_on: bool,
+) -> Result<MeterStatement, BooksFault>
+    ensures found { Finds (B.ledger books.old) (B.ledger books.new) result
+        (λ known told. TellsPart zone.now range.now meter.now goes_on known begun told) }
+    ensures reads { Consults (B.ledger books.old) (B.ledger books.new) result }
+{
+    let entries = tally_on(books, begun, zone, range, meter, goes_on)?;
+    let mwh = energy(books, zone, range, meter)?;
+    let held = held(books, zone, range, meter)?;
+    Ok(MeterStatement {
+        meter: *meter,
+        entries,
+        mwh,
+        held,
+    })
+}
+
+// How many readings were held in both.
+fn both_held(one: &HeldCounts, more: &HeldCounts) -> HeldCounts
+    ensures { result ≡ statements.both_held one.now more.now }
+{
+    HeldCounts {
+        not_accumulated: one.not_accumulated.saturating_add(more.not_accumulated),
+        scale_changed: one.scale_changed.saturating_add(more.scale_changed),
+        not_later: one.not_later.saturating_add(more.not_later),
+        span_too_long: one.span_too_long.saturating_add(more.span_too_long),
+        gap_too_long: one.gap_too_long.saturating_add(more.gap_too_long),
+        too_fast: one.too_fast.saturating_add(more.too_fast),
+        total_full: one.total_full.saturating_add(more.total_full),
+        not_below_range: one.not_below_range.saturating_add(more.not_below_range),
+    }
+}
+
+/// What is kept of a meter that goes on in a file which has this part of it.
+pub(crate) fn with_part(kept: &KeptMeter, row: &Installation, part: &MeterStatement) -> KeptMeter
+    ensures { result ≡ statements.with_part kept.now row.now part.now }
+{
+    KeptMeter {
+        stands: as_one(&kept.stands, row),
+        told: MeterStatement {
+            meter: kept.told.meter,
+            entries: part.entries,
+            mwh: kept.told.mwh.saturating_add(part.mwh),
+            held: both_held(&kept.told.held, &part.held),
+        },
+    }
+}

@@ -1,0 +1,242 @@
+//! The statement of the meters at a register over files of one office.
+ghost use Rattle.std.specs.Prelude.{◌≡◌, ◌∷◌, ◌++◌, [], List, map, find, not, IfErr, IfOk, OnOk};
+ghost use Rattle.std.specs.Option.{option_map};
+ghost use Rattle.office_events.specs.declared.facts.Fact.{Fact};
+ghost use Rattle.office_books.specs.Entries.{installations_of};
+ghost use Rattle.office_books.specs.Ledgers.{Consults};
+ghost use Rattle.carried_books.specs.Joining.Meters as meters;
+ghost use Rattle.carried_books.specs.Joining.Meters.{AddOrAreApart, AddsNext, AddsOrIsApart};
+ghost use Rattle.carried_books.specs.Joining.Statements.{AddsListed, DoesNotGoOn, HasStated};
+ghost use Rattle.carried_books.specs.Joining.Statements.{PrintsRows, StatesJoined, TellsAll};
+ghost use Rattle.carried_books.specs.Joining.Statements.{rows_of_those, stands_of};
+
+use crate::joining::files::{Unjoined, is_recorded};
+use crate::joining::keeping::Keeping;
+use crate::joining::kept_meters::{KeptMeter, told_in, with_part};
+use crate::joining::meters::{Apart, both, goes_on, is_before};
+use command_io::ExitStatus;
+use energy_report::{EntryTally, MeterStatement, StatementForm, was_there, write_statement};
+use interval_core::{DayRange, Zone};
+use office_books::{Books, BooksFault};
+use office_events::{Installation, Name};
+use std::alloc::{AllocError, Global};
+use std::io::Write;
+
+/// What files tell of a register's meters, one after the other: whether it is recorded, and what its meters come to in a range of
+/// days, by the clocks of a zone.
+#[derive(Drop)]
+pub struct JoinedStatement {
+    pub is_recorded: bool,
+    pub meters: Vec<KeptMeter>,
+    pub zone: Zone,
+}
+
+// The first of these that was not there before another.
+fn not_before(known: &[KeptMeter], row: &Installation) -> Option<Installation>
+    ensures { result ≡ option_map stands_of
+        (find (λ one. not (meters.is_before one.stands row.now)) known.now) }
+{
+    for one in known {
+        if !is_before(&one.stands, row) {
+            return Some(one.stands);
+        }
+    }
+    None
+}
+
+// Adds a meter that comes after these.
+fn add_next<B: Books>(
+    known: &mut Vec<KeptMeter>,
+    books: &mut B,
+    zone: &Zone,
+    range: &DayRange,
+    row: &Installation,
+) -> Result<Option<Apart>, BooksFault>
+    ensures joins { IfOk result (AddsNext (map stands_of known.old.items) row.now
+        (map stands_of known.new.items)) }
+    ensures tells { (facts : List Fact) → (B.ledger books.old).holds facts
+        → (B.ledger books.new).is_clean
+        → IfOk result (TellsAll zone.now range.now facts (row.now ∷ []) known.old.items
+        known.new.items) }
+    ensures reads { Consults (B.ledger books.old) (B.ledger books.new) result }
+{
+    match not_before(known.as_slice(), row) {
+        Some(stands) => Ok(Some(Apart {
+            stands,
+            begins: *row,
+        })),
+        None => {
+            let none = EntryTally::new();
+            let told = told_in(books, none, zone, range, &row.opening.meter, false)?;
+            known.push(KeptMeter { stands: *row, told })?;
+            Ok(None)
+        }
+    }
+}
+
+// Adds a meter as which the last of these goes on, or which comes after them. Where its books fail the last may be gone.
+fn add_row<B: Books>(
+    known: &mut Vec<KeptMeter>,
+    books: &mut B,
+    zone: &Zone,
+    range: &DayRange,
+    row: &Installation,
+) -> Result<Option<Apart>, BooksFault>
+    ensures joins { IfOk result (AddsOrIsApart (map stands_of known.old.items) row.now
+        (map stands_of known.new.items)) }
+    ensures tells { (facts : List Fact) → (B.ledger books.old).holds facts
+        → (B.ledger books.new).is_clean
+        → IfOk result (TellsAll zone.now range.now facts (row.now ∷ []) known.old.items
+        known.new.items) }
+    ensures reads { Consults (B.ledger books.old) (B.ledger books.new) result }
+{
+    let Some(last) = known.pop() else {
+        return add_next(known, books, zone, range, row);
+    };
+    if goes_on(&last.stands, row) {
+        let entries = last.told.entries;
+        let part = told_in(books, entries, zone, range, &row.opening.meter, true)?;
+        known.push(with_part(&last, row, &part))?;
+        return Ok(None);
+    }
+    known.push(last)?;
+    add_next(known, books, zone, range, row)
+}
+
+// Adds meters of a file, in the order in which they were installed; it answers the first two that don't join.
+fn add_listed<B: Books>(
+    known: &mut Vec<KeptMeter>,
+    books: &mut B,
+    zone: &Zone,
+    range: &DayRange,
+    listed: &[Installation],
+) -> Result<Option<Apart>, BooksFault>
+    ensures joins { IfOk result (AddOrAreApart (map stands_of known.old.items) listed.now
+        (map stands_of known.new.items)) }
+    ensures tells { (facts : List Fact) → (B.ledger books.old).holds facts
+        → (B.ledger books.new).is_clean
+        → IfOk result (TellsAll zone.now range.now facts listed.now known.old.items
+        known.new.items) }
+    ensures reads { Consults (B.ledger books.old) (B.ledger books.new) result }
+{
+    for row in listed {
+        let apart = add_row(known, books, zone, range, row)?;
+        if apart.is_some() {
+            return Ok(apart);
+        }
+    }
+    Ok(None)
+}
+
+// Adds the meters that books list at a register.
+fn add_meters<B: Books>(
+    known: &mut Vec<KeptMeter>,
+    books: &mut B,
+    zone: &Zone,
+    range: &DayRange,
+    register: &Name,
+) -> Result<Option<Apart>, BooksFault>
+    ensures adds { (facts : List Fact) → (B.ledger books.old).holds facts
+        → (B.ledger books.new).is_clean
+        → IfOk result (AddsListed zone.now range.now facts (installations_of facts register.now)
+        known.old.items known.new.items) }
+    ensures reads { Consults (B.ledger books.old) (B.ledger books.new) result }
+{
+    let listed = books.meters(register)?;
+    add_listed(known, books, zone, range, &listed)
+}
+
+/// What its meters come to.
+impl Keeping for JoinedStatement {
+    ghost keeps = { HasStated };
+
+    ghost parts = { λ range. DoesNotGoOn };
+
+    fn none(alloc: Global, zone: Zone, _range: DayRange) -> JoinedStatement {
+        JoinedStatement {
+            is_recorded: false,
+            meters: Vec::new(alloc),
+            zone,
+        }
+    }
+
+    fn add<B: Books>(
+        &mut self,
+        books: &mut B,
+        register: &Name,
+        range: DayRange,
+    ) -> Result<Option<Unjoined>, BooksFault> {
+        let is_recorded = is_recorded(books, register)?;
+        if both(self.is_recorded, !is_recorded) {
+            return Ok(Some(Unjoined::NotRecorded));
+        }
+        self.is_recorded = is_recorded;
+        let zone = self.zone;
+        match add_meters(&mut self.meters, books, &zone, &range, register)? {
+            Some(apart) => Ok(Some(Unjoined::Apart(apart))),
+            None => Ok(None),
+        }
+    }
+}
+
+// ---- what is printed
+
+// Adds the row of a meter, if it was there in a range.
+fn add_told(
+    rows: &mut Vec<MeterStatement>,
+    zone: &Zone,
+    range: &DayRange,
+    one: &KeptMeter,
+) -> Result<(), AllocError>
+    ensures { OnOk result (rows.new.items ≡ rows.old.items
+        ++ rows_of_those zone.now range.now (one.now ∷ [])) }
+{
+    if !was_there(zone, range, &one.stands) {
+        return Ok(());
+    }
+    rows.push(one.told)?;
+    Ok(())
+}
+
+// The rows of the meters that were there.
+fn rows_of(
+    alloc: Global,
+    zone: &Zone,
+    range: &DayRange,
+    known: &[KeptMeter],
+) -> Result<Vec<MeterStatement>, AllocError>
+    ensures { IfOk result (λ rows. rows.items ≡ rows_of_those zone.now range.now known.now) }
+{
+    let mut rows = Vec::new(alloc);
+    for one in known {
+        add_told(&mut rows, zone, range, one)?;
+    }
+    Ok(rows)
+}
+
+// Writes a statement.
+fn print_rows<W: Write>(form: &StatementForm, rows: &[MeterStatement], output: &mut W) -> ExitStatus
+    ensures { PrintsRows W.contents form.now rows.now result output.old output.new }
+{
+    match write_statement(form, rows, output) {
+        Ok(()) => ExitStatus::Fine,
+        Err(_) => ExitStatus::Failed,
+    }
+}
+
+/// Prints the statement of a register's meters in files that join, on the days of a range: of each meter that was there, in the
+/// order in which they were installed, what all files have of it. The days are those for which it was kept. `Err` where memory
+/// ran out, and nothing is printed then.
+pub fn state_joined<W: Write>(
+    alloc: Global,
+    joined: &JoinedStatement,
+    form: &StatementForm,
+    output: &mut W,
+) -> Result<ExitStatus, AllocError>
+    ensures states { IfOk result
+        (StatesJoined W.Write joined.now form.now output.old output.new) }
+    ensures nothing { IfErr result (λ fault. output.new ≡ output.old) }
+{
+    let rows = rows_of(alloc, &joined.zone, &form.range, &joined.meters)?;
+    Ok(print_rows(form, &rows, output))
+}

@@ -1,0 +1,225 @@
+//! The audit of an office's files, and seals of what is recorded in one.
+use crate::files::{Files, Opening};
+use crate::opening::open_in;
+use command_words::Sealing;
+use office_store::OpenFault;
+use sqlite::{Alter, Connection};
+use std::fs::File;
+use std::io::{self, Read, Write};
+use std::str::from_utf8;
+use stored_files::{
+    AuditFault, Databases, Ending, Failure, Joining, audit_stored, check_stored_seal,
+    hold_to_earlier, meters_stored, seal_stored, told_zone, write_audit, write_checked,
+    write_joins, write_seal,
+};
+
+/// The most bytes that are read of a seal. One of 4,096 meters, each with a thousand voids, has fewer.
+const MOST_SEAL: u64 = 300_000_000;
+
+// Prints the seal of the tables.
+fn print_seal<S: Alter>(
+    rt: &HostRuntime,
+    connection: &mut Connection<S>,
+) -> Result<bool, AuditFault> {
+    let seal = seal_stored(rt.alloc(), connection)?;
+    let mut output = io::writer(rt);
+    write_seal(rt.alloc(), &seal, &mut output)?;
+    Ok(true)
+}
+
+// Tells whether the tables still have what the seal of a text pins.
+fn hold_to<S: Alter>(
+    rt: &HostRuntime,
+    connection: &mut Connection<S>,
+    text: &str,
+) -> Result<bool, AuditFault> {
+    let checked = check_stored_seal(rt.alloc(), connection, text)?;
+    let mut output = io::writer(rt);
+    write_checked(rt.alloc(), &checked, &mut output)
+}
+
+// Audits the tables, and tells whether they are fine. Only where they are, a seal is printed, or held to: that of this text.
+fn audit_over<S: Alter>(
+    rt: &HostRuntime,
+    connection: &mut Connection<S>,
+    seal: Sealing<'_>,
+) -> Result<bool, AuditFault> {
+    let findings = audit_stored(rt.alloc(), connection)?;
+    if findings.is_fine() {
+        match seal {
+            Sealing::Nothing => {}
+            Sealing::Print => return print_seal(rt, connection),
+            Sealing::Against(text) => return hold_to(rt, connection, text),
+        }
+    }
+    let mut output = io::writer(rt);
+    write_audit(rt.alloc(), &findings, &mut output)
+}
+
+// Does so with the database at a path.
+fn audit_in<'a, D: Databases>(
+    rt: &HostRuntime,
+    databases: &D,
+    path: &'a str,
+    seal: Sealing<'_>,
+) -> Result<bool, Failure<'a>> {
+    let mut connection = open_in(rt, databases, path)?;
+    match audit_over(rt, &mut connection, seal) {
+        Ok(fine) => Ok(fine),
+        Err(AuditFault::Output) => Err(Failure::Streams),
+        Err(fault) => Err(Failure::Unaudited { path, fault }),
+    }
+}
+
+// What a seal's file has.
+fn seal_in(rt: &HostRuntime, file: &str) -> io::Result<Vec<u8>> {
+    let mut bytes = Vec::new(rt.alloc());
+    File::open(rt, file)?
+        .take(MOST_SEAL)
+        .read_to_end(&mut bytes)?;
+    Ok(bytes)
+}
+
+fn ended(told: Result<bool, Failure<'_>>) -> Ending<'_> {
+    match told {
+        Ok(true) => Ending::Fine,
+        Ok(false) => Ending::Refused,
+        Err(failure) => Ending::Failed(failure),
+    }
+}
+
+// Audits the tables, and holds them to the seal in a file.
+fn audit_against<'a>(rt: &HostRuntime, path: &'a str, file: &'a str) -> Ending<'a> {
+    let Ok(bytes) = seal_in(rt, file) else {
+        return Ending::Failed(Failure::Unaudited {
+            path: file,
+            fault: AuditFault::Unread,
+        });
+    };
+    let Ok(text) = from_utf8(bytes.as_slice()) else {
+        return Ending::NoSeal(file);
+    };
+    let files = Files::opened(rt, Opening::Copied);
+    match audit_in(rt, &files, path, Sealing::Against(text)) {
+        Err(
+            Failure::Unaudited {
+                fault: AuditFault::NoSeal,
+                ..
+            },
+        ) => Ending::NoSeal(file),
+        told => ended(told),
+    }
+}
+
+/// Tells whether the rows of an office's file are those of lawful journals and polls, and prints a seal of them, or holds them to one.
+/// Nothing is written to the file.
+pub fn audit<'a>(rt: &HostRuntime, path: &'a str, seal: Sealing<'a>) -> Ending<'a> {
+    match seal {
+        Sealing::Against(file) => audit_against(rt, path, file),
+        Sealing::Nothing | Sealing::Print => {
+            ended(audit_in(rt, &Files::opened(rt, Opening::Copied), path, seal))
+        }
+    }
+}
+
+// ---- several files
+
+// Why a file's zone wasn't told.
+fn zone_fault(fault: OpenFault) -> AuditFault {
+    match fault {
+        OpenFault::NotOurs => AuditFault::NotOurs,
+        OpenFault::Zone => AuditFault::NoText,
+        OpenFault::Store => AuditFault::Store,
+        OpenFault::Memory => AuditFault::Memory,
+    }
+}
+
+// Holds a file to those before it.
+fn join_next<'a, S: Alter>(
+    rt: &HostRuntime,
+    connection: &mut Connection<S>,
+    file: &'a str,
+    joining: &mut Joining<'a>,
+) -> Result<(), AuditFault> {
+    let meters = meters_stored(rt.alloc(), connection, file)?;
+    match told_zone(connection) {
+        Ok(zone) => hold_to_earlier(rt.alloc(), joining, file, zone, meters),
+        Err(fault) => Err(zone_fault(fault)),
+    }
+}
+
+// Audits the tables of one of several files, and tells whether they are fine. Only where they are, and those before were, it is held
+// to these.
+fn audit_next<'a, S: Alter>(
+    rt: &HostRuntime,
+    connection: &mut Connection<S>,
+    file: &'a str,
+    so_far: bool,
+    joining: &mut Joining<'a>,
+) -> Result<bool, AuditFault> {
+    let fine = audit_over(rt, connection, Sealing::Nothing)?;
+    if fine && so_far {
+        join_next(rt, connection, file, joining)?;
+    }
+    Ok(fine && so_far)
+}
+
+// Does so with the database at a path, under a line that names it.
+fn audit_file<'a, D: Databases>(
+    rt: &HostRuntime,
+    databases: &D,
+    path: &'a str,
+    so_far: bool,
+    joining: &mut Joining<'a>,
+) -> Result<bool, Failure<'a>> {
+    if write!(io::writer(rt), "file {path}\n").is_err() {
+        return Err(Failure::Streams);
+    }
+    let mut connection = open_in(rt, databases, path)?;
+    match audit_next(rt, &mut connection, path, so_far, joining) {
+        Ok(fine) => Ok(fine),
+        Err(AuditFault::Output) => Err(Failure::Streams),
+        Err(fault) => Err(Failure::Unaudited { path, fault }),
+    }
+}
+
+// Audits the files at these paths, one after the other, and tells whether all are fine, and go on from each other.
+fn audit_files<'a, D: Databases>(
+    rt: &HostRuntime,
+    databases: &D,
+    paths: &[&'a str],
+) -> Result<bool, Failure<'a>> {
+    let mut joining = Joining::new(rt.alloc());
+    let mut fine = true;
+    for path in paths {
+        fine = audit_file(rt, databases, *path, fine, &mut joining)?;
+    }
+    if !fine {
+        return Ok(false);
+    }
+    let mut output = io::writer(rt);
+    match write_joins(rt.alloc(), joining.lines.as_slice(), &mut output) {
+        Ok(joined) => Ok(joined),
+        Err(AuditFault::Memory) => Err(Failure::Memory),
+        Err(_) => Err(Failure::Streams),
+    }
+}
+
+// The first of these paths that stands twice.
+fn twice<'a>(paths: &[&'a str]) -> Option<&'a str> {
+    for (index, path) in paths.iter().enumerate() {
+        if paths[..index].iter().any(|other| *other == *path) {
+            return Some(*path);
+        }
+    }
+    None
+}
+
+/// Tells whether the rows of each of an office's files are those of lawful journals and polls, and whether the files, the oldest first,
+/// go on from each other. Nothing is written to them, and one is open at a time.
+pub fn audit_several<'a>(rt: &HostRuntime, paths: &[&'a str]) -> Ending<'a> {
+    if let Some(path) = twice(paths) {
+        return Ending::Twice(path);
+    }
+    ended(audit_files(rt, &Files::opened(rt, Opening::Copied), paths))
+}

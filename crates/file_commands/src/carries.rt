@@ -1,0 +1,279 @@
+//! A new file in which the meters of an office's file stand as they stood there.
+use crate::backups::{give_name, part_of};
+use crate::copies::{Pair, remove};
+use crate::escaped::Escaped;
+use crate::files::{Files, Opening};
+use crate::opening::open_in;
+use carried_books::CarryFault;
+use office_events::{Name, Refusal};
+use printed_numbers::{Kind, meaning_of};
+use sqlite::{Connection, Unknown};
+use std::fs::{self, File, OpenOptions};
+use std::io::{self, ErrorKind, Write};
+use std::os::unix::fs::OpenOptionsExt;
+use std::str::from_utf8;
+use stored_files::{CarryEnd, CopyFault, Databases, Ending, Failure, carry_stored, whole_file};
+
+// Makes an empty file that is its owner's alone.
+fn make_part(rt: &HostRuntime, part: &str) -> io::Result<()> {
+    drop(
+        OpenOptions::new()
+            .write(true)
+            .create_new(true)
+            .mode(0o600)
+            .open(rt, part)?,
+    );
+    Ok(())
+}
+
+// The fault of the new file that can't be written.
+fn unwritable(to: &str) -> Failure<'_> {
+    Failure::Uncopied {
+        path: to,
+        fault: CopyFault::Unwritable,
+    }
+}
+
+/// Why meters were not carried into a new file.
+#[derive(Drop)]
+pub enum NotCarried<'a> {
+    Failed(Failure<'a>),
+    /// The office in the file at this path refused something, or failed.
+    Refused { path: &'a str, why: Refusal },
+    /// A meter of the file at this path had no entry yet.
+    NotYet { path: &'a str, meter: Name },
+}
+
+// Why an office was not carried into a new one.
+fn not_carried<'a>(from: &'a str, to: &'a str, fault: CarryFault) -> NotCarried<'a> {
+    match fault {
+        CarryFault::Old(why) => NotCarried::Refused { path: from, why },
+        CarryFault::New(why) => NotCarried::Refused { path: to, why },
+        CarryFault::NotYet(meter) => NotCarried::NotYet { path: from, meter },
+    }
+}
+
+// The same, or why one of them was not opened.
+fn not_ended<'a>(from: &'a str, to: &'a str, end: CarryEnd) -> NotCarried<'a> {
+    match end {
+        CarryEnd::Unopened(fault) => NotCarried::Failed(Failure::Unopened { path: from, fault }),
+        CarryEnd::Unmade(fault) => NotCarried::Failed(Failure::Unmade { path: to, fault }),
+        CarryEnd::Ended(fault) => not_carried(from, to, fault),
+    }
+}
+
+// Carries the meters of a database into the part of a new file.
+fn carry_into_part<'a, D: Databases>(
+    rt: &HostRuntime,
+    databases: &D,
+    from: &'a str,
+    old: Connection<D::Store>,
+    to: &'a str,
+    part: &Pair,
+    until: Option<u64>,
+) -> Result<u64, NotCarried<'a>> {
+    match databases.make(part.file.as_str()) {
+        Ok(new) => match carry_stored(rt.alloc(), old, new, until) {
+            Ok(count) => Ok(count),
+            Err(end) => Err(not_ended(from, to, end)),
+        },
+        Err(fault) => {
+            let failure = Failure::File { path: to, fault };
+            Err(NotCarried::Failed(failure))
+        }
+    }
+}
+
+// Gives a file a name that nothing has, in one step where the system has links, and brings that to the disk.
+fn link_name(rt: &HostRuntime, part: &str, to: &str) -> io::Result<()> {
+    match fs::hard_link(rt, part, to) {
+        Ok(()) => {}
+        Err(error) if error.kind() == ErrorKind::AlreadyExists => return Err(error),
+        Err(_) => return give_name(rt, part, to),
+    }
+    fs::remove_file(rt, part)?;
+    let mut folder = fs::canonicalize(rt, to)?;
+    folder.pop();
+    File::open(rt, folder.as_str())?.sync_all()
+}
+
+// Removes the log, which was moved into the file, and gives that its name.
+fn name_whole(rt: &HostRuntime, to: &str, part: &Pair) -> io::Result<()> {
+    fs::remove_file(rt, part.log.as_str())?;
+    link_name(rt, part.file.as_str(), to)
+}
+
+// Makes the new file whole, and gives it its name.
+fn finish<'a>(rt: &HostRuntime, to: &'a str, part: &Pair) -> Result<(), Failure<'a>> {
+    match whole_file(rt, part.file.as_str(), Unknown) {
+        Ok(_files) => {}
+        Err(CopyFault::Memory) => return Err(Failure::Memory),
+        Err(_) => return Err(unwritable(to)),
+    }
+    match name_whole(rt, to, part) {
+        Ok(()) => Ok(()),
+        Err(error) if error.kind() == ErrorKind::AlreadyExists => {
+            Err(Failure::Uncopied {
+                path: to,
+                fault: CopyFault::Exists,
+            })
+        }
+        Err(_) => Err(unwritable(to)),
+    }
+}
+
+// Carries the meters of a database into the part of a new file, and makes that the new file. It answers how many they are.
+fn carry_whole<'a, D: Databases>(
+    rt: &HostRuntime,
+    databases: &D,
+    from: &'a str,
+    old: Connection<D::Store>,
+    to: &'a str,
+    part: &Pair,
+    until: Option<u64>,
+) -> Result<u64, NotCarried<'a>> {
+    let count = match carry_into_part(rt, databases, from, old, to, part, until) {
+        Ok(count) => count,
+        Err(why) => return Err(why),
+    };
+    match finish(rt, to, part) {
+        Ok(()) => Ok(count),
+        Err(failure) => Err(NotCarried::Failed(failure)),
+    }
+}
+
+/// Carries the meters of a database, that of the file at a path, into a new file, as they stand at its end, and answers how many they are.
+/// Of a carry that fails nothing is left.
+pub fn carry_open<'a, D: Databases>(
+    rt: &HostRuntime,
+    databases: &D,
+    from: &'a str,
+    old: Connection<D::Store>,
+    to: &'a str,
+) -> Result<u64, NotCarried<'a>> {
+    let part = match part_of(rt, to) {
+        Ok(part) => part,
+        Err(failure) => return Err(NotCarried::Failed(failure)),
+    };
+    if make_part(rt, part.file.as_str()).is_err() {
+        return Err(NotCarried::Failed(unwritable(to)));
+    }
+    let carried = carry_whole(rt, databases, from, old, to, &part, None);
+    if carried.is_err() {
+        remove(rt, &part);
+    }
+    carried
+}
+
+// Prints how many meters were carried.
+fn say_carried(rt: &HostRuntime, count: u64) -> Ending<'static> {
+    match write!(io::writer(rt), "carried {count} meters\n") {
+        Ok(()) => Ending::Fine,
+        Err(_) => Ending::Failed(Failure::Streams),
+    }
+}
+
+/// Writes what a refusal means, and of which file it is.
+pub(crate) fn write_refusal<W: Write>(errors: &mut W, path: &str, why: Refusal) -> io::Result<()> {
+    match meaning_of(Kind::Refused, u32::from(why.number())) {
+        Some(meaning) => write!(
+            errors,
+            "sunreg: {path}: {}; {}\n",
+            meaning.means, meaning.remedy
+        ),
+        None => Ok(()),
+    }
+}
+
+// Which meter of a file has no entry yet.
+fn write_not_yet<W: Write>(errors: &mut W, path: &str, meter: &Name) -> io::Result<()> {
+    let name = from_utf8(meter.as_bytes()).unwrap_or("a meter");
+    write!(
+        errors,
+        "sunreg: {path}: the meter {name} was installed after the moment of --until: give a later one\n"
+    )
+}
+
+/// Writes why meters were not carried from one file into another: a sentence in a line.
+pub fn write_why<W: Write>(errors: &mut W, why: &NotCarried<'_>) -> io::Result<()> {
+    match why {
+        NotCarried::Failed(failure) => write!(errors, "sunreg: {failure}\n"),
+        NotCarried::Refused { path, why } => write_refusal(errors, *path, *why),
+        NotCarried::NotYet { path, meter } => write_not_yet(errors, *path, meter),
+    }
+}
+
+fn print_refusal(rt: &HostRuntime, why: Refusal) -> io::Result<()> {
+    let number = why.number();
+    write!(io::writer(rt), "refused {number}\n")
+}
+
+/// Prints a refusal, and says what it means and of which file.
+pub(crate) fn say_refused(rt: &HostRuntime, path: &str, why: Refusal) -> Ending<'static> {
+    if print_refusal(rt, why).is_err() {
+        return Ending::Failed(Failure::Streams);
+    }
+    let mut errors = Escaped::new(rt.stderr());
+    let _said = write_refusal(&mut errors, path, why);
+    Ending::Refused
+}
+
+// Says which meter has no entry yet.
+fn say_not_yet(rt: &HostRuntime, path: &str, meter: &Name) -> Ending<'static> {
+    let mut errors = Escaped::new(rt.stderr());
+    let _said = write_not_yet(&mut errors, path, meter);
+    Ending::Refused
+}
+
+// Carries the meters of the file at a path.
+fn carry_in<'a, D: Databases>(
+    rt: &HostRuntime,
+    databases: &D,
+    from: &'a str,
+    to: &'a str,
+    part: &Pair,
+    until: Option<u64>,
+) -> Result<u64, NotCarried<'a>> {
+    match open_in(rt, databases, from) {
+        Ok(old) => carry_whole(rt, databases, from, old, to, part, until),
+        Err(failure) => Err(NotCarried::Failed(failure)),
+    }
+}
+
+// Carries the meters of a file into the part of a new one, and makes that the new file. Of a carry that fails nothing is left.
+fn carry_into<'a>(
+    rt: &HostRuntime,
+    from: &'a str,
+    to: &'a str,
+    part: &Pair,
+    until: Option<u64>,
+) -> Ending<'a> {
+    let files = Files::opened(rt, Opening::Copied);
+    let ending = match carry_in(rt, &files, from, to, part, until) {
+        Ok(count) => return say_carried(rt, count),
+        Err(why) => match why {
+            NotCarried::Failed(failure) => Ending::Failed(failure),
+            NotCarried::Refused { path, why } => say_refused(rt, path, why),
+            NotCarried::NotYet { path, meter } => say_not_yet(rt, path, &meter),
+        },
+    };
+    remove(rt, part);
+    ending
+}
+
+/// Makes a new file in which each open meter of an office's file stands as it stood there, at the end or at a moment. The old file is
+/// only read, and by a copy, so it may be a running office's.
+pub fn carry<'a>(rt: &HostRuntime, from: &'a str, to: &'a str, until: Option<u32>) -> Ending<'a> {
+    let part = match part_of(rt, to) {
+        Ok(part) => part,
+        Err(failure) => return Ending::Failed(failure),
+    };
+    if make_part(rt, part.file.as_str()).is_err() {
+        return Ending::Failed(unwritable(to));
+    }
+    let until = match until {
+        Some(moment) => Some(u64::from(moment)),
+        None => None,
+    };
+    carry_into(rt, from, to, &part, until)
+}

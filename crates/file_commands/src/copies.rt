@@ -1,0 +1,137 @@
+//! Copies of a file and its log.
+use crate::paths::{is_blank, length_of, log_of, real_path};
+use sqlite::Unknown;
+use std::env;
+use std::fs::{self, File, OpenOptions};
+use std::io::{self, ErrorKind, Read};
+use std::os::unix::fs::OpenOptionsExt;
+use std::time::{SystemTime, UNIX_EPOCH};
+use stored_files::{FileConnection, FileFault, open_file};
+
+/// How often a file is copied whose log is moved into it meanwhile.
+const TRIES: u32 = 8;
+
+/// How many bytes the header of a log has. A log that was moved into its file has another salt there.
+const HEADER: u64 = 32;
+
+/// A file and its log.
+#[derive(Drop)]
+pub(crate) struct Pair {
+    pub(crate) file: String,
+    pub(crate) log: String,
+}
+
+/// Removes both, where they are there.
+pub(crate) fn remove(rt: &HostRuntime, pair: &Pair) {
+    let _gone = fs::remove_file(rt, pair.file.as_str());
+    let _gone = fs::remove_file(rt, pair.log.as_str());
+}
+
+/// The file of a path, where it lies, and its log. With a journal of another program's it isn't whole.
+pub(crate) fn pair_at(rt: &HostRuntime, path: &str) -> Result<Pair, FileFault> {
+    match fs::exists(rt, path) {
+        Ok(true) => {}
+        Ok(false) => return Err(FileFault::Missing),
+        Err(_) => return Err(FileFault::Unreadable),
+    }
+    let (Ok(file), Ok(log)) = (real_path(rt, path), log_of(rt, path)) else {
+        return Err(FileFault::Memory);
+    };
+    let Ok(journal) = format!(in rt.alloc(); "{}-journal", file.as_str()) else {
+        return Err(FileFault::Memory);
+    };
+    if is_blank(length_of(rt, journal.as_str())) {
+        Ok(Pair { file, log })
+    } else {
+        Err(FileFault::Unreadable)
+    }
+}
+
+// The header of a log, as far as it goes: nothing where there is none.
+fn header_of(rt: &HostRuntime, log: &str) -> io::Result<Vec<u8>> {
+    let mut header = Vec::new(rt.alloc());
+    match File::open(rt, log) {
+        Ok(file) => {
+            file.take(HEADER).read_to_end(&mut header)?;
+            Ok(header)
+        }
+        Err(error) if error.kind() == ErrorKind::NotFound => Ok(header),
+        Err(error) => Err(error),
+    }
+}
+
+// Copies a file into one that is made, is its owner's alone, and is on the disk at the end.
+fn copy_file(rt: &HostRuntime, from: &str, to: &str) -> io::Result<()> {
+    let mut original = File::open(rt, from)?;
+    let mut copy = OpenOptions::new()
+        .read(true)
+        .write(true)
+        .create_new(true)
+        .mode(0o600)
+        .open(rt, to)?;
+    io::copy(&mut original, &mut copy)?;
+    copy.sync_all()
+}
+
+// Copies a file and then its log, and answers whether no log was moved into the file meanwhile: so the two belong together.
+// What an office writes meanwhile into its log is there to the end of some commit.
+fn copy_pair(rt: &HostRuntime, source: &Pair, part: &Pair) -> io::Result<bool> {
+    let before = header_of(rt, source.log.as_str())?;
+    copy_file(rt, source.file.as_str(), part.file.as_str())?;
+    match copy_file(rt, source.log.as_str(), part.log.as_str()) {
+        Ok(()) => {}
+        Err(error) if error.kind() == ErrorKind::NotFound && before.is_empty() => {}
+        Err(error) => return Err(error),
+    }
+    let after = header_of(rt, source.log.as_str())?;
+    Ok(before.as_slice() == after.as_slice())
+}
+
+/// Copies a file and its log, again where the log was moved into the file meanwhile. It answers whether the two that are left belong
+/// together.
+pub(crate) fn copy_settled(rt: &HostRuntime, source: &Pair, copy: &Pair) -> io::Result<bool> {
+    for _ in 0..TRIES {
+        if copy_pair(rt, source, copy)? {
+            return Ok(true);
+        }
+        remove(rt, copy);
+    }
+    Ok(false)
+}
+
+// The names of a copy that is only read: among the files that come and go, by the moment.
+fn passing_names(rt: &HostRuntime) -> Result<Pair, FileFault> {
+    let alloc = rt.alloc();
+    let (Ok(folder), Ok(now)) = (env::temp_dir(rt), SystemTime::now(rt)) else {
+        return Err(FileFault::Unreadable);
+    };
+    let Ok(since) = now.duration_since(UNIX_EPOCH) else {
+        return Err(FileFault::Unreadable);
+    };
+    let (folder, at, part) = (folder.as_str(), since.as_secs(), since.subsec_nanos());
+    let (Ok(file), Ok(log)) = (
+        format!(in alloc; "{folder}/sunreg-{at}-{part}.db"),
+        format!(in alloc; "{folder}/sunreg-{at}-{part}.db-wal"),
+    ) else {
+        return Err(FileFault::Memory);
+    };
+    Ok(Pair { file, log })
+}
+
+/// A connection to a copy of the database at a path, of which nothing is left when that ends. The file, its folder and who has it
+/// open are left alone.
+pub(crate) fn open_copy(
+    rt: &HostRuntime,
+    path: &str,
+) -> Result<FileConnection<Unknown>, FileFault> {
+    let source = pair_at(rt, path)?;
+    let copy = passing_names(rt)?;
+    let opened = match copy_settled(rt, &source, &copy) {
+        Ok(true) => open_file(rt, copy.file.as_str(), Unknown),
+        Ok(false) => Err(FileFault::Busy),
+        Err(_) => Err(FileFault::Unreadable),
+    };
+    // (what is open stays until it is closed)
+    remove(rt, &copy);
+    opened
+}

@@ -1,0 +1,128 @@
+//! Earlier files of an office that goes on, over which a run tells energy, too.
+use crate::carries::write_refusal;
+use crate::files::{Files, Opening};
+use crate::joined_reports::{NotJoined, join_in, last_of};
+use carried_books::{EarlierRegister, HeldRegisters, Keeping, KeptRegisters};
+use interval_core::DayRange;
+use office_events::Name;
+use std::io::Write;
+use stored_files::{Ending, Failure, JoinedOffice};
+
+// Whichever register is named, all are asked for.
+const ANY: &[u8] = b"any";
+
+// Adds what a file tells of all its registers, or says why it doesn't join.
+fn join<'a, K: Keeping, E: Write>(
+    rt: &HostRuntime,
+    joined: Option<JoinedOffice<K>>,
+    before: &str,
+    path: &'a str,
+    any: &Name,
+    is_new: bool,
+    errors: &mut E,
+) -> Result<JoinedOffice<K>, Ending<'a>> {
+    let files = Files::opened(rt, Opening::ToRead);
+    let all = DayRange::all();
+    match join_in(rt, &files, joined, before, path, any, &all, is_new, errors) {
+        Ok(next) => Ok(next),
+        Err(why) => match why {
+            NotJoined::Failed(failure) => Err(Ending::Failed(failure)),
+            NotJoined::Refused(why) => {
+                let _said = write_refusal(errors, path, why);
+                Err(Ending::Refused)
+            }
+            NotJoined::Apart => Err(Ending::Refused),
+        },
+    }
+}
+
+// What the files tell of their registers, one after the other: one of them is open at a time.
+fn keep_all<'a, E: Write>(
+    rt: &HostRuntime,
+    paths: &[&'a str],
+    any: &Name,
+    errors: &mut E,
+) -> Result<Option<JoinedOffice<KeptRegisters>>, Ending<'a>> {
+    let mut joined = None;
+    let mut before = "";
+    for path in paths {
+        match join(rt, joined, before, *path, any, false, errors) {
+            Ok(next) => joined = Some(next),
+            Err(ending) => return Err(ending),
+        }
+        before = *path;
+    }
+    Ok(joined)
+}
+
+// What was kept of the registers.
+fn registers_of<'a>(held: JoinedOffice<HeldRegisters>) -> Result<Vec<EarlierRegister>, Ending<'a>> {
+    let JoinedOffice { kept, .. } = held;
+    let HeldRegisters { kept } = kept;
+    match kept.into_registers() {
+        Ok(registers) => Ok(registers),
+        Err(_) => Err(Ending::Failed(Failure::Memory)),
+    }
+}
+
+// Holds the file in which books go on to those before it.
+fn hold<'a, E: Write>(
+    rt: &HostRuntime,
+    joined: JoinedOffice<KeptRegisters>,
+    before: &str,
+    path: &'a str,
+    any: &Name,
+    is_new: bool,
+    errors: &mut E,
+) -> Result<Vec<EarlierRegister>, Ending<'a>> {
+    let JoinedOffice { zone, kept } = joined;
+    let kept = HeldRegisters { kept };
+    let held = Some(JoinedOffice { zone, kept });
+    match join(rt, held, before, path, any, is_new, errors) {
+        Ok(held) => registers_of(held),
+        Err(ending) => Err(ending),
+    }
+}
+
+/// The files before the last.
+pub fn but_last<'a, 'f>(paths: &'f [&'a str]) -> &'f [&'a str] {
+    let count = paths.len().saturating_sub(1);
+    &paths[..count]
+}
+
+// Says over how many earlier files energy is told, too, and which is the first of them.
+fn say_earlier<E: Write>(errors: &mut E, current: &str, paths: &[&str]) {
+    if let Some(first) = paths.first() {
+        let count = paths.len();
+        let _said = write!(
+            errors,
+            "sunreg: {current}: energy is told over earlier files too: {count}, from {} on\n",
+            *first
+        );
+    }
+}
+
+/// What earlier files, the oldest first, tell of their registers, where the file in which books go on, which may just have been made,
+/// joins them. All are only read, one after the other. How many they are, or what doesn't join, is said to a writer.
+pub fn earlier_registers<'a, E: Write>(
+    rt: &HostRuntime,
+    paths: &[&'a str],
+    current: &'a str,
+    is_new: bool,
+    errors: &mut E,
+) -> Result<Vec<EarlierRegister>, Ending<'a>> {
+    let Some(any) = Name::new(ANY) else {
+        return Err(Ending::Failed(Failure::Memory));
+    };
+    match keep_all(rt, paths, &any, errors) {
+        Err(ending) => Err(ending),
+        Ok(None) => Ok(Vec::new(rt.alloc())),
+        Ok(Some(joined)) => {
+            let registers = hold(rt, joined, last_of(paths), current, &any, is_new, errors);
+            if registers.is_ok() {
+                say_earlier(errors, current, paths);
+            }
+            registers
+        }
+    }
+}

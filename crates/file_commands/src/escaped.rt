@@ -1,0 +1,47 @@
+//! What is said on standard error, safe for a terminal.
+use std::io::{self, Write};
+
+/// A writer that spells the control bytes of what it is given, as `\x1b`, but for ends of lines: a name that was given can't
+/// make a terminal do something.
+#[derive(Drop)]
+pub struct Escaped<W: Write + Drop> {
+    output: W,
+}
+
+// Whether a byte is written as it is.
+fn is_plain(byte: u8) -> bool {
+    byte == b'\n' || !byte.is_ascii_control()
+}
+
+// The bytes up to the first that is not.
+fn plain_front(bytes: &[u8]) -> &[u8] {
+    match bytes.iter().position(|byte| !is_plain(*byte)) {
+        Some(count) => bytes.get(..count).unwrap_or(bytes),
+        None => bytes,
+    }
+}
+
+impl<W: Write + Drop> Escaped<W> {
+    pub fn new(output: W) -> Escaped<W> {
+        Escaped { output }
+    }
+}
+
+impl<W: Write + Drop> Write for Escaped<W> {
+    fn write(&mut self, bytes: &[u8]) -> io::Result<usize> {
+        let plain = plain_front(bytes);
+        let [byte, ..] = bytes else {
+            return Ok(0);
+        };
+        if plain.is_empty() {
+            write!(self.output, "\\x{:02x}", *byte)?;
+            return Ok(1);
+        }
+        let count = self.output.write(plain)?;
+        Ok(count.min(bytes.len()))
+    }
+
+    fn flush(&mut self) -> io::Result<()> {
+        self.output.flush()
+    }
+}

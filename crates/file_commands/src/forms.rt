@@ -1,0 +1,42 @@
+//! The forms of reports and statements that words ask for.
+use command_words::FormWords;
+use energy_report::{
+    EnergyUnit, Format, Period, RangeFault, ReportForm, StatementForm, read_range,
+};
+use interval_core::DayRange;
+use stored_files::Ending;
+
+/// The range that is asked for.
+pub fn range_of<'a>(words: &FormWords<'a>) -> Result<DayRange, Ending<'a>> {
+    match read_range(words.from, words.till) {
+        Ok(range) => Ok(range),
+        Err(RangeFault::From) => Err(Ending::NoDay {
+            option: "from",
+            word: words.from.unwrap_or(""),
+        }),
+        Err(RangeFault::Till) => Err(Ending::NoDay {
+            option: "till",
+            word: words.till.unwrap_or(""),
+        }),
+        Err(RangeFault::Backward) => Err(Ending::Backward),
+    }
+}
+
+/// The form that is asked for, on a range of days.
+pub fn form_of(words: &FormWords<'_>, range: DayRange) -> ReportForm {
+    ReportForm {
+        range,
+        period: words.period.unwrap_or(Period::Day),
+        unit: words.unit.unwrap_or(EnergyUnit::MilliwattHours),
+        format: words.format.unwrap_or(Format::Text),
+    }
+}
+
+/// The form of a statement that is asked for, on a range of days.
+pub fn statement_of(words: &FormWords<'_>, range: DayRange) -> StatementForm {
+    StatementForm {
+        range,
+        unit: words.unit.unwrap_or(EnergyUnit::MilliwattHours),
+        format: words.format.unwrap_or(Format::Text),
+    }
+}

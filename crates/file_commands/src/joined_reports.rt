@@ -1,0 +1,291 @@
+//! Reports of a register over several files of one office.
+use crate::carries::say_refused;
+use crate::escaped::Escaped;
+use crate::files::{Files, Opening};
+use crate::forms::{form_of, range_of, statement_of};
+use crate::opening::open_telling;
+use carried_books::{
+    Apart, JoinedFiles, JoinedStatement, Keeping, Unjoined, report_joined, state_joined,
+};
+use command_io::{Buffered, ExitStatus};
+use command_words::FormWords;
+use energy_report::{ReportForm, StatementForm};
+use interval_core::DayRange;
+use office_events::{Installation, Name, Refusal};
+use std::io::{self, Write};
+use std::str::from_utf8;
+use stored_files::{Databases, Ending, Failure, JoinFault, JoinedOffice, ending_of, join_stored};
+
+// What to do where files don't join.
+const REMEDY: &str =
+    "name the oldest first, each carried from the one before it, and void in that what it booked after the carry";
+
+// The name of a meter.
+fn name_of(row: &Installation) -> &str {
+    from_utf8(row.opening.meter.as_bytes()).unwrap_or("?")
+}
+
+// Says where a meter begins that joins none, and where one stands by the files before.
+fn say_apart<E: Write>(errors: &mut E, before: &str, path: &str, apart: &Apart) {
+    let begins = &apart.begins.opening;
+    let stands = &apart.stands.last;
+    let state = if apart.stands.ended {
+        "was closed"
+    } else {
+        "stands"
+    };
+    let _said = write!(
+        errors,
+        "sunreg: {path}: the meter {} begins there at moment {}, counter {}, scale {}; ",
+        name_of(&apart.begins),
+        begins.at,
+        begins.raw,
+        begins.sf
+    );
+    let _said = write!(
+        errors,
+        "up to {before} the meter {} {state} at moment {}, counter {}, scale {}: {}\n",
+        name_of(&apart.stands),
+        stands.at,
+        stands.raw,
+        stands.sf,
+        REMEDY
+    );
+}
+
+// Says why a file doesn't join those before it.
+fn say_unjoined<E: Write>(errors: &mut E, before: &str, path: &str, why: &Unjoined) {
+    match why {
+        Unjoined::Apart(apart) => say_apart(errors, before, path, apart),
+        Unjoined::NotRecorded => {
+            let _said = write!(
+                errors,
+                "sunreg: {path}: a register is not recorded there, but is in {before} or before it: {}\n",
+                REMEDY
+            );
+        }
+        Unjoined::OutOfTurn => {
+            let _said = write!(
+                errors,
+                "sunreg: {path}: it has a quarter hour from before the last of {before}: {}\n",
+                REMEDY
+            );
+        }
+    }
+}
+
+// Says that a file is of another zone.
+fn say_other_zone<E: Write>(errors: &mut E, before: &str, path: &str) {
+    let _said = write!(
+        errors,
+        "sunreg: {path}: its days are those of another zone than the days of {before}: {}\n",
+        REMEDY
+    );
+}
+
+/// Why a file was not joined to those before it.
+#[derive(Drop)]
+pub(crate) enum NotJoined<'a> {
+    Failed(Failure<'a>),
+    /// Its books failed, or memory was wanting.
+    Refused(Refusal),
+    /// It doesn't go on from them, of which it was said why.
+    Apart,
+}
+
+// What comes of why an office in a database was not joined.
+fn not_joined<'a, E: Write>(
+    errors: &mut E,
+    before: &str,
+    path: &'a str,
+    fault: JoinFault,
+) -> NotJoined<'a> {
+    match fault {
+        JoinFault::Unopened(fault) => NotJoined::Failed(Failure::Unopened { path, fault }),
+        JoinFault::OtherZone => {
+            say_other_zone(errors, before, path);
+            NotJoined::Apart
+        }
+        JoinFault::Unjoined(why) => {
+            say_unjoined(errors, before, path, &why);
+            NotJoined::Apart
+        }
+        JoinFault::Books(why) => NotJoined::Refused(why),
+    }
+}
+
+/// Adds what one file tells. Why it doesn't go on from those before it is said to a writer.
+pub(crate) fn join_in<'a, D: Databases, K: Keeping, E: Write>(
+    rt: &HostRuntime,
+    databases: &D,
+    joined: Option<JoinedOffice<K>>,
+    before: &str,
+    path: &'a str,
+    register: &Name,
+    range: &DayRange,
+    is_new: bool,
+    errors: &mut E,
+) -> Result<JoinedOffice<K>, NotJoined<'a>> {
+    match open_telling(rt, databases, path, is_new, errors) {
+        Ok(connection) => match join_stored(rt.alloc(), connection, joined, register, *range) {
+            Ok(joined) => Ok(joined),
+            Err(fault) => Err(not_joined(errors, before, path, fault)),
+        },
+        Err(failure) => Err(NotJoined::Failed(failure)),
+    }
+}
+
+// What the files tell of a register, one after the other: one of them is open at a time.
+fn join_all<'a, K: Keeping>(
+    rt: &HostRuntime,
+    paths: &[&'a str],
+    register: &Name,
+    range: &DayRange,
+) -> Result<Option<JoinedOffice<K>>, Ending<'a>> {
+    let files = Files::opened(rt, Opening::ToRead);
+    let mut errors = Escaped::new(rt.stderr());
+    let mut joined = None;
+    let mut before = "";
+    for path in paths {
+        match join_in(
+            rt,
+            &files,
+            joined,
+            before,
+            *path,
+            register,
+            range,
+            false,
+            &mut errors,
+        ) {
+            Ok(next) => joined = Some(next),
+            Err(why) => match why {
+                NotJoined::Failed(failure) => return Err(Ending::Failed(failure)),
+                NotJoined::Refused(why) => return Err(say_refused(rt, *path, why)),
+                NotJoined::Apart => return Err(Ending::Refused),
+            },
+        }
+        before = *path;
+    }
+    Ok(joined)
+}
+
+// How a command ends that printed all it had to.
+fn ended<W: Write + Drop>(output: &mut Buffered<W>, status: ExitStatus) -> Ending<'static> {
+    match output.flush() {
+        Ok(()) => ending_of(status),
+        Err(_) => Ending::Failed(Failure::Streams),
+    }
+}
+
+// Prints the report of what files tell.
+fn print_report(rt: &HostRuntime, joined: JoinedFiles, form: &ReportForm) -> Ending<'static> {
+    let mut output = Buffered::new(io::writer(rt));
+    let status = report_joined(joined, form, &mut output);
+    ended(&mut output, status)
+}
+
+// The same where the register is recorded in one of them.
+fn report_recorded(
+    rt: &HostRuntime,
+    path: &str,
+    joined: Option<JoinedOffice<JoinedFiles>>,
+    form: &ReportForm,
+) -> Ending<'static> {
+    match joined {
+        Some(joined) => {
+            if joined.kept.is_recorded {
+                print_report(rt, joined.kept, form)
+            } else {
+                say_refused(rt, path, Refusal::NotFound)
+            }
+        }
+        None => say_refused(rt, path, Refusal::NotFound),
+    }
+}
+
+// Prints the statement of what files tell.
+fn print_statement(
+    rt: &HostRuntime,
+    joined: &JoinedStatement,
+    form: &StatementForm,
+) -> Ending<'static> {
+    let mut output = Buffered::new(io::writer(rt));
+    match state_joined(rt.alloc(), joined, form, &mut output) {
+        Ok(status) => ended(&mut output, status),
+        Err(_) => Ending::Failed(Failure::Memory),
+    }
+}
+
+// The same where the register is recorded in one of them.
+fn state_recorded(
+    rt: &HostRuntime,
+    path: &str,
+    joined: Option<JoinedOffice<JoinedStatement>>,
+    form: &StatementForm,
+) -> Ending<'static> {
+    match joined {
+        Some(joined) => {
+            if joined.kept.is_recorded {
+                print_statement(rt, &joined.kept, form)
+            } else {
+                say_refused(rt, path, Refusal::NotFound)
+            }
+        }
+        None => say_refused(rt, path, Refusal::NotFound),
+    }
+}
+
+/// The last of the files.
+pub fn last_of<'a>(paths: &[&'a str]) -> &'a str {
+    match paths.last() {
+        Some(path) => *path,
+        None => "",
+    }
+}
+
+// Prints the energy of a register.
+fn report_register<'a>(
+    rt: &HostRuntime,
+    paths: &[&'a str],
+    register: &Name,
+    form: &ReportForm,
+) -> Ending<'a> {
+    match join_all(rt, paths, register, &form.range) {
+        Err(ending) => ending,
+        Ok(joined) => report_recorded(rt, last_of(paths), joined, form),
+    }
+}
+
+// Prints the statement of its meters.
+fn state_register<'a>(
+    rt: &HostRuntime,
+    paths: &[&'a str],
+    register: &Name,
+    form: &StatementForm,
+) -> Ending<'a> {
+    match join_all(rt, paths, register, &form.range) {
+        Err(ending) => ending,
+        Ok(joined) => state_recorded(rt, last_of(paths), joined, form),
+    }
+}
+
+/// Prints the energy of a register over several files of one office, the oldest first, as one, or the statement of its meters.
+pub fn report_files<'a>(
+    rt: &HostRuntime,
+    paths: &[&'a str],
+    register: &str,
+    words: &FormWords<'a>,
+) -> Ending<'a> {
+    let range = match range_of(words) {
+        Ok(range) => range,
+        Err(ending) => return ending,
+    };
+    let Some(name) = Name::new(register.as_bytes()) else {
+        return say_refused(rt, last_of(paths), Refusal::NotFound);
+    };
+    if words.statement {
+        return state_register(rt, paths, &name, &statement_of(words, range));
+    }
+    report_register(rt, paths, &name, &form_of(words, range))
+}

@@ -1,0 +1,27 @@
+//! The commands over files of an office that neither poll nor serve, by the system's files, and what a run does with its files.
+#![tactic(auto)]
+
+mod audits;
+mod backups;
+mod carries;
+mod copies;
+mod earlier_files;
+mod escaped;
+mod files;
+mod forms;
+mod joined_reports;
+mod new_office;
+mod opening;
+mod paths;
+
+pub use audits::{audit, audit_several};
+pub use backups::{backup, is_there, part_name};
+pub use carries::{NotCarried, carry, carry_open, write_why};
+pub use earlier_files::{but_last, earlier_registers};
+pub use escaped::Escaped;
+pub use files::{Files, Opening};
+pub use forms::{form_of, range_of, statement_of};
+pub use joined_reports::{last_of, report_files};
+pub use new_office::create;
+pub use opening::open_in;
+pub use paths::{is_blank, length_of, log_of};

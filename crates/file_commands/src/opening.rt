@@ -1,0 +1,68 @@
+//! The opening of an office's file, and what is told of it.
+use crate::escaped::Escaped;
+use crate::paths::{is_blank, length_of, log_of};
+use sqlite::Connection;
+use std::io::{IsTerminal, Write};
+use stored_files::{Databases, Failure, is_bare, is_office};
+
+/// From how many bytes on a file takes a second or more to open.
+const LARGE: u64 = 16_000_000;
+
+// Says that a file had no log beside it.
+fn say_no_log<E: Write>(errors: &mut E, path: &str) {
+    let _said = write!(
+        errors,
+        "sunreg: {path}: it had no log beside it, {path}-wal: a backup needs none, and a file copied alone lacks what stood there\n"
+    );
+}
+
+// Says on a terminal that a large file and its log are opened, which reads them whole.
+fn say_opening<E: Write>(rt: &HostRuntime, errors: &mut E, path: &str, bytes: u64) {
+    if bytes >= LARGE && rt.stderr().is_terminal() {
+        let megabytes = bytes / 1_000_000;
+        let _said = write!(
+            errors,
+            "sunreg: {path}: opens {megabytes} MB, all of which is read\n"
+        );
+    }
+}
+
+/// A connection to the office in the database at a path. That a log is missing, or stands alone, is told.
+pub fn open_in<'a, D: Databases>(
+    rt: &HostRuntime,
+    databases: &D,
+    path: &'a str,
+) -> Result<Connection<D::Store>, Failure<'a>> {
+    let mut errors = Escaped::new(rt.stderr());
+    open_telling(rt, databases, path, false, &mut errors)
+}
+
+/// The same, where what is told goes to a writer. A file that was just made has no log yet, which isn't told.
+pub(crate) fn open_telling<'a, D: Databases, E: Write>(
+    rt: &HostRuntime,
+    databases: &D,
+    path: &'a str,
+    is_new: bool,
+    errors: &mut E,
+) -> Result<Connection<D::Store>, Failure<'a>> {
+    let log = log_of(rt, path)?;
+    let (length, log_length) = (length_of(rt, path), length_of(rt, log.as_str()));
+    if is_blank(length) && !is_blank(log_length) {
+        return Err(Failure::LogAlone { path });
+    }
+    if length == Some(0) {
+        return Err(Failure::Bare { path });
+    }
+    let bytes = length.unwrap_or(0).saturating_add(log_length.unwrap_or(0));
+    say_opening(rt, errors, path, bytes);
+    match databases.open(path) {
+        Ok(connection) if is_bare(&connection) => Err(Failure::Bare { path }),
+        Ok(connection) => {
+            if !is_new && log_length.is_none() && is_office(&connection) {
+                say_no_log(errors, path);
+            }
+            Ok(connection)
+        }
+        Err(fault) => Err(Failure::File { path, fault }),
+    }
+}

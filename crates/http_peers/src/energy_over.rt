@@ -1,0 +1,108 @@
+//! What a peer is replied who asks for the energy of a register, of which earlier files tell, too.
+ghost use Rattle.std.specs.Prelude.{◌≡◌, ◌++◌, ◌<◌, IfSome, OnOk, length, position};
+ghost use Rattle.energy_report.specs.Texts.{report_text};
+ghost use Rattle.office_rules.specs.Facts.{is_named};
+ghost use Rattle.http_peers.specs.EnergyOver.{AsksEnergyOver, RepliesEnergyOver};
+
+use carried_books::{EarlierRegister, days_over, report_days};
+use command_io::ExitStatus;
+use energy_report::ReportForm;
+use interval_core::{DayTotal, Share, Zone, accounts_are_one};
+use office_books::Books;
+use office_core::{Office, span_around};
+use office_events::{Name, Refusal};
+use run_http::put_energy_reply;
+use std::alloc::{AllocError, Global};
+
+/// What earlier files of a run's office tell of its registers, and by which zone the days are.
+#[derive(Clone, Copy)]
+pub struct EarlierFiles<'a> {
+    pub zone: Zone,
+    pub registers: &'a [EarlierRegister],
+}
+
+// Writes the report on days, in a form. There was no memory for it where that failed.
+fn put_days(days: &[DayTotal], form: &ReportForm, output: &mut Vec<u8>) -> Result<(), AllocError>
+    ensures { OnOk result (output.new.items
+        ≡ output.old.items ++ report_text form.now days.now) }
+{
+    match report_days(days, form, output) {
+        ExitStatus::Fine => Ok(()),
+        ExitStatus::Refused | ExitStatus::Failed => Err(AllocError),
+    }
+}
+
+// Asks for the days of a register over earlier files and an office, and writes the report on them in a form.
+fn put_energy_over<B: Books>(
+    alloc: Global,
+    office: &mut Office<B>,
+    zone: Zone,
+    earlier: &[Share],
+    register: &Name,
+    form: &ReportForm,
+    output: &mut Vec<u8>,
+) -> Result<Result<(), Refusal>, AllocError>
+    ensures { AsksEnergyOver B.ledger office.old office.new zone earlier.now register.now form.now
+        output.old.items output.new.items result }
+{
+    accounts_are_one();
+    match days_over(
+        alloc,
+        office,
+        zone,
+        earlier,
+        register,
+        span_around(form.range),
+    ) {
+        Err(why) => Ok(Err(why)),
+        Ok(days) => {
+            put_days(&days, form, output)?;
+            Ok(Ok(()))
+        }
+    }
+}
+
+/// Asks an office for the days of a register that follow those which earlier files tell, by their rows, and puts the reply with the
+/// report on all of them, in a form, at the end of a text. Days are by the clocks of a zone. Where the form's range has both ends,
+/// only the quarter hours of its days, and of two days more at each end, are read. Want of memory leaves a part of the reply.
+pub fn reply_energy_over<B: Books>(
+    alloc: Global,
+    text: &mut Vec<u8>,
+    office: &mut Office<B>,
+    zone: Zone,
+    earlier: &[Share],
+    register: &Name,
+    form: &ReportForm,
+) -> Result<(), AllocError>
+    ensures { RepliesEnergyOver B.ledger office.old office.new zone earlier.now register.now
+        form.now text.old.items text.new.items result }
+{
+    let mut body = Vec::new(alloc);
+    let answer = put_energy_over(alloc, office, zone, earlier, register, form, &mut body)?;
+    put_energy_reply(text, &answer, &body)
+}
+
+// Whether what is told is of a register of this name, which is `None` where no register can have it.
+fn is_of(it: &EarlierRegister, register: &Option<Name>) -> bool
+    ensures { result ≡ is_named register.now it.now.name }
+{
+    match register {
+        Some(name) => name.is(&it.name),
+        None => false,
+    }
+}
+
+// The first place where what is told is of a register of this name.
+fn first_of(registers: &[EarlierRegister], register: &Option<Name>) -> Option<usize>
+    ensures { result ≡ position (λ it. is_named register.now it.name) registers.now }
+{
+    registers.iter().position(|it| is_of(it, register))
+}
+
+/// The first place of a register among those of which earlier files tell.
+pub fn place_among(registers: &[EarlierRegister], register: &Option<Name>) -> Option<usize>
+    ensures first { result ≡ position (λ it. is_named register.now it.name) registers.now }
+    ensures within { IfSome result (λ place. place < length registers.now) }
+{
+    first_of(registers, register)
+}

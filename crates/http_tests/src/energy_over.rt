@@ -1,0 +1,136 @@
+//! What a peer is replied who asks for the energy of a register, of which earlier files tell, too.
+use crate::cases::{reply, text_reply};
+use crate::office::{polled, unmetered};
+use crate::targets::route_of;
+use carried_books::EarlierRegister;
+use http_peers::{EarlierFiles, place_among, reply_energy_over};
+use interval_core::{Share, Zone};
+use memory_books::ListBooks;
+use office_books::RowSink;
+use office_core::Office;
+use office_events::Name;
+use run_http::RunRoute;
+use std::alloc::Global;
+use std::test::Fail;
+
+static EARLIER: [Share; 2] = [Share { start: 0, mwh: 5 }, Share { start: 900, mwh: 7 }];
+
+// The office has energy in the quarter hours from 900 and 1800.
+static LATE: [Share; 1] = [Share { start: 901, mwh: 1 }];
+
+// What earlier files tell of the register `main`.
+fn main_of(alloc: Global) -> Result<Vec<EarlierRegister>, Fail> {
+    let name = Name::new(b"main").ok_or("no name")?;
+    let mut it = EarlierRegister::new(alloc, name);
+    for row in &EARLIER {
+        it.put(*row);
+    }
+    let mut registers = Vec::new(alloc);
+    registers.push(it)?;
+    Ok(registers)
+}
+
+/// What earlier files tell of the registers of a run's office.
+#[derive(Drop)]
+pub(crate) struct Earlier {
+    zone: Zone,
+    registers: Vec<EarlierRegister>,
+}
+
+impl Earlier {
+    pub(crate) fn of_main(alloc: Global) -> Result<Earlier, Fail> {
+        let zone = Zone::read("UTC0")?;
+        let registers = main_of(alloc)?;
+        Ok(Earlier { zone, registers })
+    }
+
+    pub(crate) fn files(&self) -> EarlierFiles<'_> {
+        EarlierFiles {
+            zone: self.zone,
+            registers: &self.registers,
+        }
+    }
+}
+
+// What is replied to a target by an office, with rows of earlier files before its own.
+fn energy_over(
+    alloc: Global,
+    office: &mut Office<ListBooks>,
+    earlier: &[Share],
+    target: &str,
+) -> Result<Vec<u8>, Fail> {
+    let zone = Zone::read("UTC0")?;
+    let Some(RunRoute::Energy { register, form }) = route_of(alloc, target)? else {
+        return Err(Fail::from("no energy"));
+    };
+    let name = register.ok_or("no name")?;
+    let mut text = Vec::new(alloc);
+    reply_energy_over(alloc, &mut text, office, zone, earlier, &name, &form)?;
+    Ok(text)
+}
+
+// The quarter hour from 900 is in both.
+static TOLD: [(&str, &str); 4] = [
+    (
+        "/registers/main/days/1970-01-01/1970-01-02",
+        "1970-01-01   3                   200012\nend 1\n",
+    ),
+    (
+        "/registers/main/months",
+        "1970-01    3                   200012\nend 1\n",
+    ),
+    ("/registers/main/days/1969-12-01/1970-01-01", "end 0\n"),
+    ("/registers/main/days/1970-01-02/1970-02-01", "end 0\n"),
+];
+
+#[test]
+fn days_of_earlier_files_are_told_too(rt: HostRuntime) -> Result<(), Fail> {
+    let mut office = polled(rt.alloc())?;
+    for (target, lines) in TOLD {
+        let text = energy_over(rt.alloc(), &mut office, &EARLIER, target)?;
+        let expected = text_reply(rt.alloc(), lines)?;
+        assert!(rt; text.as_slice() == expected.as_bytes());
+    }
+    Ok(())
+}
+
+#[test]
+fn a_register_that_has_no_meter_has_its_earlier_days(rt: HostRuntime) -> Result<(), Fail> {
+    let mut office = unmetered(rt.alloc())?;
+    let text = energy_over(rt.alloc(), &mut office, &EARLIER, "/registers/main/months")?;
+    let expected = text_reply(rt.alloc(), "1970-01    2                       12\nend 1\n")?;
+    assert!(rt; text.as_slice() == expected.as_bytes());
+    Ok(())
+}
+
+#[test]
+fn a_quarter_hour_before_the_last_has_no_day(rt: HostRuntime) -> Result<(), Fail> {
+    let mut office = polled(rt.alloc())?;
+    let text = energy_over(rt.alloc(), &mut office, &LATE, "/registers/main/months")?;
+    let expected = reply(rt.alloc(), "503 Service Unavailable", "{\"refused\":13}")?;
+    assert!(rt; text.as_slice() == expected.as_bytes());
+    Ok(())
+}
+
+#[test]
+fn a_register_that_is_none_has_no_earlier_days(rt: HostRuntime) -> Result<(), Fail> {
+    let mut office = polled(rt.alloc())?;
+    let text = energy_over(rt.alloc(), &mut office, &EARLIER, "/registers/none/months")?;
+    let expected = reply(rt.alloc(), "404 Not Found", "{\"refused\":1}")?;
+    assert!(rt; text.as_slice() == expected.as_bytes());
+    Ok(())
+}
+
+#[test]
+fn a_register_is_found_among_others(rt: HostRuntime) -> Result<(), Fail> {
+    let mut registers = Vec::new(rt.alloc());
+    let names: [&[u8]; 3] = [b"spare", b"main", b"main"];
+    for name in names {
+        let name = Name::new(name).ok_or("no name")?;
+        registers.push(EarlierRegister::new(rt.alloc(), name))?;
+    }
+    assert!(rt; place_among(&registers, &Name::new(b"main")) == Some(1));
+    assert!(rt; place_among(&registers, &Name::new(b"far")) == None);
+    assert!(rt; place_among(&registers, &None) == None);
+    Ok(())
+}

@@ -1,0 +1,7 @@
+use Rattle.memory_books.proofs.Reading.{only_noted, reads_then}
+use Rattle.memory_books.proofs.list_books.ListBooksBooks.registers_read.Goals as goal
+
+pub returns-clause-reads : goal.returns-clause-reads
+returns-clause-reads c =
+    reads_then _ _ _ _ c.told.result c.in_ok-ready.ensures.reads
+    (only_noted c.ready.new.self c.told.new.last_failure c.told.result c.told.ensures.noted)

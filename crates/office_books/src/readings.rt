@@ -1,0 +1,63 @@
+//! The registers of which a read gives readings.
+ghost use Rattle.std.specs.Prelude.{◌≡◌, ◌≤◌, IfOk};
+ghost use Rattle.std.specs.List.{filter};
+ghost use Rattle.office_rules.specs.Readings as readings;
+
+use mb_wire::ReadSpan;
+use office_events::{Register, ScaleSource};
+use std::alloc::{AllocError, Global};
+
+/// Whether these registers lie in the span.
+fn contains(span: ReadSpan, address: u16, count: u32) -> bool
+    requires { count ≤ 2 }
+    ensures { result ≡ readings.contains span address count }
+{
+    let address = u32::from(address);
+    let from = u32::from(span.address);
+    from <= address && address + count <= from + u32::from(span.count)
+}
+
+/// Whether the register of the scale lies in the span, if the device tells it.
+fn contains_scale(span: ReadSpan, scale: ScaleSource) -> bool
+    ensures { result ≡ readings.contains_scale span scale }
+{
+    match scale {
+        ScaleSource::Fixed(_) => true,
+        ScaleSource::Register(address) => contains(span, address, 1),
+    }
+}
+
+/// Whether a read of the span gives a reading of the register: it is made by the register's
+/// function, and contains both registers of its counter, and that of its scale, if the device tells
+/// the scale.
+pub fn is_read_by(span: ReadSpan, register: &Register) -> bool
+    ensures { result ≡ readings.is_read_by span register.now }
+{
+    span.function.code() == register.function.code()
+        && contains(span, register.address, 2)
+        && contains_scale(span, register.scale)
+}
+
+/// Those of these registers of which a read of the span gives a reading. The others are not copied.
+pub fn registers_read(
+    alloc: Global,
+    registers: &[Register],
+    span: ReadSpan,
+) -> Result<Vec<Register>, AllocError>
+    ensures { IfOk result (λ v. v.items ≡ filter (readings.is_read_by span) registers.now) }
+{
+    let mut read = Vec::new(alloc);
+    for register in registers {
+        if is_read_by(span, register) {
+            read.push(*register)?;
+        }
+    }
+    Ok(read)
+}
+
+/// Drops those of which a read of the span gives no reading. This takes no memory.
+pub fn keep_read(registers: &mut Vec<Register>, span: ReadSpan)
+    ensures { registers.new.items ≡ filter (readings.is_read_by span) registers.old.items }
+{
+    registers.retain(|register| is_read_by(span, register));
+}

@@ -1,0 +1,10 @@
+use Rattle.std.proofs.Common.{ap, ◌∙◌}
+use Rattle.std.specs.List.{filter}
+use Rattle.office_rules.specs.Readings.{is_read_by}
+use Rattle.store_queries.proofs.FindingLemmas.Found.{answered}
+use Rattle.store_queries.proofs.finding.register_rows.registers_read.Goals as goal
+
+pub returns : goal.returns
+returns g c =
+    answered g.S.Store c.args.conn.now c.registers.new.conn c.in_ok-found.found _ _ _ _ _ c.in_ok-found.ensures
+    (λ facts are. c.keep_read.ensures ∙ ap (filter (is_read_by c.args.span)) are)

@@ -1,0 +1,101 @@
+//! An office over books in a database, the events of a script, and a request.
+use crate::stops::asked::{Asked, UNAVAILABLE, reply_of, request_of};
+use mb_wire::MemoryLink;
+use office_books::Books;
+use office_core::Office;
+use office_events::{Command, Event, Refusal, StartPoll, StoreCause};
+use office_http::handle;
+use office_store::SqlBooks;
+use script_lines::{GivenStart, ScriptLine};
+use sqlite::{Alter, Connection};
+use std::alloc::Global;
+use std::test::Fail;
+
+/// A device, its register and its meter; a read of them, and the counter shows 5200 at the scale 0.
+const READ: &str = "1000 device inv 1 5 1
+1000 register main inv 3 40094 @40096
+1000 install main m1 5000 0 100000
+1898 connect inv
+1898 start inv 3 40094 3
+1900 bytes inv 000000000009010306000014500000";
+
+/// Plays all steps over a new database: makes books, opens an office, feeds it the script, and sends a request. How many
+/// steps were acknowledged before the store refused one.
+pub(crate) fn play<S: Alter + Drop>(
+    alloc: Global,
+    connection: Connection<S>,
+    asked: Asked,
+) -> (Result<usize, Fail>, Connection<S>) {
+    let books = match SqlBooks::create(alloc, connection, "UTC0") {
+        Ok(books) => books,
+        Err(unmade) => return (Ok(0), unmade.connection),
+    };
+    let mut office = match Office::open(alloc, books, 0) {
+        Ok(office) => office,
+        Err((books, _)) => return (Ok(1), books.into_connection()),
+    };
+    let steps = steps(alloc, &mut office, asked);
+    (steps, office.into_books().into_connection())
+}
+
+fn start_of(given: &GivenStart) -> Result<Command, Fail> {
+    Ok(Command::StartPoll(StartPoll {
+        device: given.device,
+        span: given.span().ok_or("no span")?,
+    }))
+}
+
+/// The event of a line, and its moment.
+fn event_of(alloc: Global, line: &str) -> Result<(u64, Event), Fail> {
+    match ScriptLine::read(alloc, line.as_bytes())? {
+        ScriptLine::Event { at, event } => Ok((at, event)),
+        ScriptLine::Start { at, start } => Ok((at, Event::Command(start_of(&start)?))),
+        _ => Err(Fail::from("no event")),
+    }
+}
+
+/// Whether the event of a line is accepted. Nothing refuses it but the store.
+fn accepts<B: Books>(alloc: Global, office: &mut Office<B>, line: &str) -> Result<bool, Fail> {
+    let (at, event) = event_of(alloc, line)?;
+    match office.feed(at, &event) {
+        Ok(_) => Ok(true),
+        Err(Refusal::Store(StoreCause::Refused)) => Ok(false),
+        Err(_) => Err(Fail::from("refused")),
+    }
+}
+
+/// Whether a request is acknowledged at a moment. No other reply comes but that the store refused.
+pub(crate) fn acknowledges<B: Books>(
+    alloc: Global,
+    office: &mut Office<B>,
+    asked: Asked,
+    at: u64,
+) -> Result<bool, Fail> {
+    let mut output = [0; 400];
+    let mut link = MemoryLink::new(request_of(asked), &mut output, 400, None);
+    if handle(alloc, &mut link, office, at).is_err() {
+        return Err(Fail::from("not handled"));
+    }
+    let given = link.given();
+    let reply = reply_of(asked);
+    if given == reply || given == UNAVAILABLE {
+        return Ok(given == reply);
+    }
+    Err(Fail::from("another reply"))
+}
+
+/// How many steps are acknowledged before the store refuses one, over new books: these are the first step, then come the
+/// events of the script, and then the request.
+fn steps<B: Books>(alloc: Global, office: &mut Office<B>, asked: Asked) -> Result<usize, Fail> {
+    let mut steps = 1usize;
+    for line in READ.lines() {
+        if !accepts(alloc, office, line)? {
+            return Ok(steps);
+        }
+        steps = steps.saturating_add(1);
+    }
+    if acknowledges(alloc, office, asked, 2800)? {
+        steps = steps.saturating_add(1);
+    }
+    Ok(steps)
+}

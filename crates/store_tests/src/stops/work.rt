@@ -1,0 +1,79 @@
+//! What is done to a file, and what stands afterwards.
+use crate::stops::day::{DAY, FIRST, NEW, OLD, READ, ROWS};
+use crate::stops::shown::{fault, number, shows};
+use sqlite::{Alter, Connection};
+use std::process::Abort;
+use std::test::Fail;
+use store_files::{create, open};
+
+/// What is under way when the machine stops.
+#[derive(Clone, Copy, Debug)]
+pub(crate) enum Work {
+    /// A file is made of an empty database.
+    Making,
+    /// A file of version 1 is opened.
+    Bringing,
+}
+
+/// Makes of an empty database what the work begins with.
+pub(crate) fn prepare<S: Alter>(conn: &mut Connection<S>, work: Work) -> Result<(), Fail> {
+    match work {
+        Work::Making => Ok(()),
+        Work::Bringing => {
+            if create(conn, "UTC0").is_err() {
+                return Err(Fail::from("not made"));
+            }
+            for text in [READ, DAY, FIRST] {
+                conn.execute_batch(text)?;
+            }
+            Ok(())
+        }
+    }
+}
+
+/// Does the work, and gives the number of its fault, and 0 for none.
+pub(crate) fn carry_out<S: Alter>(conn: &mut Connection<S>, work: Work) -> u8 {
+    match work {
+        Work::Making => fault(create(conn, "UTC0")),
+        Work::Bringing => fault(open(conn)),
+    }
+}
+
+/// A file is there, or there is none and it can be made.
+fn is_made<S: Alter>(rt: &impl Abort, conn: &mut Connection<S>, is_done: bool) -> Result<(), Fail> {
+    if !is_done && number(conn, "SELECT count(*) FROM sqlite_schema")? == 0 {
+        assert_eq!(rt; fault(open(conn)), 1);
+        assert_eq!(rt; fault(create(conn, "UTC0")), 0);
+    }
+    assert_eq!(rt; fault(open(conn)), 0);
+    let marked = "SELECT count(*) FROM meta WHERE id = 1 AND version = 3 AND zone = 'UTC0'";
+    assert_eq!(rt; number(conn, marked)?, 1);
+    Ok(())
+}
+
+/// The old file is there, or the new one, with every row, and opens.
+fn is_brought<S: Alter>(
+    rt: &impl Abort,
+    conn: &mut Connection<S>,
+    is_done: bool,
+) -> Result<(), Fail> {
+    let is_old = !is_done && number(conn, "SELECT version FROM meta")? == 1;
+    shows(rt, conn, &ROWS)?;
+    shows(rt, conn, if is_old { &OLD } else { &NEW })?;
+    assert_eq!(rt; fault(open(conn)), 0);
+    shows(rt, conn, &ROWS)?;
+    shows(rt, conn, &NEW)
+}
+
+/// What stands after the work, whether or not it was acknowledged.
+pub(crate) fn stands<S: Alter>(
+    rt: &impl Abort,
+    conn: &mut Connection<S>,
+    work: Work,
+    is_done: bool,
+) -> Result<(), Fail> {
+    match work {
+        Work::Making => is_made(rt, conn, is_done),
+        Work::Bringing => is_brought(rt, conn, is_done),
+    }
+}

@@ -1,0 +1,4 @@
+pub mod Standing
+pub mod Told
+pub mod CarriesLemmas
+pub mod JoinsLemmas

@@ -1,0 +1,20 @@
+-- Why there is no backup.
+use Rattle.sqlite.specs.declared.error.ErrorCode.TheVariants as code
+use Rattle.sqlite.specs.declared.error.Error.{Error}
+use Rattle.sqlite.specs.declared.error.Error.TheVariants.{SqliteFailure}
+use Rattle.stored_files.specs.declared.files.faults.FileFault.{FileFault}
+use Rattle.stored_files.specs.declared.files.faults.FileFault.TheVariants as file
+use Rattle.stored_files.specs.declared.backups.faults.CopyFault.{CopyFault}
+use Rattle.stored_files.specs.declared.backups.faults.CopyFault.TheVariants.{Torn, Unwritable, Memory}
+
+-- what the fault of the opening of a copy means
+abbrev pub copy_fault_of : FileFault → CopyFault
+copy_fault_of file.NoDatabase = Torn
+copy_fault_of file.Memory = Memory
+copy_fault_of _ = Unwritable
+
+-- what an error of the moving of its log means
+abbrev pub close_fault_of : Error → CopyFault
+close_fault_of (SqliteFailure code.DatabaseCorrupt) = Torn
+close_fault_of (SqliteFailure code.OutOfMemory) = Memory
+close_fault_of _ = Unwritable

@@ -1,0 +1,21 @@
+-- What the file of a database is found to hold, and what is known of books in it.
+use Rattle.std.specs.Prelude.{ℕ, List}
+use Rattle.sqlite.specs.Store.{Ghosts}
+use Rattle.sqlite.specs.Held.{Held}
+use Rattle.office_rules.specs.History.{History, facts_of}
+use Rattle.office_rules.specs.Lawfulness.{IsPast}
+use Rattle.office_books.specs.Ledgers.{Ledger}
+use Rattle.office_store.specs.Stored.{ledger_of}
+use Rattle.office_store.specs.Database.{HasFile}
+use Rattle.office_store.specs.declared.books.SqlBooks.{SqlBooks}
+
+module _ {S : Type 0} (g : Ghosts S) where
+  -- The file of the connection has the facts of what was accepted before.
+  pub record HasPast (h : Held S) (past : History) : Type 0 where
+    pub zone : List ℕ
+    pub is_past : IsPast past
+    pub has : HasFile g zone h (facts_of past)
+
+  -- what is known of books in a database
+  abbrev pub ledger_beneath : SqlBooks S g → Ledger
+  ledger_beneath books = ledger_of g books.connection books.failures books.zone

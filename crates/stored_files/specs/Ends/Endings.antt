@@ -1,0 +1,31 @@
+-- The exit statuses of the program.
+use Rattle.std.specs.Prelude.{ℕ, ◌<◌}
+use Rattle.command_io.specs.declared.status.ExitStatus.{ExitStatus}
+use Rattle.command_io.specs.declared.status.ExitStatus.TheVariants as status
+use Rattle.stored_files.specs.declared.ends.ending.Ending.{Ending}
+use Rattle.stored_files.specs.declared.ends.ending.Ending.TheVariants.{Fine, Refused, Wrong, NoText, NoZone, NoDay, Backward, NoSeal, Twice, Failed}
+use Rattle.stored_files.specs.declared.ends.failure.Failure.{Failure}
+use Rattle.stored_files.specs.declared.ends.failure.Failure.TheVariants.{Streams}
+
+-- 0 fine, 1 refused, 2 wrong words, 3 a fault of a file, stream or socket, or want of memory
+abbrev pub ending_number : Ending → ℕ
+ending_number Fine = 0
+ending_number Refused = 1
+ending_number (Wrong text) = 2
+ending_number NoText = 2
+ending_number (NoZone zone) = 2
+ending_number (NoDay option word) = 2
+ending_number Backward = 2
+ending_number (NoSeal file) = 2
+ending_number (Twice file) = 2
+ending_number (Failed failure) = 3
+
+-- What is told on standard error: what is neither fine nor refused.
+abbrev pub IsTold : Ending → Type 0
+IsTold ending = 1 < ending_number ending
+
+-- the ending of a command that reads standard input and prints
+abbrev pub ending_of : ExitStatus → Ending
+ending_of status.Fine = Fine
+ending_of status.Refused = Refused
+ending_of status.Failed = Failed Streams

@@ -1,0 +1,22 @@
+-- Why there is no connection to a file.
+use Rattle.std.specs.Prelude.{ℕ}
+use Rattle.sqlite.specs.declared.error.ErrorCode.TheVariants.{DatabaseBusy, NotADatabase, DatabaseCorrupt, OutOfMemory}
+use Rattle.sqlite.specs.declared.error.Error.{Error}
+use Rattle.sqlite.specs.declared.error.Error.TheVariants.{SqliteFailure}
+use Rattle.stored_files.specs.declared.files.faults.FileFault.{FileFault}
+use Rattle.stored_files.specs.declared.files.faults.FileFault.TheVariants.{Missing, Busy, NoDatabase, Unreadable, Memory}
+
+abbrev pub file_fault_number : FileFault → ℕ
+file_fault_number Missing = 1
+file_fault_number Busy = 2
+file_fault_number NoDatabase = 3
+file_fault_number Unreadable = 4
+file_fault_number Memory = 5
+
+-- what an error of the opening of a database means
+abbrev pub fault_of : Error → FileFault
+fault_of (SqliteFailure DatabaseBusy) = Busy
+fault_of (SqliteFailure NotADatabase) = NoDatabase
+fault_of (SqliteFailure DatabaseCorrupt) = NoDatabase
+fault_of (SqliteFailure OutOfMemory) = Memory
+fault_of _ = Unreadable

@@ -1,0 +1,68 @@
+//! Why there is no backup.
+ghost use Rattle.std.specs.Prelude.{◌≡◌};
+ghost use Rattle.stored_files.specs.Backups.Faults.{close_fault_of, copy_fault_of};
+
+use crate::files::FileFault;
+use sqlite::{Error, ErrorCode};
+use std::fmt;
+use std::fmt::{Display, Formatter};
+
+/// Why there is no backup.
+#[derive(Clone, Copy, Debug, PartialEq, Eq)]
+pub enum CopyFault {
+    /// There is a file of the copy's name already, or of its log's.
+    Exists,
+    /// There is a copy that is under way, or was cut off.
+    Unfinished,
+    /// The copy can't be written.
+    Unwritable,
+    /// The log was moved into the file while it was copied, at each try.
+    Changing,
+    /// The copy is no database, or a damaged one.
+    Torn,
+    /// The copy has not the tables of an office.
+    NotOurs,
+    Memory,
+}
+
+// What was wrong and what to do, after the name of the file that it is about.
+impl Display for CopyFault {
+    fn fmt<W: fmt::Write>(&self, f: &mut Formatter<W>) -> fmt::Result {
+        f.write_str(match self {
+            CopyFault::Exists =>
+                "there is a file of this name already, or one with -wal behind it: give another name",
+            CopyFault::Unfinished =>
+                "a backup to it runs, or was cut off: then remove the file with .part behind this name",
+            CopyFault::Unwritable =>
+                "it can't be written: look at its folder's rights and the disk's room",
+            CopyFault::Changing =>
+                "its log was moved into it while it was copied, so there is no backup: try again",
+            CopyFault::Torn =>
+                "it is no SQLite database, or a damaged one, so there is no backup of it",
+            CopyFault::NotOurs => "it holds no office, or one of a later program",
+            CopyFault::Memory => "memory ran out",
+        })
+    }
+}
+
+/// What the fault of the opening of a copy means.
+pub(crate) fn copy_fault_of(fault: FileFault) -> CopyFault
+    ensures { result ≡ copy_fault_of fault }
+{
+    match fault {
+        FileFault::NoDatabase => CopyFault::Torn,
+        FileFault::Memory => CopyFault::Memory,
+        FileFault::Missing | FileFault::Busy | FileFault::Unreadable => CopyFault::Unwritable,
+    }
+}
+
+/// What an error of the moving of its log means.
+pub(crate) fn close_fault_of(error: Error) -> CopyFault
+    ensures { result ≡ close_fault_of error }
+{
+    match error {
+        Error::SqliteFailure(ErrorCode::DatabaseCorrupt) => CopyFault::Torn,
+        Error::SqliteFailure(ErrorCode::OutOfMemory) => CopyFault::Memory,
+        _ => CopyFault::Unwritable,
+    }
+}

@@ -1,0 +1,65 @@
+//! A file that holds an office alone.
+ghost use Rattle.std.specs.Prelude.{◌≡◌, Err, IfOk};
+ghost use Rattle.sqlite_wal.specs.Files.{image_at};
+ghost use Rattle.sqlite_wal.specs.Reads.{AreClean};
+ghost use Rattle.sqlite.specs.Files.{over_files};
+ghost use Rattle.office_rules.specs.History.{History};
+ghost use Rattle.store_files.specs.declared.layouts.Layout.{Layout as TheLayout};
+ghost use Rattle.store_files.specs.Layouts.{IsNamedAs};
+ghost use Rattle.stored_files.specs.BooksFound.{HasPast};
+ghost use Rattle.stored_files.specs.Backups.Whole.{HasPastIn, HasPastAlone};
+
+use crate::backups::faults::{CopyFault, close_fault_of, copy_fault_of};
+use crate::files::make_file;
+use sqlite::{Connection, FileFrom, FileStore, Files, Start};
+use sqlite_disk::Disk;
+use store_files::layout_of;
+
+// Moves the log of a database into its file, which then holds its office alone, and gives both back.
+fn close_alone<D: Disk + Drop>(connection: Connection<FileStore<D>>) -> Result<Files<D>, CopyFault>
+    ensures { (past : History) → HasPast over_files connection past
+        → IfOk result (λ files. AreClean D.Disk files.log files.db
+        → HasPastAlone D.Disk files past) }
+{
+    match connection.close_files() {
+        Ok(files) => Ok(files),
+        Err((error, store)) => {
+            drop(store.close());
+            Err(close_fault_of(error))
+        }
+    }
+}
+
+/// Moves the log of an office's database into its file, and gives both back: the file then holds the office alone, of
+/// whichever version. Faults: `NotOurs` where the tables aren't those of an office, by their names and order.
+pub fn whole_files<D: Disk + Drop>(
+    connection: Connection<FileStore<D>>,
+) -> Result<Files<D>, CopyFault>
+    ensures foreign { ((layout : TheLayout) → ¬ IsNamedAs connection.schema layout)
+        → result ≡ Err CopyFault.NotOurs }
+    ensures whole { (past : History) → HasPast over_files connection past
+        → IfOk result (λ files. AreClean D.Disk files.log files.db
+        → HasPastAlone D.Disk files past) }
+{
+    match layout_of(connection.schema()) {
+        Some(_) => close_alone(connection),
+        None => Err(CopyFault::NotOurs),
+    }
+}
+
+/// The same of the files at a path, which held what `S` says: what is found is what they held. They must be no other
+/// program's, since its writes would not be seen.
+pub fn whole_file<S: Start>(
+    rt: &HostRuntime,
+    path: &str,
+    start: S,
+) -> Result<Files<FileFrom<S>>, CopyFault>
+    ensures { (past : History) → HasPastIn (image_at S.Start) past
+        → IfOk result (λ files. AreClean ⟦<FileFrom<S> as Disk>⟧ files.log files.db
+        → HasPastAlone ⟦<FileFrom<S> as Disk>⟧ files past) }
+{
+    match make_file(rt, path, start) {
+        Ok(connection) => whole_files(connection),
+        Err(fault) => Err(copy_fault_of(fault)),
+    }
+}

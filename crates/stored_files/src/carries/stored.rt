@@ -1,0 +1,104 @@
+//! An office in a database, carried into a new one in another.
+ghost use Rattle.std.specs.Prelude.{◌≡◌, ℕ, List, [], Err, IfOk};
+ghost use Rattle.office_events.specs.declared.facts.Fact.{Fact};
+ghost use Rattle.office_rules.specs.History.{History, facts_of};
+ghost use Rattle.office_core.specs.Leaving.{BooksStand};
+ghost use Rattle.store_files.specs.declared.layouts.Layout.{Layout as TheLayout};
+ghost use Rattle.store_files.specs.Layouts.{IsNamedAs};
+ghost use Rattle.office_store.specs.Database.{HasFile};
+ghost use Rattle.stored_files.specs.BooksFound.{HasPast};
+ghost use Rattle.stored_files.specs.Carries.GoingOn.{GoesOn, GoesOnFrom, GoesOnIn, IsCarriedInto};
+
+use crate::carries::zones::told_zone;
+use carried_books::{CarryFault, carry_books};
+use office_books::Books;
+use office_core::Office;
+use office_store::{OpenFault, SqlBooks};
+use sqlite::{Alter, Connection};
+use std::alloc::Global;
+
+/// Why an office in a database was not carried into a new one.
+#[derive(Clone, Copy, Debug, PartialEq, Eq)]
+pub enum CarryEnd {
+    /// The old database holds no office that could be opened.
+    Unopened(OpenFault),
+    /// The tables of the new one were not made.
+    Unmade(OpenFault),
+    /// Not all was carried.
+    Ended(CarryFault),
+}
+
+// Opens a new office over books, and carries others into it.
+fn carry_into<O: Books, N: Books>(
+    alloc: Global,
+    old: O,
+    new: N,
+    until: Option<u64>,
+) -> Result<u64, CarryFault>
+    ensures { BooksStand (N.ledger new) [] → IfOk result (GoesOn O.ledger N.ledger old until) }
+{
+    let mut old = old;
+    match Office::open(alloc, new, 0) {
+        Ok(office) => {
+            let mut office = office;
+            carry_books(alloc, &mut old, &mut office, until)
+        }
+        Err((_, why)) => Err(CarryFault::New(why)),
+    }
+}
+
+// Makes the tables of a new office, and carries books into it.
+fn carry_anew<O: Books, S: Alter + Drop>(
+    alloc: Global,
+    old: O,
+    zone: &str,
+    until: Option<u64>,
+    new: Connection<S>,
+) -> Result<u64, CarryEnd>
+    ensures { IfOk result (GoesOnIn S.Store O.ledger old zone.now until new) }
+{
+    match SqlBooks::create(alloc, new, zone) {
+        Ok(books) => match carry_into(alloc, old, books, until) {
+            Ok(meters) => Ok(meters),
+            Err(fault) => Err(CarryEnd::Ended(fault)),
+        },
+        Err(unopened) => Err(CarryEnd::Unmade(unopened.fault)),
+    }
+}
+
+// Opens an office of that zone, and carries it into a new one.
+fn carry_opened<S: Alter + Drop>(
+    alloc: Global,
+    old: Connection<S>,
+    zone: &str,
+    until: Option<u64>,
+    new: Connection<S>,
+) -> Result<u64, CarryEnd>
+    ensures { (its : List ℕ) (facts : List Fact) → HasFile S.Store its old facts
+        → IfOk result (GoesOnFrom S.Store old facts zone.now until new) }
+{
+    match SqlBooks::open(alloc, old) {
+        Ok(books) => carry_anew(alloc, books, zone, until, new),
+        Err(unopened) => Err(CarryEnd::Unopened(unopened.fault)),
+    }
+}
+
+/// Makes a new office in a database that has no tables, for the days of the zone of an office in another, and carries that
+/// into it, as `carry_books` does. The new one is opened at moment 0, so that no moment is before it.
+pub fn carry_stored<S: Alter + Drop>(
+    alloc: Global,
+    old: Connection<S>,
+    new: Connection<S>,
+    until: Option<u64>,
+) -> Result<u64, CarryEnd>
+    ensures foreign { ((layout : TheLayout) → ¬ IsNamedAs old.schema layout)
+        → result ≡ Err (CarryEnd.Unopened OpenFault.NotOurs) }
+    ensures carried { (past : History) → (has : HasPast S.Store old past)
+        → IfOk result (IsCarriedInto S.Store (facts_of past) has.zone until new) }
+{
+    let mut old = old;
+    match told_zone(&mut old) {
+        Ok(zone) => carry_opened(alloc, old, &zone, until, new),
+        Err(fault) => Err(CarryEnd::Unopened(fault)),
+    }
+}

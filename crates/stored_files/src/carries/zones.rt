@@ -1,0 +1,113 @@
+//! The zone of an office's file, as it is told there.
+ghost use Rattle.std.specs.Prelude.{◌≡◌, ◌∷◌, [], ℕ, List, false, Err, IfOk, string_bytes};
+ghost use Rattle.sqlite.specs.Held.{state};
+ghost use Rattle.sqlite.specs.State.{HasCleanDisk, IsUnchanged};
+ghost use Rattle.store_tables.specs.Content.{Content, AreTablesIn};
+ghost use Rattle.store_files.specs.declared.layouts.Layout.{Layout as TheLayout};
+ghost use Rattle.store_files.specs.Layouts.{schema_of, IsNamedAs};
+ghost use Rattle.store_files.specs.Meta.{Meta};
+ghost use Rattle.store_files.specs.Upgrade.{IsFile};
+ghost use Rattle.stored_files.specs.Carries.ToldZone.{ShowsZone, TellsZone, zone_shown};
+
+use sqlite::{Alter, Connection, Error, ErrorCode, Row};
+use store_files::{OpenFault, layout_of};
+use store_tables::{RowFault, check_open, text};
+
+// What an error of the store means to whom asks for the zone.
+fn fault_of(error: Error) -> OpenFault {
+    match error {
+        Error::SqliteFailure(ErrorCode::OutOfMemory) => OpenFault::Memory,
+        _ => OpenFault::Store,
+    }
+}
+
+// The zones of the rows of `meta`.
+fn zone_rows<S: Alter>(connection: &mut Connection<S>) -> Result<Vec<Row>, Error>
+    ensures clean { HasCleanDisk (state S.Store connection.new)
+        → HasCleanDisk (state S.Store connection.old) }
+    ensures shows { HasCleanDisk (state S.Store connection.new)
+        → (layout : TheLayout) (content : Content)
+        → AreTablesIn (schema_of layout) (state S.Store connection.old).now content
+        → IfOk result
+        (ShowsZone content (state S.Store connection.old) (state S.Store connection.new)) }
+{
+    connection.query_all("SELECT zone FROM meta", &[])
+}
+
+// The text of a row.
+fn zone_of(row: &Row) -> Result<String, OpenFault>
+    ensures { (m : Meta) → row.now ≡ zone_shown m
+        → IfOk result (λ zone. string_bytes zone ≡ m.zone) }
+{
+    match text(row, 0) {
+        Ok(zone) => Ok(zone),
+        Err(RowFault::Sql(error)) => Err(fault_of(error)),
+        Err(RowFault::Damaged) => Err(OpenFault::Zone),
+    }
+}
+
+// That of the only one.
+fn zone_in(rows: &[Row]) -> Result<String, OpenFault>
+    ensures { (m : Meta) → rows.now ≡ zone_shown m ∷ []
+        → IfOk result (λ zone. string_bytes zone ≡ m.zone) }
+{
+    match rows {
+        [row] => zone_of(row),
+        _ => Err(OpenFault::NotOurs),
+    }
+}
+
+// The zone that an open file tells.
+fn zone_of_open<S: Alter>(connection: &mut Connection<S>) -> Result<String, OpenFault>
+    ensures clean { HasCleanDisk (state S.Store connection.new)
+        → HasCleanDisk (state S.Store connection.old) }
+    ensures tells { HasCleanDisk (state S.Store connection.new)
+        → (layout : TheLayout) (zone : List ℕ) (content : Content)
+        → (state S.Store connection.old).now ≡ (state S.Store connection.old).committed
+        → IsFile layout zone (state S.Store connection.old).committed content
+        → IfOk result
+        (TellsZone zone (state S.Store connection.old) (state S.Store connection.new)) }
+{
+    match zone_rows(connection) {
+        Ok(rows) => zone_in(&rows),
+        Err(error) => Err(fault_of(error)),
+    }
+}
+
+// The same of a file that may be shut.
+fn zone_of_file<S: Alter>(connection: &mut Connection<S>) -> Result<String, OpenFault>
+    requires { connection.old.in_transaction ≡ false }
+    ensures clean { HasCleanDisk (state S.Store connection.new)
+        → HasCleanDisk (state S.Store connection.old) }
+    ensures tells { HasCleanDisk (state S.Store connection.new)
+        → (layout : TheLayout) (zone : List ℕ) (content : Content)
+        → IsFile layout zone (state S.Store connection.old).committed content
+        → IfOk result
+        (TellsZone zone (state S.Store connection.old) (state S.Store connection.new)) }
+{
+    match check_open(connection) {
+        Ok(()) => zone_of_open(connection),
+        Err(error) => Err(fault_of(error)),
+    }
+}
+
+/// The zone that an office's file tells, of whichever version. Nothing is written to it.
+pub fn told_zone<S: Alter>(connection: &mut Connection<S>) -> Result<String, OpenFault>
+    ensures foreign { ((layout : TheLayout) → ¬ IsNamedAs connection.old.schema layout)
+        → result ≡ Err OpenFault.NotOurs }
+    ensures clean { HasCleanDisk (state S.Store connection.new)
+        → HasCleanDisk (state S.Store connection.old) }
+    ensures tells { HasCleanDisk (state S.Store connection.new)
+        → (layout : TheLayout) (zone : List ℕ) (content : Content)
+        → IsFile layout zone (state S.Store connection.old).committed content
+        → IfOk result
+        (TellsZone zone (state S.Store connection.old) (state S.Store connection.new)) }
+{
+    if !connection.is_autocommit() {
+        return Err(OpenFault::NotOurs);
+    }
+    match layout_of(connection.schema()) {
+        None => Err(OpenFault::NotOurs),
+        Some(_) => zone_of_file(connection),
+    }
+}

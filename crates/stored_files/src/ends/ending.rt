@@ -1,0 +1,87 @@
+//! How a command ended, its exit status, and what is said of it.
+ghost use Rattle.std.specs.Prelude.{◌≡◌, ◌⊎◌};
+ghost use Rattle.stored_files.specs.Ends.Endings.{IsTold, ending_number, ending_of};
+
+use crate::ends::failure::Failure;
+use command_io::ExitStatus;
+use std::io::Write;
+
+/// How a command ended.
+#[derive(Drop)]
+pub enum Ending<'a> {
+    Fine,
+    /// The input is wrong, or was refused, as the output says.
+    Refused,
+    /// The words are wrong, as the text says.
+    Wrong(String),
+    /// The words are no texts in UTF-8.
+    NoText,
+    /// The text for the option is no time zone.
+    NoZone(&'a str),
+    /// The text for the option is no day.
+    NoDay { option: &'a str, word: &'a str },
+    /// The range of days ends before it begins.
+    Backward,
+    /// The file for the option has no seal.
+    NoSeal(&'a str),
+    /// The file for the option stands twice.
+    Twice(&'a str),
+    Failed(Failure<'a>),
+}
+
+impl<'a> Ending<'a> {
+    /// The exit status of the process.
+    pub fn number(&self) -> u8
+        ensures { result ≡ ending_number self.now }
+    {
+        match self {
+            Ending::Fine => 0,
+            Ending::Refused => 1,
+            Ending::Wrong(_) | Ending::NoText | Ending::NoZone(_) => 2,
+            Ending::NoDay { .. } | Ending::Backward | Ending::NoSeal(_) => 2,
+            Ending::Twice(_) => 2,
+            Ending::Failed(_) => 3,
+        }
+    }
+}
+
+/// The ending of a command that reads standard input and prints.
+pub fn ending_of(status: ExitStatus) -> Ending<'static>
+    ensures { result ≡ ending_of status }
+{
+    match status {
+        ExitStatus::Fine => Ending::Fine,
+        ExitStatus::Refused => Ending::Refused,
+        ExitStatus::Failed => Ending::Failed(Failure::Streams),
+    }
+}
+
+/// Says on standard error how a command ended. Of one that is fine, or was refused, it says nothing: standard output
+/// does. Where this can't be written, nothing more can be said.
+pub fn say<W: Write>(ending: &Ending<'_>, errors: &mut W)
+    ensures { IsTold ending.now ⊎ (errors.new ≡ errors.old) }
+{
+    let _said = match ending {
+        Ending::Fine | Ending::Refused => Ok(()),
+        Ending::Wrong(text) => errors.write_all(text.as_bytes()),
+        Ending::NoText => errors.write_all(b"error: the words are not in UTF-8\n"),
+        Ending::NoZone(zone) => write!(
+            errors,
+            "error: invalid value '{zone}' for '--zone <TEXT>': no POSIX time zone, as UTC0 or CET-1CEST,M3.5.0,M10.5.0/3\n"
+        ),
+        Ending::NoDay { option, word } => write!(
+            errors,
+            "error: invalid value '{word}' for '--{option} <DAY>': no day, as 2026-11-25\n"
+        ),
+        Ending::Backward => errors.write_all(b"error: '--till <DAY>' is before '--from <DAY>'\n"),
+        Ending::NoSeal(file) => write!(
+            errors,
+            "error: invalid value '{file}' for '--against <SEAL>': no seal, as sunreg audit --seal prints it\n"
+        ),
+        Ending::Twice(file) => write!(
+            errors,
+            "error: invalid value '{file}' for '--db <FILE>': it stands twice\n"
+        ),
+        Ending::Failed(failure) => write!(errors, "failed\nsunreg: {failure}\n"),
+    };
+}

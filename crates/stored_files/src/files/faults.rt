@@ -1,0 +1,65 @@
+//! Why there is no connection to a file.
+ghost use Rattle.std.specs.Prelude.{◌≡◌};
+ghost use Rattle.stored_files.specs.Files.Faults.{file_fault_number, fault_of};
+
+use sqlite::{Error, ErrorCode};
+use std::fmt;
+use std::fmt::{Display, Formatter};
+
+/// Why there is no connection to a file.
+#[derive(Clone, Copy, Debug, PartialEq, Eq)]
+pub enum FileFault {
+    /// There is no such file.
+    Missing,
+    /// Another process has it open.
+    Busy,
+    /// It is no database, or a damaged one.
+    NoDatabase,
+    /// The system refuses to open it, or to read or write it.
+    Unreadable,
+    Memory,
+}
+
+impl FileFault {
+    /// The number of the fault, from 1. No text of the program shows it.
+    pub fn number(self) -> u8
+        ensures { result ≡ file_fault_number self }
+    {
+        match self {
+            FileFault::Missing => 1,
+            FileFault::Busy => 2,
+            FileFault::NoDatabase => 3,
+            FileFault::Unreadable => 4,
+            FileFault::Memory => 5,
+        }
+    }
+}
+
+// What was wrong and what to do, after the file's name.
+impl Display for FileFault {
+    fn fmt<W: fmt::Write>(&self, f: &mut Formatter<W>) -> fmt::Result {
+        f.write_str(match self {
+            FileFault::Missing => "there is no such file: sunreg create makes it",
+            FileFault::Busy => "another process has it open: end that one first",
+            FileFault::NoDatabase =>
+                "it is no SQLite database, or a damaged one: give the office's file, or its copy",
+            FileFault::Unreadable =>
+                "it can't be opened, read or written: look at its rights, its folder's, and the disk's room",
+            FileFault::Memory => "memory ran out",
+        })
+    }
+}
+
+/// What an error of the opening of a database means to whom gave the file.
+pub(crate) fn fault_of(error: Error) -> FileFault
+    ensures { result ≡ fault_of error }
+{
+    match error {
+        Error::SqliteFailure(ErrorCode::DatabaseBusy) => FileFault::Busy,
+        Error::SqliteFailure(ErrorCode::NotADatabase | ErrorCode::DatabaseCorrupt) => {
+            FileFault::NoDatabase
+        }
+        Error::SqliteFailure(ErrorCode::OutOfMemory) => FileFault::Memory,
+        _ => FileFault::Unreadable,
+    }
+}

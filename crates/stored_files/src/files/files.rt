@@ -1,0 +1,65 @@
+//! The opening of a file.
+ghost use Rattle.std.specs.Prelude.{◌≡◌, ◌≢◌, codes, Err, IfOk, IfErr};
+ghost use Rattle.sqlite_wal.specs.Files.{image_at};
+ghost use Rattle.sqlite.specs.State.{HasCleanDisk};
+ghost use Rattle.sqlite.specs.Held.{IsNew};
+ghost use Rattle.sqlite.specs.Start.{FindsIn};
+ghost use Rattle.sqlite.specs.Files.{file_state, IsOpened};
+ghost use Rattle.stored_files.specs.Files.Blank.{HasNoSumsIfBlank};
+
+use crate::files::faults::{FileFault, fault_of};
+use sqlite::{Alter, Connection, FileFrom, FileStore, Start};
+use std::fs;
+
+/// A connection to a file, which held what `S` says.
+pub type FileConnection<S> = Connection<FileStore<FileFrom<S>>>;
+
+/// Where databases come from. What holds a connection is proved over any of these, since over a connection to a file it would cost
+/// minutes.
+pub trait Databases {
+    type Store: Alter + Drop;
+
+    /// A connection to the database at a path, which is made where there is none.
+    fn make(&self, path: &str) -> Result<Connection<Self::Store>, FileFault>;
+
+    /// A connection to a database that is there.
+    fn open(&self, path: &str) -> Result<Connection<Self::Store>, FileFault>;
+}
+
+/// Opens the database in a file, or makes an empty one where there is no such file.
+pub fn make_file<S: Start>(
+    rt: &HostRuntime,
+    path: &str,
+    start: S,
+) -> Result<FileConnection<S>, FileFault>
+    ensures fresh { IfOk result IsNew }
+    ensures opened { IfOk result (λ c. HasCleanDisk (file_state c) → IsOpened c) }
+    ensures found { IfOk result
+        (λ c. HasCleanDisk (file_state c) → FindsIn (image_at S.Start) (file_state c)) }
+    ensures plain { IfOk result (HasNoSumsIfBlank (image_at S.Start)) }
+    ensures there { IfErr result (λ fault. fault ≢ FileFault.Missing) }
+    ensures memory { path.now ≡ codes ":memory:" → result ≡ Err FileFault.Unreadable }
+{
+    match Connection::open_from(rt, path, false, start) {
+        Ok(connection) => Ok(connection),
+        Err((error, _)) => Err(fault_of(error)),
+    }
+}
+
+/// Opens the database in a file that is there.
+pub fn open_file<S: Start>(
+    rt: &HostRuntime,
+    path: &str,
+    start: S,
+) -> Result<FileConnection<S>, FileFault>
+    ensures fresh { IfOk result IsNew }
+    ensures opened { IfOk result (λ c. HasCleanDisk (file_state c) → IsOpened c) }
+    ensures found { IfOk result
+        (λ c. HasCleanDisk (file_state c) → FindsIn (image_at S.Start) (file_state c)) }
+{
+    match fs::exists(rt, path) {
+        Ok(true) => make_file(rt, path, start),
+        Ok(false) => Err(FileFault::Missing),
+        Err(_) => Err(FileFault::Unreadable),
+    }
+}

@@ -1,0 +1,29 @@
+//! The making of an office in a database.
+ghost use Rattle.std.specs.Prelude.{◌≡◌, ◌≢◌, ◌⊎◌, false, Err, IfErr, OnOk};
+ghost use Rattle.store_files.specs.Layouts.{no_schema};
+ghost use Rattle.store_files.specs.Zones.{IsZone};
+ghost use Rattle.stored_files.specs.NewOffice.{IsMade};
+
+use office_store::{OpenFault, SqlBooks};
+use sqlite::{Alter, Connection};
+use std::alloc::Global;
+
+/// Makes the tables of a new office in a database that has no tables, for the days of a zone, as `SqlBooks::create` does.
+pub fn create_stored<S: Alter + Drop>(
+    alloc: Global,
+    connection: Connection<S>,
+    zone: &str,
+) -> Result<(), OpenFault>
+    ensures others { connection.schema ≢ no_schema → result ≡ Err OpenFault.NotOurs }
+    ensures no_zone { connection.in_transaction ≡ false → connection.schema ≡ no_schema
+        → ¬ IsZone zone.now → result ≡ Err OpenFault.Zone }
+    ensures ours { connection.in_transaction ≡ false → connection.schema ≡ no_schema
+        → IsZone zone.now
+        → IfErr result (λ fault. (fault ≡ OpenFault.Store) ⊎ (fault ≡ OpenFault.Memory)) }
+    ensures made { OnOk result (IsMade S.Store zone.now connection) }
+{
+    match SqlBooks::create(alloc, connection, zone) {
+        Ok(_) => Ok(()),
+        Err(unopened) => Err(unopened.fault),
+    }
+}

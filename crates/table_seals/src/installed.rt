@@ -1,0 +1,54 @@
+//! The terms on which meters are installed.
+ghost use Rattle.std.specs.Prelude.{IfOk, OnOk};
+ghost use Rattle.table_seals.specs.Installed.{AddsTerms, AddsTermsOf, AreTermsOf, TellsInstalled};
+ghost use Rattle.table_seals.specs.Sealed.{sealed_of};
+
+use crate::seals::MeterSeal;
+use crate::tables::{Terms, terms_of};
+use sqlite::Row;
+use std::alloc::{AllocError, Global};
+use std::collections::BTreeSet;
+
+/// Terms more.
+fn add(known: &mut BTreeSet<Terms>, terms: Terms) -> Result<(), AllocError>
+    ensures { OnOk result (AddsTerms terms known.old known.new) }
+{
+    known.insert(terms)?;
+    Ok(())
+}
+
+/// Those of a row more, if it tells some.
+fn add_row(known: &mut BTreeSet<Terms>, row: &Row) -> Result<(), AllocError>
+    ensures { OnOk result (AddsTermsOf row.now known.old known.new) }
+{
+    match terms_of(row)? {
+        Some(terms) => {
+            add(known, terms)?;
+            Ok(())
+        }
+        None => Ok(()),
+    }
+}
+
+/// The terms that rows of installations tell.
+pub(crate) fn terms_in(alloc: Global, installed: &[Row]) -> Result<BTreeSet<Terms>, AllocError>
+    ensures { IfOk result (AreTermsOf installed.now) }
+{
+    let mut known = BTreeSet::new(alloc);
+    for row in installed {
+        add_row(&mut known, row)?;
+    }
+    Ok(known)
+}
+
+/// Whether the meter of a seal is installed on the same terms, by all terms on which meters are.
+pub(crate) fn is_installed(known: &BTreeSet<Terms>, seal: &MeterSeal) -> Result<bool, AllocError>
+    ensures { IfOk result (TellsInstalled known.now (sealed_of seal.now)) }
+{
+    let terms = Terms {
+        meter: seal.meter.clone()?,
+        register: seal.register.clone()?,
+        ceiling: seal.ceiling,
+    };
+    Ok(known.contains(&terms))
+}
