@@ -1,4 +1,4 @@
-"""What the scripts in Python share: the kit's command `rt` as a module, and what bench/GATE.md tells of a crate's proof."""
+"""What the scripts in Python share: the kit's command `rt` as a module, and what bench/GATE.md tells of a crate."""
 import collections
 import importlib.machinery
 import importlib.util
@@ -10,7 +10,7 @@ import subprocess
 PAGE = os.path.join(os.path.dirname(os.path.realpath(__file__)), "GATE.md")
 # A crate's row: its name, lines, seconds of the proof, the tests and the edits with their number, their sum, and the most memory of proof and tests.
 ROW = re.compile(r"\| (\w+) \| (\d+) \| (\d*) \| (\d*) \| (?:(\d+) \((\d+)\))? \| \d+ \| ([\d.]*) \| ([\d.]*) \|")
-# What the proof of a crate takes, in processor seconds and bytes; None where it was not measured.
+# What the proof of a crate takes in processor seconds, and a part of it at most in bytes; None where it was not measured.
 Cost = collections.namedtuple("Cost", "seconds memory")
 
 
@@ -59,7 +59,8 @@ def once_a_folder(make):
 
 
 def costs(page=PAGE):
-    """Returns the costs of each crate's proof that the page has, by the crate's name."""
+    """Returns the costs of each crate that the page has, by the crate's name."""
     with open(page, encoding="utf-8") as it:
         rows = [it for it in map(ROW.match, it) if it]
-    return {row[1]: Cost(float(row[3]) if row[3] else None, 1e9 * float(row[7]) if row[7] else None) for row in rows}
+    most = lambda row: max((1e9 * float(it) for it in row.group(7, 8) if it), default=None)
+    return {row[1]: Cost(float(row[3]) if row[3] else None, most(row)) for row in rows}
