@@ -115,7 +115,7 @@ fn are_told(totals: &[DayTotal], days: &[Told]) -> bool {
             .all(|(total, told)| is_told(total, told))
 }
 
-/// Whether rows fold to these days, lent and as their own list.
+/// Whether rows fold to these days, lent, of a copy, and as their own list.
 fn folds_to(
     rt: &impl Abort,
     alloc: Global,
@@ -124,7 +124,8 @@ fn folds_to(
     days: &[Told],
 ) -> Result<bool, DayFault> {
     let fold = folded(rt, alloc, rows, zone)?;
-    let are_lent = are_told(fold.rows(), days);
+    let copy = fold.clone()?;
+    let are_lent = are_told(fold.rows(), days) && are_told(copy.rows(), days);
     Ok(are_lent && are_told(fold.into_rows().as_slice(), days))
 }
 

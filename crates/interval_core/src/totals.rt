@@ -94,6 +94,21 @@ impl DayFold {
     }
 }
 
+/// A copy goes on from the days so far, while these stay as they are.
+impl Clone for DayFold {
+    ghost use Rattle.std.specs.Prelude.{◌≡◌};
+
+    ghost is_clone = { λ fold copy. copy ≡ fold };
+
+    fn clone(&self) -> Result<DayFold, AllocError> {
+        let totals = self.totals.as_slice().to_vec(*self.totals.allocator())?;
+        Ok(DayFold {
+            totals,
+            latest: self.latest,
+        })
+    }
+}
+
 /// The days of interval rows in order of their starts, each with its intervals, counted once, and its energy.
 pub fn by_day(alloc: Global, rows: &[Share], zone: &Zone) -> Result<Vec<DayTotal>, DayFault>
     requires never_back { IsNonDecreasingBy (λ row. row.start) rows.now }
