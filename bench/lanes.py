@@ -16,7 +16,7 @@ class Lanes:
     """What is left to prove, what is being proved in a group of processes, and what stands."""
 
     def __init__(self, rt, crates, group):
-        costs, none = kit.costs(), kit.Cost(None, None)
+        costs, none = kit.costs(), kit.Cost()
         known = {it: costs.get(it.name, none) for it in crates}
         self.seconds = {it: cost.seconds or 20 + 0.25 * it.count(rb"\n") for it, cost in known.items()}
         self.memory = {it: BEYOND * (cost.memory or MOST[it.is_program]) for it, cost in known.items()}

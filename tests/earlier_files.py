@@ -1,10 +1,11 @@
 """A run that tells energy over earlier files, too: earlier_files.py PROGRAM; tests/earlier_files.sh calls it.
 
 The site is that of files_as_one.py, whose three files go on from each other. A run over the three replies by HTTP what one over the file
-replies that got all, byte for byte; a run that begins a new file by itself replies what it replied before, where it tells earlier files;
+replies that got all, byte for byte, and tells the same meters by `/site`; a run that begins a new file by itself replies what it replied before, where it tells earlier files;
 and files that don't join, or are damaged, are refused before anything is polled.
 """
 import http.client
+import json
 import pathlib
 import shutil
 import socket
@@ -77,6 +78,35 @@ def targets():
     yield "/registers/main/days/2024-01-01/2024-01-01"
 
 
+def registers_told(run):
+    """What `/site` tells of the registers, and how much of the energy of the meter at each is said to be that of earlier files."""
+    rows = json.loads(run.get("/site")[1])["registers"]
+    return rows, {row["register"]: row.pop("earlier", None) for row in rows}
+
+
+def energy_before(rows, alone, files):
+    """How much of the energy of the meter at each register earlier files have, by what one file has of it, and the last one alone."""
+    last = {row["register"]: row for row in alone}
+    found = {}
+    for row in rows:
+        name, meter = row["register"], row["meter"]
+        had = meter is not None and any(ask(db, f"SELECT count(*) FROM installations WHERE meter = '{meter}'") != "0" for db in files)
+        here = last[name]["total"] if last[name]["meter"] == meter is not None else "0"
+        found[name] = str(int(row["total"]) - int(here)) if had else None
+    return found
+
+
+def hold_site(whole, parts):
+    with Run([whole]) as one, Run(parts) as three, Run([copy(parts[-1], "last_alone.db")]) as last:
+        rows, none = registers_told(one)
+        over, before = registers_told(three)
+        alone, _ = registers_told(last)
+    same("the site is that of one file", over, rows)
+    same("one file has nothing earlier", set(none.values()), {None})
+    same("what earlier files have of its meters", before, energy_before(rows, alone, parts[:-1]))
+    same("and they have some", any(it not in (None, "0") for it in before.values()), True)
+
+
 def hold_replies(place, whole, parts):
     with Run([whole]) as one, Run(parts) as three:
         for target in targets():
@@ -106,9 +136,12 @@ def hold_periods(place, whole, parts):
     office = copy_into(folder, whole, "office.db")
     target = "/registers/main/months"
     with Run([office]) as it:
-        before = it.get(target)
+        before, site_before = it.get(target), registers_told(it)[0]
     with Run([office], "--carry", "month", "--earlier", "3") as it:
         same("a new file was begun, and both are told", it.get(target), before)
+        rows, earlier = registers_told(it)
+        same("so is the site", rows, site_before)
+        same("all energy is that of earlier files", earlier, {row["register"]: row.get("total") for row in rows})
         same("its meters are those of the new one", it.get("/registers/main/meters")[1].splitlines()[-1:], [b"end 1"])
     made = [str(it) for it in sorted(folder.glob("office-*.db"))]
     same("the new file", len(made), 1)
@@ -130,6 +163,7 @@ def main():
         place = pathlib.Path(room)
         whole, parts, carries, _, _ = carry_parts(place)
         hold_replies(place, whole, parts)
+        hold_site(whole, parts)
         one, two, three = parts
         refused("the wrong order", [two, one, three], 1, f"{one}: the meter m1 begins there")
         refused("a file lacks", [one, three], 1, f"{three}: the meter m2 begins there")

@@ -10,9 +10,12 @@ import resource
 import shutil
 import subprocess
 import sys
+import time
+import urllib.request
 
 from growth import each, opening, told
 from sites import QUARTER, fill, machine, places, query
+from room import free_port, is_listening
 
 METERS = 64
 # In Wh, in each quarter hour.
@@ -147,6 +150,50 @@ def report(program, files):
     return cost, lines
 
 
+def run_over(program, files, targets):
+    """A run that tells energy over files: the processor seconds until it listens, the memory that it holds then and has held at most, in MB, and of each target the
+    milliseconds that the least of five replies takes of the processor, and the reply."""
+    port = free_port()
+    dbs = [word for it in files for word in ("--db", it)]
+    words = [program, "run", *dbs, "--listen", str(port), "--every", "86400", "--devices", "d0=127.0.0.1:9"]
+    child = subprocess.Popen(words, stdout=subprocess.DEVNULL, stderr=subprocess.DEVNULL)
+    while not is_listening(port):
+        if child.poll() is not None:
+            sys.exit(f"chain.py: run ended with {child.returncode}")
+        time.sleep(0.002)
+    time.sleep(1)
+    ran, replies = pathlib.Path(f"/proc/{child.pid}/schedstat"), []
+    begun = int(ran.read_text().split()[0]) / 1e9
+    told = dict(line.split(":") for line in pathlib.Path(f"/proc/{child.pid}/status").read_text().splitlines() if line.startswith("Vm"))
+    for target in targets:
+        took = []
+        for _ in range(5):
+            before = int(ran.read_text().split()[0])
+            text = urllib.request.urlopen(f"http://127.0.0.1:{port}{target}").read().decode()
+            took.append((int(ran.read_text().split()[0]) - before) / 1e6)
+        replies.append((min(took), text))
+    child.kill()
+    child.wait()
+    return begun, int(told["VmRSS"].split()[0]) / 1000, int(told["VmHWM"].split()[0]) / 1000, replies
+
+
+def measure_run(program, files, first, months, lines, energy):
+    """A run over all files beside one over the last alone."""
+    last = datetime.date((first + months - 1) // 12, (first + months - 1) % 12 + 1, 1)
+    targets = ["/registers/r0/months", f"/registers/r0/days/{last}/{last + datetime.timedelta(days=28)}", "/site"]
+    print("| A run over | Begun, of the processor | Memory | at most | Its months | 28 days | `/site` |\n|" + "---|" * 7)
+    told = []
+    for what, given in (("the last file alone", files[-1:]), (f"all {len(files)} files", files)):
+        begun, holds, most, replies = run_over(program, given, targets)
+        told.append([text for _, text in replies])
+        print(f"| {what} | {begun:.1f} s | {holds:.1f} MB | {most:.1f} MB |" + "".join(f" {took:.2f} ms |" for took, _ in replies), flush=True)
+    alone, over = told
+    if over[0].splitlines()[:-1] != lines or over[1] != alone[1] or over[1].splitlines()[-1] != "end 28":
+        sys.exit(f"chain.py: a run over all files tells other months or days: {over[0].splitlines()[:3]}")
+    if f'"total":"{energy}"' not in over[2]:
+        sys.exit(f"chain.py: /site over all files tells {over[2]}")
+
+
 def measure_chain(program, first, months, room):
     files, carrying = chain(program, first, months, room)
     size, count = sum(os.path.getsize(it) for it in files), sum(quarters(it) for it in range(first, first + months))
@@ -160,6 +207,7 @@ def measure_chain(program, first, months, room):
     each_alone = sum(it for it, _ in alone)
     print(f"one meter, {months} files of {size / 1e6 / months:.2f} MB: carried in {told(carrying)} together, of the processor")
     print(f"a report by months over all of them takes {told(cost)} of the processor; reports on each alone {told(each_alone)}, so it takes {1000 * (cost - each_alone):+.0f} ms beside its openings")
+    measure_run(program, files, first, months, lines, energy)
     print(f"an audit over all of them takes {told(fine(program, files))} of the processor")
 
 

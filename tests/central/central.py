@@ -524,6 +524,23 @@ def keeps_files_before(shards):
     same("its rows stand beside", (rows, days), tuple(sorted(of) for of in energy_of(both)))
 
 
+def copies_the_current_file(shards):
+    """A run that tells energy over earlier files, too: of its meters that is copied which the current file has, and of a meter that earlier ones alone have nothing."""
+    mocks = Mocks(["over"])
+    office = mocks.offices["over"]
+    filled(office, 96)
+    office.earlier = {"main-1": 1000, "roof-1": 0}
+    office.only_earlier = [{"device": "inv", "register": "old", "meter": "old-1", "at": NOVEMBER, "last": 7, "sf": 0, "total": "5", "earlier": "5", "ended": True}]
+    sites = write_list("over", {"over": (mocks.url("over"), [])})
+    same("a run over earlier files", shards.collect(sites)[::2], (0, []))
+    compare("a run over earlier files", shards, mocks.sites())
+    same("and once more", shards.collect(sites), (0, ["1 sites 0 failed 0 meters 0 rows 0 days"], []))
+    meter = office.meters["main-1"]
+    meter.read(meter.at, 7)
+    same("a reading more", shards.collect(sites)[1][0], "over 1 meters 1 rows 1 days")
+    compare("a reading more over earlier files", shards, mocks.sites())
+
+
 def tells_faults(shards, mocks):
     """Sites that don't answer as an office does: they are named, nothing of them is taken, and the others are copied."""
     north, south = mocks.offices["north"], mocks.offices["south"]
@@ -1109,6 +1126,8 @@ def main():
         reads_a_part(shards)
         drop_all(shards)
         keeps_files_before(shards)
+        drop_all(shards)
+        copies_the_current_file(shards)
     if "failures" in parts:
         drop_all(shards)
         fails_at_each_call(shards)

@@ -55,6 +55,8 @@ class Office:
 
     def __init__(self):
         self.meters, self.has_site, self.has_lists, self.has_parts, self.asked = {}, True, True, True, []
+        # (the energy that earlier files have of its meters, and what `/site` tells of those that they alone have)
+        self.earlier, self.only_earlier = {}, []
 
     def add(self, name, register, at):
         self.meters[name] = Meter(name, register, at)
@@ -63,13 +65,20 @@ class Office:
     def of(self, register):
         return [meter for meter in self.meters.values() if meter.register == register]
 
+    def over_files(self, meter):
+        """What `/site` tells of a meter."""
+        told = {"device": "inv", **meter.told()}
+        if meter.name in self.earlier:
+            told |= {"total": str(int(told["total"]) + self.earlier[meter.name]), "earlier": str(self.earlier[meter.name])}
+        return told
+
     def reply(self, target):
         """The status and the text of a reply."""
         self.asked.append(target)
         if target == "/site" and self.has_site:
-            latest = {meter.register: {"device": "inv", **meter.told()} for meter in self.meters.values()}
+            latest = {meter.register: self.over_files(meter) for meter in self.meters.values()}
             spare = {"device": "inv", "register": "spare", "meter": None}
-            return 200, json.dumps({"at": int(time.time()), "registers": [*latest.values(), spare]}, separators=(",", ":")) + "\n"
+            return 200, json.dumps({"at": int(time.time()), "registers": [*latest.values(), spare, *self.only_earlier]}, separators=(",", ":")) + "\n"
         if (found := re.fullmatch("/meters/([^/]+)", target)) and found[1] in self.meters:
             return 200, json.dumps(self.meters[found[1]].told(), separators=(",", ":"))
         if (found := re.fullmatch("/meters/([^/]+)/intervals", target)) and found[1] in self.meters:

@@ -8,5 +8,6 @@ pub mod Earlier
 pub mod KeptMeters
 pub mod Statements
 pub mod OneFile
+pub mod Sites
 pub mod BothFiles
 mod Examples

@@ -6,3 +6,4 @@ pub mod Offices
 pub mod Keeping
 pub mod Earlier
 pub mod Statements
+pub mod Sites

@@ -10,20 +10,20 @@ mod laws;
 mod meters;
 mod offices;
 mod reports;
+mod sites;
 mod statements;
 
 pub use days::JoinedDays;
-pub use earlier::{
-    EarlierRegister, HeldRegisters, KeptRegister, KeptRegisters, add_kept, hold_kept,
-};
+pub use earlier::{EarlierRegister, HeldRegisters, KeptRegisters, add_kept, hold_kept};
 pub use files::{JoinedFiles, Unjoined, add_books, no_files};
 pub use keeping::Keeping;
 pub use kept_meters::KeptMeter;
 pub use laws::{
-    both_files_state_the_joined_meter, both_files_tell_the_joined_days, one_file_states_its_meters,
-    one_file_tells_its_days,
+    both_files_state_the_joined_meter, both_files_tell_the_joined_days, latest_is_of_all_files,
+    one_file_states_its_meters, one_file_tells_its_days,
 };
 pub use meters::Apart;
 pub use offices::days_over;
 pub use reports::{report_days, report_joined};
+pub use sites::{LatestMeter, earlier_meters, latest_meter};
 pub use statements::{JoinedStatement, state_joined};

@@ -56,13 +56,10 @@ fn keep_all<'a, E: Write>(
 }
 
 // What was kept of the registers.
-fn registers_of<'a>(held: JoinedOffice<HeldRegisters>) -> Result<Vec<EarlierRegister>, Ending<'a>> {
+fn registers_of(held: JoinedOffice<HeldRegisters>) -> Vec<EarlierRegister> {
     let JoinedOffice { kept, .. } = held;
     let HeldRegisters { kept } = kept;
-    match kept.into_registers() {
-        Ok(registers) => Ok(registers),
-        Err(_) => Err(Ending::Failed(Failure::Memory)),
-    }
+    kept.into_registers()
 }
 
 // Holds the file in which books go on to those before it.
@@ -79,7 +76,7 @@ fn hold<'a, E: Write>(
     let kept = HeldRegisters { kept };
     let held = Some(JoinedOffice { zone, kept });
     match join(rt, held, before, path, any, is_new, errors) {
-        Ok(held) => registers_of(held),
+        Ok(held) => Ok(registers_of(held)),
         Err(ending) => Err(ending),
     }
 }

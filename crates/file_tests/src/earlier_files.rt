@@ -17,10 +17,6 @@ const NEXT: &str = "3700 device inv 1 5 1
 // A file without registers.
 const OTHER: &str = "3700 device inv 1 5 1";
 
-// The starts of the quarter hours of the day, those of m1 and then those of m2, and of the file behind it: both meters have one that
-// starts at 2700, and both files one that starts at 3600.
-static STARTS: [u64; 7] = [900, 1800, 2700, 2700, 3600, 3600, 4500];
-
 fn zone() -> Result<Zone, Fail> {
     Ok(Zone::read("UTC0")?)
 }
@@ -47,47 +43,50 @@ fn kept_of(alloc: Global, files: &[&str]) -> Result<KeptRegisters, Fail> {
     Ok(kept)
 }
 
-fn starts_of(alloc: Global, it: &EarlierRegister) -> Result<Vec<u64>, AllocError> {
-    it.rows.iter().map(|row| row.start).collect(alloc)
+// A day: how many quarter hours have a row, and their energy in mWh.
+fn days_of(alloc: Global, it: EarlierRegister) -> Result<Vec<(u32, u128)>, AllocError> {
+    let days = it.files.days.into_rows();
+    days.iter().map(|day| (day.count, day.mwh)).collect(alloc)
 }
 
-// Their energy in mWh.
-fn energy_of(it: &EarlierRegister) -> u64 {
-    let mut energy = 0u64;
-    for row in &it.rows {
-        energy = energy.saturating_add(row.mwh);
-    }
-    energy
+// The meters at the register: the energy of each in mWh, and whether it was closed.
+fn meters_of(alloc: Global, it: &EarlierRegister) -> Result<Vec<(u64, bool)>, AllocError> {
+    let meters = it.files.meters.iter();
+    meters.map(|row| (row.total, row.ended)).collect(alloc)
 }
 
-// The day has 345 Wh, and the file behind it 45 Wh more.
+// The day has 345 Wh in four quarter hours, and the file behind it 45 Wh more, in two of which one is the last of the day.
 #[test]
 fn the_registers_of_earlier_files_are_kept(rt: HostRuntime) -> Result<(), Fail> {
     let kept = kept_of(rt.alloc(), &[DAY, NEXT])?;
-    let registers = kept.into_registers()?;
-    let [main, spare] = registers.as_slice() else {
-        panic!(rt; "not two registers");
-    };
-    assert!(rt; starts_of(rt.alloc(), main)?.as_slice() == STARTS.as_slice());
-    assert!(rt; energy_of(main) == 390_000);
+    let mut registers = kept.into_registers();
+    let spare = registers.pop().ok_or("no register")?;
+    let main = registers.pop().ok_or("one register")?;
+    assert!(rt; registers.is_empty());
     assert!(rt; main.name.as_bytes() == b"main".as_slice());
     assert!(rt; spare.name.as_bytes() == b"spare".as_slice());
-    assert!(rt; main.is_whole && spare.is_whole && spare.rows.is_empty());
+    assert!(rt;
+        meters_of(rt.alloc(), &main)?.as_slice() == [(300_000, true), (90_000, false)].as_slice()
+    );
+    assert!(rt; days_of(rt.alloc(), main)?.as_slice() == [(5, 390_000)].as_slice());
+    assert!(rt; spare.files.meters.is_empty() && days_of(rt.alloc(), spare)?.is_empty());
     Ok(())
 }
 
-// Of the file to which they are held no quarter hour is kept.
+// Of the file to which they are held nothing is kept.
 #[test]
 fn the_file_that_goes_on_is_held_to_them(rt: HostRuntime) -> Result<(), Fail> {
     let kept = kept_of(rt.alloc(), &[DAY])?;
     let mut held = HeldRegisters { kept };
     assert!(rt; add(&mut held, rt.alloc(), NEXT)?.is_none());
     let HeldRegisters { kept } = held;
-    let registers = kept.into_registers()?;
-    let [main] = registers.as_slice() else {
-        panic!(rt; "not one register");
-    };
-    assert!(rt; main.rows.len() == 5 && energy_of(main) == 345_000);
+    let mut registers = kept.into_registers();
+    let main = registers.pop().ok_or("no register")?;
+    assert!(rt; registers.is_empty());
+    assert!(rt;
+        meters_of(rt.alloc(), &main)?.as_slice() == [(300_000, true), (45_000, false)].as_slice()
+    );
+    assert!(rt; days_of(rt.alloc(), main)?.as_slice() == [(4, 345_000)].as_slice());
     Ok(())
 }
 

@@ -1,8 +1,7 @@
--- The replies to questions for the energy of a register, of which earlier files tell, too. What these have of it is there as rows,
+-- The replies to questions for the energy of a register, of which earlier files tell, too. What these have of it was added up by days,
 -- one file after the other.
 use Rattle.std.specs.Prelude.{◌≡◌, ◌⊎◌, ℕ, List, ◌∷◌, ◌++◌, Some, Result, Ok, Err, IfOk, OnOk}
 use Rattle.energy_report.specs.declared.form.ReportForm.{ReportForm}
-use Rattle.interval_core.specs.declared.shares.Share.{Share}
 use Rattle.interval_core.specs.declared.zone.Zone.{Zone}
 use Rattle.office_events.specs.declared.facts.Fact.{Fact}
 use Rattle.office_events.specs.declared.refusals.Refusal.{Refusal}
@@ -11,16 +10,17 @@ use Rattle.office_events.specs.declared.refusals.StoreCause.TheVariants as store
 use Rattle.office_rules.specs.Facts.{register_of}
 use Rattle.office_rules.specs.History.{facts_of}
 use Rattle.office_books.specs.Ledgers.{Ledger}
-use Rattle.office_books.specs.Spans.{rows_within}
 use Rattle.office_books.specs.declared.failures.Failures.{Failures}
 use Rattle.office_core.specs.Asking.{IsFound, OnlyAsks, is_there}
 use Rattle.office_core.specs.DayRange.{span_of}
 use Rattle.office_core.specs.Standing.{After}
 use Rattle.office_core.specs.Taking.{failures_of}
 use Rattle.office_core.specs.declared.office.Office.{Office}
-use Rattle.carried_books.specs.Joining.Days.{AreOutOfTurn, HasNumber}
+use Rattle.carried_books.specs.Joining.Days.{AreOutOfTurn, HasAdded, HasNumber}
 use Rattle.carried_books.specs.Joining.Files.{rows_over}
+use Rattle.carried_books.specs.Joining.Offices.{rows_of_both}
 use Rattle.carried_books.specs.Joining.Reports.{IsReportOver}
+use Rattle.carried_books.specs.declared.joining.days.JoinedDays.{JoinedDays}
 use Rattle.run_http.specs.RegisterReplies.{with_energy_reply}
 
 -- What is told of the files of an office, the latest of which stands first, is the report that is printed of all of them; or there is
@@ -36,39 +36,39 @@ ReportsOver zone facts files register form before after (Err why) text =
     let there = is_there (register_of facts register) in
     IsFound {T = Unit {0}} (there ≡ Some tt) there before after (Err why)
     ⊎ ((why ≡ refusal.Store store.NoDay) × (after ≡ before)
-    × AreOutOfTurn (rows_within (span_of form.range) (rows_over register (facts ∷ files))))
+    × AreOutOfTurn (rows_of_both (span_of form.range) (rows_over register files) facts register))
 
--- So it is by what an office had accepted, and by the rows of earlier files, where the sum of all their energy has a number of 128
--- bits.
-abbrev pub TellsReportOver : {B : Type 0} → (B → Ledger) → (old new : Office B) → Zone
-    → (earlier : List Share) → (register : List ℕ) → ReportForm → Result (Unit {0}) Refusal
+-- So it is by what an office had accepted, and by the files whose rows were added up to the earlier days, where the sum of all
+-- their energy has a number of 128 bits.
+abbrev pub TellsReportOver : {B : Type 0} → (B → Ledger) → (old new : Office B)
+    → (earlier : JoinedDays) → (register : List ℕ) → ReportForm → Result (Unit {0}) Refusal
     → (text : List ℕ) → Type 0
-TellsReportOver ledger old new zone earlier register form answer text =
+TellsReportOver ledger old new earlier register form answer text =
     After ledger old new (λ past. (files : List (List Fact))
-    → earlier ≡ rows_over register files
+    → HasAdded earlier (rows_over register files)
     → HasNumber (rows_over register (facts_of past ∷ files))
-    → ReportsOver zone (facts_of past) files register form
+    → ReportsOver earlier.zone (facts_of past) files register form
     (failures_of ledger old) (failures_of ledger new) answer text)
 
 -- The office is asked, and the report is written, unless there was no memory for it.
-pub record AsksEnergyOver {B : Type 0} (ledger : B → Ledger) (old new : Office B) (zone : Zone)
-    (earlier : List Share) (register : List ℕ) (form : ReportForm) (had holds : List ℕ)
+pub record AsksEnergyOver {B : Type 0} (ledger : B → Ledger) (old new : Office B)
+    (earlier : JoinedDays) (register : List ℕ) (form : ReportForm) (had holds : List ℕ)
     {E : Type 0} (result : Result (Result (Unit {0}) Refusal) E) : Type 0 where
   pub answer : Result (Unit {0}) Refusal
   pub report : List ℕ
   pub asks : OnlyAsks ledger old new answer
   pub gives : IfOk result (λ told. told ≡ answer)
   pub tells : OnOk result
-      (TellsReportOver ledger old new zone earlier register form answer report)
+      (TellsReportOver ledger old new earlier register form answer report)
   pub puts : OnOk result (OnOk answer (holds ≡ had ++ report))
 
 -- The office is asked, and what it answers is the reply, unless there was no memory for that.
-pub record RepliesEnergyOver {B : Type 0} (ledger : B → Ledger) (old new : Office B) (zone : Zone)
-    (earlier : List Share) (register : List ℕ) (form : ReportForm) (from to : List ℕ)
+pub record RepliesEnergyOver {B : Type 0} (ledger : B → Ledger) (old new : Office B)
+    (earlier : JoinedDays) (register : List ℕ) (form : ReportForm) (from to : List ℕ)
     {E : Type 0} (result : Result (Unit {0}) E) : Type 0 where
   pub answer : Result (Unit {0}) Refusal
   pub report : List ℕ
   pub asks : OnlyAsks ledger old new answer
   pub tells : OnOk result
-      (TellsReportOver ledger old new zone earlier register form answer report)
+      (TellsReportOver ledger old new earlier register form answer report)
   pub puts : OnOk result (to ≡ with_energy_reply answer report from)

@@ -1,4 +1,5 @@
 pub mod EnergyOver
+pub mod SiteOver
 pub mod KeptRoom
 pub mod Outbox
 pub mod PeersAsk

@@ -3,15 +3,15 @@ ghost use Rattle.std.specs.Prelude.{◌≡◌, ℕ, false, List};
 ghost use Rattle.http_request.specs.Hosts.{texts};
 ghost use Rattle.http_peers.specs.PeersAsk.{PeersAsk};
 
-use crate::energy_over::{EarlierFiles, place_among, reply_energy_over};
+use crate::energy_over::{place_among, reply_energy_over};
 use crate::kept_room::KeptRoom;
 use crate::moments::{Now, even_milliseconds};
 use crate::peers::Peer;
 use crate::run_told::RunTold;
+use crate::site_over::reply_site_over;
 use carried_books::EarlierRegister;
 use energy_report::ReportForm;
 use http_request::{Route, Status, router};
-use interval_core::Zone;
 use matchit::Router;
 use mio::net::{TcpListener, TcpStream};
 use mio::{Interest, Registry, Token};
@@ -21,7 +21,7 @@ use office_events::{Name, Refusal};
 use run_http::{
     PeerReply, RowsLeft, RunRoute, StatusRoute, all_rows_asked, are_many, ask, begin_all_intervals,
     begin_intervals, end_rows, has_more, may_void, reply_energy, reply_entries, reply_intervals,
-    reply_meters, reply_metrics, reply_site, reply_status, reply_voids, run_route, tell_rows,
+    reply_meters, reply_metrics, reply_status, reply_voids, run_route, tell_rows,
 };
 use run_schedule::{MOST_PEERS, PEER_SECONDS, Peers, TurnShare, may_reply, place_at, place_for};
 use std::alloc::{AllocError, Global};
@@ -348,11 +348,16 @@ impl HttpPort {
 
     // The reply to the question which registers and meters there are.
     #[tactic(auto, using(crate::proofs::PeersAsking::asks_site))]
-    fn reply_site<B: Books>(&self, office: &mut Office<B>, moment: u64) -> PeerReply
+    fn reply_site<B: Books>(
+        &self,
+        office: &mut Office<B>,
+        earlier: &[EarlierRegister],
+        moment: u64,
+    ) -> PeerReply
         ensures { (names : List (List ℕ)) → PeersAsk names moment B.ledger office.old office.new }
     {
         let mut text = Vec::new(self.alloc);
-        match reply_site(self.alloc, &mut text, office, moment) {
+        match reply_site_over(self.alloc, &mut text, office, earlier, moment) {
             Ok(()) => PeerReply::Replied(text),
             Err(_) => PeerReply::Failed,
         }
@@ -491,7 +496,6 @@ impl HttpPort {
     fn reply_energy_over<B: Books>(
         &self,
         office: &mut Office<B>,
-        zone: Zone,
         it: &EarlierRegister,
         form: &ReportForm,
     ) -> PeerReply
@@ -499,7 +503,12 @@ impl HttpPort {
     {
         let mut text = Vec::new(self.alloc);
         match reply_energy_over(
-            self.alloc, &mut text, office, zone, &it.rows, &it.name, form,
+            self.alloc,
+            &mut text,
+            office,
+            &it.files.days,
+            &it.name,
+            form,
         ) {
             Ok(()) => PeerReply::Replied(text),
             Err(_) => PeerReply::Failed,
@@ -510,16 +519,14 @@ impl HttpPort {
     fn reply_days<B: Books>(
         &self,
         office: &mut Office<B>,
-        earlier: &EarlierFiles<'_>,
+        earlier: &[EarlierRegister],
         register: &Option<Name>,
         form: &ReportForm,
     ) -> PeerReply
         ensures { (names : List (List ℕ)) (at : ℕ) → PeersAsk names at B.ledger office.old office.new }
     {
-        match place_among(earlier.registers, register) {
-            Some(place) => {
-                self.reply_energy_over(office, earlier.zone, &earlier.registers[place], form)
-            }
+        match place_among(earlier, register) {
+            Some(place) => self.reply_energy_over(office, &earlier[place], form),
             None => self.reply_energy(office, register, form),
         }
     }
@@ -553,7 +560,7 @@ impl HttpPort {
         match run_route(names, request) {
             Some(RunRoute::Own(route)) => self.reply_status(route, told),
             Some(RunRoute::Metrics) => self.reply_metrics(office, told),
-            Some(RunRoute::Site) => self.reply_site(office, now.moment),
+            Some(RunRoute::Site) => self.reply_site(office, told.earlier, now.moment),
             Some(RunRoute::Intervals { meter, span }) => {
                 self.reply_span(office, &meter, span, rows)
             }

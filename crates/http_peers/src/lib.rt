@@ -8,10 +8,12 @@ mod moments;
 mod outbox;
 mod peers;
 mod run_told;
+mod site_over;
 
-pub use energy_over::{EarlierFiles, place_among, reply_energy_over};
+pub use energy_over::{place_among, reply_energy_over};
 pub use http_port::{HttpPort, PORT_TOKEN};
 pub use kept_room::KeptRoom;
 pub use moments::{Now, even_milliseconds};
 pub use outbox::{Outbox, Went, went_by};
 pub use run_told::RunTold;
+pub use site_over::reply_site_over;

@@ -2,13 +2,13 @@
 use crate::cases::{reply, text_reply};
 use crate::office::{polled, unmetered};
 use crate::targets::route_of;
-use carried_books::EarlierRegister;
-use http_peers::{EarlierFiles, place_among, reply_energy_over};
+use carried_books::{EarlierRegister, JoinedDays, JoinedFiles};
+use http_peers::{place_among, reply_energy_over};
 use interval_core::{Share, Zone};
 use memory_books::ListBooks;
 use office_books::RowSink;
 use office_core::Office;
-use office_events::Name;
+use office_events::{Installation, Name};
 use run_http::RunRoute;
 use std::alloc::Global;
 use std::test::Fail;
@@ -18,58 +18,56 @@ static EARLIER: [Share; 2] = [Share { start: 0, mwh: 5 }, Share { start: 900, mw
 // The office has energy in the quarter hours from 900 and 1800.
 static LATE: [Share; 1] = [Share { start: 901, mwh: 1 }];
 
-// What earlier files tell of the register `main`.
-fn main_of(alloc: Global) -> Result<Vec<EarlierRegister>, Fail> {
-    let name = Name::new(b"main").ok_or("no name")?;
-    let mut it = EarlierRegister::new(alloc, name);
-    for row in &EARLIER {
-        it.put(*row);
+// These rows, added up by days.
+fn days_of(alloc: Global, rows: &[Share]) -> Result<JoinedDays, Fail> {
+    let mut days = JoinedDays::new(alloc, Zone::read("UTC0")?);
+    for row in rows {
+        days.put(*row);
     }
+    Ok(days)
+}
+
+/// A register of which earlier files tell these meters and rows.
+pub(crate) fn earlier_register(
+    alloc: Global,
+    name: &[u8],
+    meters: &[Installation],
+    rows: &[Share],
+) -> Result<EarlierRegister, Fail> {
+    let name = Name::new(name).ok_or("no name")?;
+    let files = JoinedFiles {
+        is_recorded: true,
+        meters: meters.to_vec(alloc)?,
+        days: days_of(alloc, rows)?,
+    };
+    Ok(EarlierRegister { name, files })
+}
+
+/// What earlier files tell of the register `main`.
+pub(crate) fn earlier_main(alloc: Global) -> Result<Vec<EarlierRegister>, Fail> {
+    let main = earlier_register(alloc, b"main", &[], &EARLIER)?;
     let mut registers = Vec::new(alloc);
-    registers.push(it)?;
+    registers.push(main)?;
     Ok(registers)
 }
 
-/// What earlier files tell of the registers of a run's office.
-#[derive(Drop)]
-pub(crate) struct Earlier {
-    zone: Zone,
-    registers: Vec<EarlierRegister>,
-}
-
-impl Earlier {
-    pub(crate) fn of_main(alloc: Global) -> Result<Earlier, Fail> {
-        let zone = Zone::read("UTC0")?;
-        let registers = main_of(alloc)?;
-        Ok(Earlier { zone, registers })
-    }
-
-    pub(crate) fn files(&self) -> EarlierFiles<'_> {
-        EarlierFiles {
-            zone: self.zone,
-            registers: &self.registers,
-        }
-    }
-}
-
-// What is replied to a target by an office, with rows of earlier files before its own.
+// What is replied to a target by an office, with days of earlier files before its own.
 fn energy_over(
     alloc: Global,
     office: &mut Office<ListBooks>,
-    earlier: &[Share],
+    earlier: &JoinedDays,
     target: &str,
 ) -> Result<Vec<u8>, Fail> {
-    let zone = Zone::read("UTC0")?;
     let Some(RunRoute::Energy { register, form }) = route_of(alloc, target)? else {
         return Err(Fail::from("no energy"));
     };
     let name = register.ok_or("no name")?;
     let mut text = Vec::new(alloc);
-    reply_energy_over(alloc, &mut text, office, zone, earlier, &name, &form)?;
+    reply_energy_over(alloc, &mut text, office, earlier, &name, &form)?;
     Ok(text)
 }
 
-// The quarter hour from 900 is in both.
+// The quarter hour from 900 is in both. What is kept of earlier files is asked for again and again.
 static TOLD: [(&str, &str); 4] = [
     (
         "/registers/main/days/1970-01-01/1970-01-02",
@@ -86,8 +84,9 @@ static TOLD: [(&str, &str); 4] = [
 #[test]
 fn days_of_earlier_files_are_told_too(rt: HostRuntime) -> Result<(), Fail> {
     let mut office = polled(rt.alloc())?;
+    let earlier = days_of(rt.alloc(), &EARLIER)?;
     for (target, lines) in TOLD {
-        let text = energy_over(rt.alloc(), &mut office, &EARLIER, target)?;
+        let text = energy_over(rt.alloc(), &mut office, &earlier, target)?;
         let expected = text_reply(rt.alloc(), lines)?;
         assert!(rt; text.as_slice() == expected.as_bytes());
     }
@@ -97,7 +96,8 @@ fn days_of_earlier_files_are_told_too(rt: HostRuntime) -> Result<(), Fail> {
 #[test]
 fn a_register_that_has_no_meter_has_its_earlier_days(rt: HostRuntime) -> Result<(), Fail> {
     let mut office = unmetered(rt.alloc())?;
-    let text = energy_over(rt.alloc(), &mut office, &EARLIER, "/registers/main/months")?;
+    let earlier = days_of(rt.alloc(), &EARLIER)?;
+    let text = energy_over(rt.alloc(), &mut office, &earlier, "/registers/main/months")?;
     let expected = text_reply(rt.alloc(), "1970-01    2                       12\nend 1\n")?;
     assert!(rt; text.as_slice() == expected.as_bytes());
     Ok(())
@@ -106,7 +106,8 @@ fn a_register_that_has_no_meter_has_its_earlier_days(rt: HostRuntime) -> Result<
 #[test]
 fn a_quarter_hour_before_the_last_has_no_day(rt: HostRuntime) -> Result<(), Fail> {
     let mut office = polled(rt.alloc())?;
-    let text = energy_over(rt.alloc(), &mut office, &LATE, "/registers/main/months")?;
+    let earlier = days_of(rt.alloc(), &LATE)?;
+    let text = energy_over(rt.alloc(), &mut office, &earlier, "/registers/main/months")?;
     let expected = reply(rt.alloc(), "503 Service Unavailable", "{\"refused\":13}")?;
     assert!(rt; text.as_slice() == expected.as_bytes());
     Ok(())
@@ -115,7 +116,8 @@ fn a_quarter_hour_before_the_last_has_no_day(rt: HostRuntime) -> Result<(), Fail
 #[test]
 fn a_register_that_is_none_has_no_earlier_days(rt: HostRuntime) -> Result<(), Fail> {
     let mut office = polled(rt.alloc())?;
-    let text = energy_over(rt.alloc(), &mut office, &EARLIER, "/registers/none/months")?;
+    let earlier = days_of(rt.alloc(), &EARLIER)?;
+    let text = energy_over(rt.alloc(), &mut office, &earlier, "/registers/none/months")?;
     let expected = reply(rt.alloc(), "404 Not Found", "{\"refused\":1}")?;
     assert!(rt; text.as_slice() == expected.as_bytes());
     Ok(())
@@ -126,8 +128,7 @@ fn a_register_is_found_among_others(rt: HostRuntime) -> Result<(), Fail> {
     let mut registers = Vec::new(rt.alloc());
     let names: [&[u8]; 3] = [b"spare", b"main", b"main"];
     for name in names {
-        let name = Name::new(name).ok_or("no name")?;
-        registers.push(EarlierRegister::new(rt.alloc(), name))?;
+        registers.push(earlier_register(rt.alloc(), name, &[], &[])?)?;
     }
     assert!(rt; place_among(&registers, &Name::new(b"main")) == Some(1));
     assert!(rt; place_among(&registers, &Name::new(b"far")) == None);

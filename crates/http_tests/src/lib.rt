@@ -64,6 +64,8 @@ mod row_lines;
 #[cfg(test)]
 mod run_questions;
 #[cfg(test)]
+mod site_over;
+#[cfg(test)]
 mod sockets;
 #[cfg(test)]
 mod stops;

@@ -4,7 +4,7 @@ use energy_core::{Entry, Last};
 use meter_journal::{EntryKind, EntryRow};
 use office_books::MeterEntry;
 use office_core::SiteRow;
-use run_http::{put_entries, put_register_meters, put_site};
+use run_http::{SiteLine, put_entries, put_register_meters, put_site};
 use std::alloc::Global;
 use std::test::Fail;
 
@@ -60,7 +60,7 @@ fn each_kind_of_entry_has_its_line(rt: HostRuntime) -> Result<(), Fail> {
 }
 
 static SITE: &str =
-    "{\"at\":7,\"registers\":[{\"device\":\"inv\",\"register\":\"main\",\"meter\":\"m1\",\"at\":1950,\"last\":4294967295,\"sf\":-3,\"total\":\"18446744073709551615\",\"ended\":true},{\"device\":\"inv\",\"register\":\"main\",\"meter\":null}]}\n";
+    "{\"at\":7,\"registers\":[{\"device\":\"inv\",\"register\":\"main\",\"meter\":\"m1\",\"at\":1950,\"last\":4294967295,\"sf\":-3,\"total\":\"18446744073709551615\",\"earlier\":\"18446744073709551614\",\"ended\":true},{\"device\":\"inv\",\"register\":\"main\",\"meter\":null}]}\n";
 
 // The row of the register of an office that was polled.
 fn polled_row(alloc: Global) -> Result<SiteRow, Fail> {
@@ -87,6 +87,14 @@ fn a_scale_may_be_negative_and_a_meter_closed(rt: HostRuntime) -> Result<(), Fai
     let mut bare = row;
     bare.meter = None;
     let mut text = Vec::new(rt.alloc());
+    let closed = SiteLine {
+        row: closed,
+        earlier: Some(u64::MAX - 1),
+    };
+    let bare = SiteLine {
+        row: bare,
+        earlier: None,
+    };
     put_site(&mut text, 7, &[closed, bare])?;
     assert!(rt; text.as_slice() == SITE.as_bytes());
     Ok(())

@@ -4,12 +4,13 @@ use crate::cases::{reply, serve, text_reply};
 use crate::office::{blank, polled, unmetered};
 use crate::targets::route_of;
 use failing_books::FailingBooks;
+use http_peers::reply_site_over;
 use memory_books::ListBooks;
 use office_core::Office;
 use office_events::Name;
 use run_http::{
     RunRoute, reply_energy, reply_entries, reply_intervals, reply_meters, reply_metrics,
-    reply_site, reply_voids,
+    reply_voids,
 };
 use run_status::Counts;
 use std::alloc::{AllocError, Global};
@@ -415,7 +416,7 @@ fn put_reply(
 ) -> Result<(), AllocError> {
     match route_of(alloc, target)? {
         Some(RunRoute::Metrics) => reply_metrics(alloc, text, office, &Counts::new(), &[]),
-        Some(RunRoute::Site) => reply_site(alloc, text, office, at),
+        Some(RunRoute::Site) => reply_site_over(alloc, text, office, &[], at),
         Some(RunRoute::Intervals { meter, span }) => {
             reply_intervals(alloc, text, office, &meter, span)
         }

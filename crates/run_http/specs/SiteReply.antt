@@ -1,4 +1,4 @@
--- The reply to the question which registers and meters there are, by what the office answers to it.
+-- The reply to the question which registers and meters there are.
 use Rattle.std.specs.Prelude.{◌≡◌, ℕ, List, [], Result, Ok, Err, OnOk, codes}
 use Rattle.std.specs.declared.alloc.Global.{Global}
 use Rattle.std.specs.declared.vec.Vec.{Vec}
@@ -14,15 +14,16 @@ use Rattle.office_core.specs.declared.office.Office.{Office}
 use Rattle.office_core.specs.declared.site.SiteRow.{SiteRow}
 use Rattle.run_http.specs.StatusRoute.{with_reply}
 use Rattle.run_http.specs.Texts.SiteText.{with_site}
+use Rattle.run_http.specs.declared.texts.site.SiteLine.{SiteLine}
 
 -- a refusal is answered by the status and the number that any other question's has
 abbrev pub with_refusal : Refusal → List ℕ → List ℕ
 with_refusal why text =
     with_reply (status_of why) (codes "application/json") (refused_text (refusal_number why)) text
 
-abbrev pub with_site_reply : (at : ℕ) → Result (Vec SiteRow Global) Refusal → List ℕ → List ℕ
-with_site_reply at (Ok rows) text =
-    with_reply Fine (codes "application/json") (with_site [] at rows.items) text
+abbrev pub with_site_reply : (at : ℕ) → Result (Vec SiteLine Global) Refusal → List ℕ → List ℕ
+with_site_reply at (Ok lines) text =
+    with_reply Fine (codes "application/json") (with_site [] at lines.items) text
 with_site_reply at (Err why) text = with_refusal why text
 
 -- The office is asked, once, and what it answers is the reply, unless there was no memory for that.

@@ -32,6 +32,6 @@ pub use pieces::{
 pub use register_meters::reply_meters;
 pub use register_replies::{put_energy_reply, reply_energy};
 pub use route::{RunRoute, StatusRoute, reply_status, run_route};
-pub use site::reply_site;
-pub use texts::{put_entries, put_metrics, put_register_meters, put_site};
+pub use site::put_site_reply;
+pub use texts::{SiteLine, put_entries, put_metrics, put_register_meters, put_site};
 pub use voids::reply_voids;

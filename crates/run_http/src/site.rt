@@ -1,13 +1,11 @@
 //! What a peer is replied who asks which registers and meters there are.
 ghost use Rattle.std.specs.Prelude.{◌≡◌, OnOk};
-ghost use Rattle.run_http.specs.SiteReply.{RepliesSite, with_refusal, with_site_reply};
+ghost use Rattle.run_http.specs.SiteReply.{with_refusal, with_site_reply};
 
 use crate::route::put_reply;
-use crate::texts::put_site;
+use crate::texts::{SiteLine, put_site};
 use http_answer::{refused_body, status_of};
 use http_request::Status;
-use office_books::Books;
-use office_core::{Office, SiteRow};
 use office_events::Refusal;
 use std::alloc::{AllocError, Global};
 
@@ -19,36 +17,22 @@ pub(crate) fn put_refusal(text: &mut Vec<u8>, why: Refusal) -> Result<(), AllocE
     put_reply(text, status_of(why), b"application/json", body.bytes())
 }
 
-// Puts the reply for what the office answers.
-fn put_answer(
+/// Puts the reply to the question which registers and meters there are at the end of a text: with what is told of them, or for a
+/// refusal. Moments are seconds since 1970-01-01 UTC. Want of memory leaves a part of it.
+pub fn put_site_reply(
     alloc: Global,
     text: &mut Vec<u8>,
     moment: u64,
-    answer: &Result<Vec<SiteRow>, Refusal>,
+    answer: &Result<Vec<SiteLine>, Refusal>,
 ) -> Result<(), AllocError>
     ensures { OnOk result (text.new.items ≡ with_site_reply moment answer.now text.old.items) }
 {
     match answer {
-        Ok(rows) => {
+        Ok(lines) => {
             let mut body = Vec::new(alloc);
-            put_site(&mut body, moment, rows)?;
+            put_site(&mut body, moment, lines)?;
             put_reply(text, Status::Fine, b"application/json", &body)
         }
         Err(why) => put_refusal(text, *why),
     }
-}
-
-/// Asks the office which registers and meters there are, and puts the reply at the end of a text. Moments are seconds since
-/// 1970-01-01 UTC. Want of memory leaves a part of it.
-pub fn reply_site<B: Books>(
-    alloc: Global,
-    text: &mut Vec<u8>,
-    office: &mut Office<B>,
-    moment: u64,
-) -> Result<(), AllocError>
-    ensures { RepliesSite B.ledger office.old office.new (with_site_reply moment) text.old.items
-        text.new.items result }
-{
-    let answer = office.site();
-    put_answer(alloc, text, moment, &answer)
 }

@@ -11,4 +11,4 @@ pub(crate) use meter_lines::{put_end, put_share, put_share_lines};
 pub use meter_lines::{put_entries, put_shares, put_voids};
 pub use metrics::put_metrics;
 pub use register_lines::put_register_meters;
-pub use site::put_site;
+pub use site::{SiteLine, put_site};

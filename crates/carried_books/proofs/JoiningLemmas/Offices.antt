@@ -1,18 +1,17 @@
 -- The days of rows of earlier files and of those that an office has.
-use Rattle.std.proofs.Common.{◌≡◌, ℕ, ◌+◌, ◌<◌, ◌≤◌, true, false, Bool, cond, inl, inr, List, [], ◌∷◌, ◌++◌, take, get_or, length, map, Option, Some, None, Result, Ok, Err, refl, sym, ap, subst, ◌∙◌, arith, append-nil, reverse}
+use Rattle.std.proofs.Common.{◌≡◌, ℕ, ◌+◌, ◌<◌, ◌≤◌, true, Bool, inl, inr, List, [], ◌∷◌, ◌++◌, take, get_or, length, map, Option, Some, None, Result, Ok, Err, refl, sym, ap, subst, ◌∙◌, arith, append-nil, reverse}
 use Rattle.std.specs.Prelude.{All, filter}
 use Rattle.std.specs.List.{flat_map}
 use Rattle.std.specs.Option.{option_map}
 use Rattle.std.specs.declared.alloc.Global.{Global}
 use Rattle.std.specs.declared.vec.Vec.{Vec}
-use Rattle.std.proofs.lemmas.Bool.{cond-true, cond-false}
 use Rattle.std.proofs.lemmas.Grind.{flat_map-append}
 use Rattle.std.proofs.lemmas.List.{get_or-map, length-map, take_all, take_more}
 use Rattle.std.proofs.lemmas.List.Elements.{All-filter, All-get_or}
 use Rattle.std.proofs.lemmas.List.Sorted.{All-permutation, IsPermutation-reverse}
 use Rattle.std.proofs.lemmas.Option.{same_Some}
-use Rattle.interval_core.specs.Days.{AreAccounts, DayAccount, account_of}
-use Rattle.interval_core.specs.Fold.{FoldState, HasTaken}
+use Rattle.interval_core.specs.Days.{AreAccounts, DayAccount}
+use Rattle.interval_core.specs.Fold.{FoldState}
 use Rattle.interval_core.specs.declared.day.DayFault.{DayFault}
 use Rattle.interval_core.specs.declared.day.DayFault.TheVariants as fault
 use Rattle.interval_core.specs.declared.shares.Share.{Share}
@@ -36,52 +35,24 @@ use Rattle.office_rules.proofs.Openings.{openings_apart}
 use Rattle.office_books.specs.Entries.{installations_of}
 use Rattle.office_books.specs.Ledgers.{Ledger}
 use Rattle.office_books.specs.Rows.{TakesAll}
-use Rattle.office_books.specs.Spans.{is_within, rows_within}
+use Rattle.office_books.specs.Spans.{rows_within}
 use Rattle.office_books.specs.declared.failures.Failures.{Failures}
 use Rattle.office_books.specs.declared.spans.Span.{Span}
-use Rattle.office_books.specs.declared.spans.Span.TheVariants as span
 use Rattle.office_books.proofs.Handing.{takes_both}
-use Rattle.office_core.specs.Asking.{HandsRows, IsFound, IsRowFound, OnlyAsks, TellsRows, is_there, or_not_found}
-use Rattle.office_core.specs.DaySums.{EndsAs, as_refusal}
+use Rattle.office_core.specs.Asking.{HandsRows, IsFound, IsRowFound, OnlyAsks, TellsRows, is_there}
+use Rattle.office_core.specs.DaySums.{EndsAs}
 use Rattle.office_core.specs.Failing.{IsOutside}
 use Rattle.office_core.specs.Parts.{IsListed, ListsAccepted, intervals_within, meters_named}
 use Rattle.office_core.specs.Several.{Keeps, KeepsUnlessRefused}
-use Rattle.office_core.specs.Standing.{After, Stands, books_in, is_stopped}
+use Rattle.office_core.specs.Standing.{After, books_in, is_stopped}
 use Rattle.office_core.specs.Taking.{failures_of}
 use Rattle.office_core.specs.declared.office.Office.{Office}
-use Rattle.office_core.proofs.SeveralAsked.{answered_as, asked, asked_after, found_ok, found_so, goes_on, kept_on, now_as, refused_as, refused_on, without_memory}
-use Rattle.carried_books.specs.Joining.Days.{AddUp, HasNumber, TakesShare}
-use Rattle.carried_books.specs.Joining.Offices.{AsksMeters, AsksRegister, IsInstalled, ListsOver, TakesMeters, TakesRegister, TellsDaysOver, rows_of_both}
+use Rattle.office_core.proofs.SeveralAsked.{answered_as, asked, asked_after, found_ok, found_so, goes_on, kept_on, now_as, refused_on, without_memory}
+use Rattle.carried_books.specs.Joining.Days.{AddUp, HasAdded, HasNumber, IsCopy, TakesShare}
+use Rattle.carried_books.specs.Joining.Offices.{AsksMeters, AsksRegister, IsInstalled, LacksMemory, ListsOver, TakesMeters, TakesRegister, TellsDaysOver, rows_of_both}
 use Rattle.carried_books.specs.declared.joining.days.JoinedDays.{JoinedDays}
 use Rattle.carried_books.proofs.JoiningLemmas.Days.{add_all, first_has}
 use Rattle.carried_books.proofs.JoiningLemmas.Reports.{both_within, none_within}
-
--- ---- rows that are asked for
-
-within_one : (asked : Span) (row : Share) → rows_within asked (row ∷ []) ≡ cond (is_within asked row.start) (row ∷ []) []
-within_one span.All row = refl
-within_one (span.Between from till) row = refl
-
-pub one_taken : (asked : Span) (row : Share) (is : Bool) (from to : JoinedDays) → is ≡ is_within asked row.start → is ≡ true → TakesShare from row to
-    → TakesAll TakesShare from (rows_within asked (row ∷ [])) to
-one_taken asked row is from to told holds took =
-    let P : List Share → Type 0 = λ rows. TakesAll TakesShare from rows to in
-    subst P (sym (within_one asked row ∙ cond-true _ _ _ (sym told ∙ holds))) (to, took, refl)
-
-pub one_left : (asked : Span) (row : Share) (is : Bool) (from : JoinedDays) → is ≡ is_within asked row.start → is ≡ false
-    → TakesAll TakesShare from (rows_within asked (row ∷ [])) from
-one_left asked row is from told fails =
-    let P : List Share → Type 0 = λ rows. TakesAll TakesShare from rows from in
-    subst P (sym (within_one asked row ∙ cond-false _ _ _ (sym told ∙ fails))) refl
-
-pub one_more : (asked : Span) (rows : List Share) (i : ℕ) (d : Share) (from mid to : JoinedDays) → i < length rows
-    → TakesAll TakesShare from (rows_within asked (take i rows)) mid → TakesAll TakesShare mid (rows_within asked (get_or rows i d ∷ [])) to
-    → TakesAll TakesShare from (rows_within asked (take (i + 1) rows)) to
-one_more asked rows i d from mid to less took more =
-    let P : List Share → Type 0 = λ those. TakesAll TakesShare from those to in
-    let row = get_or rows i d in
-    subst P (sym (ap (rows_within asked) (take_more rows i d less) ∙ both_within asked (take i rows) (row ∷ [])))
-    (takes_both TakesShare from mid to (rows_within asked (take i rows)) (rows_within asked (row ∷ [])) took more)
 
 -- ---- the meters at a register
 
@@ -142,19 +113,13 @@ not_listed f (Some x) before after why fails = inr fails
 
 -- ---- what is told in the end
 
-pub days_from : (zone : Zone) (asked : Span) (earlier rows : List Share) (fresh mid after : JoinedDays) → fresh.zone ≡ zone → fresh.fault ≡ None
-    → HasTaken zone [] fresh.fold → TakesAll TakesShare fresh (rows_within asked earlier) mid → TakesAll TakesShare mid (rows_within asked rows) after
-    → HasNumber (rows_within asked (earlier ++ rows)) → AddUp after.fault zone (rows_within asked (earlier ++ rows)) after.fold
-days_from zone asked earlier rows fresh mid after is works empty took more fits =
-    let first = rows_within asked earlier in
-    let later = rows_within asked rows in
-    let same = both_within asked earlier rows in
-    let both = subst HasNumber same fits in
-    let P : Option DayFault → Type 0 = λ f. AddUp f zone [] fresh.fold in
-    let one = add_all zone [] first fresh mid is (first_has first later both) (subst P (sym works) empty) took in
-    let all = add_all zone first later mid after one.0 both one.1 more in
-    let Q : List Share → Type 0 = λ those. AddUp after.fault zone those after.fold in
-    subst Q (sym same) all.1
+-- rows that come after those of which the days are a copy
+days_on : (rows more : List Share) (earlier copy after : JoinedDays) → IsCopy earlier copy → HasAdded earlier rows → HasNumber (rows ++ more)
+    → TakesAll TakesShare copy more after → AddUp after.fault earlier.zone (rows ++ more) after.fold
+days_on rows more earlier copy after is added fits took =
+    let P : Option DayFault → Type 0 = λ f. AddUp f earlier.zone rows copy.fold in
+    let Q : FoldState → Type 0 = λ fold. AddUp earlier.fault earlier.zone rows fold in
+    (add_all earlier.zone rows more copy after is.zone fits (subst P (sym is.fault) (subst Q (sym is.fold) (added (first_has rows more fits)))) took).1
 
 pub lists : (failed : Option DayFault) (zone : Zone) (rows : List Share) (fold : FoldState) (there : Option (Unit {0})) (before after : Failures)
     (result : Result (Vec DayTotal Global) Refusal) → there ≡ Some tt → after ≡ before → AddUp failed zone rows fold → EndsAs failed fold.accounts result
@@ -308,21 +273,50 @@ module _ {B : Type 0} (ledger : B → Ledger) where
       let P : Refusal → Type 0 = λ w. OnlyAsks {T = Vec DayTotal Global} ledger a b (Err w) in
       subst P (sym ends) (without_memory ledger a b (goes_on ledger a b done asks) (asked ledger a b done asks))
 
-  pub days_told : (a b : Office B) (zone : Zone) (earlier : List Share) (register : List ℕ) (asked : Span) (fresh mid after : JoinedDays) (done : Unit {0})
-      (result : Result (Vec DayTotal Global) Refusal) → fresh.zone ≡ zone → fresh.fault ≡ None → HasTaken zone [] fresh.fold
-      → TakesAll TakesShare fresh (rows_within asked earlier) mid → AsksRegister ledger a b register asked mid after (Ok done)
-      → EndsAs after.fault after.fold.accounts result → TellsDaysOver ledger a b zone earlier register asked result
-  days_told a b zone earlier register asked fresh mid after done result is works empty took asks ends = λ past stands clean fits.
+  pub days_told : (a b : Office B) (earlier copy after : JoinedDays) (register : List ℕ) (asked : Span) (done : Unit {0})
+      (result : Result (Vec DayTotal Global) Refusal) → IsCopy earlier copy → AsksRegister ledger a b register asked copy after (Ok done)
+      → EndsAs after.fault after.fold.accounts result → TellsDaysOver ledger a b earlier register asked result
+  days_told a b earlier copy after register asked done result is asks ends = λ past stands clean rows added fits.
       let facts = facts_of past in
       let it = asks past stands clean in
       let found = found_ok ⊥ (is_there (register_of facts register)) (failures_of ledger a) (failures_of ledger b) done it.answer in
-      lists after.fault zone (rows_of_both asked earlier facts register) after.fold (is_there (register_of facts register)) (failures_of ledger a)
+      lists after.fault earlier.zone (rows_of_both asked rows facts register) after.fold (is_there (register_of facts register)) (failures_of ledger a)
       (failures_of ledger b) result found.0 found.1
-      (days_from zone asked earlier (rows_of_register facts register) fresh mid after is works empty took it.whole fits) ends
+      (days_on rows (rows_within asked (rows_of_register facts register)) earlier copy after is added fits it.whole) ends
 
-  pub days_missing : (a b : Office B) (zone : Zone) (earlier : List Share) (register : List ℕ) (asked : Span) (mid after : JoinedDays) (why : Refusal)
-      → AsksRegister ledger a b register asked mid after (Err why) → TellsDaysOver ledger a b zone earlier register asked (Err why)
-  days_missing a b zone earlier register asked mid after why asks = λ past stands clean fits.
-      let there = is_there (register_of (facts_of past) register) in
-      inl (refused_on ⊥ (there ≡ Some tt) there there (failures_of ledger a) (failures_of ledger a) (failures_of ledger b) why (λ never. absurd never) (λ none. none) refl
-      (asks past stands clean).answer)
+  -- what is refused whether memory is wanting or not
+  refused_so : (a b : Office B) (facts : List Fact) (register : List ℕ) (why : Refusal)
+      → IsRowFound {T = Unit {0}} (is_there (register_of facts register)) (failures_of ledger a) (failures_of ledger b) (Err why)
+      → IsFound {T = Unit {0}} (is_there (register_of facts register) ≡ Some tt) (is_there (register_of facts register)) (failures_of ledger a)
+      (failures_of ledger b) (Err why)
+  refused_so a b facts register why found =
+      let there = is_there (register_of facts register) in
+      refused_on ⊥ (there ≡ Some tt) there there (failures_of ledger a) (failures_of ledger a) (failures_of ledger b) why (λ never. absurd never) (λ none. none) refl
+      found
+
+  pub days_missing : (a b : Office B) (earlier copy after : JoinedDays) (register : List ℕ) (asked : Span) (why : Refusal)
+      → AsksRegister ledger a b register asked copy after (Err why) → TellsDaysOver ledger a b earlier register asked (Err why)
+  days_missing a b earlier copy after register asked why asks = λ past stands clean rows added fits.
+      inl (refused_so a b (facts_of past) register why (asks past stands clean).answer)
+
+  -- ---- where there is no memory for them
+
+  pub lacks_register : (a b : Office B) (register : List ℕ) (why : Refusal)
+      → ListsAccepted {T = Installation} ledger a b (Err why) (λ facts. meters_named facts (Some register)) → LacksMemory ledger a b register why
+  lacks_register a b register why lists = λ past stands clean.
+      let facts = facts_of past in
+      refused_so a b facts register why
+      (not_listed (λ (row : Register). installations_of facts register) (register_of facts register) (failures_of ledger a) (failures_of ledger b) why
+      (lists past stands clean))
+
+  pub lacks_memory : (a b : Office B) (register : List ℕ) (meters : Vec Installation Global)
+      → ListsAccepted ledger a b (Ok meters) (λ facts. meters_named facts (Some register)) → LacksMemory ledger a b register refusal.Memory
+  lacks_memory a b register meters lists = λ past stands clean.
+      let facts = facts_of past in
+      let known = lists past stands clean in
+      let found = mapped (λ (row : Register). installations_of facts register) (register_of facts register) meters.items known.0 in
+      inr (inr (ap (λ (row : Option Register). is_there row) found.1, known.1))
+
+  pub nothing_told : (a b : Office B) (earlier : JoinedDays) (register : List ℕ) (asked : Span) (why : Refusal) → LacksMemory ledger a b register why
+      → TellsDaysOver ledger a b earlier register asked (Err why)
+  nothing_told a b earlier register asked why lacks = λ past stands clean rows added fits. inl (lacks past stands clean)

@@ -1,5 +1,5 @@
 -- One file alone states what it states of its meters.
-use Rattle.std.proofs.Common.{◌≡◌, ℕ, ◌<◌, Bool, true, false, suc, List, [], ◌∷◌, ◌++◌, map, reverse, length, Some, inl, inr, refl, sym, ap, subst, ◌∙◌, arith}
+use Rattle.std.proofs.Common.{◌≡◌, Bool, suc, List, [], ◌∷◌, ◌++◌, map, reverse, Some, inl, inr, refl, sym, ap, subst, ◌∙◌, arith}
 use Rattle.std.specs.Prelude.{◌≢◌, All, filter}
 use Rattle.std.specs.List.{AllPairs}
 use Rattle.std.proofs.lemmas.Bool.{cases_Bool, cond-false, cond-true}
@@ -22,13 +22,13 @@ use Rattle.office_rules.specs.Meters.{installation_of}
 use Rattle.office_rules.proofs.Lists.{reverse_cons}
 use Rattle.carried_books.specs.Joining.Statements.{AddsOver, MeterOver, OneFileStatesItsMeters, meter_in, statement_over, statements_over}
 
-all_turned : {X : Type 0} (P : X → Type 0) (xs : List X) → All P xs → All P (reverse xs)
+pub all_turned : {X : Type 0} (P : X → Type 0) (xs : List X) → All P xs → All P (reverse xs)
 all_turned P [] all = all
 all_turned P (x ∷ xs) all =
     subst (All P) (sym (reverse_cons x xs)) (All-push P (reverse xs) x (all_turned P xs (All-tail P x xs all)) (All-head P x xs all))
 
 -- the last of what was taken
-takes_last : {S T : Type 0} (takes : S → T → S → Type 0) (before after : S) (rows : List T) (row : T) → TakesAll takes before (rows ++ row ∷ []) after
+pub takes_last : {S T : Type 0} (takes : S → T → S → Type 0) (before after : S) (rows : List T) (row : T) → TakesAll takes before (rows ++ row ∷ []) after
     → (mid : S) × TakesAll takes before rows mid × takes mid row after
 takes_last takes before after [] row took = (before, refl, subst (takes before row) (sym took.2) took.1)
 takes_last takes before after (first ∷ rows) row took =

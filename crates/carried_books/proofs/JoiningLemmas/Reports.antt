@@ -6,6 +6,7 @@ use Rattle.std.proofs.lemmas.List.{length-map}
 use Rattle.std.proofs.lemmas.Bool.{cases_Bool, cond-true, cond-false}
 use Rattle.std.proofs.lemmas.List.Elements.{filter-append}
 use Rattle.std.proofs.lemmas.List.Filters.{sum_by-filter_both}
+use Rattle.std.proofs.lemmas.List.Sums.{sum_by-append}
 use Rattle.command_io.specs.declared.status.ExitStatus.{ExitStatus}
 use Rattle.command_io.specs.declared.status.ExitStatus.TheVariants.{Fine, Failed}
 use Rattle.energy_report.specs.Rows.{rows_by, shown}
@@ -13,10 +14,12 @@ use Rattle.energy_report.specs.Texts.{report_text, rows_text}
 use Rattle.energy_report.specs.Writing.{GotUnless, IsFresh, TakesDay}
 use Rattle.energy_report.specs.declared.form.ReportForm.{ReportForm}
 use Rattle.energy_report.specs.declared.report_rows.ReportRows.{ReportRows}
-use Rattle.interval_core.specs.Account.{starts_of}
+use Rattle.interval_core.specs.Account.{energy_of, starts_of}
 use Rattle.meter_audit.specs.Carried.{AreCountedOnce}
 use Rattle.interval_core.specs.Days.{AccountsAreOne, AreAccounts, DayAccount, account_of, distinct_count, rows_on}
-use Rattle.interval_core.specs.Ranges.{days_in, is_in}
+use Rattle.interval_core.specs.Ranges.{days_in, has_day, is_in}
+use Rattle.interval_core.specs.Zone.{day_at}
+use Rattle.interval_core.specs.declared.day_range.DayRange.{DayRange}
 use Rattle.interval_core.specs.declared.shares.Share.{Share}
 use Rattle.interval_core.specs.declared.totals.DayTotal.{DayTotal}
 use Rattle.interval_core.specs.declared.zone.Zone.{Zone}
@@ -24,9 +27,9 @@ use Rattle.office_books.specs.declared.spans.Span.{Span}
 use Rattle.office_books.specs.declared.spans.Span.TheVariants.{All, Between}
 use Rattle.office_books.specs.Rows.{TakesAll}
 use Rattle.office_books.specs.Spans.{is_within, rows_within}
-use Rattle.office_core.specs.DayRange.{span_of}
+use Rattle.office_core.specs.DayRange.{accounts_within, span_of}
 use Rattle.office_core.proofs.Around.{has_each}
-use Rattle.office_core.proofs.Ranged.{days_within}
+use Rattle.office_core.proofs.Ranged.{days_within, same_days}
 use Rattle.office_events.specs.declared.facts.Fact.{Fact}
 use Rattle.office_program.specs.Texts.EndTexts.{IsTold}
 use Rattle.office_program.specs.Texts.RangedReports.{PrintsLast}
@@ -60,6 +63,15 @@ has_number (Between from till) rows fits =
     let both = sum_by-filter_both asked (λ row. not (asked row)) (λ row. refl) (λ (row : Share). row.mwh) rows in
     omega (arith, fits, both)
 
+pub with_number : (span : Span) (rows more : List Share) → HasNumber (rows ++ more) → HasNumber (rows ++ rows_within span more)
+with_number All rows more fits = fits
+with_number (Between from till) rows more fits =
+    let asked : Share → Bool = λ row. is_within (Between from till) row.start in
+    let both = sum_by-filter_both asked (λ row. not (asked row)) (λ row. refl) (λ (row : Share). row.mwh) more in
+    let whole : energy_of (rows ++ more) ≡ energy_of rows + energy_of more = sum_by-append (λ (row : Share). row.mwh) rows more in
+    let part : energy_of (rows ++ filter asked more) ≡ energy_of rows + energy_of (filter asked more) = sum_by-append (λ (row : Share). row.mwh) rows (filter asked more) in
+    omega (arith, fits, both, whole, part)
+
 -- ---- days out of the range are not shown
 
 twice : {X : Type 0} (p : X → Bool) (xs : List X) → filter p (filter p xs) ≡ filter p xs
@@ -82,6 +94,37 @@ pub report_over : (zone : Zone) (register : List ℕ) (files : List (List Fact))
 report_over zone register files form days one totals =
     let asked = days_within zone form.range (span_of form.range) (λ start is. has_each form.range.from form.range.till zone start is)
     one (rows_over register files) days (days_in form.range days) totals refl in (
+      days_in form.range days,
+      record { all = asked.0; are = asked.1; asked = asked.2 },
+      sym (same_text form days),
+    )
+
+-- ---- days of all rows of earlier files, and of those of the latest that are asked for
+
+days_with : (zone : Zone) (range : DayRange) (asked : Span) → ((start : ℕ) → has_day range (day_at zone start) ≡ true → is_within asked start ≡ true)
+    → AccountsAreOne → (rows more : List Share) (days : List DayTotal) → AreAccounts zone (rows ++ rows_within asked more) (map account_of days)
+    → (all : List DayAccount) × AreAccounts zone (rows ++ more) all × (map account_of (days_in range days) ≡ accounts_within range all)
+days_with zone range All around one rows more days are = days_within zone range All around one (rows ++ more) days (days_in range days) are refl
+days_with zone range (Between from till) around one rows more days are =
+    let test : Share → Bool = λ row. is_within (Between from till) row.start in
+    let part = rows ++ filter test more in
+    let whole = rows ++ more in
+    let same : filter test part ≡ filter test whole =
+    filter-append test rows (filter test more) ∙ ap (λ (those : List Share). filter test rows ++ those) (twice test more) ∙ sym (filter-append test rows more) in
+    let told = days_within zone range All (λ start on. refl) one part days (days_in range days) are refl in
+    let all = one zone whole in
+    let some = one zone (filter test whole) in
+    let within : (row : Share) → has_day range (day_at zone row.start) ≡ true → test row ≡ true = λ row on. around row.start on in
+    let left = same_days zone (has_day range) test within one part some.0 told.0 (subst (λ (l : List Share). AreAccounts zone l some.0) (sym same) some.1) told.1 in
+    let right = same_days zone (has_day range) test within one whole some.0 all.0 some.1 all.1 in
+    (all.0, all.1, told.2 ∙ sym left ∙ right)
+
+pub report_with : (zone : Zone) (register : List ℕ) (facts : List Fact) (files : List (List Fact)) (form : ReportForm) (days : List DayTotal) → AccountsAreOne
+    → AreAccounts zone (rows_over register files ++ rows_within (span_of form.range) (rows_of_register facts register)) (map account_of days)
+    → IsReportOver zone register (facts ∷ files) form (report_text form days)
+report_with zone register facts files form days one totals =
+    let asked = days_with zone form.range (span_of form.range) (λ start is. has_each form.range.from form.range.till zone start is)
+    one (rows_over register files) (rows_of_register facts register) days totals in (
       days_in form.range days,
       record { all = asked.0; are = asked.1; asked = asked.2 },
       sym (same_text form days),

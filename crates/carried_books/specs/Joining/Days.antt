@@ -58,3 +58,11 @@ pub record AddsRow (old : JoinedDays) (row : Share) (new : JoinedDays) : Type 0 
 -- The sink takes a row: it is dropped, where something failed before.
 abbrev pub TakesShare : JoinedDays → Share → JoinedDays → Type 0
 TakesShare old row new = MatchOption old.fault (AddsRow old row new) (λ fault. new ≡ old)
+
+-- ---- a copy
+
+-- It has added up what the other has.
+pub record IsCopy (days copy : JoinedDays) : Type 0 where
+  pub zone : copy.zone ≡ days.zone
+  pub fold : copy.fold ≡ days.fold
+  pub fault : copy.fault ≡ days.fault

@@ -1,25 +1,28 @@
--- The quarter hours that files have of a register, kept one after the other.
-use Rattle.std.specs.Prelude.{◌≡◌, true, List, [], ◌∷◌, ◌++◌, Option, Some, None}
-use Rattle.interval_core.specs.declared.shares.Share.{Share}
+-- Whether the file in which an office goes on joins those before it at a register, of which it is known what they tell.
+use Rattle.std.specs.Prelude.{◌≡◌, true, false, List, Option, Some, None}
 use Rattle.office_events.specs.declared.facts.Fact.{Fact}
-use Rattle.office_rules.specs.Intervals.{rows_of_register}
-use Rattle.office_books.specs.declared.spans.Span.{Span}
-use Rattle.office_books.specs.declared.spans.Span.TheVariants.{Between}
+use Rattle.office_events.specs.declared.questions.Installation.{Installation}
+use Rattle.office_books.specs.Entries.{installations_of}
+use Rattle.carried_books.specs.Joining.Files.{is_recorded}
+use Rattle.carried_books.specs.Joining.Meters.{AddMeters, AreApart}
 use Rattle.carried_books.specs.declared.joining.earlier.EarlierRegister.{EarlierRegister}
 use Rattle.carried_books.specs.declared.joining.files.Unjoined.{Unjoined}
+use Rattle.carried_books.specs.declared.joining.files.Unjoined.TheVariants as unjoined
 
--- no moment is asked for
-abbrev pub no_span : Span
-no_span = Between 0 0
+-- its meters join those of the files before, or two of them are apart
+abbrev pub HoldMeters : EarlierRegister → List Fact → Option Unjoined → Type 0
+HoldMeters kept facts None = (all : List Installation)
+    × AddMeters kept.files.meters.items (installations_of facts kept.name) all
+HoldMeters kept facts (Some unjoined.NotRecorded) = ⊥
+HoldMeters kept facts (Some (unjoined.Apart apart)) =
+    AreApart kept.files.meters.items (installations_of facts kept.name) apart
+HoldMeters kept facts (Some unjoined.OutOfTurn) = ⊥
 
--- A row is kept after those before it, as long as there was memory for each.
-pub record KeepsRow (old : EarlierRegister) (row : Share) (new : EarlierRegister) : Type 0 where
-  pub name : new.name ≡ old.name
-  pub kept : new.is_whole ≡ true
-      → (old.is_whole ≡ true) × (new.rows.items ≡ old.rows.items ++ row ∷ [])
-
--- Those that a file with these facts has come after those of the files before it, where it joins them.
-abbrev pub KeepsRows : List Fact → (old new : EarlierRegister) → Option Unjoined → Type 0
-KeepsRows facts old new None =
-    new.rows.items ≡ old.rows.items ++ rows_of_register facts old.name
-KeepsRows facts old new (Some why) = Unit {0}
+-- The register is recorded there, if it was before, and its meters join; or not, so.
+abbrev pub HoldsFile : EarlierRegister → List Fact → Option Unjoined → Type 0
+HoldsFile kept facts None =
+    (kept.files.is_recorded ≡ true → is_recorded kept.name facts ≡ true)
+    × HoldMeters kept facts None
+HoldsFile kept facts (Some unjoined.NotRecorded) =
+    (kept.files.is_recorded ≡ true) × (is_recorded kept.name facts ≡ false)
+HoldsFile kept facts (Some why) = HoldMeters kept facts (Some why)

@@ -1,5 +1,5 @@
--- What earlier files and an office that goes on tell together of the days of a register. What the earlier files have of it is there
--- as rows, one file after the other.
+-- What earlier files and an office that goes on tell together of the days of a register. What the earlier files have of it was added
+-- up, one file after the other.
 use Rattle.std.specs.Prelude.{◌≡◌, ◌⊎◌, ℕ, List, ◌++◌, map, All, Option, Some, Result, Ok, Err, MatchResult, OnOk}
 use Rattle.std.specs.List.{flat_map}
 use Rattle.std.specs.declared.alloc.Global.{Global}
@@ -29,7 +29,7 @@ use Rattle.office_core.specs.Several.{KeepsUnlessRefused}
 use Rattle.office_core.specs.Standing.{After}
 use Rattle.office_core.specs.Taking.{failures_of}
 use Rattle.office_core.specs.declared.office.Office.{Office}
-use Rattle.carried_books.specs.Joining.Days.{AreOutOfTurn, HasNumber, TakesShare}
+use Rattle.carried_books.specs.Joining.Days.{AreOutOfTurn, HasAdded, HasNumber, TakesShare}
 use Rattle.carried_books.specs.declared.joining.days.JoinedDays.{JoinedDays}
 
 -- ---- the quarter hours that an office has
@@ -86,18 +86,28 @@ ListsOver zone rows there before after (Err why) =
     IsFound {T = Unit {0}} (there ≡ Some tt) there before after (Err why)
     ⊎ ((why ≡ refusal.Store store.NoDay) × (after ≡ before) × AreOutOfTurn rows)
 
--- the rows of earlier files and those of an office with these facts, as far as they are asked for
+-- the rows of earlier files, and those of an office with these facts that are asked for
 abbrev pub rows_of_both : Span → (earlier : List Share) → List Fact → (register : List ℕ)
     → List Share
 rows_of_both span earlier facts register =
-    rows_within span (earlier ++ rows_of_register facts register)
+    earlier ++ rows_within span (rows_of_register facts register)
 
--- So it is with these, by what an office had accepted, where the sum of their energy has a number of 128 bits.
-abbrev pub TellsDaysOver : {B : Type 0} → (B → Ledger) → (old new : Office B) → Zone
-    → (earlier : List Share) → (register : List ℕ) → Span
+-- So it is with the rows that were added up to the earlier days, by what an office had accepted, where the sum of the energy of all
+-- has a number of 128 bits.
+abbrev pub TellsDaysOver : {B : Type 0} → (B → Ledger) → (old new : Office B)
+    → (earlier : JoinedDays) → (register : List ℕ) → Span
     → Result (Vec DayTotal Global) Refusal → Type 0
-TellsDaysOver ledger old new zone earlier register span result = After ledger old new (λ past.
-    HasNumber (rows_of_both span earlier (facts_of past) register)
-    → ListsOver zone (rows_of_both span earlier (facts_of past) register)
+TellsDaysOver ledger old new earlier register span result = After ledger old new (λ past.
+    (rows : List Share) → HasAdded earlier rows
+    → HasNumber (rows_of_both span rows (facts_of past) register)
+    → ListsOver earlier.zone (rows_of_both span rows (facts_of past) register)
     (is_there (register_of (facts_of past) register))
     (failures_of ledger old) (failures_of ledger new) result)
+
+-- There is no register of the name, the books failed, or the office had stopped; or the register is there, and there was no memory.
+abbrev pub LacksMemory : {B : Type 0} → (B → Ledger) → (old new : Office B)
+    → (register : List ℕ) → Refusal → Type 0
+LacksMemory ledger old new register why = After ledger old new (λ past.
+    let there = is_there (register_of (facts_of past) register) in
+    IsFound {T = Unit {0}} (there ≡ Some tt) there (failures_of ledger old)
+    (failures_of ledger new) (Err why))

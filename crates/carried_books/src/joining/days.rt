@@ -5,7 +5,7 @@ ghost use Rattle.std.proofs.Props.{props};
 use interval_core::{DayFault, DayFold, DayTotal, LAST_MOMENT, Share, Zone};
 use office_books::RowSink;
 use office_events::{Refusal, StoreCause};
-use std::alloc::Global;
+use std::alloc::{AllocError, Global};
 
 /// Adds interval rows up to days as they come. A row out of turn, which starts before one that came earlier or past the last
 /// moment, is told, and rows that come after a failure are dropped.
@@ -84,6 +84,23 @@ impl JoinedDays {
         ensures { map account_of result.items ≡ self.fold.accounts }
     {
         self.fold.into_rows()
+    }
+}
+
+/// A copy goes on from the rows so far, while these days stay as they are.
+impl Clone for JoinedDays {
+    ghost use Rattle.carried_books.specs.Joining.Days.{IsCopy};
+
+    ghost is_clone = { IsCopy };
+
+    fn clone(&self) -> Result<JoinedDays, AllocError> {
+        let fold = self.fold.clone()?;
+        Ok(JoinedDays {
+            zone: self.zone,
+            fold,
+            latest: self.latest,
+            fault: self.fault,
+        })
     }
 }
 

@@ -1,133 +1,85 @@
 //! What is kept of the registers of earlier files, over which an office that goes on tells energy, too.
-ghost use Rattle.std.specs.Prelude.{◌≡◌, ◌++◌, [], true, List, map, IfOk};
+ghost use Rattle.std.specs.Prelude.{◌≡◌, List, IfOk};
 ghost use Rattle.office_events.specs.declared.facts.Fact.{Fact};
-ghost use Rattle.office_rules.specs.Intervals.{rows_of_register};
 ghost use Rattle.office_books.specs.Ledgers.{Consults};
 ghost use Rattle.office_books.specs.declared.spans.Span.TheVariants.{All};
-ghost use Rattle.carried_books.specs.Joining.Files.{AllJoin, Joins};
-ghost use Rattle.carried_books.specs.Joining.Earlier.{KeepsRows, no_span};
+ghost use Rattle.carried_books.specs.Joining.Files.{AllJoin};
+ghost use Rattle.carried_books.specs.Joining.Earlier.{HoldMeters, HoldsFile};
 
-use crate::joining::files::{JoinedFiles, Unjoined, add_books, no_files};
+use crate::joining::files::{JoinedFiles, Unjoined, add_books, is_recorded, join_meters, no_files};
 use crate::joining::keeping::Keeping;
-use interval_core::{DayRange, Share, Zone};
-use office_books::{Books, BooksFault, RowSink, Span};
+use crate::joining::meters::both;
+use interval_core::{DayRange, Zone};
+use office_books::{Books, BooksFault, Span};
 use office_events::{Device, Name, Register};
-use std::alloc::{AllocError, Global};
+use std::alloc::Global;
 
-// No moment is asked for.
-const NO_SPAN: Span = Span::Between { from: 0, till: 0 };
-
-/// The quarter hours that files have of a register, those of the first file and then those of the next, as long as there was memory
-/// for each.
+/// What files tell of a register, one after the other: its meters and its days.
 #[derive(Drop)]
 pub struct EarlierRegister {
     pub name: Name,
-    pub rows: Vec<Share>,
-    pub is_whole: bool,
-}
-
-impl EarlierRegister {
-    /// None of a register yet. No memory is taken.
-    pub fn new(alloc: Global, name: Name) -> EarlierRegister
-        ensures name { result.name ≡ name }
-        ensures none { result.rows.items ≡ [] }
-        ensures whole { result.is_whole ≡ true }
-    {
-        EarlierRegister {
-            name,
-            rows: Vec::new(alloc),
-            is_whole: true,
-        }
-    }
-}
-
-impl RowSink<Share> for EarlierRegister {
-    ghost use Rattle.carried_books.specs.Joining.Earlier.{KeepsRow};
-
-    ghost takes = { KeepsRow };
-
-    fn put(&mut self, row: Share) {
-        if self.is_whole {
-            match self.rows.push(row) {
-                Ok(()) => {}
-                Err(_) => self.is_whole = false,
-            }
-        }
-    }
-}
-
-// Adds the quarter hours that books have of the register.
-fn keep_rows<B: Books>(
-    it: &mut EarlierRegister,
-    books: &mut B,
-) -> Result<Option<Unjoined>, BooksFault>
-    ensures name { it.new.name ≡ it.old.name }
-    ensures rows { (known : List Fact) → (B.ledger books.old).holds known
-        → (B.ledger books.new).is_clean
-        → IfOk result (λ why. it.new.rows.items
-        ≡ it.old.rows.items ++ rows_of_register known it.old.name) }
-    ensures reads { Consults (B.ledger books.old) (B.ledger books.new) result }
-{
-    let name = it.name;
-    match books.register_intervals(&name, Span::All, it) {
-        Err(fault) => Err(fault),
-        Ok(()) => {
-            if it.is_whole {
-                Ok(None)
-            } else {
-                Err(BooksFault::Memory)
-            }
-        }
-    }
-}
-
-/// What files tell of a register, one after the other, by which the next is held to them, and their quarter hours.
-#[derive(Drop)]
-pub struct KeptRegister {
     pub files: JoinedFiles,
-    pub it: EarlierRegister,
 }
 
 /// Adds what the books of the next file tell of the register. It answers why the file doesn't join those before it. The books are
 /// only asked.
 pub fn add_kept<B: Books>(
-    kept: &mut KeptRegister,
+    kept: &mut EarlierRegister,
     books: &mut B,
 ) -> Result<Option<Unjoined>, BooksFault>
-    ensures name { kept.new.it.name ≡ kept.old.it.name }
+    ensures name { kept.new.name ≡ kept.old.name }
     ensures joins { (known : List Fact) → (B.ledger books.old).holds known
         → (B.ledger books.new).is_clean
-        → IfOk result (AllJoin All kept.old.it.name known kept.old.files kept.new.files) }
-    ensures rows { (known : List Fact) → (B.ledger books.old).holds known
-        → (B.ledger books.new).is_clean
-        → IfOk result (KeepsRows known kept.old.it kept.new.it) }
+        → IfOk result (AllJoin All kept.old.name known kept.old.files kept.new.files) }
     ensures reads { Consults (B.ledger books.old) (B.ledger books.new) result }
 {
-    let name = kept.it.name;
-    match add_books(&mut kept.files, books, &name, Span::All) {
+    let name = kept.name;
+    add_books(&mut kept.files, books, &name, Span::All)
+}
+
+// Holds the meters at a register to those of the files before.
+fn hold_meters<B: Books>(
+    kept: &EarlierRegister,
+    books: &mut B,
+) -> Result<Option<Unjoined>, BooksFault>
+    ensures holds { (known : List Fact) → (B.ledger books.old).holds known
+        → (B.ledger books.new).is_clean
+        → IfOk result (HoldMeters kept.now known) }
+    ensures reads { Consults (B.ledger books.old) (B.ledger books.new) result }
+{
+    let alloc = *kept.files.meters.allocator();
+    let Ok(mut meters) = kept.files.meters.as_slice().to_vec(alloc) else {
+        return Err(BooksFault::Memory);
+    };
+    match join_meters(&mut meters, books, &kept.name) {
         Err(fault) => Err(fault),
-        Ok(why) => match why {
-            Some(why) => Ok(Some(why)),
-            None => keep_rows(&mut kept.it, books),
+        Ok(apart) => match apart {
+            Some(apart) => Ok(Some(Unjoined::Apart(apart))),
+            None => Ok(None),
         },
     }
 }
 
 /// Holds the books of the file in which an office goes on to those before it: its meters at the register, and whether that is recorded. It
-/// answers why they don't join. The quarter hours are those of the files before. The books are only asked.
+/// answers why they don't join. What is kept is of the files before alone. The books are only asked.
 pub fn hold_kept<B: Books>(
-    kept: &mut KeptRegister,
+    kept: &EarlierRegister,
     books: &mut B,
 ) -> Result<Option<Unjoined>, BooksFault>
-    ensures same { kept.new.it ≡ kept.old.it }
-    ensures joins { (known : List Fact) → (B.ledger books.old).holds known
+    ensures holds { (known : List Fact) → (B.ledger books.old).holds known
         → (B.ledger books.new).is_clean
-        → IfOk result
-        (Joins no_span kept.old.it.name known kept.old.files kept.new.files) }
+        → IfOk result (HoldsFile kept.now known) }
     ensures reads { Consults (B.ledger books.old) (B.ledger books.new) result }
 {
-    let name = kept.it.name;
-    add_books(&mut kept.files, books, &name, NO_SPAN)
+    match is_recorded(books, &kept.name) {
+        Err(fault) => Err(fault),
+        Ok(is_recorded) => {
+            if both(kept.files.is_recorded, !is_recorded) {
+                return Ok(Some(Unjoined::NotRecorded));
+            }
+            hold_meters(kept, books)
+        }
+    }
 }
 
 /// What files tell of each of their registers, from the first file on that has it.
@@ -135,13 +87,13 @@ pub fn hold_kept<B: Books>(
 pub struct KeptRegisters {
     alloc: Global,
     zone: Zone,
-    kept: Vec<KeptRegister>,
+    kept: Vec<EarlierRegister>,
 }
 
 // Whether a register is kept.
-fn is_kept(kept: &[KeptRegister], name: &Name) -> bool {
+fn is_kept(kept: &[EarlierRegister], name: &Name) -> bool {
     for one in kept {
-        if one.it.name.is(name) {
+        if one.name.is(name) {
             return true;
         }
     }
@@ -150,7 +102,7 @@ fn is_kept(kept: &[KeptRegister], name: &Name) -> bool {
 
 // Adds what books tell of the registers that are kept.
 fn add_all<B: Books>(
-    kept: &mut Vec<KeptRegister>,
+    kept: &mut Vec<EarlierRegister>,
     books: &mut B,
 ) -> Result<Option<Unjoined>, BooksFault>
     ensures { Consults (B.ledger books.old) (B.ledger books.new) result }
@@ -172,19 +124,17 @@ fn add_all<B: Books>(
 
 // Holds books to the registers that are kept.
 fn hold_all<B: Books>(
-    kept: &mut Vec<KeptRegister>,
+    kept: &[EarlierRegister],
     books: &mut B,
 ) -> Result<Option<Unjoined>, BooksFault>
     ensures { Consults (B.ledger books.old) (B.ledger books.new) result }
 {
-    for place in 0..kept.len() {
-        if place < kept.len() {
-            match hold_kept(&mut kept[place], books) {
-                Err(fault) => return Err(fault),
-                Ok(why) => {
-                    if why.is_some() {
-                        return Ok(why);
-                    }
+    for one in kept {
+        match hold_kept(one, books) {
+            Err(fault) => return Err(fault),
+            Ok(why) => {
+                if why.is_some() {
+                    return Ok(why);
                 }
             }
         }
@@ -196,7 +146,7 @@ fn hold_all<B: Books>(
 fn add_new<B: Books>(
     alloc: Global,
     zone: Zone,
-    kept: &mut Vec<KeptRegister>,
+    kept: &mut Vec<EarlierRegister>,
     books: &mut B,
     name: Name,
 ) -> Result<Option<Unjoined>, BooksFault>
@@ -205,9 +155,9 @@ fn add_new<B: Books>(
     if is_kept(kept.as_slice(), &name) {
         return Ok(None);
     }
-    let mut one = KeptRegister {
+    let mut one = EarlierRegister {
+        name,
         files: no_files(alloc, zone),
-        it: EarlierRegister::new(alloc, name),
     };
     match add_kept(&mut one, books) {
         Err(fault) => Err(fault),
@@ -227,7 +177,7 @@ fn add_new<B: Books>(
 fn add_registers<B: Books>(
     alloc: Global,
     zone: Zone,
-    kept: &mut Vec<KeptRegister>,
+    kept: &mut Vec<EarlierRegister>,
     books: &mut B,
     registers: &[Register],
 ) -> Result<Option<Unjoined>, BooksFault>
@@ -250,7 +200,7 @@ fn add_registers<B: Books>(
 fn add_device<B: Books>(
     alloc: Global,
     zone: Zone,
-    kept: &mut Vec<KeptRegister>,
+    kept: &mut Vec<EarlierRegister>,
     books: &mut B,
     device: &Device,
 ) -> Result<Option<Unjoined>, BooksFault>
@@ -266,7 +216,7 @@ fn add_device<B: Books>(
 fn add_devices<B: Books>(
     alloc: Global,
     zone: Zone,
-    kept: &mut Vec<KeptRegister>,
+    kept: &mut Vec<EarlierRegister>,
     books: &mut B,
     devices: &[Device],
 ) -> Result<Option<Unjoined>, BooksFault>
@@ -289,7 +239,7 @@ fn add_devices<B: Books>(
 fn add_others<B: Books>(
     alloc: Global,
     zone: Zone,
-    kept: &mut Vec<KeptRegister>,
+    kept: &mut Vec<EarlierRegister>,
     books: &mut B,
 ) -> Result<Option<Unjoined>, BooksFault>
     ensures { Consults (B.ledger books.old) (B.ledger books.new) result }
@@ -304,7 +254,7 @@ fn add_others<B: Books>(
 fn add_books_to<B: Books>(
     alloc: Global,
     zone: Zone,
-    kept: &mut Vec<KeptRegister>,
+    kept: &mut Vec<EarlierRegister>,
     books: &mut B,
 ) -> Result<Option<Unjoined>, BooksFault>
     ensures { Consults (B.ledger books.old) (B.ledger books.new) result }
@@ -321,18 +271,12 @@ fn add_books_to<B: Books>(
 }
 
 impl KeptRegisters {
-    /// The quarter hours of each register.
-    pub fn into_registers(self) -> Result<Vec<EarlierRegister>, AllocError>
-        ensures { IfOk result (λ registers. registers.items
-            ≡ map (λ one. one.it) self.kept.items) }
+    /// Each register, in the order in which the files had it first. No memory is taken.
+    pub fn into_registers(self) -> Vec<EarlierRegister>
+        ensures { result ≡ self.kept }
     {
-        let KeptRegisters { alloc, kept, .. } = self;
-        let mut registers = Vec::new(alloc);
-        for one in kept {
-            let KeptRegister { it, .. } = one;
-            registers.push(it)?;
-        }
-        Ok(registers)
+        let KeptRegisters { kept, .. } = self;
+        kept
     }
 }
 
@@ -388,6 +332,6 @@ impl Keeping for HeldRegisters {
         _register: &Name,
         _range: DayRange,
     ) -> Result<Option<Unjoined>, BooksFault> {
-        hold_all(&mut self.kept.kept, books)
+        hold_all(self.kept.kept.as_slice(), books)
     }
 }

@@ -59,8 +59,8 @@ pub(crate) fn is_recorded<B: Books>(books: &mut B, register: &Name) -> Result<bo
     }
 }
 
-// Adds the meters at a register.
-fn join_meters<B: Books>(
+/// Adds the meters at a register.
+pub(crate) fn join_meters<B: Books>(
     meters: &mut Vec<Installation>,
     books: &mut B,
     register: &Name,

@@ -1,6 +1,7 @@
-//! Laws of reports and statements over files. Each function's clause is a law over all values; its body calls other laws at most.
+//! Laws of reports, statements and sites over files. Each function's clause is a law over all values; its body calls other laws at most.
 ghost use Rattle.carried_books.specs.Joining.Reports.{BothFilesTellTheJoinedDays};
 ghost use Rattle.carried_books.specs.Joining.Reports.{OneFileTellsItsDays};
+ghost use Rattle.carried_books.specs.Joining.Sites.{LatestIsOfAllFiles};
 ghost use Rattle.carried_books.specs.Joining.Statements.{BothFilesStateTheJoinedMeter};
 ghost use Rattle.carried_books.specs.Joining.Statements.{OneFileStatesItsMeters};
 
@@ -28,3 +29,11 @@ pub fn one_file_states_its_meters()
 pub fn both_files_state_the_joined_meter()
     ensures { BothFilesStateTheJoinedMeter }
 {}
+
+/// The latest meter that is told of a register over files is the last of the meters that all of them have there, where those of the
+/// latest file, which an office wrote, join those of the others.
+pub fn latest_is_of_all_files()
+    ensures { LatestIsOfAllFiles }
+{
+    names_are_distinct();
+}

@@ -1,38 +1,18 @@
 //! What earlier files and an office that goes on tell together of the days of a register.
-ghost use Rattle.std.specs.Prelude.{◌≡◌, [], ◌∷◌};
-ghost use Rattle.office_books.specs.Rows.{TakesAll};
-ghost use Rattle.office_books.specs.Spans.{rows_within};
+ghost use Rattle.std.specs.Prelude.{Err};
+ghost use Rattle.std.specs.declared.alloc.Global.{Global};
+ghost use Rattle.std.specs.declared.vec.Vec.{Vec};
+ghost use Rattle.interval_core.specs.declared.totals.DayTotal.{DayTotal};
 ghost use Rattle.office_core.specs.Asking.{OnlyAsks};
-ghost use Rattle.carried_books.specs.Joining.Days.{TakesShare};
-ghost use Rattle.carried_books.specs.Joining.Offices.{AsksMeters, AsksRegister, TellsDaysOver};
+ghost use Rattle.carried_books.specs.Joining.Offices.{AsksMeters, AsksRegister, LacksMemory};
+ghost use Rattle.carried_books.specs.Joining.Offices.{TellsDaysOver};
 
 use crate::joining::days::JoinedDays;
-use interval_core::{DayTotal, Share, Zone};
-use office_books::{Books, RowSink, Span};
+use interval_core::DayTotal;
+use office_books::{Books, Span};
 use office_core::Office;
 use office_events::{Installation, Name, Refusal};
 use office_rules::facts_are_lawful;
-use std::alloc::Global;
-
-// Adds a row, where it is asked for.
-fn add_if_within(days: &mut JoinedDays, row: &Share, span: Span)
-    ensures { TakesAll TakesShare days.old (rows_within span (row.now ∷ [])) days.new }
-{
-    let is_asked = span.contains(row.start);
-    if is_asked {
-        days.put(*row);
-        return;
-    }
-}
-
-// Adds those of these rows that are asked for.
-fn add_within(days: &mut JoinedDays, rows: &[Share], span: Span)
-    ensures { TakesAll TakesShare days.old (rows_within span rows.now) days.new }
-{
-    for row in rows {
-        add_if_within(days, row, span);
-    }
-}
 
 // Adds those quarter hours of these meters that are asked for, one meter after the other.
 fn add_meters_within<B: Books>(
@@ -70,25 +50,39 @@ fn add_register<B: Books>(
     }
 }
 
-/// The days of a register over earlier files and an office that goes on, of those of its quarter hours that are asked for: the rows
-/// that the earlier files have of it come first. Energies are in mWh, and days are by the clocks of a zone. The office is only
-/// asked. A row that starts before one before it is refused as one without a day.
+// There is no memory for the days of a register, unless the office tells first why there are none.
+fn without_memory<B: Books>(office: &mut Office<B>, register: &Name) -> Refusal
+    ensures lacks { LacksMemory B.ledger office.old office.new register.now result }
+    ensures asks { OnlyAsks {T = Vec DayTotal Global} B.ledger office.old office.new (Err result) }
+{
+    match office.meters(&Some(*register)) {
+        Ok(_meters) => Refusal::Memory,
+        Err(why) => why,
+    }
+}
+
+/// The days of a register over earlier files and an office that goes on: those that the earlier files have of it, and those of the
+/// office's quarter hours that are asked for. Energies are in mWh, and days are by the clocks of the zone of the earlier ones. The
+/// office is only asked, and the earlier days stay as they are. A row that starts before one before it is refused as one without a
+/// day.
 pub fn days_over<B: Books>(
-    alloc: Global,
     office: &mut Office<B>,
-    zone: Zone,
-    earlier: &[Share],
+    earlier: &JoinedDays,
     register: &Name,
     span: Span,
 ) -> Result<Vec<DayTotal>, Refusal>
-    ensures days { TellsDaysOver B.ledger office.old office.new zone earlier.now register.now span
+    ensures days { TellsDaysOver B.ledger office.old office.new earlier.now register.now span
         result }
     ensures asks { OnlyAsks B.ledger office.old office.new result }
 {
-    let mut days = JoinedDays::new(alloc, zone);
-    add_within(&mut days, earlier, span);
-    match add_register(&mut days, office, register, span) {
-        Ok(()) => days.into_days(),
-        Err(why) => Err(why),
+    match earlier.clone() {
+        Err(_) => Err(without_memory(office, register)),
+        Ok(copy) => {
+            let mut days = copy;
+            match add_register(&mut days, office, register, span) {
+                Ok(()) => days.into_days(),
+                Err(why) => Err(why),
+            }
+        }
     }
 }

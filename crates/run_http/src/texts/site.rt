@@ -8,6 +8,14 @@ use office_events::Installation;
 use run_status::{put, put_number, put_scale, put_word};
 use std::alloc::AllocError;
 
+/// What is told of a register: its latest meter, and how much of that meter's energy, in mWh, is that of earlier files, where they tell
+/// of it, too.
+#[derive(Clone, Copy, Debug, PartialEq, Eq)]
+pub struct SiteLine {
+    pub row: SiteRow,
+    pub earlier: Option<u64>,
+}
+
 // Puts a word of JSON.
 fn put_bool(text: &mut Vec<u8>, before: &[u8], value: bool) -> Result<(), AllocError>
     ensures { OnOk result (text.new.items ≡ text.old.items ++ before.now ++ bool_text value) }
@@ -28,23 +36,38 @@ fn put_last(text: &mut Vec<u8>, row: &Installation) -> Result<(), AllocError>
     put_scale(text, b",\"sf\":", row.last.sf)
 }
 
+// Puts how much of the energy of a meter is that of earlier files.
+fn put_earlier(text: &mut Vec<u8>, earlier: Option<u64>) -> Result<(), AllocError>
+    ensures { OnOk result (text.new.items ≡ json.with_earlier text.old.items earlier) }
+{
+    match earlier {
+        Some(mwh) => put_number(text, b"\",\"earlier\":\"", mwh),
+        None => Ok(()),
+    }
+}
+
 // Puts the energy of a meter, and whether it was closed.
-fn put_total(text: &mut Vec<u8>, row: &Installation) -> Result<(), AllocError>
-    ensures { OnOk result (text.new.items ≡ json.with_total text.old.items row.now) }
+fn put_total(text: &mut Vec<u8>, row: &Installation, earlier: Option<u64>) -> Result<(), AllocError>
+    ensures { OnOk result (text.new.items ≡ json.with_total text.old.items row.now earlier) }
 {
     put_number(text, b",\"total\":\"", row.total)?;
+    put_earlier(text, earlier)?;
     put_bool(text, b"\",\"ended\":", row.ended)
 }
 
 // Puts the meter of a register, or that there is none.
-fn put_meter(text: &mut Vec<u8>, meter: &Option<Installation>) -> Result<(), AllocError>
-    ensures { OnOk result (text.new.items ≡ json.with_meter text.old.items meter.now) }
+fn put_meter(
+    text: &mut Vec<u8>,
+    meter: &Option<Installation>,
+    earlier: Option<u64>,
+) -> Result<(), AllocError>
+    ensures { OnOk result (text.new.items ≡ json.with_meter text.old.items meter.now earlier) }
 {
     match meter {
         Some(row) => {
             put_word(text, b"\",\"meter\":\"", row.opening.meter.as_bytes())?;
             put_last(text, row)?;
-            put_total(text, row)
+            put_total(text, row, earlier)
         }
         None => put(text, b"\",\"meter\":null"),
     }
@@ -59,43 +82,43 @@ fn put_register(text: &mut Vec<u8>, before: &[u8], row: &SiteRow) -> Result<(), 
 }
 
 // Puts a register and its meter.
-fn put_row(text: &mut Vec<u8>, before: &[u8], row: &SiteRow) -> Result<(), AllocError>
-    ensures { OnOk result (text.new.items ≡ json.with_row before.now text.old.items row.now) }
+fn put_line(text: &mut Vec<u8>, before: &[u8], line: &SiteLine) -> Result<(), AllocError>
+    ensures { OnOk result (text.new.items ≡ json.with_line before.now text.old.items line.now) }
 {
-    put_register(text, before, row)?;
-    put_meter(text, &row.meter)?;
+    put_register(text, before, &line.row)?;
+    put_meter(text, &line.row.meter, line.earlier)?;
     put(text, b"}")
 }
 
-// Puts rows, each after a comma.
-fn put_more_rows(text: &mut Vec<u8>, rows: &[SiteRow]) -> Result<(), AllocError>
-    ensures { OnOk result (text.new.items ≡ json.with_more_rows text.old.items rows.now) }
+// Puts what is told of registers, each after a comma.
+fn put_more_lines(text: &mut Vec<u8>, lines: &[SiteLine]) -> Result<(), AllocError>
+    ensures { OnOk result (text.new.items ≡ json.with_more_lines text.old.items lines.now) }
 {
-    for row in rows {
-        put_row(text, b",{\"device\":\"", row)?;
+    for line in lines {
+        put_line(text, b",{\"device\":\"", line)?;
     }
     Ok(())
 }
 
-fn put_rows(text: &mut Vec<u8>, rows: &[SiteRow]) -> Result<(), AllocError>
-    ensures { OnOk result (text.new.items ≡ json.with_rows text.old.items rows.now) }
+fn put_lines(text: &mut Vec<u8>, lines: &[SiteLine]) -> Result<(), AllocError>
+    ensures { OnOk result (text.new.items ≡ json.with_lines text.old.items lines.now) }
 {
-    match rows {
+    match lines {
         [] => Ok(()),
         [first, more @ ..] => {
-            put_row(text, b"{\"device\":\"", first)?;
-            put_more_rows(text, more)
+            put_line(text, b"{\"device\":\"", first)?;
+            put_more_lines(text, more)
         }
     }
 }
 
 /// Puts the registers and their meters at the end of a text, as JSON: `moment` is that of the question, in seconds since
 /// 1970-01-01 UTC, totals are mWh. Want of memory leaves a part of it.
-pub fn put_site(text: &mut Vec<u8>, moment: u64, rows: &[SiteRow]) -> Result<(), AllocError>
-    ensures { OnOk result (text.new.items ≡ json.with_site text.old.items moment rows.now) }
+pub fn put_site(text: &mut Vec<u8>, moment: u64, lines: &[SiteLine]) -> Result<(), AllocError>
+    ensures { OnOk result (text.new.items ≡ json.with_site text.old.items moment lines.now) }
 {
     put_number(text, b"{\"at\":", moment)?;
     put(text, b",\"registers\":[")?;
-    put_rows(text, rows)?;
+    put_lines(text, lines)?;
     put(text, b"]}\n")
 }

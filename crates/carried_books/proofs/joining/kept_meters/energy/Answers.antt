@@ -1,4 +1,4 @@
-use Rattle.std.proofs.Common.{◌≡◌, List, subst, ◌∙◌}
+use Rattle.std.proofs.Common.{subst, ◌∙◌}
 use Rattle.energy_report.specs.Energies.{AddsShare}
 use Rattle.office_books.specs.declared.spans.Span.{Span}
 use Rattle.office_books.specs.Rows.{TakesAll}

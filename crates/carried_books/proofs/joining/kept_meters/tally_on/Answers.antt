@@ -1,6 +1,4 @@
-use Rattle.std.proofs.Common.{◌≡◌, ◌+◌, ◌*◌, ◌++◌, List, Ok, length, refl, ap, subst, ◌∙◌, arith}
-use Rattle.energy_report.specs.Statements.{tally_of}
-use Rattle.office_books.specs.declared.entries.MeterEntry.{MeterEntry}
+use Rattle.std.proofs.Common.{◌≡◌, ◌+◌, ◌*◌, Ok, length, refl, ap, subst, ◌∙◌, arith}
 use Rattle.office_books.proofs.Moving.{consults_then, passes, passes_well}
 use Rattle.carried_books.proofs.JoiningLemmas.KeptMeters.{HasTallied, tally_all, tally_more, tally_none}
 use Rattle.carried_books.proofs.joining.kept_meters.tally_on.Goals as goal

@@ -1,4 +1,3 @@
-use Rattle.std.proofs.Common.{arith}
 use Rattle.office_core.proofs.SeveralAsked.{asked, kept_on, unasked}
 use Rattle.carried_books.proofs.JoiningLemmas.Offices.{have_all, have_failed, have_more, have_none}
 use Rattle.carried_books.proofs.joining.offices.add_meters_within.Goals as goal

@@ -1,4 +1,4 @@
-use Rattle.std.proofs.Common.{◌-◌, ◌≡◌, [], ◌∷◌, take, refl, sym, ap, ◌∙◌, append-nil}
+use Rattle.std.proofs.Common.{◌-◌, [], ◌∷◌, take, sym, ap, ◌∙◌, append-nil}
 use Rattle.std.proofs.lemmas.Result.{IfOk-weaker}
 use Rattle.carried_books.proofs.JoiningLemmas.KeptMeters.{tells_both}
 use Rattle.carried_books.proofs.JoiningLemmas.Statements.{goes_on_told, stands_first, stands_on, stands_otherwise, told_from}

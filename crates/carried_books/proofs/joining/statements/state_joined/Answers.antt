@@ -1,6 +1,5 @@
-use Rattle.std.proofs.Common.{ap, subst, sym, ◌∙◌}
+use Rattle.std.proofs.Common.{ap, ◌∙◌}
 use Rattle.energy_report.specs.StatementTexts.{statement_text}
-use Rattle.energy_report.specs.Statements.{was_there}
 use Rattle.carried_books.specs.Joining.Statements.{rows_of_those}
 use Rattle.carried_books.proofs.JoiningLemmas.Statements.{rows_told}
 use Rattle.carried_books.proofs.joining.statements.state_joined.Goals as goal

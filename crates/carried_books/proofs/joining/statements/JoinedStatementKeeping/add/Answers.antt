@@ -1,4 +1,4 @@
-use Rattle.std.proofs.Common.{Option, None, Some, refl, sym, subst, ◌∙◌}
+use Rattle.std.proofs.Common.{Option, refl, sym, subst, ◌∙◌}
 use Rattle.office_books.specs.Entries.{installations_of}
 use Rattle.carried_books.specs.Joining.Statements.{AddsListed}
 use Rattle.carried_books.specs.declared.joining.meters.Apart.{Apart}

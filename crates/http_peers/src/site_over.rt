@@ -1,0 +1,94 @@
+//! What a peer is replied who asks which registers and meters there are, of which earlier files tell, too.
+ghost use Rattle.std.specs.Prelude.{◌≡◌, IfOk, OnOk, map};
+ghost use Rattle.run_http.specs.SiteReply.{RepliesSite};
+ghost use Rattle.http_peers.specs.SiteOver as site;
+
+use carried_books::{EarlierRegister, earlier_meters, latest_meter};
+use office_books::Books;
+use office_core::{Office, SiteRow};
+use office_events::{Installation, Refusal};
+use run_http::{SiteLine, put_site_reply};
+use std::alloc::{AllocError, Global};
+
+// What is told of a register at which earlier files have these meters.
+fn line_after(earlier: &[Installation], row: &SiteRow) -> SiteLine
+    ensures { result ≡ site.line_after earlier.now row.now }
+{
+    match latest_meter(earlier, &row.meter) {
+        Some(told) => SiteLine {
+            row: SiteRow {
+                register: row.register,
+                meter: Some(told.meter),
+            },
+            earlier: told.earlier,
+        },
+        None => SiteLine {
+            row: *row,
+            earlier: None,
+        },
+    }
+}
+
+// What is told of registers.
+fn lines_over(
+    alloc: Global,
+    earlier: &[EarlierRegister],
+    rows: &[SiteRow],
+) -> Result<Vec<SiteLine>, AllocError>
+    ensures { IfOk result (λ lines. lines.items ≡ map (site.line_over earlier.now) rows.now) }
+{
+    let mut lines = Vec::new(alloc);
+    for row in rows {
+        let meters = earlier_meters(earlier, &row.register.name);
+        lines.push(line_after(meters, row))?;
+    }
+    Ok(lines)
+}
+
+// What is told for what the office answers.
+fn told_of(
+    alloc: Global,
+    earlier: &[EarlierRegister],
+    answer: &Result<Vec<SiteRow>, Refusal>,
+) -> Result<Result<Vec<SiteLine>, Refusal>, AllocError>
+    ensures { IfOk result (site.IsTold earlier.now answer.now) }
+{
+    match answer {
+        Ok(rows) => {
+            let lines = lines_over(alloc, earlier, rows)?;
+            Ok(Ok(lines))
+        }
+        Err(why) => Ok(Err(*why)),
+    }
+}
+
+// Puts the reply for what the office answers.
+fn put_answer(
+    alloc: Global,
+    text: &mut Vec<u8>,
+    earlier: &[EarlierRegister],
+    moment: u64,
+    answer: &Result<Vec<SiteRow>, Refusal>,
+) -> Result<(), AllocError>
+    ensures { OnOk result (text.new.items
+        ≡ site.with_site_over earlier.now moment answer.now text.old.items) }
+{
+    let told = told_of(alloc, earlier, answer)?;
+    put_site_reply(alloc, text, moment, &told)
+}
+
+/// Asks the office which registers and meters there are, and puts the reply at the end of a text: of each register the latest meter
+/// that it and earlier files have. Moments are seconds since 1970-01-01 UTC. Want of memory leaves a part of it.
+pub fn reply_site_over<B: Books>(
+    alloc: Global,
+    text: &mut Vec<u8>,
+    office: &mut Office<B>,
+    earlier: &[EarlierRegister],
+    moment: u64,
+) -> Result<(), AllocError>
+    ensures { RepliesSite B.ledger office.old office.new (site.with_site_over earlier.now moment)
+        text.old.items text.new.items result }
+{
+    let answer = office.site();
+    put_answer(alloc, text, earlier, moment, &answer)
+}
