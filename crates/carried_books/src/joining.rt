@@ -13,8 +13,10 @@ mod reports;
 mod sites;
 mod statements;
 
-pub use days::JoinedDays;
-pub use earlier::{EarlierRegister, HeldRegisters, KeptRegisters, add_kept, hold_kept};
+pub use days::{EarlierDays, JoinedDays};
+pub use earlier::{
+    EarlierRegister, HeldRegisters, KeptRegister, KeptRegisters, add_kept, hold_kept,
+};
 pub use files::{JoinedFiles, Unjoined, add_books, no_files};
 pub use keeping::Keeping;
 pub use kept_meters::KeptMeter;

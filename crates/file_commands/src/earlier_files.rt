@@ -56,10 +56,13 @@ fn keep_all<'a, E: Write>(
 }
 
 // What was kept of the registers.
-fn registers_of(held: JoinedOffice<HeldRegisters>) -> Vec<EarlierRegister> {
+fn registers_of<'a>(held: JoinedOffice<HeldRegisters>) -> Result<Vec<EarlierRegister>, Ending<'a>> {
     let JoinedOffice { kept, .. } = held;
     let HeldRegisters { kept } = kept;
-    kept.into_registers()
+    match kept.into_registers() {
+        Ok(registers) => Ok(registers),
+        Err(_) => Err(Ending::Failed(Failure::Memory)),
+    }
 }
 
 // Holds the file in which books go on to those before it.
@@ -76,7 +79,7 @@ fn hold<'a, E: Write>(
     let kept = HeldRegisters { kept };
     let held = Some(JoinedOffice { zone, kept });
     match join(rt, held, before, path, any, is_new, errors) {
-        Ok(held) => Ok(registers_of(held)),
+        Ok(held) => registers_of(held),
         Err(ending) => Err(ending),
     }
 }

@@ -45,13 +45,13 @@ fn kept_of(alloc: Global, files: &[&str]) -> Result<KeptRegisters, Fail> {
 
 // A day: how many quarter hours have a row, and their energy in mWh.
 fn days_of(alloc: Global, it: EarlierRegister) -> Result<Vec<(u32, u128)>, AllocError> {
-    let days = it.files.days.into_rows();
+    let days = it.days.into_rows();
     days.iter().map(|day| (day.count, day.mwh)).collect(alloc)
 }
 
 // The meters at the register: the energy of each in mWh, and whether it was closed.
 fn meters_of(alloc: Global, it: &EarlierRegister) -> Result<Vec<(u64, bool)>, AllocError> {
-    let meters = it.files.meters.iter();
+    let meters = it.meters.iter();
     meters.map(|row| (row.total, row.ended)).collect(alloc)
 }
 
@@ -59,7 +59,7 @@ fn meters_of(alloc: Global, it: &EarlierRegister) -> Result<Vec<(u64, bool)>, Al
 #[test]
 fn the_registers_of_earlier_files_are_kept(rt: HostRuntime) -> Result<(), Fail> {
     let kept = kept_of(rt.alloc(), &[DAY, NEXT])?;
-    let mut registers = kept.into_registers();
+    let mut registers = kept.into_registers()?;
     let spare = registers.pop().ok_or("no register")?;
     let main = registers.pop().ok_or("one register")?;
     assert!(rt; registers.is_empty());
@@ -69,7 +69,7 @@ fn the_registers_of_earlier_files_are_kept(rt: HostRuntime) -> Result<(), Fail> 
         meters_of(rt.alloc(), &main)?.as_slice() == [(300_000, true), (90_000, false)].as_slice()
     );
     assert!(rt; days_of(rt.alloc(), main)?.as_slice() == [(5, 390_000)].as_slice());
-    assert!(rt; spare.files.meters.is_empty() && days_of(rt.alloc(), spare)?.is_empty());
+    assert!(rt; spare.meters.is_empty() && days_of(rt.alloc(), spare)?.is_empty());
     Ok(())
 }
 
@@ -80,7 +80,7 @@ fn the_file_that_goes_on_is_held_to_them(rt: HostRuntime) -> Result<(), Fail> {
     let mut held = HeldRegisters { kept };
     assert!(rt; add(&mut held, rt.alloc(), NEXT)?.is_none());
     let HeldRegisters { kept } = held;
-    let mut registers = kept.into_registers();
+    let mut registers = kept.into_registers()?;
     let main = registers.pop().ok_or("no register")?;
     assert!(rt; registers.is_empty());
     assert!(rt;

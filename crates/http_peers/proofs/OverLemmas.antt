@@ -9,6 +9,7 @@ use Rattle.energy_report.specs.Texts.{report_text}
 use Rattle.energy_report.specs.declared.form.ReportForm.{ReportForm}
 use Rattle.interval_core.specs.Days.{AccountsAreOne}
 use Rattle.interval_core.specs.declared.totals.DayTotal.{DayTotal}
+use Rattle.interval_core.specs.declared.zone.Zone.{Zone}
 use Rattle.office_events.specs.declared.facts.Fact.{Fact}
 use Rattle.office_events.specs.declared.refusals.Refusal.{Refusal}
 use Rattle.office_rules.specs.Facts.{register_of}
@@ -26,7 +27,7 @@ use Rattle.office_program.specs.Texts.EndTexts.{IsTold}
 use Rattle.carried_books.specs.Joining.Days.{HasNumber}
 use Rattle.carried_books.specs.Joining.Files.{rows_over}
 use Rattle.carried_books.specs.Joining.Offices.{ListsOver, TellsDaysOver, rows_of_both}
-use Rattle.carried_books.specs.declared.joining.days.JoinedDays.{JoinedDays}
+use Rattle.carried_books.specs.declared.joining.days.EarlierDays.{EarlierDays}
 use Rattle.carried_books.proofs.JoiningLemmas.Reports.{report_with, with_number}
 use Rattle.run_http.specs.RegisterReplies.{with_energy_reply}
 use Rattle.http_peers.specs.EnergyOver.{AsksEnergyOver, RepliesEnergyOver, ReportsOver, TellsReportOver}
@@ -38,7 +39,7 @@ put_whole text status had holds fine (inr failed) = absurd (let e : Fine ≡ Fai
 
 -- ---- what days come to
 
-module _ {B : Type 0} (ledger : B → Ledger) (a b : Office B) (earlier : JoinedDays) (register : List ℕ) (form : ReportForm) where
+module _ {B : Type 0} (ledger : B → Ledger) (a b : Office B) (zone : Zone) (earlier : EarlierDays) (register : List ℕ) (form : ReportForm) where
   abbrev asked : Span
   asked = span_of form.range
 
@@ -47,13 +48,13 @@ module _ {B : Type 0} (ledger : B → Ledger) (a b : Office B) (earlier : Joined
   fit_both facts files fits = with_number asked (rows_over register files) (rows_of_register facts register) fits
 
   why_not : (why : Refusal) (facts : List Fact) (files : List (List Fact)) (before after : Failures)
-      → ListsOver earlier.zone (rows_of_both asked (rows_over register files) facts register) (is_there (register_of facts register)) before after (Err why)
-      → (text : List ℕ) → ReportsOver earlier.zone facts files register form before after (Err why) text
+      → ListsOver zone (rows_of_both asked (rows_over register files) facts register) (is_there (register_of facts register)) before after (Err why)
+      → (text : List ℕ) → ReportsOver zone facts files register form before after (Err why) text
   why_not why facts files before after (inl found) text = inl found
   why_not why facts files before after (inr out) text = inr out
 
   pub refused : {E : Type 0} (had : List ℕ) (why : Refusal) → OnlyAsks {T = Vec DayTotal Global} ledger a b (Err why)
-      → TellsDaysOver ledger a b earlier register asked (Err why) → AsksEnergyOver ledger a b earlier register form had had {E = E} (Ok (Err why))
+      → TellsDaysOver ledger a b zone earlier register asked (Err why) → AsksEnergyOver ledger a b zone earlier register form had had {E = E} (Ok (Err why))
   refused had why asks tells = record {
     answer = Err why;
     report = [];
@@ -65,16 +66,16 @@ module _ {B : Type 0} (ledger : B → Ledger) (a b : Office B) (earlier : Joined
     puts = tt;
   }
 
-  reported : AccountsAreOne → (days : Vec DayTotal Global) → TellsDaysOver ledger a b earlier register asked (Ok days)
-      → TellsReportOver ledger a b earlier register form (Ok tt) (report_text form days.items)
+  reported : AccountsAreOne → (days : Vec DayTotal Global) → TellsDaysOver ledger a b zone earlier register asked (Ok days)
+      → TellsReportOver ledger a b zone earlier register form (Ok tt) (report_text form days.items)
   reported one days tells = λ past stands clean files added fits.
       let facts = facts_of past in
       let it = tells past stands clean (rows_over register files) added (fit_both facts files fits) in
-      (it.0, it.1, report_with earlier.zone register facts files form days.items one it.2)
+      (it.0, it.1, report_with zone register facts files form days.items one it.2)
 
   pub answered : {E : Type 0} (had holds : List ℕ) (days : Vec DayTotal Global) → AccountsAreOne → OnlyAsks ledger a b (Ok days)
-      → TellsDaysOver ledger a b earlier register asked (Ok days) → holds ≡ had ++ report_text form days.items
-      → AsksEnergyOver ledger a b earlier register form had holds {E = E} (Ok (Ok tt))
+      → TellsDaysOver ledger a b zone earlier register asked (Ok days) → holds ≡ had ++ report_text form days.items
+      → AsksEnergyOver ledger a b zone earlier register form had holds {E = E} (Ok (Ok tt))
   answered had holds days one asks tells puts = record {
     answer = Ok tt;
     report = report_text form days.items;
@@ -86,7 +87,7 @@ module _ {B : Type 0} (ledger : B → Ledger) (a b : Office B) (earlier : Joined
 
   -- there was no memory for the report
   pub unwritten : {E : Type 0} (had holds : List ℕ) (days : Vec DayTotal Global) (result : Result (Result (Unit {0}) Refusal) E) → OnlyAsks ledger a b (Ok days)
-      → IsErr result → AsksEnergyOver ledger a b earlier register form had holds result
+      → IsErr result → AsksEnergyOver ledger a b zone earlier register form had holds result
   unwritten had holds days (Ok told) asks fault = cc fault
   unwritten had holds days (Err why) asks fault = record {
     answer = Ok tt;
@@ -109,8 +110,8 @@ module _ {B : Type 0} (ledger : B → Ledger) (a b : Office B) (earlier : Joined
   alone (Err why) had holds report none is = tt
 
   pub replied : {E F : Type 0} (had body from to : List ℕ) (told : Result (Unit {0}) Refusal) (result : Result (Unit {0}) E)
-      → AsksEnergyOver ledger a b earlier register form had body {E = F} (Ok told) → had ≡ []
-      → OnOk result (to ≡ with_energy_reply told body from) → RepliesEnergyOver ledger a b earlier register form from to result
+      → AsksEnergyOver ledger a b zone earlier register form had body {E = F} (Ok told) → had ≡ []
+      → OnOk result (to ≡ with_energy_reply told body from) → RepliesEnergyOver ledger a b zone earlier register form from to result
   replied had body from to told (Ok done) asks none puts = record {
     answer = asks.answer;
     report = asks.report;
@@ -127,8 +128,8 @@ module _ {B : Type 0} (ledger : B → Ledger) (a b : Office B) (earlier : Joined
   }
 
   pub lacked : {E F : Type 0} (had holds from to : List ℕ) (told : Result (Result (Unit {0}) Refusal) F) (result : Result (Unit {0}) E)
-      → AsksEnergyOver ledger a b earlier register form had holds told → IsErr result
-      → RepliesEnergyOver ledger a b earlier register form from to result
+      → AsksEnergyOver ledger a b zone earlier register form had holds told → IsErr result
+      → RepliesEnergyOver ledger a b zone earlier register form from to result
   lacked had holds from to told (Ok done) asks fault = cc fault
   lacked had holds from to told (Err why) asks fault = record {
     answer = asks.answer;

@@ -6,7 +6,8 @@ use Rattle.energy_report.specs.declared.form.ReportForm.{ReportForm}
 use Rattle.http_request.specs.Hosts.{may_ask_in}
 use Rattle.http_request.specs.declared.head.head.HeadState.{HeadState}
 use Rattle.interval_core.specs.declared.shares.Share.{Share}
-use Rattle.carried_books.specs.declared.joining.days.JoinedDays.{JoinedDays}
+use Rattle.carried_books.specs.declared.joining.days.EarlierDays.{EarlierDays}
+use Rattle.interval_core.specs.declared.zone.Zone.{Zone}
 use Rattle.office_books.specs.Ledgers.{Ledger}
 use Rattle.office_core.specs.Asking.{OnlyAsks}
 use Rattle.office_core.specs.Standing.{After, Stands}
@@ -137,10 +138,10 @@ asks_energy names ledger at old new register form from to result replies = recor
   zone = replies.asks.zone;
 }
 
-pub asks_energy_over : {B E : Type 0} (names : List (List ℕ)) (ledger : B → Ledger) (at : ℕ) (old new : Office B) (earlier : JoinedDays)
+pub asks_energy_over : {B E : Type 0} (names : List (List ℕ)) (ledger : B → Ledger) (at : ℕ) (old new : Office B) (zone : Zone) (earlier : EarlierDays)
     (register : List ℕ) (form : ReportForm) (from to : List ℕ) (result : Result (Unit {0}) E)
-    → RepliesEnergyOver ledger old new earlier register form from to result → PeersAsk names at ledger old new
-asks_energy_over names ledger at old new earlier register form from to result replies = only_asks names ledger at old new replies.answer replies.asks
+    → RepliesEnergyOver ledger old new zone earlier register form from to result → PeersAsk names at ledger old new
+asks_energy_over names ledger at old new zone earlier register form from to result replies = only_asks names ledger at old new replies.answer replies.asks
 
 pub asks_begun : {B E : Type 0} (names : List (List ℕ)) (ledger : B → Ledger) (at : ℕ) (old new : Office B) (it : Installation) (from till : ℕ)
     (reply : List Share → List ℕ) (put : List ℕ) (result : Result (Result RowsLeft Refusal) E) → BeginsReply ledger old new it from till reply put result

@@ -16,11 +16,11 @@ use Rattle.office_core.specs.DayRange.{span_of}
 use Rattle.office_core.specs.Standing.{After}
 use Rattle.office_core.specs.Taking.{failures_of}
 use Rattle.office_core.specs.declared.office.Office.{Office}
-use Rattle.carried_books.specs.Joining.Days.{AreOutOfTurn, HasAdded, HasNumber}
+use Rattle.carried_books.specs.Joining.Days.{AreOutOfTurn, AreSumOf, HasNumber}
 use Rattle.carried_books.specs.Joining.Files.{rows_over}
 use Rattle.carried_books.specs.Joining.Offices.{rows_of_both}
 use Rattle.carried_books.specs.Joining.Reports.{IsReportOver}
-use Rattle.carried_books.specs.declared.joining.days.JoinedDays.{JoinedDays}
+use Rattle.carried_books.specs.declared.joining.days.EarlierDays.{EarlierDays}
 use Rattle.run_http.specs.RegisterReplies.{with_energy_reply}
 
 -- What is told of the files of an office, the latest of which stands first, is the report that is printed of all of them; or there is
@@ -38,37 +38,37 @@ ReportsOver zone facts files register form before after (Err why) text =
     ⊎ ((why ≡ refusal.Store store.NoDay) × (after ≡ before)
     × AreOutOfTurn (rows_of_both (span_of form.range) (rows_over register files) facts register))
 
--- So it is by what an office had accepted, and by the files whose rows were added up to the earlier days, where the sum of all
+-- So it is by what an office had accepted, and by the files of whose rows the earlier days are the sum, where the sum of all
 -- their energy has a number of 128 bits.
-abbrev pub TellsReportOver : {B : Type 0} → (B → Ledger) → (old new : Office B)
-    → (earlier : JoinedDays) → (register : List ℕ) → ReportForm → Result (Unit {0}) Refusal
+abbrev pub TellsReportOver : {B : Type 0} → (B → Ledger) → (old new : Office B) → Zone
+    → (earlier : EarlierDays) → (register : List ℕ) → ReportForm → Result (Unit {0}) Refusal
     → (text : List ℕ) → Type 0
-TellsReportOver ledger old new earlier register form answer text =
+TellsReportOver ledger old new zone earlier register form answer text =
     After ledger old new (λ past. (files : List (List Fact))
-    → HasAdded earlier (rows_over register files)
+    → AreSumOf zone (rows_over register files) earlier
     → HasNumber (rows_over register (facts_of past ∷ files))
-    → ReportsOver earlier.zone (facts_of past) files register form
+    → ReportsOver zone (facts_of past) files register form
     (failures_of ledger old) (failures_of ledger new) answer text)
 
 -- The office is asked, and the report is written, unless there was no memory for it.
 pub record AsksEnergyOver {B : Type 0} (ledger : B → Ledger) (old new : Office B)
-    (earlier : JoinedDays) (register : List ℕ) (form : ReportForm) (had holds : List ℕ)
+    (zone : Zone) (earlier : EarlierDays) (register : List ℕ) (form : ReportForm) (had holds : List ℕ)
     {E : Type 0} (result : Result (Result (Unit {0}) Refusal) E) : Type 0 where
   pub answer : Result (Unit {0}) Refusal
   pub report : List ℕ
   pub asks : OnlyAsks ledger old new answer
   pub gives : IfOk result (λ told. told ≡ answer)
   pub tells : OnOk result
-      (TellsReportOver ledger old new earlier register form answer report)
+      (TellsReportOver ledger old new zone earlier register form answer report)
   pub puts : OnOk result (OnOk answer (holds ≡ had ++ report))
 
 -- The office is asked, and what it answers is the reply, unless there was no memory for that.
 pub record RepliesEnergyOver {B : Type 0} (ledger : B → Ledger) (old new : Office B)
-    (earlier : JoinedDays) (register : List ℕ) (form : ReportForm) (from to : List ℕ)
+    (zone : Zone) (earlier : EarlierDays) (register : List ℕ) (form : ReportForm) (from to : List ℕ)
     {E : Type 0} (result : Result (Unit {0}) E) : Type 0 where
   pub answer : Result (Unit {0}) Refusal
   pub report : List ℕ
   pub asks : OnlyAsks ledger old new answer
   pub tells : OnOk result
-      (TellsReportOver ledger old new earlier register form answer report)
+      (TellsReportOver ledger old new zone earlier register form answer report)
   pub puts : OnOk result (to ≡ with_energy_reply answer report from)

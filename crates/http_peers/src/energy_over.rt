@@ -4,15 +4,22 @@ ghost use Rattle.energy_report.specs.Texts.{report_text};
 ghost use Rattle.office_rules.specs.Facts.{is_named};
 ghost use Rattle.http_peers.specs.EnergyOver.{AsksEnergyOver, RepliesEnergyOver};
 
-use carried_books::{EarlierRegister, JoinedDays, days_over, report_days};
+use carried_books::{EarlierDays, EarlierRegister, days_over, report_days};
 use command_io::ExitStatus;
 use energy_report::ReportForm;
-use interval_core::{DayTotal, accounts_are_one};
+use interval_core::{DayTotal, Zone, accounts_are_one};
 use office_books::Books;
 use office_core::{Office, span_around};
 use office_events::{Name, Refusal};
 use run_http::put_energy_reply;
 use std::alloc::{AllocError, Global};
+
+/// What earlier files of a run's office tell of its registers, and by which zone the days are.
+#[derive(Clone, Copy)]
+pub struct EarlierFiles<'a> {
+    pub zone: Zone,
+    pub registers: &'a [EarlierRegister],
+}
 
 // Writes the report on days, in a form. There was no memory for it where that failed.
 fn put_days(days: &[DayTotal], form: &ReportForm, output: &mut Vec<u8>) -> Result<(), AllocError>
@@ -28,16 +35,17 @@ fn put_days(days: &[DayTotal], form: &ReportForm, output: &mut Vec<u8>) -> Resul
 // Asks for the days of a register over earlier files and an office, and writes the report on them in a form.
 fn put_energy_over<B: Books>(
     office: &mut Office<B>,
-    earlier: &JoinedDays,
+    zone: Zone,
+    earlier: &EarlierDays,
     register: &Name,
     form: &ReportForm,
     output: &mut Vec<u8>,
 ) -> Result<Result<(), Refusal>, AllocError>
-    ensures { AsksEnergyOver B.ledger office.old office.new earlier.now register.now form.now
+    ensures { AsksEnergyOver B.ledger office.old office.new zone earlier.now register.now form.now
         output.old.items output.new.items result }
 {
     accounts_are_one();
-    match days_over(office, earlier, register, span_around(form.range)) {
+    match days_over(office, zone, earlier, register, span_around(form.range)) {
         Err(why) => Ok(Err(why)),
         Ok(days) => {
             put_days(&days, form, output)?;
@@ -47,21 +55,22 @@ fn put_energy_over<B: Books>(
 }
 
 /// Asks an office for the days of a register that follow those which earlier files tell, and puts the reply with the report on all of
-/// them, in a form, at the end of a text. Days are by the clocks of the zone of the earlier ones. Where the form's range has both ends,
+/// them, in a form, at the end of a text. Days are by the clocks of a zone, as the earlier ones. Where the form's range has both ends,
 /// only the quarter hours of its days, and of two days more at each end, are read. Want of memory leaves a part of the reply.
 pub fn reply_energy_over<B: Books>(
     alloc: Global,
     text: &mut Vec<u8>,
     office: &mut Office<B>,
-    earlier: &JoinedDays,
+    zone: Zone,
+    earlier: &EarlierDays,
     register: &Name,
     form: &ReportForm,
 ) -> Result<(), AllocError>
-    ensures { RepliesEnergyOver B.ledger office.old office.new earlier.now register.now
+    ensures { RepliesEnergyOver B.ledger office.old office.new zone earlier.now register.now
         form.now text.old.items text.new.items result }
 {
     let mut body = Vec::new(alloc);
-    let answer = put_energy_over(office, earlier, register, form, &mut body)?;
+    let answer = put_energy_over(office, zone, earlier, register, form, &mut body)?;
     put_energy_reply(text, &answer, &body)
 }
 

@@ -3,7 +3,7 @@ ghost use Rattle.std.specs.Prelude.{◌≡◌, ℕ, false, List};
 ghost use Rattle.http_request.specs.Hosts.{texts};
 ghost use Rattle.http_peers.specs.PeersAsk.{PeersAsk};
 
-use crate::energy_over::{place_among, reply_energy_over};
+use crate::energy_over::{EarlierFiles, place_among, reply_energy_over};
 use crate::kept_room::KeptRoom;
 use crate::moments::{Now, even_milliseconds};
 use crate::peers::Peer;
@@ -12,6 +12,7 @@ use crate::site_over::reply_site_over;
 use carried_books::EarlierRegister;
 use energy_report::ReportForm;
 use http_request::{Route, Status, router};
+use interval_core::Zone;
 use matchit::Router;
 use mio::net::{TcpListener, TcpStream};
 use mio::{Interest, Registry, Token};
@@ -496,6 +497,7 @@ impl HttpPort {
     fn reply_energy_over<B: Books>(
         &self,
         office: &mut Office<B>,
+        zone: Zone,
         it: &EarlierRegister,
         form: &ReportForm,
     ) -> PeerReply
@@ -503,12 +505,7 @@ impl HttpPort {
     {
         let mut text = Vec::new(self.alloc);
         match reply_energy_over(
-            self.alloc,
-            &mut text,
-            office,
-            &it.files.days,
-            &it.name,
-            form,
+            self.alloc, &mut text, office, zone, &it.days, &it.name, form,
         ) {
             Ok(()) => PeerReply::Replied(text),
             Err(_) => PeerReply::Failed,
@@ -519,14 +516,16 @@ impl HttpPort {
     fn reply_days<B: Books>(
         &self,
         office: &mut Office<B>,
-        earlier: &[EarlierRegister],
+        earlier: &EarlierFiles<'_>,
         register: &Option<Name>,
         form: &ReportForm,
     ) -> PeerReply
         ensures { (names : List (List ℕ)) (at : ℕ) → PeersAsk names at B.ledger office.old office.new }
     {
-        match place_among(earlier, register) {
-            Some(place) => self.reply_energy_over(office, &earlier[place], form),
+        match place_among(earlier.registers, register) {
+            Some(place) => {
+                self.reply_energy_over(office, earlier.zone, &earlier.registers[place], form)
+            }
             None => self.reply_energy(office, register, form),
         }
     }
@@ -560,7 +559,7 @@ impl HttpPort {
         match run_route(names, request) {
             Some(RunRoute::Own(route)) => self.reply_status(route, told),
             Some(RunRoute::Metrics) => self.reply_metrics(office, told),
-            Some(RunRoute::Site) => self.reply_site(office, told.earlier, now.moment),
+            Some(RunRoute::Site) => self.reply_site(office, told.earlier.registers, now.moment),
             Some(RunRoute::Intervals { meter, span }) => {
                 self.reply_span(office, &meter, span, rows)
             }

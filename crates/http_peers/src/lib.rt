@@ -10,7 +10,7 @@ mod peers;
 mod run_told;
 mod site_over;
 
-pub use energy_over::{place_among, reply_energy_over};
+pub use energy_over::{EarlierFiles, place_among, reply_energy_over};
 pub use http_port::{HttpPort, PORT_TOKEN};
 pub use kept_room::KeptRoom;
 pub use moments::{Now, even_milliseconds};

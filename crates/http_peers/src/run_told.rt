@@ -1,5 +1,5 @@
 //! What peers are told that the office isn't asked for.
-use carried_books::EarlierRegister;
+use crate::energy_over::EarlierFiles;
 use run_status::{DeviceLack, RunMonitor};
 
 /// What was counted and kept of a run, what its devices lacked when it began, and what earlier files of its office tell of its
@@ -8,5 +8,5 @@ use run_status::{DeviceLack, RunMonitor};
 pub struct RunTold<'a> {
     pub monitor: &'a RunMonitor,
     pub lacks: &'a [DeviceLack],
-    pub earlier: &'a [EarlierRegister],
+    pub earlier: &'a EarlierFiles<'a>,
 }

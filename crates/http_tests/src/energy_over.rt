@@ -2,8 +2,8 @@
 use crate::cases::{reply, text_reply};
 use crate::office::{polled, unmetered};
 use crate::targets::route_of;
-use carried_books::{EarlierRegister, JoinedDays, JoinedFiles};
-use http_peers::{place_among, reply_energy_over};
+use carried_books::{EarlierDays, EarlierRegister, JoinedDays};
+use http_peers::{EarlierFiles, place_among, reply_energy_over};
 use interval_core::{Share, Zone};
 use memory_books::ListBooks;
 use office_books::RowSink;
@@ -19,12 +19,12 @@ static EARLIER: [Share; 2] = [Share { start: 0, mwh: 5 }, Share { start: 900, mw
 static LATE: [Share; 1] = [Share { start: 901, mwh: 1 }];
 
 // These rows, added up by days.
-fn days_of(alloc: Global, rows: &[Share]) -> Result<JoinedDays, Fail> {
+fn days_of(alloc: Global, rows: &[Share]) -> Result<EarlierDays, Fail> {
     let mut days = JoinedDays::new(alloc, Zone::read("UTC0")?);
     for row in rows {
         days.put(*row);
     }
-    Ok(days)
+    Ok(EarlierDays::of(days))
 }
 
 /// A register of which earlier files tell these meters and rows.
@@ -35,35 +35,51 @@ pub(crate) fn earlier_register(
     rows: &[Share],
 ) -> Result<EarlierRegister, Fail> {
     let name = Name::new(name).ok_or("no name")?;
-    let files = JoinedFiles {
-        is_recorded: true,
+    Ok(EarlierRegister {
+        name,
         meters: meters.to_vec(alloc)?,
         days: days_of(alloc, rows)?,
-    };
-    Ok(EarlierRegister { name, files })
+    })
 }
 
-/// What earlier files tell of the register `main`.
-pub(crate) fn earlier_main(alloc: Global) -> Result<Vec<EarlierRegister>, Fail> {
-    let main = earlier_register(alloc, b"main", &[], &EARLIER)?;
-    let mut registers = Vec::new(alloc);
-    registers.push(main)?;
-    Ok(registers)
+/// What earlier files tell of the registers of a run's office.
+#[derive(Drop)]
+pub(crate) struct Earlier {
+    zone: Zone,
+    registers: Vec<EarlierRegister>,
+}
+
+impl Earlier {
+    pub(crate) fn of_main(alloc: Global) -> Result<Earlier, Fail> {
+        let zone = Zone::read("UTC0")?;
+        let main = earlier_register(alloc, b"main", &[], &EARLIER)?;
+        let mut registers = Vec::new(alloc);
+        registers.push(main)?;
+        Ok(Earlier { zone, registers })
+    }
+
+    pub(crate) fn files(&self) -> EarlierFiles<'_> {
+        EarlierFiles {
+            zone: self.zone,
+            registers: &self.registers,
+        }
+    }
 }
 
 // What is replied to a target by an office, with days of earlier files before its own.
 fn energy_over(
     alloc: Global,
     office: &mut Office<ListBooks>,
-    earlier: &JoinedDays,
+    earlier: &EarlierDays,
     target: &str,
 ) -> Result<Vec<u8>, Fail> {
+    let zone = Zone::read("UTC0")?;
     let Some(RunRoute::Energy { register, form }) = route_of(alloc, target)? else {
         return Err(Fail::from("no energy"));
     };
     let name = register.ok_or("no name")?;
     let mut text = Vec::new(alloc);
-    reply_energy_over(alloc, &mut text, office, earlier, &name, &form)?;
+    reply_energy_over(alloc, &mut text, office, zone, earlier, &name, &form)?;
     Ok(text)
 }
 

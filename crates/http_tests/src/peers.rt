@@ -1,11 +1,11 @@
 //! Peers of a run, over sockets that don't wait.
 use crate::cases::text_reply;
 use crate::connections::{REPLY, REQUEST, Stepping, client_of, energy_of_ended};
-use crate::energy_over::earlier_main;
+use crate::energy_over::Earlier;
 use crate::office::{metered, polled};
-use carried_books::EarlierRegister;
 use http_peers::{
-    HttpPort, KeptRoom, Now, Outbox, PORT_TOKEN, RunTold, Went, even_milliseconds, went_by,
+    EarlierFiles, HttpPort, KeptRoom, Now, Outbox, PORT_TOKEN, RunTold, Went, even_milliseconds,
+    went_by,
 };
 use memory_books::ListBooks;
 use mio::{Events, Interest, Poll, Token};
@@ -59,7 +59,7 @@ impl Listening {
     }
 
     // What waits is accepted, each peer attended, and those that were replied to are dropped.
-    fn turn(&mut self, earlier: &[EarlierRegister], office: &mut Office<ListBooks>, time: u64) {
+    fn turn(&mut self, earlier: &EarlierFiles<'_>, office: &mut Office<ListBooks>, time: u64) {
         let now = Now { time, moment: 2800 };
         self.port.begin_turn();
         self.port.accept(self.poll.registry(), time);
@@ -68,7 +68,7 @@ impl Listening {
             let told = RunTold {
                 monitor: &self.monitor,
                 lacks: &[],
-                earlier,
+                earlier: &*earlier,
             };
             let place = place_at(first, step);
             self.port
@@ -90,7 +90,7 @@ impl Listening {
 
     fn turns(
         &mut self,
-        earlier: &[EarlierRegister],
+        earlier: &EarlierFiles<'_>,
         office: &mut Office<ListBooks>,
     ) -> io::Result<()> {
         for time in 0..3 {
@@ -111,9 +111,9 @@ fn serves(
     office: &mut Office<ListBooks>,
     is_full: bool,
 ) -> Result<bool, Fail> {
-    let earlier = earlier_main(rt.alloc())?;
+    let earlier = Earlier::of_main(rt.alloc())?;
     let mut listening = Listening::open(rt, listener, room)?;
-    listening.turns(&earlier, office)?;
+    listening.turns(&earlier.files(), office)?;
     let is_idle = !listening.port.is_waiting() && !listening.port.is_ready();
     let is_told = listening.port.take_full() == is_full;
     Ok(is_idle && is_told && !listening.port.take_full())

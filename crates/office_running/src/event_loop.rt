@@ -10,8 +10,8 @@ use crate::leftovers::{Left, print_left};
 use crate::outlet::Outlet;
 use crate::settings::{Settings, Site};
 use crate::voice::Voice;
-use carried_books::EarlierRegister;
-use http_peers::{HttpPort, KeptRoom, Now, PORT_TOKEN, RunTold};
+use http_peers::{EarlierFiles, HttpPort, KeptRoom, Now, PORT_TOKEN, RunTold};
+use interval_core::Zone;
 use mio::net::TcpListener;
 use mio::{Events, Interest, Poll, Registry, Token};
 use office_books::Books;
@@ -179,7 +179,7 @@ impl Running {
         &mut self,
         rt: &R,
         names: &[&str],
-        earlier: &[EarlierRegister],
+        earlier: &EarlierFiles<'_>,
         office: &mut Office<B>,
         now: Now,
     )
@@ -192,7 +192,7 @@ impl Running {
             let told = RunTold {
                 monitor: &self.voice.monitor,
                 lacks: &self.voice.lacks,
-                earlier,
+                earlier: &*earlier,
             };
             self.port.attend(rt, place, names, office, &told, now);
         }
@@ -205,7 +205,7 @@ impl Running {
         rt: &R,
         place: usize,
         names: &[&str],
-        earlier: &[EarlierRegister],
+        earlier: &EarlierFiles<'_>,
         events: &mut Events<Global>,
         office: &mut Office<B>,
         now: Now,
@@ -223,7 +223,7 @@ impl Running {
         &mut self,
         rt: &R,
         names: &[&str],
-        earlier: &[EarlierRegister],
+        earlier: &EarlierFiles<'_>,
         events: &mut Events<Global>,
         office: &mut Office<B>,
         now: Now,
@@ -240,7 +240,7 @@ impl Running {
         &mut self,
         rt: &R,
         names: &[&str],
-        earlier: &[EarlierRegister],
+        earlier: &EarlierFiles<'_>,
         events: &mut Events<Global>,
         office: &mut Office<B>,
         now: Now,
@@ -273,7 +273,7 @@ impl Running {
         &mut self,
         rt: &R,
         names: &[&str],
-        earlier: &[EarlierRegister],
+        earlier: &EarlierFiles<'_>,
         events: &mut Events<Global>,
         office: &mut Office<B>,
         now: Now,
@@ -375,7 +375,7 @@ impl Running {
         &mut self,
         rt: &R,
         names: &[&str],
-        earlier: &[EarlierRegister],
+        earlier: &EarlierFiles<'_>,
         office: &mut Office<B>,
         time: &mut RunTime,
         events: &mut Events<Global>,
@@ -423,7 +423,7 @@ impl Running {
         &mut self,
         rt: &R,
         names: &[&str],
-        earlier: &[EarlierRegister],
+        earlier: &EarlierFiles<'_>,
         office: &mut Office<B>,
         clock: &mut C,
         steady: &mut SteadyClock,
@@ -496,6 +496,7 @@ fn run_from<R: Net + std::rt::Clock, B: Books, C: Clock, W: Write, E: Write>(
     lacks: Vec<DeviceLack>,
     settings: &Settings<'_>,
     sites: &[Site],
+    zone: Zone,
     office: &mut Office<B>,
     moment: u64,
     clock: &mut C,
@@ -512,10 +513,14 @@ fn run_from<R: Net + std::rt::Clock, B: Books, C: Clock, W: Write, E: Write>(
     let begun = time.seconds();
     let mut running = open(rt, alloc, left, lacks, settings, sites, begun, output)?;
     let end = end_of(settings, begun);
+    let earlier = EarlierFiles {
+        zone,
+        registers: settings.earlier,
+    };
     running.turns(
         rt,
         settings.host_names,
-        settings.earlier,
+        &earlier,
         office,
         clock,
         &mut steady,
@@ -536,6 +541,7 @@ pub(crate) fn run_open<R: Net + std::rt::Clock, B: Books, C: Clock, W: Write, E:
     lacks: Vec<DeviceLack>,
     settings: &Settings<'_>,
     sites: &[Site],
+    zone: Zone,
     office: &mut Office<B>,
     clock: &mut C,
     output: &mut W,
@@ -547,6 +553,6 @@ pub(crate) fn run_open<R: Net + std::rt::Clock, B: Books, C: Clock, W: Write, E:
     drop(office.site());
     let moment = clock.now();
     run_from(
-        rt, alloc, left, lacks, settings, sites, office, moment, clock, output, errors,
+        rt, alloc, left, lacks, settings, sites, zone, office, moment, clock, output, errors,
     )
 }

@@ -44,6 +44,7 @@ pub fn run_office<R: Net + std::rt::Clock, B: Books, C: Clock, W: Write, E: Writ
         (C.moments clock.old) (C.moments clock.new) (B.ledger result.books) past }
     ensures lasts { Lasts (B.ledger books) (B.ledger result.books) }
 {
+    let zone = books.zone();
     let left = left_in(&mut books);
     let lacks = lacks_in(alloc, &mut books, sites);
     match open_office(alloc, books, clock, output) {
@@ -55,6 +56,7 @@ pub fn run_office<R: Net + std::rt::Clock, B: Books, C: Clock, W: Write, E: Writ
                 lacks,
                 settings,
                 sites,
+                zone,
                 &mut office,
                 clock,
                 output,

@@ -11,7 +11,7 @@ use Rattle.std.proofs.lemmas.List.Elements.{All-filter, All-get_or}
 use Rattle.std.proofs.lemmas.List.Sorted.{All-permutation, IsPermutation-reverse}
 use Rattle.std.proofs.lemmas.Option.{same_Some}
 use Rattle.interval_core.specs.Days.{AreAccounts, DayAccount}
-use Rattle.interval_core.specs.Fold.{FoldState}
+use Rattle.interval_core.specs.Fold.{FoldState, HasTaken}
 use Rattle.interval_core.specs.declared.day.DayFault.{DayFault}
 use Rattle.interval_core.specs.declared.day.DayFault.TheVariants as fault
 use Rattle.interval_core.specs.declared.shares.Share.{Share}
@@ -48,8 +48,9 @@ use Rattle.office_core.specs.Standing.{After, books_in, is_stopped}
 use Rattle.office_core.specs.Taking.{failures_of}
 use Rattle.office_core.specs.declared.office.Office.{Office}
 use Rattle.office_core.proofs.SeveralAsked.{answered_as, asked, asked_after, found_ok, found_so, goes_on, kept_on, now_as, refused_on, without_memory}
-use Rattle.carried_books.specs.Joining.Days.{AddUp, HasAdded, HasNumber, IsCopy, TakesShare}
+use Rattle.carried_books.specs.Joining.Days.{AddUp, AreSumOf, GoesOnFrom, HasNumber, TakesShare}
 use Rattle.carried_books.specs.Joining.Offices.{AsksMeters, AsksRegister, IsInstalled, LacksMemory, ListsOver, TakesMeters, TakesRegister, TellsDaysOver, rows_of_both}
+use Rattle.carried_books.specs.declared.joining.days.EarlierDays.{EarlierDays}
 use Rattle.carried_books.specs.declared.joining.days.JoinedDays.{JoinedDays}
 use Rattle.carried_books.proofs.JoiningLemmas.Days.{add_all, first_has}
 use Rattle.carried_books.proofs.JoiningLemmas.Reports.{both_within, none_within}
@@ -114,12 +115,12 @@ not_listed f (Some x) before after why fails = inr fails
 -- ---- what is told in the end
 
 -- rows that come after those of which the days are a copy
-days_on : (rows more : List Share) (earlier copy after : JoinedDays) → IsCopy earlier copy → HasAdded earlier rows → HasNumber (rows ++ more)
-    → TakesAll TakesShare copy more after → AddUp after.fault earlier.zone (rows ++ more) after.fold
-days_on rows more earlier copy after is added fits took =
-    let P : Option DayFault → Type 0 = λ f. AddUp f earlier.zone rows copy.fold in
-    let Q : FoldState → Type 0 = λ fold. AddUp earlier.fault earlier.zone rows fold in
-    (add_all earlier.zone rows more copy after is.zone fits (subst P (sym is.fault) (subst Q (sym is.fold) (added (first_has rows more fits)))) took).1
+days_on : (zone : Zone) (rows more : List Share) (earlier : EarlierDays) (copy after : JoinedDays) → GoesOnFrom zone earlier copy → AreSumOf zone rows earlier
+    → HasNumber (rows ++ more) → TakesAll TakesShare copy more after → AddUp after.fault zone (rows ++ more) after.fold
+days_on zone rows more earlier copy after is added fits took =
+    let P : Option DayFault → Type 0 = λ f. AddUp f zone rows copy.fold in
+    let Q : FoldState → Type 0 = λ fold. HasTaken zone rows fold in
+    (add_all zone rows more copy after is.zone_is fits (subst P (sym is.works) (subst Q (sym is.fold) (added (first_has rows more fits)))) took).1
 
 pub lists : (failed : Option DayFault) (zone : Zone) (rows : List Share) (fold : FoldState) (there : Option (Unit {0})) (before after : Failures)
     (result : Result (Vec DayTotal Global) Refusal) → there ≡ Some tt → after ≡ before → AddUp failed zone rows fold → EndsAs failed fold.accounts result
@@ -273,16 +274,16 @@ module _ {B : Type 0} (ledger : B → Ledger) where
       let P : Refusal → Type 0 = λ w. OnlyAsks {T = Vec DayTotal Global} ledger a b (Err w) in
       subst P (sym ends) (without_memory ledger a b (goes_on ledger a b done asks) (asked ledger a b done asks))
 
-  pub days_told : (a b : Office B) (earlier copy after : JoinedDays) (register : List ℕ) (asked : Span) (done : Unit {0})
-      (result : Result (Vec DayTotal Global) Refusal) → IsCopy earlier copy → AsksRegister ledger a b register asked copy after (Ok done)
-      → EndsAs after.fault after.fold.accounts result → TellsDaysOver ledger a b earlier register asked result
-  days_told a b earlier copy after register asked done result is asks ends = λ past stands clean rows added fits.
+  pub days_told : (a b : Office B) (zone : Zone) (earlier : EarlierDays) (copy after : JoinedDays) (register : List ℕ) (asked : Span) (done : Unit {0})
+      (result : Result (Vec DayTotal Global) Refusal) → GoesOnFrom zone earlier copy → AsksRegister ledger a b register asked copy after (Ok done)
+      → EndsAs after.fault after.fold.accounts result → TellsDaysOver ledger a b zone earlier register asked result
+  days_told a b zone earlier copy after register asked done result is asks ends = λ past stands clean rows added fits.
       let facts = facts_of past in
       let it = asks past stands clean in
       let found = found_ok ⊥ (is_there (register_of facts register)) (failures_of ledger a) (failures_of ledger b) done it.answer in
-      lists after.fault earlier.zone (rows_of_both asked rows facts register) after.fold (is_there (register_of facts register)) (failures_of ledger a)
+      lists after.fault zone (rows_of_both asked rows facts register) after.fold (is_there (register_of facts register)) (failures_of ledger a)
       (failures_of ledger b) result found.0 found.1
-      (days_on rows (rows_within asked (rows_of_register facts register)) earlier copy after is added fits it.whole) ends
+      (days_on zone rows (rows_within asked (rows_of_register facts register)) earlier copy after is added fits it.whole) ends
 
   -- what is refused whether memory is wanting or not
   refused_so : (a b : Office B) (facts : List Fact) (register : List ℕ) (why : Refusal)
@@ -294,9 +295,9 @@ module _ {B : Type 0} (ledger : B → Ledger) where
       refused_on ⊥ (there ≡ Some tt) there there (failures_of ledger a) (failures_of ledger a) (failures_of ledger b) why (λ never. absurd never) (λ none. none) refl
       found
 
-  pub days_missing : (a b : Office B) (earlier copy after : JoinedDays) (register : List ℕ) (asked : Span) (why : Refusal)
-      → AsksRegister ledger a b register asked copy after (Err why) → TellsDaysOver ledger a b earlier register asked (Err why)
-  days_missing a b earlier copy after register asked why asks = λ past stands clean rows added fits.
+  pub days_missing : (a b : Office B) (zone : Zone) (earlier : EarlierDays) (copy after : JoinedDays) (register : List ℕ) (asked : Span) (why : Refusal)
+      → AsksRegister ledger a b register asked copy after (Err why) → TellsDaysOver ledger a b zone earlier register asked (Err why)
+  days_missing a b zone earlier copy after register asked why asks = λ past stands clean rows added fits.
       inl (refused_so a b (facts_of past) register why (asks past stands clean).answer)
 
   -- ---- where there is no memory for them
@@ -317,6 +318,6 @@ module _ {B : Type 0} (ledger : B → Ledger) where
       let found = mapped (λ (row : Register). installations_of facts register) (register_of facts register) meters.items known.0 in
       inr (inr (ap (λ (row : Option Register). is_there row) found.1, known.1))
 
-  pub nothing_told : (a b : Office B) (earlier : JoinedDays) (register : List ℕ) (asked : Span) (why : Refusal) → LacksMemory ledger a b register why
-      → TellsDaysOver ledger a b earlier register asked (Err why)
-  nothing_told a b earlier register asked why lacks = λ past stands clean rows added fits. inl (lacks past stands clean)
+  pub nothing_told : (a b : Office B) (zone : Zone) (earlier : EarlierDays) (register : List ℕ) (asked : Span) (why : Refusal) → LacksMemory ledger a b register why
+      → TellsDaysOver ledger a b zone earlier register asked (Err why)
+  nothing_told a b zone earlier register asked why lacks = λ past stands clean rows added fits. inl (lacks past stands clean)

@@ -7,6 +7,7 @@ use Rattle.interval_core.specs.declared.day.DayFault.TheVariants as fault
 use Rattle.interval_core.specs.declared.limits.TheConstants.{LAST_MOMENT}
 use Rattle.interval_core.specs.declared.shares.Share.{Share}
 use Rattle.interval_core.specs.declared.zone.Zone.{Zone}
+use Rattle.carried_books.specs.declared.joining.days.EarlierDays.{EarlierDays}
 use Rattle.carried_books.specs.declared.joining.days.JoinedDays.{JoinedDays}
 
 -- ---- rows out of turn
@@ -59,10 +60,14 @@ pub record AddsRow (old : JoinedDays) (row : Share) (new : JoinedDays) : Type 0 
 abbrev pub TakesShare : JoinedDays → Share → JoinedDays → Type 0
 TakesShare old row new = MatchOption old.fault (AddsRow old row new) (λ fault. new ≡ old)
 
--- ---- a copy
+-- ---- what earlier rows were added up to
 
--- It has added up what the other has.
-pub record IsCopy (days copy : JoinedDays) : Type 0 where
-  pub zone : copy.zone ≡ days.zone
-  pub fold : copy.fold ≡ days.fold
-  pub fault : copy.fault ≡ days.fault
+-- These rows, where the sum of their energy has a number of 128 bits.
+abbrev pub AreSumOf : Zone → List Share → EarlierDays → Type 0
+AreSumOf zone rows days = HasNumber rows → HasTaken zone rows days.fold
+
+-- A sink goes on from there.
+pub record GoesOnFrom (zone : Zone) (days : EarlierDays) (sink : JoinedDays) : Type 0 where
+  pub zone_is : sink.zone ≡ zone
+  pub fold : sink.fold ≡ days.fold
+  pub works : sink.fault ≡ None

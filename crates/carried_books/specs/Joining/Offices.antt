@@ -29,7 +29,8 @@ use Rattle.office_core.specs.Several.{KeepsUnlessRefused}
 use Rattle.office_core.specs.Standing.{After}
 use Rattle.office_core.specs.Taking.{failures_of}
 use Rattle.office_core.specs.declared.office.Office.{Office}
-use Rattle.carried_books.specs.Joining.Days.{AreOutOfTurn, HasAdded, HasNumber, TakesShare}
+use Rattle.carried_books.specs.Joining.Days.{AreOutOfTurn, AreSumOf, HasNumber, TakesShare}
+use Rattle.carried_books.specs.declared.joining.days.EarlierDays.{EarlierDays}
 use Rattle.carried_books.specs.declared.joining.days.JoinedDays.{JoinedDays}
 
 -- ---- the quarter hours that an office has
@@ -92,15 +93,15 @@ abbrev pub rows_of_both : Span → (earlier : List Share) → List Fact → (reg
 rows_of_both span earlier facts register =
     earlier ++ rows_within span (rows_of_register facts register)
 
--- So it is with the rows that were added up to the earlier days, by what an office had accepted, where the sum of the energy of all
+-- So it is with the rows of which the earlier days are the sum, by what an office had accepted, where the sum of the energy of all
 -- has a number of 128 bits.
-abbrev pub TellsDaysOver : {B : Type 0} → (B → Ledger) → (old new : Office B)
-    → (earlier : JoinedDays) → (register : List ℕ) → Span
+abbrev pub TellsDaysOver : {B : Type 0} → (B → Ledger) → (old new : Office B) → Zone
+    → (earlier : EarlierDays) → (register : List ℕ) → Span
     → Result (Vec DayTotal Global) Refusal → Type 0
-TellsDaysOver ledger old new earlier register span result = After ledger old new (λ past.
-    (rows : List Share) → HasAdded earlier rows
+TellsDaysOver ledger old new zone earlier register span result = After ledger old new (λ past.
+    (rows : List Share) → AreSumOf zone rows earlier
     → HasNumber (rows_of_both span rows (facts_of past) register)
-    → ListsOver earlier.zone (rows_of_both span rows (facts_of past) register)
+    → ListsOver zone (rows_of_both span rows (facts_of past) register)
     (is_there (register_of (facts_of past) register))
     (failures_of ledger old) (failures_of ledger new) result)
 

@@ -17,7 +17,7 @@ use Rattle.carried_books.specs.declared.joining.sites.LatestMeter.{LatestMeter}
 abbrev pub earlier_meters : List EarlierRegister → (register : List ℕ) → List Installation
 earlier_meters [] register = []
 earlier_meters (one ∷ more) register =
-    if same one.name register then one.files.meters.items else earlier_meters more register
+    if same one.name register then one.meters.items else earlier_meters more register
 
 -- A meter of the office is the one that earlier files left open.
 abbrev pub is_left : (stands row : Installation) → Bool

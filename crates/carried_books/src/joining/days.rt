@@ -87,19 +87,45 @@ impl JoinedDays {
     }
 }
 
-/// A copy goes on from the rows so far, while these days stay as they are.
-impl Clone for JoinedDays {
-    ghost use Rattle.carried_books.specs.Joining.Days.{IsCopy};
+/// What rows were added up to, of which none was out of turn, without the zone by whose clocks that was: what holds a zone can't be
+/// lent on to whatever books have one, too.
+#[derive(Drop)]
+pub struct EarlierDays {
+    fold: DayFold,
+    latest: Option<u64>,
+    ghost in_step: { fold.latest ≡ latest } by { Prim.hlevel props },
+}
 
-    ghost is_clone = { IsCopy };
+impl EarlierDays {
+    ghost use Rattle.std.specs.Prelude.{◌≡◌, IfOk};
+    ghost use Rattle.interval_core.specs.Days.{account_of};
+    ghost use Rattle.carried_books.specs.Joining.Days.{GoesOnFrom};
 
-    fn clone(&self) -> Result<JoinedDays, AllocError> {
+    /// What was added up.
+    pub fn of(days: JoinedDays) -> EarlierDays
+        ensures { result.fold ≡ days.fold }
+    {
+        let JoinedDays { fold, latest, .. } = days;
+        EarlierDays { fold, latest }
+    }
+
+    /// The days, in order.
+    pub fn into_rows(self) -> Vec<DayTotal>
+        ensures { map account_of result.items ≡ self.fold.accounts }
+    {
+        self.fold.into_rows()
+    }
+
+    /// A copy that goes on from them, by the clocks of a zone, while these stay as they are.
+    pub(crate) fn go_on(&self, zone: Zone) -> Result<JoinedDays, AllocError>
+        ensures { IfOk result (GoesOnFrom zone self.now) }
+    {
         let fold = self.fold.clone()?;
         Ok(JoinedDays {
-            zone: self.zone,
+            zone,
             fold,
             latest: self.latest,
-            fault: self.fault,
+            fault: None,
         })
     }
 }

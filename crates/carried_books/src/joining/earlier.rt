@@ -1,30 +1,53 @@
 //! What is kept of the registers of earlier files, over which an office that goes on tells energy, too.
-ghost use Rattle.std.specs.Prelude.{◌≡◌, List, IfOk};
+ghost use Rattle.std.specs.Prelude.{◌≡◌, List, map, IfOk};
 ghost use Rattle.office_events.specs.declared.facts.Fact.{Fact};
 ghost use Rattle.office_books.specs.Ledgers.{Consults};
 ghost use Rattle.office_books.specs.declared.spans.Span.TheVariants.{All};
 ghost use Rattle.carried_books.specs.Joining.Files.{AllJoin};
-ghost use Rattle.carried_books.specs.Joining.Earlier.{HoldMeters, HoldsFile};
+ghost use Rattle.carried_books.specs.Joining.Earlier.{HoldMeters, HoldsFile, kept_as, told};
 
+use crate::joining::days::EarlierDays;
 use crate::joining::files::{JoinedFiles, Unjoined, add_books, is_recorded, join_meters, no_files};
 use crate::joining::keeping::Keeping;
 use crate::joining::meters::both;
 use interval_core::{DayRange, Zone};
 use office_books::{Books, BooksFault, Span};
-use office_events::{Device, Name, Register};
-use std::alloc::Global;
+use office_events::{Device, Installation, Name, Register};
+use std::alloc::{AllocError, Global};
 
-/// What files tell of a register, one after the other: its meters and its days.
+/// What earlier files tell of a register: the meters at it, in the order in which they were installed, each as all of these files have
+/// it, and its days.
 #[derive(Drop)]
 pub struct EarlierRegister {
     pub name: Name,
+    pub meters: Vec<Installation>,
+    pub days: EarlierDays,
+}
+
+/// What files tell of a register, one after the other, by which the next is held to them.
+#[derive(Drop)]
+pub struct KeptRegister {
+    pub name: Name,
     pub files: JoinedFiles,
+}
+
+// What is told of it, once all files were added.
+fn earlier_of(kept: KeptRegister) -> EarlierRegister
+    ensures { told result ≡ kept_as kept }
+{
+    let KeptRegister { name, files } = kept;
+    let JoinedFiles { meters, days, .. } = files;
+    EarlierRegister {
+        name,
+        meters,
+        days: EarlierDays::of(days),
+    }
 }
 
 /// Adds what the books of the next file tell of the register. It answers why the file doesn't join those before it. The books are
 /// only asked.
 pub fn add_kept<B: Books>(
-    kept: &mut EarlierRegister,
+    kept: &mut KeptRegister,
     books: &mut B,
 ) -> Result<Option<Unjoined>, BooksFault>
     ensures name { kept.new.name ≡ kept.old.name }
@@ -38,10 +61,7 @@ pub fn add_kept<B: Books>(
 }
 
 // Holds the meters at a register to those of the files before.
-fn hold_meters<B: Books>(
-    kept: &EarlierRegister,
-    books: &mut B,
-) -> Result<Option<Unjoined>, BooksFault>
+fn hold_meters<B: Books>(kept: &KeptRegister, books: &mut B) -> Result<Option<Unjoined>, BooksFault>
     ensures holds { (known : List Fact) → (B.ledger books.old).holds known
         → (B.ledger books.new).is_clean
         → IfOk result (HoldMeters kept.now known) }
@@ -63,7 +83,7 @@ fn hold_meters<B: Books>(
 /// Holds the books of the file in which an office goes on to those before it: its meters at the register, and whether that is recorded. It
 /// answers why they don't join. What is kept is of the files before alone. The books are only asked.
 pub fn hold_kept<B: Books>(
-    kept: &EarlierRegister,
+    kept: &KeptRegister,
     books: &mut B,
 ) -> Result<Option<Unjoined>, BooksFault>
     ensures holds { (known : List Fact) → (B.ledger books.old).holds known
@@ -87,11 +107,11 @@ pub fn hold_kept<B: Books>(
 pub struct KeptRegisters {
     alloc: Global,
     zone: Zone,
-    kept: Vec<EarlierRegister>,
+    kept: Vec<KeptRegister>,
 }
 
 // Whether a register is kept.
-fn is_kept(kept: &[EarlierRegister], name: &Name) -> bool {
+fn is_kept(kept: &[KeptRegister], name: &Name) -> bool {
     for one in kept {
         if one.name.is(name) {
             return true;
@@ -102,7 +122,7 @@ fn is_kept(kept: &[EarlierRegister], name: &Name) -> bool {
 
 // Adds what books tell of the registers that are kept.
 fn add_all<B: Books>(
-    kept: &mut Vec<EarlierRegister>,
+    kept: &mut Vec<KeptRegister>,
     books: &mut B,
 ) -> Result<Option<Unjoined>, BooksFault>
     ensures { Consults (B.ledger books.old) (B.ledger books.new) result }
@@ -123,10 +143,7 @@ fn add_all<B: Books>(
 }
 
 // Holds books to the registers that are kept.
-fn hold_all<B: Books>(
-    kept: &[EarlierRegister],
-    books: &mut B,
-) -> Result<Option<Unjoined>, BooksFault>
+fn hold_all<B: Books>(kept: &[KeptRegister], books: &mut B) -> Result<Option<Unjoined>, BooksFault>
     ensures { Consults (B.ledger books.old) (B.ledger books.new) result }
 {
     for one in kept {
@@ -146,7 +163,7 @@ fn hold_all<B: Books>(
 fn add_new<B: Books>(
     alloc: Global,
     zone: Zone,
-    kept: &mut Vec<EarlierRegister>,
+    kept: &mut Vec<KeptRegister>,
     books: &mut B,
     name: Name,
 ) -> Result<Option<Unjoined>, BooksFault>
@@ -155,7 +172,7 @@ fn add_new<B: Books>(
     if is_kept(kept.as_slice(), &name) {
         return Ok(None);
     }
-    let mut one = EarlierRegister {
+    let mut one = KeptRegister {
         name,
         files: no_files(alloc, zone),
     };
@@ -177,7 +194,7 @@ fn add_new<B: Books>(
 fn add_registers<B: Books>(
     alloc: Global,
     zone: Zone,
-    kept: &mut Vec<EarlierRegister>,
+    kept: &mut Vec<KeptRegister>,
     books: &mut B,
     registers: &[Register],
 ) -> Result<Option<Unjoined>, BooksFault>
@@ -200,7 +217,7 @@ fn add_registers<B: Books>(
 fn add_device<B: Books>(
     alloc: Global,
     zone: Zone,
-    kept: &mut Vec<EarlierRegister>,
+    kept: &mut Vec<KeptRegister>,
     books: &mut B,
     device: &Device,
 ) -> Result<Option<Unjoined>, BooksFault>
@@ -216,7 +233,7 @@ fn add_device<B: Books>(
 fn add_devices<B: Books>(
     alloc: Global,
     zone: Zone,
-    kept: &mut Vec<EarlierRegister>,
+    kept: &mut Vec<KeptRegister>,
     books: &mut B,
     devices: &[Device],
 ) -> Result<Option<Unjoined>, BooksFault>
@@ -239,7 +256,7 @@ fn add_devices<B: Books>(
 fn add_others<B: Books>(
     alloc: Global,
     zone: Zone,
-    kept: &mut Vec<EarlierRegister>,
+    kept: &mut Vec<KeptRegister>,
     books: &mut B,
 ) -> Result<Option<Unjoined>, BooksFault>
     ensures { Consults (B.ledger books.old) (B.ledger books.new) result }
@@ -254,7 +271,7 @@ fn add_others<B: Books>(
 fn add_books_to<B: Books>(
     alloc: Global,
     zone: Zone,
-    kept: &mut Vec<EarlierRegister>,
+    kept: &mut Vec<KeptRegister>,
     books: &mut B,
 ) -> Result<Option<Unjoined>, BooksFault>
     ensures { Consults (B.ledger books.old) (B.ledger books.new) result }
@@ -271,12 +288,17 @@ fn add_books_to<B: Books>(
 }
 
 impl KeptRegisters {
-    /// Each register, in the order in which the files had it first. No memory is taken.
-    pub fn into_registers(self) -> Vec<EarlierRegister>
-        ensures { result ≡ self.kept }
+    /// What the files tell of each register, in the order in which they had it first.
+    pub fn into_registers(self) -> Result<Vec<EarlierRegister>, AllocError>
+        ensures { IfOk result (λ registers. map told registers.items
+            ≡ map kept_as self.kept.items) }
     {
-        let KeptRegisters { kept, .. } = self;
-        kept
+        let KeptRegisters { alloc, kept, .. } = self;
+        let mut registers = Vec::new(alloc);
+        for one in kept {
+            registers.push(earlier_of(one))?;
+        }
+        Ok(registers)
     }
 }
 

@@ -7,8 +7,8 @@ ghost use Rattle.office_core.specs.Asking.{OnlyAsks};
 ghost use Rattle.carried_books.specs.Joining.Offices.{AsksMeters, AsksRegister, LacksMemory};
 ghost use Rattle.carried_books.specs.Joining.Offices.{TellsDaysOver};
 
-use crate::joining::days::JoinedDays;
-use interval_core::DayTotal;
+use crate::joining::days::{EarlierDays, JoinedDays};
+use interval_core::{DayTotal, Zone};
 use office_books::{Books, Span};
 use office_core::Office;
 use office_events::{Installation, Name, Refusal};
@@ -62,20 +62,20 @@ fn without_memory<B: Books>(office: &mut Office<B>, register: &Name) -> Refusal
 }
 
 /// The days of a register over earlier files and an office that goes on: those that the earlier files have of it, and those of the
-/// office's quarter hours that are asked for. Energies are in mWh, and days are by the clocks of the zone of the earlier ones. The
-/// office is only asked, and the earlier days stay as they are. A row that starts before one before it is refused as one without a
-/// day.
+/// office's quarter hours that are asked for. Energies are in mWh, and days are by the clocks of a zone, as the earlier ones. The
+/// office is only asked. A row that starts before one before it is refused as one without a day.
 pub fn days_over<B: Books>(
     office: &mut Office<B>,
-    earlier: &JoinedDays,
+    zone: Zone,
+    earlier: &EarlierDays,
     register: &Name,
     span: Span,
 ) -> Result<Vec<DayTotal>, Refusal>
-    ensures days { TellsDaysOver B.ledger office.old office.new earlier.now register.now span
+    ensures days { TellsDaysOver B.ledger office.old office.new zone earlier.now register.now span
         result }
     ensures asks { OnlyAsks B.ledger office.old office.new result }
 {
-    match earlier.clone() {
+    match earlier.go_on(zone) {
         Err(_) => Err(without_memory(office, register)),
         Ok(copy) => {
             let mut days = copy;

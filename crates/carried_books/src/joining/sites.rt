@@ -20,7 +20,7 @@ pub fn earlier_meters<'a>(earlier: &'a [EarlierRegister], register: &Name) -> &'
 {
     for one in earlier {
         if one.name.is(register) {
-            return one.files.meters.as_slice();
+            return one.meters.as_slice();
         }
     }
     &[]
