@@ -47,6 +47,7 @@ first. `bench/gate.sh --page --log FILE` makes this page of what `bench/watch.py
   below. `tests/unnamed.py` tells entries that can go.
 
 `bench/functions.sh NAME` tells which functions of a check are dear, and what it pays before the first.
+`bench/ci.py --minutes PROCESSORS` plays the gate's schedule over this page, and tells how long it takes on so many.
 
 ## By crate
 

@@ -43,33 +43,59 @@ fn kept_of(alloc: Global, files: &[&str]) -> Result<KeptRegisters, Fail> {
     Ok(kept)
 }
 
-// A day: how many quarter hours have a row, and their energy in mWh.
-fn days_of(alloc: Global, it: EarlierRegister) -> Result<Vec<(u32, u128)>, AllocError> {
-    let days = it.days.into_rows();
-    days.iter().map(|day| (day.count, day.mwh)).collect(alloc)
+/// A register of earlier files: its name; of each meter the energy in mWh, and whether it was closed; and of each day how many quarter
+/// hours have a row, and their energy in mWh.
+type Told = (
+    &'static [u8],
+    &'static [(u64, bool)],
+    &'static [(u32, u128)],
+);
+
+// Whether that is told of a register.
+fn is_told(alloc: Global, it: EarlierRegister, told: Told) -> Result<bool, AllocError> {
+    let EarlierRegister { name, meters, days } = it;
+    let (register, energies, sums) = told;
+    let of_meters = meters.iter().map(|row| (row.total, row.ended));
+    let of_meters: Vec<(u64, bool)> = of_meters.collect(alloc)?;
+    let rows = days.into_rows();
+    let of_days = rows.iter().map(|day| (day.count, day.mwh));
+    let of_days: Vec<(u32, u128)> = of_days.collect(alloc)?;
+    let is_it = name.as_bytes() == register && of_meters.as_slice() == energies;
+    Ok(is_it && of_days.as_slice() == sums)
 }
 
-// The meters at the register: the energy of each in mWh, and whether it was closed.
-fn meters_of(alloc: Global, it: &EarlierRegister) -> Result<Vec<(u64, bool)>, AllocError> {
-    let meters = it.meters.iter();
-    meters.map(|row| (row.total, row.ended)).collect(alloc)
+// Whether these registers are told, in their order.
+fn are_told(
+    alloc: Global,
+    registers: Vec<EarlierRegister>,
+    told: &[Told],
+) -> Result<bool, AllocError> {
+    let mut count = 0usize;
+    for it in registers {
+        let Some(one) = told.get(count) else {
+            return Ok(false);
+        };
+        if !is_told(alloc, it, *one)? {
+            return Ok(false);
+        }
+        count = count.saturating_add(1);
+    }
+    Ok(count == told.len())
 }
 
 // The day has 345 Wh in four quarter hours, and the file behind it 45 Wh more, in two of which one is the last of the day.
 #[test]
 fn the_registers_of_earlier_files_are_kept(rt: HostRuntime) -> Result<(), Fail> {
-    let kept = kept_of(rt.alloc(), &[DAY, NEXT])?;
-    let mut registers = kept.into_registers()?;
-    let spare = registers.pop().ok_or("no register")?;
-    let main = registers.pop().ok_or("one register")?;
-    assert!(rt; registers.is_empty());
-    assert!(rt; main.name.as_bytes() == b"main".as_slice());
-    assert!(rt; spare.name.as_bytes() == b"spare".as_slice());
-    assert!(rt;
-        meters_of(rt.alloc(), &main)?.as_slice() == [(300_000, true), (90_000, false)].as_slice()
-    );
-    assert!(rt; days_of(rt.alloc(), main)?.as_slice() == [(5, 390_000)].as_slice());
-    assert!(rt; spare.meters.is_empty() && days_of(rt.alloc(), spare)?.is_empty());
+    let registers = kept_of(rt.alloc(), &[DAY, NEXT])?.into_registers()?;
+    let told: [Told; 2] = [
+        (
+            b"main",
+            &[(300_000, true), (90_000, false)],
+            &[(5, 390_000)],
+        ),
+        (b"spare", &[], &[]),
+    ];
+    assert!(rt; are_told(rt.alloc(), registers, &told)?);
     Ok(())
 }
 
@@ -80,13 +106,12 @@ fn the_file_that_goes_on_is_held_to_them(rt: HostRuntime) -> Result<(), Fail> {
     let mut held = HeldRegisters { kept };
     assert!(rt; add(&mut held, rt.alloc(), NEXT)?.is_none());
     let HeldRegisters { kept } = held;
-    let mut registers = kept.into_registers()?;
-    let main = registers.pop().ok_or("no register")?;
-    assert!(rt; registers.is_empty());
-    assert!(rt;
-        meters_of(rt.alloc(), &main)?.as_slice() == [(300_000, true), (45_000, false)].as_slice()
-    );
-    assert!(rt; days_of(rt.alloc(), main)?.as_slice() == [(4, 345_000)].as_slice());
+    let told: [Told; 1] = [(
+        b"main",
+        &[(300_000, true), (45_000, false)],
+        &[(4, 345_000)],
+    )];
+    assert!(rt; are_told(rt.alloc(), kept.into_registers()?, &told)?);
     Ok(())
 }
 
