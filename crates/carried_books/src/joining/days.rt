@@ -87,8 +87,8 @@ impl JoinedDays {
     }
 }
 
-/// What rows were added up to, of which none was out of turn, without the zone by whose clocks that was: what holds a zone can't be
-/// lent on to whatever books have one, too.
+/// What rows were added up to, of which none was out of turn, without the zone by whose clocks that was: the checker of one of the kits
+/// does not cover a call over books in files that is lent what holds a zone.
 #[derive(Drop)]
 pub struct EarlierDays {
     fold: DayFold,
