@@ -99,13 +99,20 @@ fn the_registers_of_earlier_files_are_kept(rt: HostRuntime) -> Result<(), Fail> 
     Ok(())
 }
 
+// What is kept of the day after the file that goes on from it was held to that.
+fn kept_before_next(alloc: Global) -> Result<KeptRegisters, Fail> {
+    let kept = kept_of(alloc, &[DAY])?;
+    let mut held = HeldRegisters { kept };
+    match add(&mut held, alloc, NEXT)? {
+        None => Ok(held.kept),
+        Some(_why) => Err(Fail::from("it doesn't go on")),
+    }
+}
+
 // Of the file to which they are held nothing is kept.
 #[test]
 fn the_file_that_goes_on_is_held_to_them(rt: HostRuntime) -> Result<(), Fail> {
-    let kept = kept_of(rt.alloc(), &[DAY])?;
-    let mut held = HeldRegisters { kept };
-    assert!(rt; add(&mut held, rt.alloc(), NEXT)?.is_none());
-    let HeldRegisters { kept } = held;
+    let kept = kept_before_next(rt.alloc())?;
     let told: [Told; 1] = [(
         b"main",
         &[(300_000, true), (45_000, false)],

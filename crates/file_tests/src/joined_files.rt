@@ -131,14 +131,18 @@ fn is_apart_from_itself<D: Databases>(
     }
 }
 
+/// Whether the file of the day is reported alone, and doesn't join itself.
+fn is_told_alone<D: Databases>(rt: &HostRuntime, databases: &D, path: &str) -> Result<bool, Fail> {
+    fill(rt, databases, path)?;
+    Ok(is_reported(rt, databases, path)? && is_apart_from_itself(rt, databases, path)?)
+}
+
 #[test]
 fn a_file_is_reported_alone_and_not_after_itself(rt: HostRuntime) -> Result<(), Fail> {
     one_file_tells_its_days();
     both_files_tell_the_joined_days();
     let path = path(&rt)?;
     let files = Files { rt: &rt };
-    fill(&rt, &files, &path)?;
-    assert!(rt; is_reported(&rt, &files, &path)?);
-    assert!(rt; is_apart_from_itself(&rt, &files, &path)?);
+    assert!(rt; is_told_alone(&rt, &files, &path)?);
     remove(&rt, &path)
 }

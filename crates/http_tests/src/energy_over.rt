@@ -83,6 +83,32 @@ fn energy_over(
     Ok(text)
 }
 
+// Whether these lines are the reply.
+fn are_told(
+    alloc: Global,
+    office: &mut Office<ListBooks>,
+    earlier: &EarlierDays,
+    target: &str,
+    lines: &str,
+) -> Result<bool, Fail> {
+    let text = energy_over(alloc, office, earlier, target)?;
+    let expected = text_reply(alloc, lines)?;
+    Ok(text.as_slice() == expected.as_bytes())
+}
+
+// Whether this refusal is the reply.
+fn is_refused(
+    alloc: Global,
+    office: &mut Office<ListBooks>,
+    earlier: &EarlierDays,
+    target: &str,
+    (status, body): (&str, &str),
+) -> Result<bool, Fail> {
+    let text = energy_over(alloc, office, earlier, target)?;
+    let expected = reply(alloc, status, body)?;
+    Ok(text.as_slice() == expected.as_bytes())
+}
+
 // The quarter hour from 900 is in both. What is kept of earlier files is asked for again and again.
 static TOLD: [(&str, &str); 4] = [
     (
@@ -102,9 +128,7 @@ fn days_of_earlier_files_are_told_too(rt: HostRuntime) -> Result<(), Fail> {
     let mut office = polled(rt.alloc())?;
     let earlier = days_of(rt.alloc(), &EARLIER)?;
     for (target, lines) in TOLD {
-        let text = energy_over(rt.alloc(), &mut office, &earlier, target)?;
-        let expected = text_reply(rt.alloc(), lines)?;
-        assert!(rt; text.as_slice() == expected.as_bytes());
+        assert!(rt; are_told(rt.alloc(), &mut office, &earlier, target, lines)?);
     }
     Ok(())
 }
@@ -113,9 +137,8 @@ fn days_of_earlier_files_are_told_too(rt: HostRuntime) -> Result<(), Fail> {
 fn a_register_that_has_no_meter_has_its_earlier_days(rt: HostRuntime) -> Result<(), Fail> {
     let mut office = unmetered(rt.alloc())?;
     let earlier = days_of(rt.alloc(), &EARLIER)?;
-    let text = energy_over(rt.alloc(), &mut office, &earlier, "/registers/main/months")?;
-    let expected = text_reply(rt.alloc(), "1970-01    2                       12\nend 1\n")?;
-    assert!(rt; text.as_slice() == expected.as_bytes());
+    let lines = "1970-01    2                       12\nend 1\n";
+    assert!(rt; are_told(rt.alloc(), &mut office, &earlier, "/registers/main/months", lines)?);
     Ok(())
 }
 
@@ -123,9 +146,8 @@ fn a_register_that_has_no_meter_has_its_earlier_days(rt: HostRuntime) -> Result<
 fn a_quarter_hour_before_the_last_has_no_day(rt: HostRuntime) -> Result<(), Fail> {
     let mut office = polled(rt.alloc())?;
     let earlier = days_of(rt.alloc(), &LATE)?;
-    let text = energy_over(rt.alloc(), &mut office, &earlier, "/registers/main/months")?;
-    let expected = reply(rt.alloc(), "503 Service Unavailable", "{\"refused\":13}")?;
-    assert!(rt; text.as_slice() == expected.as_bytes());
+    let refusal = ("503 Service Unavailable", "{\"refused\":13}");
+    assert!(rt; is_refused(rt.alloc(), &mut office, &earlier, "/registers/main/months", refusal)?);
     Ok(())
 }
 
@@ -133,9 +155,8 @@ fn a_quarter_hour_before_the_last_has_no_day(rt: HostRuntime) -> Result<(), Fail
 fn a_register_that_is_none_has_no_earlier_days(rt: HostRuntime) -> Result<(), Fail> {
     let mut office = polled(rt.alloc())?;
     let earlier = days_of(rt.alloc(), &EARLIER)?;
-    let text = energy_over(rt.alloc(), &mut office, &earlier, "/registers/none/months")?;
-    let expected = reply(rt.alloc(), "404 Not Found", "{\"refused\":1}")?;
-    assert!(rt; text.as_slice() == expected.as_bytes());
+    let refusal = ("404 Not Found", "{\"refused\":1}");
+    assert!(rt; is_refused(rt.alloc(), &mut office, &earlier, "/registers/none/months", refusal)?);
     Ok(())
 }
 

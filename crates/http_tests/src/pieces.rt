@@ -69,6 +69,32 @@ fn tell_all(
     Ok(count)
 }
 
+// All that a span's reply has, told at once.
+fn whole(
+    alloc: Global,
+    office: &mut Office<ListBooks>,
+    from: u64,
+    till: u64,
+) -> Result<Vec<u8>, Fail> {
+    let mut text = Vec::new(alloc);
+    let span = Span::Between { from, till };
+    reply_intervals(alloc, &mut text, office, &Name::new(b"m1"), span)?;
+    Ok(text)
+}
+
+// The same, told in pieces of so many seconds.
+fn in_pieces(
+    alloc: Global,
+    office: &mut Office<ListBooks>,
+    (from, till): (u64, u64),
+    seconds: u64,
+) -> Result<Vec<u8>, Fail> {
+    let mut text = Vec::new(alloc);
+    let mut left = begun(alloc, &mut text, office, from, till)?;
+    tell_all(alloc, &mut text, office, &mut left, seconds)?;
+    Ok(text)
+}
+
 static SPANS: [(u64, u64); 6] = [
     (0, u64::MAX),
     (900, 1801),
@@ -83,13 +109,9 @@ static SPANS: [(u64, u64); 6] = [
 fn pieces_are_the_reply(rt: HostRuntime) -> Result<(), Fail> {
     let mut office = polled(rt.alloc())?;
     for (from, till) in SPANS {
-        let mut whole = Vec::new(rt.alloc());
-        let span = Span::Between { from, till };
-        reply_intervals(rt.alloc(), &mut whole, &mut office, &Name::new(b"m1"), span)?;
+        let whole = whole(rt.alloc(), &mut office, from, till)?;
         for seconds in [100, 900, 90000] {
-            let mut text = Vec::new(rt.alloc());
-            let mut left = begun(rt.alloc(), &mut text, &mut office, from, till)?;
-            tell_all(rt.alloc(), &mut text, &mut office, &mut left, seconds)?;
+            let text = in_pieces(rt.alloc(), &mut office, (from, till), seconds)?;
             assert!(rt;
                 text.as_slice() == whole.as_slice(),
                 "{from} {till} {seconds}"
@@ -103,14 +125,22 @@ fn pieces_are_the_reply(rt: HostRuntime) -> Result<(), Fail> {
 static LATER: &[u8] =
     b"POST /registers/main/manual HTTP/1.1\r\nContent-Length: 22\r\nOffice-Caller: desk\r\nOffice-Request: 4\r\n\r\n{\"raw\":5500,\"rolls\":0}";
 
+// What is told of a reply that had begun then, and in how many pieces.
+fn told_of_before(alloc: Global, office: &mut Office<ListBooks>) -> Result<(u32, Vec<u8>), Fail> {
+    let mut text = Vec::new(alloc);
+    let mut left = begun(alloc, &mut text, office, 0, 9000)?;
+    let served = serve(alloc, office, 2800, LATER)?;
+    if !served.given.starts_with(b"HTTP/1.1 200 ") {
+        return Err(Fail::from("not read"));
+    }
+    let count = tell_all(alloc, &mut text, office, &mut left, 900)?;
+    Ok((count, text))
+}
+
 #[test]
 fn what_comes_meanwhile_is_not_told(rt: HostRuntime) -> Result<(), Fail> {
     let mut office = polled(rt.alloc())?;
-    let mut text = Vec::new(rt.alloc());
-    let mut left = begun(rt.alloc(), &mut text, &mut office, 0, 9000)?;
-    let served = serve(rt.alloc(), &mut office, 2800, LATER)?;
-    assert!(rt; served.given.starts_with(b"HTTP/1.1 200 "));
-    let count = tell_all(rt.alloc(), &mut text, &mut office, &mut left, 900)?;
+    let (count, text) = told_of_before(rt.alloc(), &mut office)?;
     assert!(rt; count == 1);
     let expected = text_reply(rt.alloc(), "900 177777\n1800 22223\nend 2\n")?;
     assert!(rt; text.as_slice() == expected.as_bytes());
@@ -119,16 +149,22 @@ fn what_comes_meanwhile_is_not_told(rt: HostRuntime) -> Result<(), Fail> {
 
 static ALL_ROWS: &[u8] = b"GET /meters/m1/intervals HTTP/1.1\r\nHost: localhost\r\n\r\n";
 
-#[test]
-fn all_rows_are_the_reply_of_the_office(rt: HostRuntime) -> Result<(), Fail> {
-    let mut office = polled(rt.alloc())?;
-    let it = meter(&mut office)?;
-    let mut text = Vec::new(rt.alloc());
-    let begun = begin_all_intervals(rt.alloc(), &mut text, &mut office, &it)?;
+// All rows of the meter, told in pieces of a quarter hour.
+fn all_in_pieces(alloc: Global, office: &mut Office<ListBooks>) -> Result<Vec<u8>, Fail> {
+    let it = meter(office)?;
+    let mut text = Vec::new(alloc);
+    let begun = begin_all_intervals(alloc, &mut text, office, &it)?;
     let Ok(mut left) = begun else {
         return Err(Fail::from("refused"));
     };
-    tell_all(rt.alloc(), &mut text, &mut office, &mut left, 900)?;
+    tell_all(alloc, &mut text, office, &mut left, 900)?;
+    Ok(text)
+}
+
+#[test]
+fn all_rows_are_the_reply_of_the_office(rt: HostRuntime) -> Result<(), Fail> {
+    let mut office = polled(rt.alloc())?;
+    let text = all_in_pieces(rt.alloc(), &mut office)?;
     match ask(rt.alloc(), ALL_ROWS, &mut office, 1900) {
         PeerReply::Replied(reply) => assert!(rt; text.as_slice() == reply.as_slice()),
         _ => return Err(Fail::from("no reply")),

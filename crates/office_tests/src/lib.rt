@@ -70,6 +70,7 @@ mod round_faults;
 mod rounds;
 #[cfg(test)]
 mod run_monitors;
+#[cfg(test)]
 mod runs;
 #[cfg(test)]
 mod sayings;
@@ -89,5 +90,3 @@ mod stopped_office;
 mod turns;
 #[cfg(test)]
 mod writers;
-
-pub use runs::run_anew;

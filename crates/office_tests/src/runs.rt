@@ -10,7 +10,7 @@ use office_events::{Event, Refusal};
 use std::alloc::Global;
 
 /// Over new books in memory the headline holds, whatever events come: no premise is left.
-pub fn run_anew(
+pub(crate) fn run_anew(
     alloc: Global,
     zone: Zone,
     opened: u64,

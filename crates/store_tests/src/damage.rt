@@ -4,7 +4,6 @@ use crate::made::{found, opened};
 use crate::questions::are_answered;
 use crate::tables::{loose, strict};
 use office_books::{Books, BooksFault, StoreFault};
-use office_core::Office;
 use office_events::{Device, Fact, Name, Refusal, StoreCause, Timeout, Window};
 use office_store::SqlBooks;
 use sqlite::{Connection, Error, MemStore};
@@ -101,16 +100,17 @@ fn damaged(alloc: Global) -> Result<SqlBooks<MemStore>, Fail> {
     found(alloc, connection)
 }
 
-/// An office over these books.
-fn office(alloc: Global) -> Result<Office<SqlBooks<MemStore>>, Fail> {
-    opened(alloc, damaged(alloc)?, 5000)
+/// Whether an office over these books refuses to tell of a meter, for their damage.
+fn is_refused_for_damage<B: Books>(alloc: Global, books: B) -> Result<bool, Fail> {
+    let mut office = opened(alloc, books, 5000)?;
+    let answer = office.meter(&Name::new(b"m1"));
+    Ok(matches!(answer, Err(Refusal::Store(StoreCause::Damaged))))
 }
 
 #[test]
 fn a_question_is_refused_for_damage(rt: HostRuntime) -> Result<(), Fail> {
-    let mut office = office(rt.alloc())?;
-    let answer = office.meter(&Name::new(b"m1"));
-    assert!(rt; matches!(answer, Err(Refusal::Store(StoreCause::Damaged))));
+    let books = damaged(rt.alloc())?;
+    assert!(rt; is_refused_for_damage(rt.alloc(), books)?);
     Ok(())
 }
 

@@ -127,10 +127,14 @@ fn two_files(alloc: Global) -> Result<Joining<'static>, Fail> {
     with(alloc, joining, next_file(alloc)?)
 }
 
+fn three_files(alloc: Global) -> Result<Joining<'static>, Fail> {
+    let joining = two_files(alloc)?;
+    with(alloc, joining, new_file(alloc, b"m1", 2800, 5300)?)
+}
+
 #[test]
 fn a_third_file_goes_on_from_the_second(rt: HostRuntime) -> Result<(), Fail> {
-    let next = new_file(rt.alloc(), b"m1", 2800, 5300)?;
-    let joining = with(rt.alloc(), two_files(rt.alloc())?, next)?;
+    let joining = three_files(rt.alloc())?;
     let text = said(rt.alloc(), &joining)?;
     assert!(rt; text.as_slice() == b"joined: fine\n".as_slice());
     Ok(())

@@ -4,10 +4,8 @@ use crate::printed::Printed;
 use office_books::Books;
 use office_core::Office;
 use office_events::{Command, Event, PlannedList, PutList, StartPoll};
-use office_store::SqlBooks;
 use point_list::read_list;
 use script_lines::{GivenList, GivenStart, ScriptLine};
-use sqlite::MemStore;
 use std::alloc::Global;
 use std::test::Fail;
 
@@ -78,9 +76,19 @@ pub(crate) fn play<B: Books>(
     Ok(printed.into_text()?)
 }
 
-/// An office over new books in memory, after a script.
-pub(crate) fn after(alloc: Global, script: &str) -> Result<Office<SqlBooks<MemStore>>, Fail> {
-    let mut office = opened(alloc, books(alloc)?, 0)?;
-    let _ = play(alloc, &mut office, script)?;
-    Ok(office)
+/// What is printed of a script after another, over new books.
+fn play_after<B: Books>(
+    alloc: Global,
+    books: B,
+    before: &str,
+    script: &str,
+) -> Result<Vec<u8>, Fail> {
+    let mut office = opened(alloc, books, 0)?;
+    let _ = play(alloc, &mut office, before)?;
+    play(alloc, &mut office, script)
+}
+
+/// The same over books in memory.
+pub(crate) fn following(alloc: Global, before: &str, script: &str) -> Result<Vec<u8>, Fail> {
+    play_after(alloc, books(alloc)?, before, script)
 }

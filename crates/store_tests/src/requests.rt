@@ -1,11 +1,10 @@
 //! Requests that are sent again.
-use crate::made::{found, opened};
-use crate::player::{READ, after, event_of, play};
+use crate::made::{books, found, opened};
+use crate::player::{READ, event_of, play};
+use office_books::Books;
 use office_core::Office;
 use office_events::{Answer, Asked, Command, CommandKind, Event, Name, Piece, Refusal};
-use office_store::SqlBooks;
 use script_lines::ScriptLine;
-use sqlite::MemStore;
 use std::alloc::Global;
 use std::process::Abort;
 use std::str;
@@ -45,9 +44,9 @@ fn command_of(alloc: Global, line: &str) -> Option<(u64, Command)> {
 }
 
 /// What a request is answered that is sent under a caller and a number.
-fn ask(
+fn ask<B: Books>(
     alloc: Global,
-    office: &mut Office<SqlBooks<MemStore>>,
+    office: &mut Office<B>,
     request: &[u8],
     line: &str,
 ) -> Option<Result<Answer, Refusal>> {
@@ -62,10 +61,10 @@ fn ask(
 }
 
 /// The answers to requests, one after the other.
-fn are_answered(
+fn are_answered<B: Books>(
     rt: &impl Abort,
     alloc: Global,
-    office: &mut Office<SqlBooks<MemStore>>,
+    office: &mut Office<B>,
     requests: &[(&[u8], &str, Result<Answer, Refusal>)],
 ) {
     for (request, line, answer) in requests {
@@ -74,16 +73,23 @@ fn are_answered(
     }
 }
 
-/// An office that is opened anew, over the connection of another.
-fn reopened(
+/// What is printed of the meter that was exchanged, by an office that is opened over books at a moment, plays a script and is
+/// sent requests; and the books.
+fn printed_after<B: Books>(
+    rt: &impl Abort,
     alloc: Global,
-    office: Office<SqlBooks<MemStore>>,
-) -> Result<Office<SqlBooks<MemStore>>, Fail> {
-    let connection = office.into_books().into_connection();
-    opened(alloc, found(alloc, connection)?, 5000)
+    books: B,
+    (moment, script): (u64, &str),
+    requests: &[(&[u8], &str, Result<Answer, Refusal>)],
+) -> Result<(Vec<u8>, B), Fail> {
+    let mut office = opened(alloc, books, moment)?;
+    let _ = play(alloc, &mut office, script)?;
+    are_answered(rt, alloc, &mut office, requests);
+    let text = play(alloc, &mut office, "meter m1\nintervals m1")?;
+    Ok((text, office.into_books()))
 }
 
-/// What is printed at last of the meter that was exchanged.
+/// What is printed of it.
 const M1: &str = "meter m1 last 5300 sf 0 at 2800 total 300000 ended
 900 177777
 1800 111111
@@ -93,11 +99,11 @@ end 3
 
 #[test]
 fn a_repeat_is_answered_again(rt: HostRuntime) -> Result<(), Fail> {
-    let mut office = after(rt.alloc(), READ)?;
-    are_answered(&rt, rt.alloc(), &mut office, &REQUESTS);
-    let mut again = reopened(rt.alloc(), office)?;
-    are_answered(&rt, rt.alloc(), &mut again, &REQUESTS[1..]);
-    let text = play(rt.alloc(), &mut again, "meter m1\nintervals m1")?;
+    let new = books(rt.alloc())?;
+    let (text, made) = printed_after(&rt, rt.alloc(), new, (0, READ), &REQUESTS)?;
+    assert!(rt; text.as_slice() == M1.as_bytes());
+    let again = found(rt.alloc(), made.into_connection())?;
+    let (text, _) = printed_after(&rt, rt.alloc(), again, (5000, ""), &REQUESTS[1..])?;
     assert!(rt; text.as_slice() == M1.as_bytes());
     Ok(())
 }

@@ -1,5 +1,5 @@
 //! Scripts give over books in a database the answers that they give over books in memory.
-use crate::player::{READ, after, play};
+use crate::player::{READ, following};
 use std::alloc::Global;
 use std::str;
 use std::test::Fail;
@@ -272,12 +272,6 @@ end 1
 ",
     ),
 ];
-
-/// What is printed of a script after what went before it, over new books.
-fn following(alloc: Global, before: &str, script: &str) -> Result<Vec<u8>, Fail> {
-    let mut office = after(alloc, before)?;
-    play(alloc, &mut office, script)
-}
 
 #[test]
 fn scripts_are_answered_as_over_books_in_memory(rt: HostRuntime) -> Result<(), Fail> {

@@ -1,5 +1,5 @@
 //! Stops while a file is made, and while a file of version 1 is brought to version 3.
-use crate::stops::files::{STOPS, Stop, Stopping, connected, files, restarted};
+use crate::stops::files::{STOPS, Stop, Stopping, closed, connected, files, restarted};
 use crate::stops::work::{Work, carry_out, prepare, stands};
 use sqlite::Files;
 use sqlite_disk::{Fuse, Memory};
@@ -14,14 +14,10 @@ fn given(alloc: Global, work: Work) -> Result<Files<Fuse<Memory>>, Fail> {
         calls: u64::MAX,
         is_lost: true,
     };
-    let mut conn = match connected(alloc, files(alloc, b"", b"", never)?) {
-        Ok(conn) => conn,
-        Err(_left) => return Err(Fail::from("not opened")),
-    };
-    let prepared = prepare(&mut conn, work);
-    let files = conn.into_store().close();
-    prepared?;
-    Ok(files)
+    match connected(alloc, files(alloc, b"", b"", never)?) {
+        Ok(conn) => Ok(closed(prepare(conn, work)?)),
+        Err(_left) => Err(Fail::from("not opened")),
+    }
 }
 
 /// The number of the fault where the machine stopped, and 0 for none; and the files.
@@ -32,12 +28,13 @@ fn worked(
     stop: Stop,
 ) -> Result<(u8, Files<Fuse<Memory>>), Fail> {
     let (log, db) = (given.log.inner().bytes(), given.db.inner().bytes());
-    let mut conn = match connected(alloc, files(alloc, log, db, stop)?) {
-        Ok(conn) => conn,
-        Err(files) => return Ok((3, files)),
-    };
-    let fault = carry_out(&mut conn, work);
-    Ok((fault, conn.into_store().close()))
+    match connected(alloc, files(alloc, log, db, stop)?) {
+        Ok(conn) => {
+            let (fault, store) = carry_out(conn, work);
+            Ok((fault, closed(store)))
+        }
+        Err(files) => Ok((3, files)),
+    }
 }
 
 /// Whether the work was done where the machine stopped. What stands afterwards is the old file or the new one.
@@ -50,13 +47,10 @@ fn stopped(
 ) -> Result<bool, Fail> {
     let (fault, files) = worked(alloc, given, work, stop)?;
     assert!(rt; fault == 0 || fault == 3, "{work:?} {stop:?} {fault}");
-    let mut conn = match connected(alloc, restarted(alloc, files, stop.is_lost)?) {
-        Ok(conn) => conn,
+    match connected(alloc, restarted(alloc, files, stop.is_lost)?) {
+        Ok(conn) => stands(rt, conn, work, fault == 0)?,
         Err(_left) => return Err(Fail::from("not opened")),
-    };
-    let standing = stands(rt, &mut conn, work, fault == 0);
-    drop(conn.into_store().close());
-    standing?;
+    }
     Ok(fault == 0)
 }
 

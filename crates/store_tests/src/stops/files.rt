@@ -66,6 +66,11 @@ pub(crate) fn connected(
     }
 }
 
+/// The files of a store, which is closed.
+pub(crate) fn closed(store: FileStore<Fuse<Memory>>) -> Files<Fuse<Memory>> {
+    store.close()
+}
+
 /// The files once the machine has come back. What was not synced is lost, or is there as it was written.
 pub(crate) fn restarted(
     alloc: Global,

@@ -1,6 +1,6 @@
 //! Stops in each event of a script, and in the request that follows it.
 use crate::stops::asked::Asked;
-use crate::stops::files::{Stop, Stopping, connected, files, restarted};
+use crate::stops::files::{Stop, Stopping, closed, connected, files, restarted};
 use crate::stops::offices::play;
 use crate::stops::standing::stands;
 use sqlite::Files;
@@ -11,13 +11,13 @@ use std::test::Fail;
 
 /// Plays all steps. How many were acknowledged where the machine stopped, and the files.
 fn played(alloc: Global, asked: Asked, stop: Stop) -> Result<(usize, Files<Fuse<Memory>>), Fail> {
-    let connection = match connected(alloc, files(alloc, b"", b"", stop)?) {
-        Ok(connection) => connection,
-        Err(files) => return Ok((0, files)),
-    };
-    let (steps, connection) = play(alloc, connection, asked);
-    let files = connection.into_store().close();
-    Ok((steps?, files))
+    match connected(alloc, files(alloc, b"", b"", stop)?) {
+        Ok(connection) => {
+            let (steps, store) = play(alloc, connection, asked);
+            Ok((steps?, closed(store)))
+        }
+        Err(files) => Ok((0, files)),
+    }
 }
 
 /// How many steps were acknowledged where the machine stopped. These stand afterwards, or one more.

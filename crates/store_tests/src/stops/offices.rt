@@ -19,23 +19,29 @@ const READ: &str = "1000 device inv 1 5 1
 1898 start inv 3 40094 3
 1900 bytes inv 000000000009010306000014500000";
 
-/// Plays all steps over a new database: makes books, opens an office, feeds it the script, and sends a request. How many
-/// steps were acknowledged before the store refused one.
+/// Plays all steps but the first over new books: opens an office, feeds it the script, and sends a request.
+fn play_over<B: Books>(alloc: Global, books: B, asked: Asked) -> (Result<usize, Fail>, B) {
+    let mut office = match Office::open(alloc, books, 0) {
+        Ok(office) => office,
+        Err((books, _)) => return (Ok(1), books),
+    };
+    let steps = steps(alloc, &mut office, asked);
+    (steps, office.into_books())
+}
+
+/// Plays all steps over a new database, the first of which makes books. How many steps were acknowledged before the store
+/// refused one.
 pub(crate) fn play<S: Alter + Drop>(
     alloc: Global,
     connection: Connection<S>,
     asked: Asked,
-) -> (Result<usize, Fail>, Connection<S>) {
+) -> (Result<usize, Fail>, S) {
     let books = match SqlBooks::create(alloc, connection, "UTC0") {
         Ok(books) => books,
-        Err(unmade) => return (Ok(0), unmade.connection),
+        Err(unmade) => return (Ok(0), unmade.connection.into_store()),
     };
-    let mut office = match Office::open(alloc, books, 0) {
-        Ok(office) => office,
-        Err((books, _)) => return (Ok(1), books.into_connection()),
-    };
-    let steps = steps(alloc, &mut office, asked);
-    (steps, office.into_books().into_connection())
+    let (steps, books) = play_over(alloc, books, asked);
+    (steps, books.into_connection().into_store())
 }
 
 fn start_of(given: &GivenStart) -> Result<Command, Fail> {

@@ -3,6 +3,7 @@ use crate::stops::asked::Asked;
 use crate::stops::offices::acknowledges;
 use crate::stops::printed::opened;
 use crate::stops::shown::shows;
+use office_books::Books;
 use office_store::{OpenFault, SqlBooks};
 use sqlite::{Alter, Connection};
 use std::alloc::Global;
@@ -83,21 +84,20 @@ fn stands_once<S: Alter>(
 }
 
 /// An office over the books, where what so many steps left is printed, or one more. A request that may stand is sent again.
-fn reopened<S: Alter + Drop>(
+fn reopened<B: Books>(
     rt: &impl Abort,
     alloc: Global,
-    books: SqlBooks<S>,
+    books: B,
     asked: Asked,
     steps: usize,
-) -> Result<(), Fail> {
+) -> Result<B, Fail> {
     let (mut office, text) = opened(alloc, books)?;
     let text = str::from_utf8(&text)?;
     assert!(rt; may_stand(asked, steps, text), "{steps} {text}");
-    if steps < 7 {
-        return Ok(());
+    if 7 <= steps {
+        assert!(rt; acknowledges(alloc, &mut office, asked, 5000)?);
     }
-    assert!(rt; acknowledges(alloc, &mut office, asked, 5000)?);
-    stands_once(rt, &mut office.into_books().into_connection(), asked)
+    Ok(office.into_books())
 }
 
 /// What so many steps left stands, or one more. Where none was acknowledged, there may be no books.
@@ -109,7 +109,13 @@ pub(crate) fn stands<S: Alter + Drop>(
     steps: usize,
 ) -> Result<(), Fail> {
     match SqlBooks::open(alloc, connection) {
-        Ok(books) => reopened(rt, alloc, books, asked, steps),
+        Ok(books) => {
+            let books = reopened(rt, alloc, books, asked, steps)?;
+            if steps < 7 {
+                return Ok(());
+            }
+            stands_once(rt, &mut books.into_connection(), asked)
+        }
         Err(unopened) => {
             assert!(rt; steps == 0 && unopened.fault == OpenFault::NotOurs);
             Ok(())

@@ -15,28 +15,33 @@ pub(crate) enum Work {
     Bringing,
 }
 
-/// Makes of an empty database what the work begins with.
-pub(crate) fn prepare<S: Alter>(conn: &mut Connection<S>, work: Work) -> Result<(), Fail> {
-    match work {
-        Work::Making => Ok(()),
-        Work::Bringing => {
-            if create(conn, "UTC0").is_err() {
-                return Err(Fail::from("not made"));
-            }
-            for text in [READ, DAY, FIRST] {
-                conn.execute_batch(text)?;
-            }
-            Ok(())
-        }
+/// Makes a file of version 1.
+fn make_old<S: Alter>(conn: &mut Connection<S>) -> Result<(), Fail> {
+    if create(conn, "UTC0").is_err() {
+        return Err(Fail::from("not made"));
     }
+    for text in [READ, DAY, FIRST] {
+        conn.execute_batch(text)?;
+    }
+    Ok(())
+}
+
+/// Makes of an empty database what the work begins with.
+pub(crate) fn prepare<S: Alter + Drop>(mut conn: Connection<S>, work: Work) -> Result<S, Fail> {
+    match work {
+        Work::Making => {}
+        Work::Bringing => make_old(&mut conn)?,
+    }
+    Ok(conn.into_store())
 }
 
 /// Does the work, and gives the number of its fault, and 0 for none.
-pub(crate) fn carry_out<S: Alter>(conn: &mut Connection<S>, work: Work) -> u8 {
-    match work {
-        Work::Making => fault(create(conn, "UTC0")),
-        Work::Bringing => fault(open(conn)),
-    }
+pub(crate) fn carry_out<S: Alter + Drop>(mut conn: Connection<S>, work: Work) -> (u8, S) {
+    let fault = match work {
+        Work::Making => fault(create(&mut conn, "UTC0")),
+        Work::Bringing => fault(open(&mut conn)),
+    };
+    (fault, conn.into_store())
 }
 
 /// A file is there, or there is none and it can be made.
@@ -66,14 +71,14 @@ fn is_brought<S: Alter>(
 }
 
 /// What stands after the work, whether or not it was acknowledged.
-pub(crate) fn stands<S: Alter>(
+pub(crate) fn stands<S: Alter + Drop>(
     rt: &impl Abort,
-    conn: &mut Connection<S>,
+    mut conn: Connection<S>,
     work: Work,
     is_done: bool,
 ) -> Result<(), Fail> {
     match work {
-        Work::Making => is_made(rt, conn, is_done),
-        Work::Bringing => is_brought(rt, conn, is_done),
+        Work::Making => is_made(rt, &mut conn, is_done),
+        Work::Bringing => is_brought(rt, &mut conn, is_done),
     }
 }

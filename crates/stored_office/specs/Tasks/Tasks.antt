@@ -1,12 +1,21 @@
--- What a task does over the books that a database is found to hold, and how it ends.
+-- What a task does over books, and over those that a database is found to hold; and how it ends.
 use Rattle.std.specs.Prelude.{ℕ, List, Option}
 use Rattle.sqlite.specs.Store.{Ghosts}
 use Rattle.office_rules.specs.History.{History}
+use Rattle.office_books.specs.Ledgers.{Ledger}
 use Rattle.http_request.specs.Hosts.{texts}
-use Rattle.office_program.specs.HttpPort.{port as port_of}
+use Rattle.office_program.specs.Report.{TellsReport}
+use Rattle.office_program.specs.RangedReport.{TellsRange}
+use Rattle.office_program.specs.Statement.{TellsStatement}
+use Rattle.office_program.specs.HttpPort.{TellsServing, port as port_of}
+use Rattle.office_program.specs.PortRound.{TellsPolling}
+use Rattle.office_program.specs.Entering.Checked.{LooksOver}
+use Rattle.office_program.specs.Entering.Entered.{TellsEntering}
 use Rattle.office_program.specs.Entering.Lines.{Telling}
 use Rattle.office_running.specs.Runs.{BooksRun}
-use Rattle.stored_office.specs.OverBooks.{OverBooks, Reports, ReportsRange, States, Serves, Enters, Looks, Polls, ledger_in}
+use Rattle.office_program.specs.declared.port_round.PollEnd.{PollEnd}
+use Rattle.run_status.specs.Advice.Lacks.{LooksUp}
+use Rattle.stored_office.specs.OverBooks.{OverBooks, ledger_in}
 use Rattle.stored_office.specs.declared.tasks.tasks.Task.{Task}
 use Rattle.stored_office.specs.declared.tasks.tasks.Task.TheVariants as task
 use Rattle.stored_office.specs.declared.tasks.tasks.Done.{Done}
@@ -24,30 +33,40 @@ IsOf (task.Round device host port) (Polled end) = Unit {0}
 IsOf (task.Run settings sites) (Ran end) = Unit {0}
 IsOf _ _ = ⊥
 
-module _ {S : Type 0} (g : Ghosts S) where
-  -- A run leaves books that stand as they did, or after an opening, and then turns.
-  abbrev pub Runs : (names : List (List ℕ)) → (moments later : Option (List ℕ)) → (past : History)
-      → Type 0
-  Runs names moments later past =
-      OverBooks g past (λ found left. BooksRun names moments later (ledger_in g left) past)
+module _ {B : Type 0} (ledger : B → Ledger) where
+  -- A round was made over books, and then it may have been looked up what the device lacks.
+  abbrev pub PollsAndLooks : (past : History) → (device : List ℕ)
+      → (moments later : Option (List ℕ)) → (found left : B) → (had holds : Option (List ℕ))
+      → PollEnd → Type 0
+  PollsAndLooks past device moments later found left had holds end =
+      (polled : B) × TellsPolling ledger past device moments later found polled had holds end
+      × LooksUp (ledger polled) (ledger left)
 
-  -- The task that was asked for was done, and so it ended; files and counters that a text names tell this.
+  -- The task that was asked for was done over books that were found, and others are left; and so it ended. Files and counters
+  -- that a text names tell this.
   unfoldable pub Does : Telling → (past : History) → (moments later had holds : Option (List ℕ))
-      → Task → Done → Type 0
-  Does tells past moments later had holds (task.Report register) (Reported end) =
-      Reports g past register.now moments later had holds end
-  Does tells past moments later had holds (task.ReportRange register form) (Reported end) =
-      ReportsRange g past register.now form.now moments later had holds end
-  Does tells past moments later had holds (task.Statement register form) (Reported end) =
-      States g past register.now form.now moments later had holds end
-  Does tells past moments later had holds (task.Serve host port names connections) (Served end) =
-      Serves g past (port_of (texts names.now) connections) moments later had holds end
-  Does tells past moments later had holds (task.Enter caller text) (Entered end) =
-      Enters g tells past caller.now text.now moments later had holds end
-  Does tells past moments later had holds (task.Check caller text) (Checked end) =
-      Looks g tells past caller.now text.now had holds end
-  Does tells past moments later had holds (task.Round device host port) (Polled end) =
-      Polls g past device.now moments later had holds end
-  Does tells past moments later had holds (task.Run settings sites) (Ran end) =
-      Runs (texts settings.now.host_names.now) moments later past
-  Does tells past moments later had holds _ _ = ⊥
+      → (found left : B) → Task → Done → Type 0
+  Does tells past moments later had holds found left (task.Report register) (Reported end) =
+      TellsReport ledger past register.now moments later found left had holds end
+  Does tells past moments later had holds found left (task.ReportRange register form) (Reported end) =
+      TellsRange ledger past register.now form.now moments later found left had holds end
+  Does tells past moments later had holds found left (task.Statement register form) (Reported end) =
+      TellsStatement ledger past register.now form.now moments later found left had holds end
+  Does tells past moments later had holds found left (task.Serve host port names connections) (Served end) =
+      TellsServing ledger past (port_of (texts names.now) connections) moments later found left had
+      holds end
+  Does tells past moments later had holds found left (task.Enter caller text) (Entered end) =
+      TellsEntering ledger past tells caller.now text.now moments later found left had holds end
+  Does tells past moments later had holds found left (task.Check caller text) (Checked end) =
+      LooksOver tells caller.now text.now (ledger left) had holds end past
+  Does tells past moments later had holds found left (task.Round device host port) (Polled end) =
+      PollsAndLooks past device.now moments later found left had holds end
+  Does tells past moments later had holds found left (task.Run settings sites) (Ran end) =
+      BooksRun (texts settings.now.host_names.now) moments later (ledger left) past
+  Does tells past moments later had holds found left _ _ = ⊥
+
+-- It was done over the books that a database was found to hold.
+abbrev pub DoesOver : {S : Type 0} → Ghosts S → Telling → (past : History)
+    → (moments later had holds : Option (List ℕ)) → Task → Done → Type 0
+DoesOver g tells past moments later had holds asked end = OverBooks g past (λ found left.
+    Does (ledger_in g) tells past moments later had holds found left asked end)

@@ -1,16 +1,18 @@
 //! The tasks, one of which is carried out.
 ghost use Rattle.std.specs.Prelude.{◌≡◌, Err, IfOk, IfErr};
 ghost use Rattle.office_rules.specs.History.{History};
+ghost use Rattle.office_core.specs.Leaving.{BooksStand};
 ghost use Rattle.store_files.specs.declared.layouts.Layout.{Layout as TheLayout};
 ghost use Rattle.store_files.specs.Layouts.{IsNamedAs};
 ghost use Rattle.office_program.specs.Entering.Lines.{telling_of};
 ghost use Rattle.stored_files.specs.BooksFound.{HasPast};
-ghost use Rattle.stored_office.specs.Tasks.Tasks.{IsOf, Does};
+ghost use Rattle.stored_office.specs.Tasks.Tasks.{IsOf, Does, DoesOver};
 
 use crate::advice::say_lacks;
 use command_io::ExitStatus;
 use energy_report::{ReportForm, StatementForm};
 use kept_books::KeptBooks;
+use office_books::Books;
 use office_program::{
     CommandEnd, NamedFiles, PollEnd, ServeEnd, check_books, enter_books, poll_books, report_books,
     report_range_books, serve_books, statement_books,
@@ -81,8 +83,93 @@ pub enum Done {
     Ran(Result<(), RunFault>),
 }
 
-/// Finds the books of a database, and carries a task out over them. Where there are no books, nothing is printed. Files that
-/// a text names are read by `files`, and so are counters.
+/// Carries a task out over books. Files that a text names are read by `files`, and so are counters.
+fn carry_out<R: Net + std::rt::Clock, B: Books, F: NamedFiles, C: Clock, W: Write, E: Write>(
+    rt: &R,
+    alloc: Global,
+    books: B,
+    task: Task<'_>,
+    files: &F,
+    clock: &mut C,
+    output: &mut W,
+    errors: &mut E,
+) -> CommandEnd<B, Done>
+    ensures same { IsOf task.entry result.end }
+    ensures does { (past : History) → BooksStand (B.ledger books) past
+        → (B.ledger result.books).is_clean
+        → Does B.ledger (telling_of F.NamedFiles files.now) past
+        (C.moments clock.old) (C.moments clock.new)
+        (W.contents output.old) (W.contents output.new) books result.books task.entry result.end }
+{
+    match task {
+        Task::Report { register } => {
+            let done = report_books(alloc, books, register, clock, output);
+            CommandEnd {
+                books: done.books,
+                end: Done::Reported(done.end),
+            }
+        }
+        Task::ReportRange { register, form } => {
+            let done = report_range_books(alloc, books, register, form, clock, output);
+            CommandEnd {
+                books: done.books,
+                end: Done::Reported(done.end),
+            }
+        }
+        Task::Statement { register, form } => {
+            let done = statement_books(alloc, books, register, form, clock, output);
+            CommandEnd {
+                books: done.books,
+                end: Done::Reported(done.end),
+            }
+        }
+        Task::Serve {
+            host,
+            port,
+            names,
+            connections,
+        } => {
+            let at = (host, port);
+            let done = serve_books(rt, alloc, books, at, names, connections, clock, output);
+            CommandEnd {
+                books: done.books,
+                end: Done::Served(done.end),
+            }
+        }
+        Task::Enter { caller, text } => {
+            let done = enter_books(alloc, books, caller, text, files, clock, output);
+            CommandEnd {
+                books: done.books,
+                end: Done::Entered(done.end),
+            }
+        }
+        Task::Check { caller, text } => {
+            let done = check_books(alloc, books, caller, text, files, output);
+            CommandEnd {
+                books: done.books,
+                end: Done::Checked(done.end),
+            }
+        }
+        Task::Round { device, host, port } => {
+            let done = poll_books(rt, alloc, books, device, (host, port), clock, output);
+            let CommandEnd { mut books, end } = done;
+            say_lacks(alloc, &mut books, device, end, errors);
+            CommandEnd {
+                books,
+                end: Done::Polled(end),
+            }
+        }
+        Task::Run { settings, sites } => {
+            let done = run_office(rt, alloc, books, settings, sites, clock, output, errors);
+            CommandEnd {
+                books: done.books,
+                end: Done::Ran(done.end),
+            }
+        }
+    }
+}
+
+/// Finds the books of a database, and carries a task out over them. Where there are no books, nothing is printed.
 pub fn carry_out_stored<
     R: Net + std::rt::Clock,
     S: Alter + Drop,
@@ -105,55 +192,15 @@ pub fn carry_out_stored<
     ensures silent { IfErr result (λ fault. output.new ≡ output.old) }
     ensures same { IfOk result (IsOf task.entry) }
     ensures does { (past : History) → HasPast S.Store connection past
-        → IfOk result (Does S.Store (telling_of F.NamedFiles files.now) past
+        → IfOk result (DoesOver S.Store (telling_of F.NamedFiles files.now) past
         (C.moments clock.old) (C.moments clock.new)
         (W.contents output.old) (W.contents output.new) task.entry) }
 {
     match SqlBooks::open(alloc, connection) {
         Ok(opened) => {
             let books = KeptBooks::new(alloc, opened);
-            match task {
-                Task::Report { register } => {
-                    let done = report_books(alloc, books, register, clock, output);
-                    Ok(Done::Reported(done.end))
-                }
-                Task::ReportRange { register, form } => {
-                    let done = report_range_books(alloc, books, register, form, clock, output);
-                    Ok(Done::Reported(done.end))
-                }
-                Task::Statement { register, form } => {
-                    let done = statement_books(alloc, books, register, form, clock, output);
-                    Ok(Done::Reported(done.end))
-                }
-                Task::Serve {
-                    host,
-                    port,
-                    names,
-                    connections,
-                } => {
-                    let at = (host, port);
-                    let done = serve_books(rt, alloc, books, at, names, connections, clock, output);
-                    Ok(Done::Served(done.end))
-                }
-                Task::Enter { caller, text } => {
-                    let done = enter_books(alloc, books, caller, text, files, clock, output);
-                    Ok(Done::Entered(done.end))
-                }
-                Task::Check { caller, text } => {
-                    let done = check_books(alloc, books, caller, text, files, output);
-                    Ok(Done::Checked(done.end))
-                }
-                Task::Round { device, host, port } => {
-                    let done = poll_books(rt, alloc, books, device, (host, port), clock, output);
-                    let CommandEnd { mut books, end } = done;
-                    say_lacks(alloc, &mut books, device, end, errors);
-                    Ok(Done::Polled(end))
-                }
-                Task::Run { settings, sites } => {
-                    let done = run_office(rt, alloc, books, settings, sites, clock, output, errors);
-                    Ok(Done::Ran(done.end))
-                }
-            }
+            let done = carry_out(rt, alloc, books, task, files, clock, output, errors);
+            Ok(done.end)
         }
         Err(unopened) => Err(unopened.fault),
     }
