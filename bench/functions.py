@@ -4,17 +4,25 @@
 The check reads the libraries below as they were built and keeps nothing. A function's time is that from the function told before
 it to its own, so the first that needs a library's modules pays for loading them, and the time before the first function stands on
 a line of its own: reading sources, and the libraries that a program is made of.
+
+Then it tells the same by steps, by the names of the kit's files: Lts is the borrow check, and Tie was seen to be dear where a function that is generic over
+books or files is called for a type of these (bench/GATE.md). A step's time is that from the step before it in the same process.
 """
+import collections
 import os
 import re
 import subprocess
 import sys
+import tempfile
+import threading
 import time
 
 sys.dont_write_bytecode = True
 import kit
 
 SHOWN = 20
+# What a check writes for a step of a function: Rattle-CRATE-proofs.MODULE.FUNCTION.STEP.oantt
+STEP = re.compile(r"Rattle-\w+-proofs\.(.+)\.(\w+)\.oantt")
 TOLD = re.compile(r"checked (\S+), \d+ of \d+")
 
 
@@ -25,17 +33,44 @@ def crate_of(rt, name):
     return found
 
 
+class Steps:
+    """When each step of a check was done, by the files that it leaves in a folder until it ends."""
+
+    def __init__(self, pid):
+        self.folder, self.times, self.ended = f"{tempfile.gettempdir()}/rattle-logic-built-locked-{pid}-0", {}, threading.Event()
+        self.looking = threading.Thread(target=self.look)
+        self.looking.start()
+
+    def look(self):
+        while not self.ended.wait(1):
+            try:
+                with os.scandir(self.folder) as found:
+                    self.times.update((it.name, it.stat().st_mtime) for it in found if it.name not in self.times)
+            except OSError:
+                # (it isn't there yet, or no more)
+                continue
+
+    def took(self):
+        """Returns the seconds of each step."""
+        self.ended.set()
+        self.looking.join()
+        done = sorted((at, name) for name, at in self.times.items())
+        found = [(at - before, STEP.fullmatch(name)) for (before, _), (at, name) in zip(done, done[1:])]
+        return [(seconds, it[1], it[2]) for seconds, it in found if it]
+
+
 def timed(words, folder):
-    """Runs a check, and returns the seconds at which each function was told, its last line, and its status."""
+    """Runs a check, and returns the seconds at which each function was told, the seconds of its steps, its last line, and its status."""
     began, times, last = time.monotonic(), [], ""
     how = {"cwd": folder, "stdin": subprocess.DEVNULL, "stdout": subprocess.PIPE, "stderr": subprocess.STDOUT}
     with subprocess.Popen(words, text=True, errors="replace", **how) as ran:
+        steps = Steps(ran.pid)
         for line in ran.stdout:
             told = TOLD.match(line)
             if told:
                 times.append((time.monotonic() - began, told[1]))
             last = line.rstrip("\n") or last
-    return times, last, ran.returncode
+    return times, steps.took(), last, ran.returncode
 
 
 def main(name):
@@ -45,7 +80,7 @@ def main(name):
     crate = crate_of(rt, name)
     tests = ["--test"] * crate.has_tests()
     words = [rt.rtlib.RATTLE, "check", *crate.words(["--jobs", "1", *tests], tests=bool(tests), keeps=False), "--progress"]
-    times, last, status = timed(words, crate.folder)
+    times, steps, last, status = timed(words, crate.folder)
     if status or not times:
         sys.exit(f"{name} was not proved: {last}")
     took = [(at - before, it) for (before, _), (at, it) in zip(times, times[1:])]
@@ -53,6 +88,12 @@ def main(name):
     for seconds, it in sorted(took, reverse=True)[:SHOWN]:
         print(f"{seconds:7.1f}  {it}")
     print(f"{times[-1][0]:7.1f}  in all, {len(times)} functions")
+    sums = collections.Counter()
+    for seconds, _, step in steps:
+        sums[step] += seconds
+    print("\nby steps: " + ", ".join(f"{step} {seconds:.0f}" for step, seconds in sums.most_common(8)))
+    for seconds, function, step in sorted(steps, reverse=True)[:SHOWN]:
+        print(f"{seconds:7.1f}  {step} of {function}")
 
 
 if __name__ == "__main__":

@@ -138,7 +138,15 @@ fn a_register_that_has_no_meter_has_its_earlier_days(rt: HostRuntime) -> Result<
     let mut office = unmetered(rt.alloc())?;
     let earlier = days_of(rt.alloc(), &EARLIER)?;
     let lines = "1970-01    2                       12\nend 1\n";
-    assert!(rt; are_told(rt.alloc(), &mut office, &earlier, "/registers/main/months", lines)?);
+    assert!(rt;
+        are_told(
+            rt.alloc(),
+            &mut office,
+            &earlier,
+            "/registers/main/months",
+            lines
+        )?
+    );
     Ok(())
 }
 
@@ -147,7 +155,15 @@ fn a_quarter_hour_before_the_last_has_no_day(rt: HostRuntime) -> Result<(), Fail
     let mut office = polled(rt.alloc())?;
     let earlier = days_of(rt.alloc(), &LATE)?;
     let refusal = ("503 Service Unavailable", "{\"refused\":13}");
-    assert!(rt; is_refused(rt.alloc(), &mut office, &earlier, "/registers/main/months", refusal)?);
+    assert!(rt;
+        is_refused(
+            rt.alloc(),
+            &mut office,
+            &earlier,
+            "/registers/main/months",
+            refusal
+        )?
+    );
     Ok(())
 }
 
@@ -156,7 +172,15 @@ fn a_register_that_is_none_has_no_earlier_days(rt: HostRuntime) -> Result<(), Fa
     let mut office = polled(rt.alloc())?;
     let earlier = days_of(rt.alloc(), &EARLIER)?;
     let refusal = ("404 Not Found", "{\"refused\":1}");
-    assert!(rt; is_refused(rt.alloc(), &mut office, &earlier, "/registers/none/months", refusal)?);
+    assert!(rt;
+        is_refused(
+            rt.alloc(),
+            &mut office,
+            &earlier,
+            "/registers/none/months",
+            refusal
+        )?
+    );
     Ok(())
 }
 

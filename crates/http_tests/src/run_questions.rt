@@ -6,6 +6,7 @@ use crate::targets::route_of;
 use failing_books::FailingBooks;
 use http_peers::reply_site_over;
 use memory_books::ListBooks;
+use office_books::Books;
 use office_core::Office;
 use office_events::Name;
 use run_http::{
@@ -407,10 +408,10 @@ fn books_of(alloc: Global, booked: Booked) -> Result<ListBooks, Fail> {
 }
 
 // Puts what is replied to a target at a moment; nothing, where the office isn't asked.
-fn put_reply(
+fn put_reply<B: Books>(
     alloc: Global,
     text: &mut Vec<u8>,
-    office: &mut Office<FailingBooks>,
+    office: &mut Office<B>,
     at: u64,
     target: &str,
 ) -> Result<(), AllocError> {
@@ -432,6 +433,21 @@ fn put_reply(
     }
 }
 
+// What is replied over books; nothing, where the office isn't opened.
+fn replied_over<B: Books>(
+    alloc: Global,
+    books: B,
+    at: u64,
+    target: &str,
+) -> Result<Option<Vec<u8>>, AllocError> {
+    let Ok(mut office) = Office::open(alloc, books, at) else {
+        return Ok(None);
+    };
+    let mut text = Vec::new(alloc);
+    put_reply(alloc, &mut text, &mut office, at, target)?;
+    Ok(Some(text))
+}
+
 // What is replied over books that refuse the call of a number, 0: none; nothing, where that is one of the opening's.
 fn replied(
     alloc: Global,
@@ -440,12 +456,7 @@ fn replied(
     at: u64,
     target: &str,
 ) -> Result<Option<Vec<u8>>, AllocError> {
-    let Ok(mut office) = Office::open(alloc, FailingBooks::new(books, failing), at) else {
-        return Ok(None);
-    };
-    let mut text = Vec::new(alloc);
-    put_reply(alloc, &mut text, &mut office, at, target)?;
-    Ok(Some(text))
+    replied_over(alloc, FailingBooks::new(books, failing), at, target)
 }
 
 // A reply that tells its size, of JSON or of text.

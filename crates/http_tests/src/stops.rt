@@ -3,6 +3,7 @@ use crate::cases::{Case, play, serve};
 use crate::office::{poll, polled};
 use crate::tables::{COMMANDS, QUESTIONS};
 use failing_books::FailingBooks;
+use office_books::Books;
 use office_core::Office;
 use office_events::Refusal;
 use office_http::HandleFault;
@@ -40,9 +41,8 @@ fn a_text_that_is_cut_has_no_end(rt: HostRuntime) -> Result<(), Fail> {
     Ok(())
 }
 
-// An office that has stopped, where a call of the books is one that settles a poll.
-fn stopped(alloc: Global, failing: u64) -> Result<Option<Office<FailingBooks>>, Fail> {
-    let books = FailingBooks::new(polled(alloc)?.into_books(), failing);
+// An office over these books that has stopped while it settled a poll.
+fn stopped<B: Books>(alloc: Global, books: B) -> Result<Option<Office<B>>, Fail> {
     let Ok(mut office) = Office::open(alloc, books, 1900) else {
         return Ok(None);
     };
@@ -59,7 +59,8 @@ fn stopped(alloc: Global, failing: u64) -> Result<Option<Office<FailingBooks>>, 
 // An office that stops at the first call of the books where it can.
 fn first_stopped(alloc: Global) -> Result<Office<FailingBooks>, Fail> {
     for failing in 1..20 {
-        if let Some(office) = stopped(alloc, failing)? {
+        let books = FailingBooks::new(polled(alloc)?.into_books(), failing);
+        if let Some(office) = stopped(alloc, books)? {
             return Ok(office);
         }
     }
