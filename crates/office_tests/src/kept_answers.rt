@@ -178,36 +178,38 @@ fn told<B: Books>(alloc: Global, books: &mut B, step: Step) -> Result<bool, Book
     }
 }
 
+// Each step succeeds.
+fn play_at_once<B: Books>(rt: &impl Abort, alloc: Global, books: &mut B) {
+    for (place, step) in STEPS.iter().enumerate() {
+        assert!(rt; told(alloc, books, *step) == Ok(true), "step {place}");
+    }
+}
+
 /// What was put anew is found, and what went on.
 #[test]
 fn books_that_keep_answers(rt: HostRuntime) {
     let beneath = empty_books(rt.alloc()).expect(&rt, "books");
     let mut books = KeptBooks::new(rt.alloc(), beneath);
-    for (place, step) in STEPS.iter().enumerate() {
-        assert!(rt;
-            told(rt.alloc(), &mut books, *step) == Ok(true),
-            "step {place}"
-        );
-    }
+    play_at_once(&rt, rt.alloc(), &mut books);
     let mut beneath = books.into_books();
     assert!(rt; told(rt.alloc(), &mut beneath, STEPS[24]) == Ok(true));
 }
 
 // Each step succeeds, or is tried again.
+fn play_on<B: Books>(rt: &impl Abort, alloc: Global, books: &mut B) {
+    for (place, step) in STEPS.iter().enumerate() {
+        match told(alloc, books, *step) {
+            Ok(found) => assert!(rt; found, "step {place}"),
+            Err(_) => assert!(rt; told(alloc, books, *step) == Ok(true), "step {place} again"),
+        }
+    }
+}
+
+// What keeps answers after all steps, over books one call of which is refused.
 fn play(rt: &impl Abort, alloc: Global, failing: u64) -> KeptBooks<FailingBooks> {
     let beneath = books_failing_at(alloc, failing).expect(rt, "books");
     let mut books = KeptBooks::new(alloc, beneath);
-    for (place, step) in STEPS.iter().enumerate() {
-        match told(alloc, &mut books, *step) {
-            Ok(found) => assert!(rt; found, "step {place}"),
-            Err(_) => {
-                assert!(rt;
-                    told(alloc, &mut books, *step) == Ok(true),
-                    "step {place} again"
-                );
-            }
-        }
-    }
+    play_on(rt, alloc, &mut books);
     books
 }
 

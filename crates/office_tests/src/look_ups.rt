@@ -3,6 +3,7 @@ use crate::offices::{Tried, command_of, empty_books, event_of, opened};
 use crate::scripts::READ;
 use failing_books::FailingBooks;
 use memory_books::ListBooks;
+use office_books::Books;
 use office_core::Office;
 use office_events::{Answer, Asked, CommandKind, Event, Name, Piece, Refusal, StoreCause};
 use std::alloc::Global;
@@ -160,29 +161,27 @@ fn request(alloc: Global, line: &str) -> Option<(u64, Event)> {
     Some((at, event))
 }
 
-fn is_taken(office: &mut Office<ListBooks>, event: Option<(u64, Event)>) -> bool {
+fn is_taken<B: Books>(office: &mut Office<B>, event: Option<(u64, Event)>) -> bool {
     match event {
         Some((at, event)) => office.feed(at, &event).is_ok(),
         None => false,
     }
 }
 
-// An office of a device, its register and its meter, which was read.
-fn office_of_read(rt: &impl Abort, alloc: Global) -> Office<ListBooks> {
-    let books = empty_books(alloc).expect(rt, "books");
+// Books to which a device came, its register and its meter, which was read, and a request.
+fn booked_read<B: Books>(rt: &impl Abort, alloc: Global, books: B) -> B {
     let mut office = Office::open(alloc, books, 0).ok().expect(rt, "an office");
     for line in READ.lines() {
         assert!(rt; is_taken(&mut office, event_of(alloc, line)));
     }
-    office
-}
-
-// Its books, and of a request.
-fn books_of_read(rt: &impl Abort, alloc: Global) -> ListBooks {
-    let mut office = office_of_read(rt, alloc);
     let (_, event) = request(alloc, KEPT).expect(rt, "a request");
     assert!(rt; office.feed(2000, &event).is_ok());
     office.into_books()
+}
+
+fn books_of_read(rt: &impl Abort, alloc: Global) -> ListBooks {
+    let books = empty_books(alloc).expect(rt, "books");
+    booked_read(rt, alloc, books)
 }
 
 // An office over these, whose books refuse to be asked once more after so many times.

@@ -6,7 +6,8 @@ use crate::site::{Told, built, is_meter};
 use energy_core::{Entry, Last};
 use interval_core::Share;
 use meter_journal::{EntryKind, EntryRow};
-use office_books::{MeterEntry, Span};
+use office_books::{Books, MeterEntry, Span};
+use office_core::Office;
 use office_events::{Installation, Name, Refusal};
 use std::alloc::Global;
 use std::process::Abort;
@@ -238,16 +239,38 @@ fn quarter_hours_of_a_span_are_handed_on(rt: HostRuntime) {
     }
 }
 
+// Whether an office has no meters of this name.
+fn has_no_meters<B: Books>(office: &mut Office<B>, name: &Option<Name>) -> bool {
+    matches!(office.meters(name), Err(Refusal::NotFound))
+}
+
+// Whether it has no entries of it.
+fn has_no_entries<B: Books>(office: &mut Office<B>, name: &Option<Name>) -> bool {
+    matches!(office.entries(name, 1, 9), Err(Refusal::NotFound))
+}
+
+// Whether it has no quarter hours of it, and hands none on.
+fn has_no_rows<B: Books>(alloc: Global, office: &mut Office<B>, name: &Option<Name>) -> bool {
+    let mut kept = KeptRows::new(alloc);
+    let answer = office.intervals_within(name, Span::All, &mut kept);
+    match kept.into_rows() {
+        Ok(rows) => rows.is_empty() && matches!(answer, Err(Refusal::NotFound)),
+        Err(_) => false,
+    }
+}
+
 // Meters are asked of registers alone, entries and quarter hours of meters alone.
+fn has_parts_of_others<B: Books>(alloc: Global, office: &mut Office<B>) -> bool {
+    let (meter, register) = (Name::new(b"m1"), Name::new(b"main"));
+    has_no_meters(office, &meter)
+        && has_no_meters(office, &None)
+        && has_no_entries(office, &register)
+        && has_no_entries(office, &None)
+        && has_no_rows(alloc, office, &register)
+}
+
 #[test]
 fn parts_are_asked_of_what_has_them(rt: HostRuntime) {
     let mut office = built(&rt, rt.alloc(), 0);
-    assert!(rt; office.meters(&Name::new(b"m1")) == Err(Refusal::NotFound));
-    assert!(rt; office.meters(&None) == Err(Refusal::NotFound));
-    assert!(rt; office.entries(&Name::new(b"main"), 1, 9) == Err(Refusal::NotFound));
-    assert!(rt; office.entries(&None, 1, 9) == Err(Refusal::NotFound));
-    let mut kept = KeptRows::new(rt.alloc());
-    let answer = office.intervals_within(&Name::new(b"main"), Span::All, &mut kept);
-    assert!(rt; answer == Err(Refusal::NotFound));
-    assert!(rt; kept.into_rows().expect(&rt, "rows").is_empty());
+    assert!(rt; has_parts_of_others(rt.alloc(), &mut office));
 }

@@ -1,13 +1,14 @@
 //! Questions of an office, and what is printed of their answers.
 use crate::kept_rows::KeptRows;
-use crate::offices::Tried;
+use office_books::Books;
+use office_core::Office;
 use office_events::{Name, Refusal};
 use script_text::{write_day, write_end, write_interval, write_meter, write_poll, write_refusal};
 use std::alloc::Global;
 use std::io;
 
-pub(crate) fn ask_meter(
-    office: &mut Tried,
+pub(crate) fn ask_meter<B: Books>(
+    office: &mut Office<B>,
     name: &Option<Name>,
     output: &mut Vec<u8>,
 ) -> io::Result<()> {
@@ -17,7 +18,11 @@ pub(crate) fn ask_meter(
     }
 }
 
-pub(crate) fn ask_poll(office: &mut Tried, number: u64, output: &mut Vec<u8>) -> io::Result<()> {
+pub(crate) fn ask_poll<B: Books>(
+    office: &mut Office<B>,
+    number: u64,
+    output: &mut Vec<u8>,
+) -> io::Result<()> {
     match office.poll(number) {
         Ok(row) => write_poll(&row, output),
         Err(why) => write_refusal(why, output),
@@ -32,9 +37,9 @@ fn end(count: usize, answer: Result<(), Refusal>, output: &mut Vec<u8>) -> io::R
     }
 }
 
-pub(crate) fn ask_intervals(
+pub(crate) fn ask_intervals<B: Books>(
     alloc: Global,
-    office: &mut Tried,
+    office: &mut Office<B>,
     name: &Option<Name>,
     output: &mut Vec<u8>,
 ) -> io::Result<()> {
@@ -47,9 +52,9 @@ pub(crate) fn ask_intervals(
     end(rows.len(), answer, output)
 }
 
-pub(crate) fn ask_days(
+pub(crate) fn ask_days<B: Books>(
     alloc: Global,
-    office: &mut Tried,
+    office: &mut Office<B>,
     name: &Option<Name>,
     output: &mut Vec<u8>,
 ) -> io::Result<()> {

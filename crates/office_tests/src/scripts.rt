@@ -1,6 +1,8 @@
 //! Scripts: lines that come to an office, and what is printed of them.
 use crate::offices::{Tried, event_of};
 use crate::questions::{ask_days, ask_intervals, ask_meter, ask_poll};
+use office_books::Books;
+use office_core::Office;
 use office_events::Event;
 use script_lines::ScriptLine;
 use script_text::{write_accepted, write_notes, write_refusal};
@@ -17,8 +19,8 @@ pub(crate) const READ: &str = "1000 device inv 1 5 1
 1900 bytes inv 000000000009010306000014500000";
 
 /// Feeds an event, and prints what it brought and what it is answered.
-pub(crate) fn feed(
-    office: &mut Tried,
+fn feed_event<B: Books>(
+    office: &mut Office<B>,
     at: u64,
     event: &Event,
     output: &mut Vec<u8>,
@@ -32,8 +34,23 @@ pub(crate) fn feed(
     }
 }
 
+/// The same of an office over books one call of which may be refused.
+pub(crate) fn feed(
+    office: &mut Tried,
+    at: u64,
+    event: &Event,
+    output: &mut Vec<u8>,
+) -> io::Result<()> {
+    feed_event(office, at, event, output)
+}
+
 /// Asks the office what a line asks, and prints its answer.
-fn ask(alloc: Global, office: &mut Tried, line: &str, output: &mut Vec<u8>) -> io::Result<()> {
+fn ask<B: Books>(
+    alloc: Global,
+    office: &mut Office<B>,
+    line: &str,
+    output: &mut Vec<u8>,
+) -> io::Result<()> {
     let Ok(said) = ScriptLine::read(alloc, line.as_bytes()) else {
         return Ok(());
     };
@@ -46,14 +63,14 @@ fn ask(alloc: Global, office: &mut Tried, line: &str, output: &mut Vec<u8>) -> i
     }
 }
 
-fn print_line(
+fn print_line<B: Books>(
     alloc: Global,
-    office: &mut Tried,
+    office: &mut Office<B>,
     line: &str,
     output: &mut Vec<u8>,
 ) -> io::Result<()> {
     match event_of(alloc, line) {
-        Some((at, event)) => feed(office, at, &event, output),
+        Some((at, event)) => feed_event(office, at, &event, output),
         None => ask(alloc, office, line, output),
     }
 }
