@@ -40,6 +40,9 @@ first. `bench/gate.sh --page --log FILE` makes this page of what `bench/watch.py
   dropped: 30 to 50 s. Comparisons of tuples are dear, long literals are not: a static of 59 tuples of four texts costs 2.5 s. In a small crate, as the
   second and third of three copies, an `assert_eq!` of two options cost 2 s and `assert!` of the same by `==` 1 s; a match on a tuple of an answer and an option
   4 to 5 s, nested matches 1.7 s, and one with a closure 2.6 s.
+- **A call of a function that is generic over books or files, for a type of these,** costs each function that makes it 3 s (books in memory), 5 to 15 s
+  (in a database in memory) or 15 to 30 s (in files), and under 1 s where the caller is generic too. So what is done over books is one generic function,
+  which one place calls for their type: `stored_office` had nine such calls in one function, which took 125 s for these alone.
 - **An edit** in `must-fail/` costs 20 to 50 s, and the first one of a crate the crate's proof again; in `tests/edits/` it costs the gate nothing, and
   `tests/edits.sh` 9 s.
 - **A crate should have** under 90 functions and 1,500 lines, no `#[test]` that a crate of tests can hold, and at most 8 edits in `must-fail/`.

@@ -756,27 +756,38 @@ def fails_at_each_call(shards):
     server.shutdown()
 
 
-class ProgramOffice:
-    """An office in a file, of the built program: some days of readings that were written into the file, then polls of a device."""
+# Registers of the built program's offices beside main and aux, and the devices at which they are.
+FLATS = [(f"flat{place}", "inv" if place <= 30 else "roof") for place in range(1, 48)]
 
-    def __init__(self, name, device, dice):
+
+class ProgramOffice:
+    """An office in a file, of the built program: fifty meters, with some days of readings that were written into the file, then polls of two devices. A file that
+    is_old is of version 1, which the program brings to its own."""
+
+    def __init__(self, name, device, dice, is_old):
         self.file, self.device, self.dice, self.port = f"{ROOM}/{name}.db", device, dice, free_port()
-        self.number, self.meters, self.unseen = 0, ["m1", "x1", "x2"], set()
+        self.number, self.meters, self.unseen = 0, ["m1", "x1", "x2", *(f"{flat}-1" for flat, _ in FLATS)], set()
         now = int(time.time())
         self.begin = now - now % 3600 - 12 * 86400
-        self.fill()
+        self.fill(is_old)
         self.start()
 
-    def fill(self):
+    def fill(self, is_old):
         subprocess.run(["bash", str(HERE.parent / "schema.sh"), self.file, "CET-1CEST,M3.5.0,M10.5.0/3"], check=True)
         base = sqlite3.connect(self.file)
-        base.executemany("INSERT INTO devices VALUES (?, ?, 1, 5, 1)", [(1, "inv")])
-        base.execute("INSERT INTO points VALUES ('inv', 1, 'wh', 3, 0, 40094, 'acc32', '')")
-        base.execute("INSERT INTO points VALUES ('inv', 2, 'x', 3, 0, 40096, 'acc32', '')")
-        base.execute("INSERT INTO registers VALUES (1, 'main', 'inv', 3, 40094, 0, 0), (2, 'aux', 'inv', 3, 40096, 0, 0)")
+        base.executemany("INSERT INTO devices VALUES (?, ?, 1, 5, 1)", [(1, "inv"), (2, "roof")])
+        counters = {"inv": 0, "roof": 0}
+        for place, (register, device) in enumerate([("main", "inv"), ("aux", "inv"), *FLATS], 1):
+            address, counters[device] = 40094 + 2 * counters[device], counters[device] + 1
+            base.execute("INSERT INTO points VALUES (?, ?, ?, 3, 0, ?, 'acc32', '')", (device, counters[device], f"wh{place}", address))
+            base.execute("INSERT INTO registers VALUES (?, ?, ?, 3, ?, 0, 0)", (place, register, device, address))
         self.meter(base, 1, "m1", "main", 0, 250, 0)
         self.meter(base, 2, "x1", "aux", 0, 100, 1)
         self.meter(base, 3, "x2", "aux", 100, 150, 0)
+        for place, (flat, _) in enumerate(FLATS, 4):
+            self.meter(base, place, f"{flat}-1", flat, 0, 250, 0)
+        if is_old:
+            base.executescript("DROP TABLE voids; DROP TABLE ranges; UPDATE meta SET version = 1")
         base.commit()
         base.close()
 
@@ -796,7 +807,7 @@ class ProgramOffice:
         base.execute("UPDATE installations SET last_moment = ?, last_raw = ?, total = ? WHERE meter = ?", (at, raw, (raw - 5000) * 1000, name))
 
     def start(self):
-        words = [PROGRAM, "run", "--db", self.file, "--listen", str(self.port), "--every", "2", "--devices", f"inv=127.0.0.1:{self.device.port}"]
+        words = [PROGRAM, "run", "--db", self.file, "--listen", str(self.port), "--every", "2", "--devices", f"inv=127.0.0.1:{self.device.port},roof=127.0.0.1:{self.device.port}"]
         self.log = open(f"{self.file}.said", "a")
         self.child = subprocess.Popen(words, stdout=self.log, stderr=self.log)
         CHILDREN.append(self.child)
@@ -834,8 +845,10 @@ class ProgramOffice:
     def change(self):
         """Something that a person does."""
         what = self.dice.random()
+        if what < 0.02:
+            return self.upgrade()
         if what < 0.9:
-            meter = self.dice.choice(["m1", "x1", "x2"])
+            meter = self.dice.choice(["m1", "x1", "x2", "flat1-1", "flat2-1"])
             if (done := self.post(f"/meters/{meter}/void", {"place": self.dice.randrange(2, 95)})) != "void":
                 return f"void refused {done}"
             told = json.loads(get(f"{self.url()}/meters/{meter}"))
@@ -849,6 +862,16 @@ class ProgramOffice:
             self.meters.append(name)
             return "exchange"
         return f"exchange refused {done}"
+
+
+    def upgrade(self):
+        """The program is ended, and another one begins with its file, as for a new version."""
+        self.child.terminate()
+        self.child.wait()
+        CHILDREN.remove(self.child)
+        self.log.close()
+        self.start()
+        return "upgrade"
 
 
 class Device:
@@ -994,10 +1017,10 @@ def offices_of_mock(shards):
 
 def offices_of_program(shards):
     dice, device = random.Random(SEED), Device()
-    made = {f"p{place}": ProgramOffice(f"p{place}", device, dice) for place in range(1, 21)}
+    made = {f"p{place}": ProgramOffice(f"p{place}", device, dice, place % 4 == 0) for place in range(1, 21)}
     first = next(iter(made.values()))
     told = {row["meter"] for row in json.loads(get(f"{first.url()}/site"))["registers"]}
-    same("/site tells the latest meters", told, {"m1", "x2"})
+    same("/site tells the latest meters", told, {"m1", "x2", *(f"{flat}-1" for flat, _ in FLATS)})
     lines = [line.split() for line in get(f"{first.url()}/registers/aux/meters").splitlines()]
     same("and a register all of them", [(it[0], it[-1]) for it in lines], [("x1", "ended"), ("x2", "open"), ("end", "2")])
 

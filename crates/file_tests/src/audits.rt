@@ -1,6 +1,6 @@
 //! Audits of offices in files.
 use crate::commands::fill;
-use crate::files::{Files, path, remove};
+use crate::tried::{Tried, is_so_of_file};
 use std::test::Fail;
 use stored_files::{
     AuditFault, Databases, Joining, audit_stored, hold_to_earlier, meters_stored, told_zone,
@@ -60,12 +60,20 @@ fn are_told<D: Databases>(rt: &HostRuntime, databases: &D, path: &str) -> Result
     Ok(true)
 }
 
+/// The same, where the file of the day is made first.
+pub(crate) fn are_changes_told<D: Databases>(
+    rt: &HostRuntime,
+    databases: &D,
+    path: &str,
+) -> Result<bool, Fail> {
+    fill(rt, databases, path)?;
+    are_told(rt, databases, path)
+}
+
 #[test]
 fn what_is_changed_is_told(rt: HostRuntime) -> Result<(), Fail> {
-    let path = path(&rt)?;
-    fill(&rt, &Files { rt: &rt }, &path)?;
-    assert!(rt; are_told(&rt, &Files { rt: &rt }, &path)?);
-    remove(&rt, &path)
+    assert!(rt; is_so_of_file(&rt, Tried::ChangesTold)?);
+    Ok(())
 }
 
 // Makes a database that has tables of its own.
@@ -75,13 +83,21 @@ fn make_foreign<D: Databases>(databases: &D, path: &str) -> Result<(), Fail> {
     Ok(())
 }
 
+/// Whether its audit tells that it is none of ours, and prints nothing.
+pub(crate) fn is_foreign<D: Databases>(
+    rt: &HostRuntime,
+    databases: &D,
+    path: &str,
+) -> Result<bool, Fail> {
+    make_foreign(databases, path)?;
+    let (end, printed) = audit(rt, databases, path)?;
+    Ok(end == Err(AuditFault::NotOurs) && printed.is_empty())
+}
+
 #[test]
 fn foreign_tables_are_not_audited(rt: HostRuntime) -> Result<(), Fail> {
-    let path = path(&rt)?;
-    make_foreign(&Files { rt: &rt }, &path)?;
-    let (end, printed) = audit(&rt, &Files { rt: &rt }, &path)?;
-    assert!(rt; end == Err(AuditFault::NotOurs) && printed.is_empty());
-    remove(&rt, &path)
+    assert!(rt; is_so_of_file(&rt, Tried::Foreign)?);
+    Ok(())
 }
 
 // Holds the office in a file to those before it, under a name.
@@ -106,23 +122,36 @@ fn join<'a, D: Databases>(
 }
 
 // What is printed of the file of the day as one of these names after the other, and whether nothing differs.
-fn joined(rt: &HostRuntime, path: &str, names: &[&'static str]) -> Result<Audited, Fail> {
+fn joined<D: Databases>(
+    rt: &HostRuntime,
+    databases: &D,
+    path: &str,
+    names: &[&'static str],
+) -> Result<Audited, Fail> {
+    fill(rt, databases, path)?;
     let mut joining = Joining::new(rt.alloc());
     for name in names {
-        join(rt, &Files { rt }, path, *name, &mut joining)?;
+        join(rt, databases, path, *name, &mut joining)?;
     }
     let mut printed = Vec::new(rt.alloc());
     let end = write_joins(rt.alloc(), joining.lines.as_slice(), &mut printed);
     Ok((end, printed))
 }
 
+/// Whether nothing is told of it as the first of several.
+pub(crate) fn is_joined<D: Databases>(
+    rt: &HostRuntime,
+    databases: &D,
+    path: &str,
+) -> Result<bool, Fail> {
+    let (end, printed) = joined(rt, databases, path, &["old.db"])?;
+    Ok(end == Ok(true) && printed.as_slice() == b"joined: fine\n".as_slice())
+}
+
 #[test]
 fn nothing_is_told_of_the_first_file(rt: HostRuntime) -> Result<(), Fail> {
-    let path = path(&rt)?;
-    fill(&rt, &Files { rt: &rt }, &path)?;
-    let (end, printed) = joined(&rt, &path, &["old.db"])?;
-    assert!(rt; end == Ok(true) && printed.as_slice() == b"joined: fine\n".as_slice());
-    remove(&rt, &path)
+    assert!(rt; is_so_of_file(&rt, Tried::Joined)?);
+    Ok(())
 }
 
 static TWICE: &[u8] = b"meter m1 is in new.db, and was closed in old.db
@@ -130,11 +159,18 @@ meter m2 begins in new.db at 2800 0 0, stands in old.db at 3700 45 0
 2 differences between files
 ";
 
+/// Whether it is told not to go on from itself.
+pub(crate) fn is_told_twice<D: Databases>(
+    rt: &HostRuntime,
+    databases: &D,
+    path: &str,
+) -> Result<bool, Fail> {
+    let (end, printed) = joined(rt, databases, path, &["old.db", "new.db"])?;
+    Ok(end == Ok(false) && printed.as_slice() == TWICE)
+}
+
 #[test]
 fn a_file_that_does_not_go_on_is_told(rt: HostRuntime) -> Result<(), Fail> {
-    let path = path(&rt)?;
-    fill(&rt, &Files { rt: &rt }, &path)?;
-    let (end, printed) = joined(&rt, &path, &["old.db", "new.db"])?;
-    assert!(rt; end == Ok(false) && printed.as_slice() == TWICE);
-    remove(&rt, &path)
+    assert!(rt; is_so_of_file(&rt, Tried::ToldTwice)?);
+    Ok(())
 }

@@ -1,6 +1,7 @@
 //! Copies that hold an office alone, and whose tables a file has.
 use crate::commands::{KNOWN, are_reported, fill};
 use crate::files::{Files, path, remove};
+use crate::tried::{Tried, is_so_of_file};
 use sqlite::{Alter, Connection, Error, Unknown};
 use std::fs;
 use std::test::Fail;
@@ -75,17 +76,22 @@ fn is_copied_alone<D: Databases>(
     Ok(why.is_none() && is_one && reports)
 }
 
-fn remove_both(rt: &HostRuntime, one: &str, other: &str) -> Result<(), Fail> {
-    remove(rt, one)?;
-    remove(rt, other)
+/// The same of a copy that is removed then.
+pub(crate) fn is_copied<D: Databases>(
+    rt: &HostRuntime,
+    databases: &D,
+    from: &str,
+) -> Result<bool, Fail> {
+    let to = path(rt)?;
+    let is_copied = is_copied_alone(rt, databases, from, &to)?;
+    remove(rt, &to)?;
+    Ok(is_copied)
 }
 
 #[test]
 fn a_copy_holds_its_office_alone(rt: HostRuntime) -> Result<(), Fail> {
-    let from = path(&rt)?;
-    let to = path(&rt)?;
-    assert!(rt; is_copied_alone(&rt, &Files { rt: &rt }, &from, &to)?);
-    remove_both(&rt, &from, &to)
+    assert!(rt; is_so_of_file(&rt, Tried::Copied)?);
+    Ok(())
 }
 
 /// Why a text isn't made whole, if it isn't.

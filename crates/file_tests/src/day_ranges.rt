@@ -1,6 +1,6 @@
 //! The days of a range, asked of an office in a file.
 use crate::commands::fill;
-use crate::files::{Files, path, remove};
+use crate::tried::{Tried, is_so_of_file};
 use energy_report::read_day;
 use interval_core::{Day, DayRange, DayTotal};
 use office_books::RowSink;
@@ -139,7 +139,11 @@ fn opened<D: Databases>(
 }
 
 /// Whether each range is told as its row says.
-fn are_told<D: Databases>(rt: &HostRuntime, databases: &D, path: &str) -> Result<bool, Fail> {
+pub(crate) fn are_days_told<D: Databases>(
+    rt: &HostRuntime,
+    databases: &D,
+    path: &str,
+) -> Result<bool, Fail> {
     fill(rt, databases, path)?;
     let mut office = opened(rt, databases, path)?;
     for asked in &ASKED {
@@ -152,7 +156,6 @@ fn are_told<D: Databases>(rt: &HostRuntime, databases: &D, path: &str) -> Result
 
 #[test]
 fn the_days_of_a_range_are_told(rt: HostRuntime) -> Result<(), Fail> {
-    let path = path(&rt)?;
-    assert!(rt; are_told(&rt, &Files { rt: &rt }, &path)?);
-    remove(&rt, &path)
+    assert!(rt; is_so_of_file(&rt, Tried::DaysTold)?);
+    Ok(())
 }

@@ -1,7 +1,7 @@
 //! What files of an office tell of a register, one after the other.
 use crate::commands::fill;
 use crate::day::{MONTH, REPORTED};
-use crate::files::{Files, path, remove};
+use crate::tried::{Tried, is_so_of_file};
 use carried_books::{
     JoinedFiles, Keeping, Unjoined, both_files_tell_the_joined_days, one_file_tells_its_days,
     report_joined,
@@ -132,7 +132,11 @@ fn is_apart_from_itself<D: Databases>(
 }
 
 /// Whether the file of the day is reported alone, and doesn't join itself.
-fn is_told_alone<D: Databases>(rt: &HostRuntime, databases: &D, path: &str) -> Result<bool, Fail> {
+pub(crate) fn is_told_alone<D: Databases>(
+    rt: &HostRuntime,
+    databases: &D,
+    path: &str,
+) -> Result<bool, Fail> {
     fill(rt, databases, path)?;
     Ok(is_reported(rt, databases, path)? && is_apart_from_itself(rt, databases, path)?)
 }
@@ -141,8 +145,6 @@ fn is_told_alone<D: Databases>(rt: &HostRuntime, databases: &D, path: &str) -> R
 fn a_file_is_reported_alone_and_not_after_itself(rt: HostRuntime) -> Result<(), Fail> {
     one_file_tells_its_days();
     both_files_tell_the_joined_days();
-    let path = path(&rt)?;
-    let files = Files { rt: &rt };
-    assert!(rt; is_told_alone(&rt, &files, &path)?);
-    remove(&rt, &path)
+    assert!(rt; is_so_of_file(&rt, Tried::ToldAlone)?);
+    Ok(())
 }

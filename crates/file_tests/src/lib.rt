@@ -35,4 +35,6 @@ mod stored;
 #[cfg(test)]
 mod task_ends;
 #[cfg(test)]
+mod tried;
+#[cfg(test)]
 mod unwaited_lines;

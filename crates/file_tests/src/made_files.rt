@@ -1,5 +1,6 @@
 //! Files that are made and opened.
-use crate::files::{Files, path, remove};
+use crate::files::path;
+use crate::tried::{Tried, is_so_at, is_so_of_file};
 use sqlite::{Alter, Connection, Error};
 use std::fs;
 use std::test::Fail;
@@ -35,35 +36,59 @@ fn kept<D: Databases>(databases: &D, path: &str) -> Result<i64, Fail> {
     Ok(found.query_row("SELECT n FROM kept", &[])?.get(0)?)
 }
 
+/// Whether a file that is missing is told so, and isn't made.
+pub(crate) fn is_missing<D: Databases>(
+    rt: &HostRuntime,
+    databases: &D,
+    path: &str,
+) -> Result<bool, Fail> {
+    Ok(unopened(databases, path) == Some(FileFault::Missing) && !fs::exists(rt, path)?)
+}
+
 #[test]
 fn a_file_that_is_missing_is_not_made(rt: HostRuntime) -> Result<(), Fail> {
     let path = path(&rt)?;
-    let files = Files { rt: &rt };
-    assert!(rt; unopened(&files, &path) == Some(FileFault::Missing));
-    assert!(rt; !fs::exists(&rt, path.as_str())?);
+    assert!(rt; is_so_at(&rt, &path, Tried::Missing)?);
     Ok(())
+}
+
+/// Whether a file is made, which is busy meanwhile, and has afterwards what was written to it.
+pub(crate) fn is_found_again<D: Databases>(databases: &D, path: &str) -> Result<bool, Fail> {
+    let was_busy = unopened_twice(databases, path)? == Some(FileFault::Busy);
+    Ok(was_busy && kept(databases, path)? == 7)
 }
 
 #[test]
 fn a_file_is_made_and_found_again(rt: HostRuntime) -> Result<(), Fail> {
-    let path = path(&rt)?;
-    let files = Files { rt: &rt };
-    assert!(rt; unopened_twice(&files, &path)? == Some(FileFault::Busy));
-    assert!(rt; kept(&files, &path)? == 7);
-    remove(&rt, &path)
+    assert!(rt; is_so_of_file(&rt, Tried::FoundAgain)?);
+    Ok(())
 }
 
-// A text, a folder, what SQLite takes for a database in memory, and a file in a folder that isn't there.
+/// Whether this is no database that can be made: a folder, what SQLite takes for a database in memory, and a file in a folder that isn't
+/// there.
+fn are_unreadable<D: Databases>(databases: &D) -> bool {
+    for name in ["/", ":memory:", "/none/office.db"] {
+        if unmade(databases, name) != Some(FileFault::Unreadable) {
+            return false;
+        }
+    }
+    true
+}
+
+/// Whether a text is told to be none, too.
+pub(crate) fn is_no_database<D: Databases>(
+    rt: &HostRuntime,
+    databases: &D,
+    path: &str,
+) -> Result<bool, Fail> {
+    fs::write(rt, path, "no database".as_bytes())?;
+    Ok(unopened(databases, path) == Some(FileFault::NoDatabase) && are_unreadable(databases))
+}
+
 #[test]
 fn what_is_no_database_is_told(rt: HostRuntime) -> Result<(), Fail> {
-    let path = path(&rt)?;
-    let files = Files { rt: &rt };
-    fs::write(&rt, path.as_str(), "no database".as_bytes())?;
-    assert!(rt; unopened(&files, &path) == Some(FileFault::NoDatabase));
-    for name in ["/", ":memory:", "/none/office.db"] {
-        assert!(rt; unmade(&files, name) == Some(FileFault::Unreadable));
-    }
-    remove(&rt, &path)
+    assert!(rt; is_so_of_file(&rt, Tried::NoDatabase)?);
+    Ok(())
 }
 
 #[test]

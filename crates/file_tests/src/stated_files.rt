@@ -1,8 +1,9 @@
 //! What files of an office state of the meters at a register, one after the other.
 use crate::commands::fill;
 use crate::day::{STATED, office_from};
-use crate::files::{Files, path, remove};
+use crate::files::remove;
 use crate::joined_files::{is_apart, joined_on};
+use crate::tried::{Tried, is_so_of_file};
 use carried_books::{
     JoinedStatement, Unjoined, both_files_state_the_joined_meter, one_file_states_its_meters,
     state_joined,
@@ -156,15 +157,22 @@ fn is_stated_with_next<D: Databases>(
     Ok(are_stated)
 }
 
+/// The same, where the file of the day is made first.
+pub(crate) fn is_stated_with_another<D: Databases>(
+    rt: &HostRuntime,
+    databases: &D,
+    path: &str,
+) -> Result<bool, Fail> {
+    fill(rt, databases, path)?;
+    is_stated_with_next(rt, databases, path)
+}
+
 #[test]
 fn files_are_stated_as_one_and_each_alone(rt: HostRuntime) -> Result<(), Fail> {
     one_file_states_its_meters();
     both_files_state_the_joined_meter();
-    let path = path(&rt)?;
-    let files = Files { rt: &rt };
-    fill(&rt, &files, &path)?;
-    assert!(rt; is_stated_with_next(&rt, &files, &path)?);
-    remove(&rt, &path)
+    assert!(rt; is_so_of_file(&rt, Tried::StatedWithAnother)?);
+    Ok(())
 }
 
 /// Why a file doesn't join what was kept before it.
@@ -243,20 +251,34 @@ fn is_refused_bare<D: Databases>(
     Ok(is_refused)
 }
 
+/// Whether the file of the day doesn't join itself.
+pub(crate) fn is_apart_alone<D: Databases>(
+    rt: &HostRuntime,
+    databases: &D,
+    path: &str,
+) -> Result<bool, Fail> {
+    fill(rt, databases, path)?;
+    is_apart_from_itself(rt, databases, path)
+}
+
 #[test]
 fn files_that_are_apart_are_not_stated(rt: HostRuntime) -> Result<(), Fail> {
-    let path = path(&rt)?;
-    let files = Files { rt: &rt };
-    fill(&rt, &files, &path)?;
-    assert!(rt; is_apart_from_itself(&rt, &files, &path)?);
-    remove(&rt, &path)
+    assert!(rt; is_so_of_file(&rt, Tried::ApartAlone)?);
+    Ok(())
+}
+
+/// Whether an office that has no register doesn't join the file of the day.
+pub(crate) fn is_refused_without<D: Databases>(
+    rt: &HostRuntime,
+    databases: &D,
+    path: &str,
+) -> Result<bool, Fail> {
+    fill(rt, databases, path)?;
+    is_refused_bare(rt, databases, path)
 }
 
 #[test]
 fn a_file_without_the_register_is_not_stated(rt: HostRuntime) -> Result<(), Fail> {
-    let path = path(&rt)?;
-    let files = Files { rt: &rt };
-    fill(&rt, &files, &path)?;
-    assert!(rt; is_refused_bare(&rt, &files, &path)?);
-    remove(&rt, &path)
+    assert!(rt; is_so_of_file(&rt, Tried::RefusedWithout)?);
+    Ok(())
 }
