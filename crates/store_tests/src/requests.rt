@@ -4,7 +4,9 @@ use crate::player::{READ, event_of, play};
 use office_books::Books;
 use office_core::Office;
 use office_events::{Answer, Asked, Command, CommandKind, Event, Name, Piece, Refusal};
+use office_store::SqlBooks;
 use script_lines::ScriptLine;
+use sqlite::MemStore;
 use std::alloc::Global;
 use std::process::Abort;
 use std::str;
@@ -89,6 +91,17 @@ fn printed_after<B: Books>(
     Ok((text, office.into_books()))
 }
 
+/// The same by an office that is opened anew over these books, and is sent the repeats.
+fn printed_again(
+    rt: &impl Abort,
+    alloc: Global,
+    made: SqlBooks<MemStore>,
+) -> Result<Vec<u8>, Fail> {
+    let again = found(alloc, made.into_connection())?;
+    let (text, _) = printed_after(rt, alloc, again, (5000, ""), &REQUESTS[1..])?;
+    Ok(text)
+}
+
 /// What is printed of it.
 const M1: &str = "meter m1 last 5300 sf 0 at 2800 total 300000 ended
 900 177777
@@ -102,8 +115,7 @@ fn a_repeat_is_answered_again(rt: HostRuntime) -> Result<(), Fail> {
     let new = books(rt.alloc())?;
     let (text, made) = printed_after(&rt, rt.alloc(), new, (0, READ), &REQUESTS)?;
     assert!(rt; text.as_slice() == M1.as_bytes());
-    let again = found(rt.alloc(), made.into_connection())?;
-    let (text, _) = printed_after(&rt, rt.alloc(), again, (5000, ""), &REQUESTS[1..])?;
+    let text = printed_again(&rt, rt.alloc(), made)?;
     assert!(rt; text.as_slice() == M1.as_bytes());
     Ok(())
 }
