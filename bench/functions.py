@@ -38,7 +38,7 @@ class Steps:
 
     def __init__(self, pid):
         self.folder, self.times, self.ended = f"{tempfile.gettempdir()}/rattle-logic-built-locked-{pid}-0", {}, threading.Event()
-        self.looking = threading.Thread(target=self.look)
+        self.looking = threading.Thread(target=self.look, daemon=True)
         self.looking.start()
 
     def look(self):

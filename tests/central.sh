@@ -5,7 +5,8 @@
 # `kills` (collect and servers are killed at random, CENTRAL_ROUNDS times, 30 by default, while 20 mock offices go on, and then 20 of the
 # program, where it is built, of fifty meters each), and `measures` (CENTRAL_SITES mock offices, 300 by default, of 30 meters with a month each, into one shard and
 # into two, timed). What lacks is installed by apt where this is run as root (not with PEERS_INSTALL=no); what can't be had is named and not
-# tried. It took 11 minutes beside provers, and takes 1 GB, and ends on 'N passed, M failed'.
+# tried. It takes some 15 minutes (12 were seen beside provers, before the program's offices had fifty meters) and 1 GB, and ends on
+# 'N passed, M failed'.
 set -u
 here=$(dirname "$(readlink -f "$0")")
 program=$(readlink -f "${1:-$here/../out/sunreg}")

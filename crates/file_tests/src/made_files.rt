@@ -64,8 +64,7 @@ fn a_file_is_made_and_found_again(rt: HostRuntime) -> Result<(), Fail> {
     Ok(())
 }
 
-/// Whether this is no database that can be made: a folder, what SQLite takes for a database in memory, and a file in a folder that isn't
-/// there.
+/// Whether no database is made of a folder, of what SQLite takes for one in memory, and of a file in a folder that isn't there.
 fn are_unreadable<D: Databases>(databases: &D) -> bool {
     for name in ["/", ":memory:", "/none/office.db"] {
         if unmade(databases, name) != Some(FileFault::Unreadable) {

@@ -42,28 +42,29 @@ module _ {B : Type 0} (ledger : B → Ledger) where
       (polled : B) × TellsPolling ledger past device moments later found polled had holds end
       × LooksUp (ledger polled) (ledger left)
 
+module _ {B : Type 0} (ledger : B → Ledger) (tells : Telling) (past : History) where
   -- The task that was asked for was done over books that were found, and others are left; and so it ended. Files and counters
   -- that a text names tell this.
-  unfoldable pub Does : Telling → (past : History) → (moments later had holds : Option (List ℕ))
+  unfoldable pub Does : (moments later had holds : Option (List ℕ))
       → (found left : B) → Task → Done → Type 0
-  Does tells past moments later had holds found left (task.Report register) (Reported end) =
+  Does moments later had holds found left (task.Report register) (Reported end) =
       TellsReport ledger past register.now moments later found left had holds end
-  Does tells past moments later had holds found left (task.ReportRange register form) (Reported end) =
+  Does moments later had holds found left (task.ReportRange register form) (Reported end) =
       TellsRange ledger past register.now form.now moments later found left had holds end
-  Does tells past moments later had holds found left (task.Statement register form) (Reported end) =
+  Does moments later had holds found left (task.Statement register form) (Reported end) =
       TellsStatement ledger past register.now form.now moments later found left had holds end
-  Does tells past moments later had holds found left (task.Serve host port names connections) (Served end) =
+  Does moments later had holds found left (task.Serve host port names connections) (Served end) =
       TellsServing ledger past (port_of (texts names.now) connections) moments later found left had
       holds end
-  Does tells past moments later had holds found left (task.Enter caller text) (Entered end) =
+  Does moments later had holds found left (task.Enter caller text) (Entered end) =
       TellsEntering ledger past tells caller.now text.now moments later found left had holds end
-  Does tells past moments later had holds found left (task.Check caller text) (Checked end) =
+  Does moments later had holds found left (task.Check caller text) (Checked end) =
       LooksOver tells caller.now text.now (ledger left) had holds end past
-  Does tells past moments later had holds found left (task.Round device host port) (Polled end) =
-      PollsAndLooks past device.now moments later found left had holds end
-  Does tells past moments later had holds found left (task.Run settings sites) (Ran end) =
+  Does moments later had holds found left (task.Round device host port) (Polled end) =
+      PollsAndLooks ledger past device.now moments later found left had holds end
+  Does moments later had holds found left (task.Run settings sites) (Ran end) =
       BooksRun (texts settings.now.host_names.now) moments later (ledger left) past
-  Does tells past moments later had holds found left _ _ = ⊥
+  Does moments later had holds found left _ _ = ⊥
 
 -- It was done over the books that a database was found to hold.
 abbrev pub DoesOver : {S : Type 0} → Ghosts S → Telling → (past : History)

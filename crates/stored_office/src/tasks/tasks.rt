@@ -169,7 +169,8 @@ fn carry_out<R: Net + std::rt::Clock, B: Books, F: NamedFiles, C: Clock, W: Writ
     }
 }
 
-/// Finds the books of a database, and carries a task out over them. Where there are no books, nothing is printed.
+/// Finds the books of a database, and carries a task out over them. Where there are no books, nothing is printed. Files that
+/// a text names are read by `files`, and so are counters.
 pub fn carry_out_stored<
     R: Net + std::rt::Clock,
     S: Alter + Drop,
