@@ -1,5 +1,5 @@
 //! The audit of an office's files, and seals of what is recorded in one.
-use crate::files::{Files, Opening};
+use crate::files::{OfficeFiles, Opening};
 use crate::opening::open_in;
 use command_words::Sealing;
 use office_store::OpenFault;
@@ -89,7 +89,12 @@ fn ended(told: Result<bool, Failure<'_>>) -> Ending<'_> {
 }
 
 // Audits the tables, and holds them to the seal in a file.
-fn audit_against<'a>(rt: &HostRuntime, path: &'a str, file: &'a str) -> Ending<'a> {
+fn audit_against<'a, D: Databases>(
+    rt: &HostRuntime,
+    databases: &D,
+    path: &'a str,
+    file: &'a str,
+) -> Ending<'a> {
     let Ok(bytes) = seal_in(rt, file) else {
         return Ending::Failed(Failure::Unaudited {
             path: file,
@@ -99,8 +104,7 @@ fn audit_against<'a>(rt: &HostRuntime, path: &'a str, file: &'a str) -> Ending<'
     let Ok(text) = from_utf8(bytes.as_slice()) else {
         return Ending::NoSeal(file);
     };
-    let files = Files::opened(rt, Opening::Copied);
-    match audit_in(rt, &files, path, Sealing::Against(text)) {
+    match audit_in(rt, databases, path, Sealing::Against(text)) {
         Err(
             Failure::Unaudited {
                 fault: AuditFault::NoSeal,
@@ -113,12 +117,16 @@ fn audit_against<'a>(rt: &HostRuntime, path: &'a str, file: &'a str) -> Ending<'
 
 /// Tells whether the rows of an office's file are those of lawful journals and polls, and prints a seal of them, or holds them to one.
 /// Nothing is written to the file.
-pub fn audit<'a>(rt: &HostRuntime, path: &'a str, seal: Sealing<'a>) -> Ending<'a> {
+pub fn audit<'a, D: OfficeFiles>(
+    rt: &HostRuntime,
+    files: &D,
+    path: &'a str,
+    seal: Sealing<'a>,
+) -> Ending<'a> {
+    let copies = files.opened(Opening::Copied);
     match seal {
-        Sealing::Against(file) => audit_against(rt, path, file),
-        Sealing::Nothing | Sealing::Print => {
-            ended(audit_in(rt, &Files::opened(rt, Opening::Copied), path, seal))
-        }
+        Sealing::Against(file) => audit_against(rt, &copies, path, file),
+        Sealing::Nothing | Sealing::Print => ended(audit_in(rt, &copies, path, seal)),
     }
 }
 
@@ -217,9 +225,13 @@ fn twice<'a>(paths: &[&'a str]) -> Option<&'a str> {
 
 /// Tells whether the rows of each of an office's files are those of lawful journals and polls, and whether the files, the oldest first,
 /// go on from each other. Nothing is written to them, and one is open at a time.
-pub fn audit_several<'a>(rt: &HostRuntime, paths: &[&'a str]) -> Ending<'a> {
+pub fn audit_several<'a, D: OfficeFiles>(
+    rt: &HostRuntime,
+    files: &D,
+    paths: &[&'a str],
+) -> Ending<'a> {
     if let Some(path) = twice(paths) {
         return Ending::Twice(path);
     }
-    ended(audit_files(rt, &Files::opened(rt, Opening::Copied), paths))
+    ended(audit_files(rt, &files.opened(Opening::Copied), paths))
 }

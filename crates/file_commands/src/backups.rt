@@ -1,10 +1,9 @@
 //! One whole file of the office in a file, also beside a running one.
-use crate::copies::{Pair, copy_settled, pair_at, remove};
-use sqlite::Unknown;
+use crate::copies::{Pair, copy_settled, make_whole, pair_at, remove};
 use std::alloc::AllocError;
 use std::fs::{self, File};
 use std::io::{self, ErrorKind};
-use stored_files::{CopyFault, Ending, Failure, whole_file};
+use stored_files::{CopyFault, Ending, Failure};
 
 /// Whether there is anything of this name.
 pub fn is_there(rt: &HostRuntime, path: &str) -> bool {
@@ -89,8 +88,8 @@ pub(crate) fn give_name(rt: &HostRuntime, part: &str, to: &str) -> io::Result<()
 
 // Makes the copy whole, and gives it its name.
 fn finish<'a>(rt: &HostRuntime, db: &'a str, to: &'a str, part: &Pair) -> Result<(), Failure<'a>> {
-    match whole_file(rt, part.file.as_str(), Unknown) {
-        Ok(_files) => {}
+    match make_whole(rt, part.file.as_str()) {
+        Ok(()) => {}
         Err(fault) => return Err(told_of(db, to, fault)),
     }
     let named = match fs::remove_file(rt, part.log.as_str()) {

@@ -1,18 +1,18 @@
 //! A new file in which the meters of an office's file stand as they stood there.
 use crate::backups::{give_name, part_of};
-use crate::copies::{Pair, remove};
+use crate::copies::{Pair, make_whole, remove};
 use crate::escaped::Escaped;
-use crate::files::{Files, Opening};
+use crate::files::{OfficeFiles, Opening};
 use crate::opening::open_in;
 use carried_books::CarryFault;
 use office_events::{Name, Refusal};
 use printed_numbers::{Kind, meaning_of};
-use sqlite::{Connection, Unknown};
+use sqlite::Connection;
 use std::fs::{self, File, OpenOptions};
 use std::io::{self, ErrorKind, Write};
 use std::os::unix::fs::OpenOptionsExt;
 use std::str::from_utf8;
-use stored_files::{CarryEnd, CopyFault, Databases, Ending, Failure, carry_stored, whole_file};
+use stored_files::{CarryEnd, CopyFault, Databases, Ending, Failure, carry_stored};
 
 // Makes an empty file that is its owner's alone.
 fn make_part(rt: &HostRuntime, part: &str) -> io::Result<()> {
@@ -105,8 +105,8 @@ fn name_whole(rt: &HostRuntime, to: &str, part: &Pair) -> io::Result<()> {
 
 // Makes the new file whole, and gives it its name.
 fn finish<'a>(rt: &HostRuntime, to: &'a str, part: &Pair) -> Result<(), Failure<'a>> {
-    match whole_file(rt, part.file.as_str(), Unknown) {
-        Ok(_files) => {}
+    match make_whole(rt, part.file.as_str()) {
+        Ok(()) => {}
         Err(CopyFault::Memory) => return Err(Failure::Memory),
         Err(_) => return Err(unwritable(to)),
     }
@@ -241,15 +241,15 @@ fn carry_in<'a, D: Databases>(
 }
 
 // Carries the meters of a file into the part of a new one, and makes that the new file. Of a carry that fails nothing is left.
-fn carry_into<'a>(
+fn carry_into<'a, D: Databases>(
     rt: &HostRuntime,
+    databases: &D,
     from: &'a str,
     to: &'a str,
     part: &Pair,
     until: Option<u64>,
 ) -> Ending<'a> {
-    let files = Files::opened(rt, Opening::Copied);
-    let ending = match carry_in(rt, &files, from, to, part, until) {
+    let ending = match carry_in(rt, databases, from, to, part, until) {
         Ok(count) => return say_carried(rt, count),
         Err(why) => match why {
             NotCarried::Failed(failure) => Ending::Failed(failure),
@@ -263,7 +263,13 @@ fn carry_into<'a>(
 
 /// Makes a new file in which each open meter of an office's file stands as it stood there, at the end or at a moment. The old file is
 /// only read, and by a copy, so it may be a running office's.
-pub fn carry<'a>(rt: &HostRuntime, from: &'a str, to: &'a str, until: Option<u32>) -> Ending<'a> {
+pub fn carry<'a, D: OfficeFiles>(
+    rt: &HostRuntime,
+    files: &D,
+    from: &'a str,
+    to: &'a str,
+    until: Option<u32>,
+) -> Ending<'a> {
     let part = match part_of(rt, to) {
         Ok(part) => part,
         Err(failure) => return Ending::Failed(failure),
@@ -275,5 +281,6 @@ pub fn carry<'a>(rt: &HostRuntime, from: &'a str, to: &'a str, until: Option<u32
         Some(moment) => Some(u64::from(moment)),
         None => None,
     };
-    carry_into(rt, from, to, &part, until)
+    let copies = files.opened(Opening::Copied);
+    carry_into(rt, &copies, from, to, &part, until)
 }

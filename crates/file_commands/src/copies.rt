@@ -6,7 +6,7 @@ use std::fs::{self, File, OpenOptions};
 use std::io::{self, ErrorKind, Read};
 use std::os::unix::fs::OpenOptionsExt;
 use std::time::{SystemTime, UNIX_EPOCH};
-use stored_files::{FileConnection, FileFault, open_file};
+use stored_files::{CopyFault, FileConnection, FileFault, open_file, whole_file};
 
 /// How often a file is copied whose log is moved into it meanwhile.
 const TRIES: u32 = 8;
@@ -97,6 +97,14 @@ pub(crate) fn copy_settled(rt: &HostRuntime, source: &Pair, copy: &Pair) -> io::
         remove(rt, copy);
     }
     Ok(false)
+}
+
+/// Moves the log of an office's file into it, which then holds the office alone. Both must be this process's alone.
+pub(crate) fn make_whole(rt: &HostRuntime, file: &str) -> Result<(), CopyFault> {
+    match whole_file(rt, file, Unknown) {
+        Ok(_files) => Ok(()),
+        Err(fault) => Err(fault),
+    }
 }
 
 // The names of a copy that is only read: among the files that come and go, by the moment.

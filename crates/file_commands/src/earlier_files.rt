@@ -1,19 +1,20 @@
 //! Earlier files of an office that goes on, over which a run tells energy, too.
 use crate::carries::write_refusal;
-use crate::files::{Files, Opening};
+use crate::files::{OfficeFiles, Opening};
 use crate::joined_reports::{NotJoined, join_in, last_of};
 use carried_books::{EarlierRegister, HeldRegisters, Keeping, KeptRegisters};
 use interval_core::DayRange;
 use office_events::Name;
 use std::io::Write;
-use stored_files::{Ending, Failure, JoinedOffice};
+use stored_files::{Databases, Ending, Failure, JoinedOffice};
 
 // Whichever register is named, all are asked for.
 const ANY: &[u8] = b"any";
 
 // Adds what a file tells of all its registers, or says why it doesn't join.
-fn join<'a, K: Keeping, E: Write>(
+fn join<'a, D: Databases, K: Keeping, E: Write>(
     rt: &HostRuntime,
+    databases: &D,
     joined: Option<JoinedOffice<K>>,
     before: &str,
     path: &'a str,
@@ -21,9 +22,10 @@ fn join<'a, K: Keeping, E: Write>(
     is_new: bool,
     errors: &mut E,
 ) -> Result<JoinedOffice<K>, Ending<'a>> {
-    let files = Files::opened(rt, Opening::ToRead);
     let all = DayRange::all();
-    match join_in(rt, &files, joined, before, path, any, &all, is_new, errors) {
+    match join_in(
+        rt, databases, joined, before, path, any, &all, is_new, errors,
+    ) {
         Ok(next) => Ok(next),
         Err(why) => match why {
             NotJoined::Failed(failure) => Err(Ending::Failed(failure)),
@@ -37,8 +39,9 @@ fn join<'a, K: Keeping, E: Write>(
 }
 
 // What the files tell of their registers, one after the other: one of them is open at a time.
-fn keep_all<'a, E: Write>(
+fn keep_all<'a, D: Databases, E: Write>(
     rt: &HostRuntime,
+    databases: &D,
     paths: &[&'a str],
     any: &Name,
     errors: &mut E,
@@ -46,7 +49,7 @@ fn keep_all<'a, E: Write>(
     let mut joined = None;
     let mut before = "";
     for path in paths {
-        match join(rt, joined, before, *path, any, false, errors) {
+        match join(rt, databases, joined, before, *path, any, false, errors) {
             Ok(next) => joined = Some(next),
             Err(ending) => return Err(ending),
         }
@@ -66,8 +69,9 @@ fn registers_of<'a>(held: JoinedOffice<HeldRegisters>) -> Result<Vec<EarlierRegi
 }
 
 // Holds the file in which books go on to those before it.
-fn hold<'a, E: Write>(
+fn hold<'a, D: Databases, E: Write>(
     rt: &HostRuntime,
+    databases: &D,
     joined: JoinedOffice<KeptRegisters>,
     before: &str,
     path: &'a str,
@@ -78,7 +82,7 @@ fn hold<'a, E: Write>(
     let JoinedOffice { zone, kept } = joined;
     let kept = HeldRegisters { kept };
     let held = Some(JoinedOffice { zone, kept });
-    match join(rt, held, before, path, any, is_new, errors) {
+    match join(rt, databases, held, before, path, any, is_new, errors) {
         Ok(held) => registers_of(held),
         Err(ending) => Err(ending),
     }
@@ -104,8 +108,9 @@ fn say_earlier<E: Write>(errors: &mut E, current: &str, paths: &[&str]) {
 
 /// What earlier files, the oldest first, tell of their registers, where the file in which books go on, which may just have been made,
 /// joins them. All are only read, one after the other. How many they are, or what doesn't join, is said to a writer.
-pub fn earlier_registers<'a, E: Write>(
+pub fn earlier_registers<'a, D: OfficeFiles, E: Write>(
     rt: &HostRuntime,
+    files: &D,
     paths: &[&'a str],
     current: &'a str,
     is_new: bool,
@@ -114,11 +119,13 @@ pub fn earlier_registers<'a, E: Write>(
     let Some(any) = Name::new(ANY) else {
         return Err(Ending::Failed(Failure::Memory));
     };
-    match keep_all(rt, paths, &any, errors) {
+    let readable = files.opened(Opening::ToRead);
+    match keep_all(rt, &readable, paths, &any, errors) {
         Err(ending) => Err(ending),
         Ok(None) => Ok(Vec::new(rt.alloc())),
         Ok(Some(joined)) => {
-            let registers = hold(rt, joined, last_of(paths), current, &any, is_new, errors);
+            let before = last_of(paths);
+            let registers = hold(rt, &readable, joined, before, current, &any, is_new, errors);
             if registers.is_ok() {
                 say_earlier(errors, current, paths);
             }

@@ -14,6 +14,13 @@ pub enum Opening {
     Copied,
 }
 
+/// The files of an office, as databases that are opened as each command asks. What is done with them is proved over any of these, and a
+/// program says once which they are, since a call over those of the system takes the prover half a minute.
+pub trait OfficeFiles: Databases + Copy {
+    /// The same files, opened so.
+    fn opened(&self, opening: Opening) -> Self;
+}
+
 /// The files of the system, opened so.
 #[derive(Clone, Copy)]
 pub struct Files<'r> {
@@ -24,12 +31,14 @@ pub struct Files<'r> {
 impl<'r> Files<'r> {
     /// Each opened in its place.
     pub fn of(rt: &'r HostRuntime) -> Files<'r> {
-        Files::opened(rt, Opening::InPlace)
-    }
-
-    /// Each opened so.
-    pub fn opened(rt: &'r HostRuntime, opening: Opening) -> Files<'r> {
+        let opening = Opening::InPlace;
         Files { rt, opening }
+    }
+}
+
+impl OfficeFiles for Files<'_> {
+    fn opened(&self, opening: Opening) -> Self {
+        Files { opening, ..*self }
     }
 }
 

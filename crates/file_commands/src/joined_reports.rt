@@ -1,7 +1,7 @@
 //! Reports of a register over several files of one office.
 use crate::carries::say_refused;
 use crate::escaped::Escaped;
-use crate::files::{Files, Opening};
+use crate::files::{OfficeFiles, Opening};
 use crate::forms::{form_of, range_of, statement_of};
 use crate::opening::open_telling;
 use carried_books::{
@@ -136,20 +136,20 @@ pub(crate) fn join_in<'a, D: Databases, K: Keeping, E: Write>(
 }
 
 // What the files tell of a register, one after the other: one of them is open at a time.
-fn join_all<'a, K: Keeping>(
+fn join_all<'a, D: Databases, K: Keeping>(
     rt: &HostRuntime,
+    databases: &D,
     paths: &[&'a str],
     register: &Name,
     range: &DayRange,
 ) -> Result<Option<JoinedOffice<K>>, Ending<'a>> {
-    let files = Files::opened(rt, Opening::ToRead);
     let mut errors = Escaped::new(rt.stderr());
     let mut joined = None;
     let mut before = "";
     for path in paths {
         match join_in(
             rt,
-            &files,
+            databases,
             joined,
             before,
             *path,
@@ -245,34 +245,37 @@ pub fn last_of<'a>(paths: &[&'a str]) -> &'a str {
 }
 
 // Prints the energy of a register.
-fn report_register<'a>(
+fn report_register<'a, D: Databases>(
     rt: &HostRuntime,
+    databases: &D,
     paths: &[&'a str],
     register: &Name,
     form: &ReportForm,
 ) -> Ending<'a> {
-    match join_all(rt, paths, register, &form.range) {
+    match join_all(rt, databases, paths, register, &form.range) {
         Err(ending) => ending,
         Ok(joined) => report_recorded(rt, last_of(paths), joined, form),
     }
 }
 
 // Prints the statement of its meters.
-fn state_register<'a>(
+fn state_register<'a, D: Databases>(
     rt: &HostRuntime,
+    databases: &D,
     paths: &[&'a str],
     register: &Name,
     form: &StatementForm,
 ) -> Ending<'a> {
-    match join_all(rt, paths, register, &form.range) {
+    match join_all(rt, databases, paths, register, &form.range) {
         Err(ending) => ending,
         Ok(joined) => state_recorded(rt, last_of(paths), joined, form),
     }
 }
 
 /// Prints the energy of a register over several files of one office, the oldest first, as one, or the statement of its meters.
-pub fn report_files<'a>(
+pub fn report_files<'a, D: OfficeFiles>(
     rt: &HostRuntime,
+    files: &D,
     paths: &[&'a str],
     register: &str,
     words: &FormWords<'a>,
@@ -284,8 +287,9 @@ pub fn report_files<'a>(
     let Some(name) = Name::new(register.as_bytes()) else {
         return say_refused(rt, last_of(paths), Refusal::NotFound);
     };
+    let readable = files.opened(Opening::ToRead);
     if words.statement {
-        return state_register(rt, paths, &name, &statement_of(words, range));
+        return state_register(rt, &readable, paths, &name, &statement_of(words, range));
     }
-    report_register(rt, paths, &name, &form_of(words, range))
+    report_register(rt, &readable, paths, &name, &form_of(words, range))
 }

@@ -1,5 +1,4 @@
 //! The making of an office in a file.
-use crate::files::Files;
 use crate::paths::{is_blank, length_of, log_of};
 use interval_core::Zone;
 use office_store::OpenFault;
@@ -70,11 +69,16 @@ fn create_in<'a, D: Databases>(
 }
 
 /// Makes the tables of a new office.
-pub fn create<'a>(rt: &HostRuntime, path: &'a str, zone: &'a str) -> Ending<'a> {
+pub fn create<'a, D: Databases>(
+    rt: &HostRuntime,
+    databases: &D,
+    path: &'a str,
+    zone: &'a str,
+) -> Ending<'a> {
     if Zone::read(zone).is_err() {
         return Ending::NoZone(zone);
     }
-    match create_in(rt, &Files::of(rt), path, zone) {
+    match create_in(rt, databases, path, zone) {
         Ok(()) => Ending::Fine,
         Err(failure) => Ending::Failed(failure),
     }

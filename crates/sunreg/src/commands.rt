@@ -8,12 +8,12 @@ use crate::period_runs::{PeriodWords, run_by_periods};
 use crate::reports::report;
 use crate::run_words::settings_of;
 use crate::scans::{Target, scan};
-use crate::surroundings::Surroundings;
 use command_io::{Buffered, ExitStatus};
 use command_words::CommandLine;
-use file_commands::{Files, audit, audit_several, backup, carry, create, report_files};
+use file_commands::{OfficeFiles, audit, audit_several, backup, carry, create, report_files};
 use interval_core::Zone;
 use mb_device::answer_all;
+use office_program::NamedFiles;
 use script_run::{Loopback, SetupParts, loop_text, replay, set_up};
 use std::io;
 use std::io::Write;
@@ -23,8 +23,12 @@ use stored_files::{Ending, Failure, ending_of};
 use stored_office::{Task, ending_of_done};
 use sunspec_text::{chain_text, plan_text};
 
-/// Carries a command out, says how it ended, and answers the exit status.
-pub(crate) fn carry_out(rt: &HostRuntime, line: &CommandLine<'_>) -> ExitCode {
+/// Carries a command out over an office's files, says how it ended, and answers the exit status.
+pub(crate) fn carry_out<D: OfficeFiles + NamedFiles>(
+    rt: &HostRuntime,
+    files: &D,
+    line: &CommandLine<'_>,
+) -> ExitCode {
     let ending = match line {
         CommandLine::Replay { zone } => run_script(rt, *zone),
         CommandLine::Loop { zone } => run_loop(rt, *zone),
@@ -51,7 +55,7 @@ pub(crate) fn carry_out(rt: &HostRuntime, line: &CommandLine<'_>) -> ExitCode {
             port,
             connections,
         } => stand_in(rt, *host, *port, *connections),
-        CommandLine::Create { db, zone } => create(rt, *db, *zone),
+        CommandLine::Create { db, zone } => create(rt, files, *db, *zone),
         CommandLine::Serve {
             db,
             port,
@@ -64,8 +68,7 @@ pub(crate) fn carry_out(rt: &HostRuntime, line: &CommandLine<'_>) -> ExitCode {
                 names: host_names.as_slice(),
                 connections: *connections,
             };
-            let surroundings = Surroundings::of(rt, Files::of(rt));
-            ending_of_done(over_office(rt, &surroundings, *db, task), OWN_HOST, *port)
+            ending_of_done(over_office(rt, files, *db, task), OWN_HOST, *port)
         }
         CommandLine::Round {
             db,
@@ -78,15 +81,14 @@ pub(crate) fn carry_out(rt: &HostRuntime, line: &CommandLine<'_>) -> ExitCode {
                 host: *host,
                 port: *port,
             };
-            let surroundings = Surroundings::of(rt, Files::of(rt));
-            ending_of_done(over_office(rt, &surroundings, *db, task), *host, *port)
+            ending_of_done(over_office(rt, files, *db, task), *host, *port)
         }
-        CommandLine::Report { db, register, form } => report(rt, *db, *register, form),
+        CommandLine::Report { db, register, form } => report(rt, files, *db, *register, form),
         CommandLine::ReportFiles {
-            files,
+            files: paths,
             register,
             form,
-        } => report_files(rt, files.as_slice(), *register, form),
+        } => report_files(rt, files, paths.as_slice(), *register, form),
         CommandLine::Run {
             dbs,
             listen,
@@ -114,22 +116,22 @@ pub(crate) fn carry_out(rt: &HostRuntime, line: &CommandLine<'_>) -> ExitCode {
                         period: *period,
                         earlier: *earlier,
                     };
-                    return run_by_periods(rt, words, devices, &settings);
+                    return run_by_periods(rt, files, words, devices, &settings);
                 }
-                None => run(rt, dbs.as_slice(), devices, &settings),
+                None => run(rt, files, dbs.as_slice(), devices, &settings),
             }
         }
         CommandLine::Enter {
             db,
             caller,
-            devices,
+            devices: _,
             only_read,
-        } => enter(rt, *db, *caller, devices, *only_read),
+        } => enter(rt, files, *db, *caller, *only_read),
         CommandLine::Backup { db, to } => backup(rt, *db, *to),
-        CommandLine::Carry { from, to, until } => carry(rt, *from, *to, *until),
+        CommandLine::Carry { from, to, until } => carry(rt, files, *from, *to, *until),
         CommandLine::Audit { dbs, seal } => match dbs.as_slice() {
-            [db] => audit(rt, *db, *seal),
-            several => audit_several(rt, several),
+            [db] => audit(rt, files, *db, *seal),
+            several => audit_several(rt, files, several),
         },
         CommandLine::Explain { what, number } => explain(rt, *what, *number),
         CommandLine::Completions => completions(rt),

@@ -3,7 +3,7 @@ use crate::counters::shown_at;
 use crate::offices::{OWN_HOST, over_office};
 use crate::surroundings::Surroundings;
 use command_io::{Buffered, read_input};
-use file_commands::{Escaped, Files};
+use file_commands::Escaped;
 use office_events::{Device, Register};
 use office_program::{MOST_FILE, NamedFiles, Shown};
 use std::alloc::{AllocError, Global};
@@ -11,7 +11,7 @@ use std::fmt::Display;
 use std::fs::File;
 use std::io::{self, ErrorKind, Read, Write};
 use std::str::from_utf8;
-use stored_files::{Ending, Failure, ending_of};
+use stored_files::{Databases, Ending, Failure, ending_of};
 use stored_office::{Task, ending_of_done};
 
 // Says why a file, or the counter of a register, that a line names isn't read.
@@ -77,13 +77,12 @@ impl NamedFiles for Surroundings<'_> {
     }
 }
 
-/// Asks an office in a file what the lines of standard input ask under a caller, or only looks at them. Counters are read of the
-/// devices whose places are told.
-pub(crate) fn enter<'a>(
+/// Asks an office in a file what the lines of standard input ask under a caller, or only looks at them.
+pub(crate) fn enter<'a, D: Databases + NamedFiles>(
     rt: &HostRuntime,
+    files: &D,
     path: &'a str,
     caller: &str,
-    places: &[command_words::Device<'_>],
     only_read: bool,
 ) -> Ending<'a> {
     let mut input = rt.stdin();
@@ -100,8 +99,7 @@ pub(crate) fn enter<'a>(
             } else {
                 Task::Enter { caller, text }
             };
-            let surroundings = Surroundings::with(rt, Files::of(rt), places);
-            ending_of_done(over_office(rt, &surroundings, path, task), OWN_HOST, 0)
+            ending_of_done(over_office(rt, files, path, task), OWN_HOST, 0)
         }
     }
 }

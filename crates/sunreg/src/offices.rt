@@ -5,9 +5,8 @@ ghost use Rattle.stored_office.specs.Tasks.Tasks.{IsOf};
 use crate::command_output::CommandOutput;
 use crate::onward_clock::OnwardClock;
 use crate::run_words::sites_of;
-use crate::surroundings::Surroundings;
 use command_words::Device;
-use file_commands::{Escaped, Files, but_last, earlier_registers, last_of, open_in};
+use file_commands::{Escaped, OfficeFiles, but_last, earlier_registers, last_of, open_in};
 use office_program::NamedFiles;
 use office_running::{Settings, Site};
 use socket_link::{Clock, SystemClock};
@@ -24,21 +23,21 @@ pub(crate) const OWN_HOST: &str = "127.0.0.1";
 /// of a round mean is said after it.
 pub(crate) fn over_office<'a, D: Databases + NamedFiles>(
     rt: &HostRuntime,
-    surroundings: &D,
+    files: &D,
     path: &'a str,
     task: Task<'_>,
 ) -> Result<Done, Failure<'a>>
     ensures same { IfOk result (IsOf task.entry) }
 {
-    let connection = open_in(rt, surroundings, path)?;
+    let connection = open_in(rt, files, path)?;
     let mut clock = OnwardClock::of(SystemClock::new(rt));
-    over_connection(rt, surroundings, path, connection, task, &mut clock)
+    over_connection(rt, files, path, connection, task, &mut clock)
 }
 
 // The same over a connection to it, by a clock.
 fn over_connection<'a, D: Databases + NamedFiles, C: Clock>(
     rt: &HostRuntime,
-    surroundings: &D,
+    files: &D,
     path: &'a str,
     connection: Connection<D::Store>,
     task: Task<'_>,
@@ -55,7 +54,7 @@ fn over_connection<'a, D: Databases + NamedFiles, C: Clock>(
         rt.alloc(),
         connection,
         task,
-        surroundings,
+        files,
         clock,
         &mut output,
         &mut errors,
@@ -103,29 +102,21 @@ fn kept_in<S: Alter + Drop>(connection: &mut Connection<S>) -> u64 {
 // Runs over the database at a path.
 fn run_over<'a, D: Databases + NamedFiles>(
     rt: &HostRuntime,
-    surroundings: &D,
+    files: &D,
     path: &'a str,
     sites: &[Site],
     settings: &Settings<'_>,
 ) -> Result<Done, Failure<'a>> {
-    let connection = open_in(rt, surroundings, path)?;
+    let connection = open_in(rt, files, path)?;
     let mut clock = OnwardClock::of(SystemClock::new(rt));
-    run_opened(
-        rt,
-        surroundings,
-        path,
-        connection,
-        sites,
-        settings,
-        &mut clock,
-    )
+    run_opened(rt, files, path, connection, sites, settings, &mut clock)
 }
 
 /// Runs over a connection to the database at a path, by a clock. What it keeps of requests is counted once, before its books are
 /// opened.
 pub(crate) fn run_opened<'a, D: Databases + NamedFiles, C: Clock>(
     rt: &HostRuntime,
-    surroundings: &D,
+    files: &D,
     path: &'a str,
     connection: Connection<D::Store>,
     sites: &[Site],
@@ -139,13 +130,14 @@ pub(crate) fn run_opened<'a, D: Databases + NamedFiles, C: Clock>(
         settings: &settings,
         sites,
     };
-    over_connection(rt, surroundings, path, connection, task, clock)
+    over_connection(rt, files, path, connection, task, clock)
 }
 
 /// Polls devices on a schedule and answers HTTP, as the settings say. Of several files, the oldest first, books go on in the last, and
 /// energy is told over all.
-pub(crate) fn run<'a>(
+pub(crate) fn run<'a, D: OfficeFiles + NamedFiles>(
     rt: &HostRuntime,
+    files: &D,
     paths: &[&'a str],
     devices: &[Device<'a>],
     settings: &Settings<'_>,
@@ -156,7 +148,7 @@ pub(crate) fn run<'a>(
     };
     let path = last_of(paths);
     let mut errors = Escaped::new(rt.stderr());
-    let registers = match earlier_registers(rt, but_last(paths), path, false, &mut errors) {
+    let registers = match earlier_registers(rt, files, but_last(paths), path, false, &mut errors) {
         Ok(registers) => registers,
         Err(ending) => return ending,
     };
@@ -164,7 +156,6 @@ pub(crate) fn run<'a>(
         earlier: registers.as_slice(),
         ..*settings
     };
-    let surroundings = Surroundings::of(rt, Files::of(rt));
-    let done = run_over(rt, &surroundings, path, sites.as_slice(), &settings);
+    let done = run_over(rt, files, path, sites.as_slice(), &settings);
     ending_of_done(done, OWN_HOST, settings.listen.port())
 }

@@ -5,12 +5,11 @@ use crate::offices::{OWN_HOST, run_opened};
 use crate::onward_clock::OnwardClock;
 use crate::period_files::{Led, files_before, leave_one_name, led_file, path_of};
 use crate::run_words::{STANDARD_ERROR, sites_of};
-use crate::surroundings::Surroundings;
 use carried_books::EarlierRegister;
 use command_words::Device;
 use energy_report::{Period, period_name};
 use file_commands::{
-    Escaped, Files, NotCarried, but_last, carry_open, earlier_registers, is_there, last_of,
+    Escaped, NotCarried, OfficeFiles, but_last, carry_open, earlier_registers, is_there, last_of,
     open_in, write_why,
 };
 use interval_core::{Day, LAST_MOMENT, Zone, day_of};
@@ -249,17 +248,18 @@ fn paths_of<'p>(
 }
 
 // What the files before the one at a path tell of their registers. What is said of it isn't waited for.
-fn registers_before<'a>(
+fn registers_before<'a, D: OfficeFiles>(
     rt: &HostRuntime,
+    files: &D,
     given: &'a [&'a str],
-    files: &'a [String],
+    before: &'a [String],
     count: u32,
     path: &'a str,
     is_new: bool,
 ) -> Result<Vec<EarlierRegister>, Ending<'a>> {
     let mut errors = Escaped::new(Unwaited { rt });
-    match paths_of(rt, given, files, count) {
-        Ok(paths) => earlier_registers(rt, paths.as_slice(), path, is_new, &mut errors),
+    match paths_of(rt, given, before, count) {
+        Ok(paths) => earlier_registers(rt, files, paths.as_slice(), path, is_new, &mut errors),
         Err(_) => Err(Ending::Failed(Failure::Memory)),
     }
 }
@@ -284,8 +284,9 @@ fn untold(
 }
 
 // What is told of the registers of the files before the one at a path, where that is asked for.
-fn told_before(
+fn told_before<D: OfficeFiles>(
     asked: &Asked<'_>,
+    files: &D,
     path: &str,
     is_first: bool,
     is_new: bool,
@@ -296,10 +297,11 @@ fn told_before(
     }
     let count = asked.most_earlier();
     match files_before(rt, asked.file, asked.period, path) {
-        Ok(files) => match registers_before(
+        Ok(before) => match registers_before(
             rt,
+            files,
             asked.given,
-            files.as_slice(),
+            before.as_slice(),
             count,
             path,
             is_new,
@@ -314,7 +316,7 @@ fn told_before(
 // Runs over a connection to the file at a path, until a moment. None: it ended since that has come, or the time is up.
 fn run_in<D: Databases + NamedFiles, C: Clock + Drop>(
     asked: &Asked<'_>,
-    databases: &D,
+    files: &D,
     path: &str,
     connection: Connection<D::Store>,
     registers: &[EarlierRegister],
@@ -329,15 +331,7 @@ fn run_in<D: Databases + NamedFiles, C: Clock + Drop>(
         earlier: registers,
         ..asked.settings
     };
-    let done = run_opened(
-        rt,
-        databases,
-        path,
-        connection,
-        asked.sites,
-        &settings,
-        clock,
-    );
+    let done = run_opened(rt, files, path, connection, asked.sites, &settings, clock);
     match ending_of_done(done, OWN_HOST, settings.listen.port()) {
         Ending::Fine => None,
         ending => Some(ended(rt, &ending)),
@@ -347,14 +341,14 @@ fn run_in<D: Databases + NamedFiles, C: Clock + Drop>(
 // Opens the file at a path. One that was just made has no log yet, which isn't told.
 fn open_once<'a, D: Databases>(
     rt: &HostRuntime,
-    databases: &D,
+    files: &D,
     path: &'a str,
     is_new: bool,
 ) -> Result<Connection<D::Store>, Failure<'a>> {
     if !is_new {
-        return open_in(rt, databases, path);
+        return open_in(rt, files, path);
     }
-    match databases.open(path) {
+    match files.open(path) {
         Ok(connection) => Ok(connection),
         Err(fault) => Err(Failure::File { path, fault }),
     }
@@ -373,23 +367,23 @@ fn is_busy(failure: &Failure<'_>) -> bool {
 // The same of a file that nobody had open a moment ago: who has opened it meanwhile is waited for, some seconds.
 fn open_again<'a, D: Databases>(
     rt: &HostRuntime,
-    databases: &D,
+    files: &D,
     path: &'a str,
     is_new: bool,
 ) -> Result<Connection<D::Store>, Failure<'a>> {
     for _try in 0..TRIES {
-        match open_once(rt, databases, path, is_new) {
+        match open_once(rt, files, path, is_new) {
             Err(failure) if is_busy(&failure) => sleep(rt, Duration::from_millis(PAUSE)),
             opened => return opened,
         }
     }
-    open_once(rt, databases, path, is_new)
+    open_once(rt, files, path, is_new)
 }
 
 // Reads the files before the one at a path that was just made, or was open before, opens that, and runs over it.
-fn run_at<D: Databases + NamedFiles, C: Clock + Drop>(
+fn run_at<D: OfficeFiles + NamedFiles, C: Clock + Drop>(
     asked: &Asked<'_>,
-    databases: &D,
+    files: &D,
     path: &str,
     is_first: bool,
     is_new: bool,
@@ -397,14 +391,14 @@ fn run_at<D: Databases + NamedFiles, C: Clock + Drop>(
     until: Option<u64>,
     left: Option<u64>,
 ) -> Option<ExitCode> {
-    let registers = match told_before(asked, path, is_first, is_new) {
+    let registers = match told_before(asked, files, path, is_first, is_new) {
         Ok(registers) => registers,
         Err(code) => return Some(code),
     };
-    match open_again(asked.rt, databases, path, is_new) {
+    match open_again(asked.rt, files, path, is_new) {
         Ok(connection) => run_in(
             asked,
-            databases,
+            files,
             path,
             connection,
             registers.as_slice(),
@@ -442,9 +436,9 @@ fn is_made(rt: &HostRuntime, to: &str, why: &NotCarried<'_>) -> bool {
 
 // Carries the file at a path into another, and runs over that. Where it can't be carried, books go on where they are, and it is tried
 // again at the next hour.
-fn carry_on<D: Databases + NamedFiles, C: Clock + Drop>(
+fn carry_on<D: OfficeFiles + NamedFiles, C: Clock + Drop>(
     asked: &Asked<'_>,
-    databases: &D,
+    files: &D,
     from: &str,
     connection: Connection<D::Store>,
     to: &str,
@@ -454,39 +448,39 @@ fn carry_on<D: Databases + NamedFiles, C: Clock + Drop>(
     left: Option<u64>,
 ) -> Option<ExitCode> {
     let rt = asked.rt;
-    match carry_open(rt, databases, from, connection, to) {
+    match carry_open(rt, files, from, connection, to) {
         Ok(count) => say_carried(rt, from, to, count),
         Err(why) => {
             if !is_made(rt, to, &why) {
                 say_not_carried(rt, from, &why, NOT_CARRIED);
                 let until = next_try(asked.settings.every, clock.now());
-                return run_at(asked, databases, from, is_first, false, clock, until, left);
+                return run_at(asked, files, from, is_first, false, clock, until, left);
             }
             // (it has its name, which can't be brought to the disk; or another process made it, and has it)
             say_not_carried(rt, from, &why, NAMED);
         }
     }
-    run_at(asked, databases, to, is_first, true, clock, until, left)
+    run_at(asked, files, to, is_first, true, clock, until, left)
 }
 
 // Opens the file in which books are led: where a run has just let it go, with some patience.
 fn open_led<'a, D: Databases>(
     rt: &HostRuntime,
-    databases: &D,
+    files: &D,
     path: &'a str,
     is_first: bool,
 ) -> Result<Connection<D::Store>, Failure<'a>> {
     if is_first {
-        open_in(rt, databases, path)
+        open_in(rt, files, path)
     } else {
-        open_again(rt, databases, path, false)
+        open_again(rt, files, path, false)
     }
 }
 
 // Runs over the file in which books are led, or over a new one that is due.
-fn turn<D: Databases + NamedFiles, C: Clock + Drop>(
+fn turn<D: OfficeFiles + NamedFiles, C: Clock + Drop>(
     asked: &Asked<'_>,
-    databases: &D,
+    files: &D,
     clock: &mut OnwardClock<C>,
     is_first: bool,
     left: Option<u64>,
@@ -498,7 +492,7 @@ fn turn<D: Databases + NamedFiles, C: Clock + Drop>(
     };
     let path = led.path.as_str();
     leave_one_name(rt, path);
-    let mut connection = match open_led(rt, databases, path, is_first) {
+    let mut connection = match open_led(rt, files, path, is_first) {
         Ok(connection) => connection,
         Err(failure) => return Some(ended(rt, &Ending::Failed(failure))),
     };
@@ -517,14 +511,14 @@ fn turn<D: Databases + NamedFiles, C: Clock + Drop>(
             if asked.has_earlier() {
                 // (it is read before, by a connection of its own)
                 drop(connection);
-                return run_at(asked, databases, path, is_first, false, clock, until, left);
+                return run_at(asked, files, path, is_first, false, clock, until, left);
             }
-            run_in(asked, databases, path, connection, &[], clock, until, left)
+            run_in(asked, files, path, connection, &[], clock, until, left)
         }
         Course::Carry(to, until) => {
             carry_on(
                 asked,
-                databases,
+                files,
                 path,
                 connection,
                 to.as_str(),
@@ -551,8 +545,9 @@ fn left_of(rt: &HostRuntime, lasts: Option<u64>, begun: Option<Instant>) -> Opti
 }
 
 /// Polls devices on a schedule and answers HTTP, as the settings say, and begins a new file with each period.
-pub(crate) fn run_by_periods<'a>(
+pub(crate) fn run_by_periods<'a, D: OfficeFiles + NamedFiles>(
     rt: &HostRuntime,
+    files: &D,
     words: PeriodWords<'a>,
     devices: &[Device<'a>],
     settings: &Settings<'_>,
@@ -570,7 +565,6 @@ pub(crate) fn run_by_periods<'a>(
         sites: sites.as_slice(),
         settings: *settings,
     };
-    let surroundings = Surroundings::of(rt, Files::of(rt));
     let mut clock = OnwardClock::of(SystemClock::new(rt));
     let begun = match Instant::now(rt) {
         Ok(begun) => Some(begun),
@@ -581,7 +575,7 @@ pub(crate) fn run_by_periods<'a>(
         if left == Some(0) {
             break;
         }
-        match turn(&asked, &surroundings, &mut clock, run == 0, left) {
+        match turn(&asked, files, &mut clock, run == 0, left) {
             Some(code) => return code,
             None => clock.go_on(),
         }

@@ -1,8 +1,8 @@
 //! Reports of a register.
 use crate::offices::{OWN_HOST, over_office};
-use crate::surroundings::Surroundings;
 use command_words::FormWords;
-use file_commands::{Files, Opening, form_of, range_of, statement_of};
+use file_commands::{OfficeFiles, Opening, form_of, range_of, statement_of};
+use office_program::NamedFiles;
 use stored_files::Ending;
 use stored_office::{Task, ending_of_done};
 
@@ -14,20 +14,26 @@ fn is_plain(words: &FormWords<'_>) -> bool {
 }
 
 // Carries out the report that a task is.
-fn report_by<'a>(rt: &HostRuntime, path: &'a str, task: Task<'_>) -> Ending<'a> {
-    let surroundings = Surroundings::of(rt, Files::opened(rt, Opening::ToRead));
-    ending_of_done(over_office(rt, &surroundings, path, task), OWN_HOST, 0)
+fn report_by<'a, D: OfficeFiles + NamedFiles>(
+    rt: &HostRuntime,
+    files: &D,
+    path: &'a str,
+    task: Task<'_>,
+) -> Ending<'a> {
+    let readable = files.opened(Opening::ToRead);
+    ending_of_done(over_office(rt, &readable, path, task), OWN_HOST, 0)
 }
 
 /// Prints the energy of a register, by days where no form is asked for, or the statement of its meters.
-pub(crate) fn report<'a>(
+pub(crate) fn report<'a, D: OfficeFiles + NamedFiles>(
     rt: &HostRuntime,
+    files: &D,
     path: &'a str,
     register: &str,
     words: &FormWords<'a>,
 ) -> Ending<'a> {
     if !words.statement && is_plain(words) {
-        return report_by(rt, path, Task::Report { register });
+        return report_by(rt, files, path, Task::Report { register });
     }
     let range = match range_of(words) {
         Ok(range) => range,
@@ -39,12 +45,12 @@ pub(crate) fn report<'a>(
             register,
             form: &form,
         };
-        return report_by(rt, path, task);
+        return report_by(rt, files, path, task);
     }
     let form = form_of(words, range);
     let task = Task::ReportRange {
         register,
         form: &form,
     };
-    report_by(rt, path, task)
+    report_by(rt, files, path, task)
 }

@@ -1,6 +1,6 @@
 //! What a command over an office in a file reaches.
-use command_words::Device;
-use file_commands::Files;
+use command_words::{CommandLine, Device};
+use file_commands::{Files, OfficeFiles, Opening};
 use sqlite::{Connection, FileFrom, FileStore, Unknown};
 use stored_files::{Databases, FileFault};
 
@@ -13,18 +13,21 @@ pub(crate) struct Surroundings<'r> {
 }
 
 impl<'r> Surroundings<'r> {
-    /// Those of a command that reads no counter.
-    pub(crate) fn of(rt: &'r HostRuntime, files: Files<'r>) -> Surroundings<'r> {
-        Surroundings::with(rt, files, &[])
-    }
-
-    /// Those of one that reads counters of the devices at these places.
-    pub(crate) fn with(
-        rt: &'r HostRuntime,
-        files: Files<'r>,
-        places: &'r [Device<'r>],
-    ) -> Surroundings<'r> {
+    /// Those of a command, by the system's files.
+    pub(crate) fn of(rt: &'r HostRuntime, line: &'r CommandLine<'r>) -> Surroundings<'r> {
+        let places = match line {
+            CommandLine::Enter { devices, .. } => devices.as_slice(),
+            _ => &[],
+        };
+        let files = Files::of(rt);
         Surroundings { rt, places, files }
+    }
+}
+
+impl OfficeFiles for Surroundings<'_> {
+    fn opened(&self, opening: Opening) -> Self {
+        let files = self.files.opened(opening);
+        Surroundings { files, ..*self }
     }
 }
 

@@ -1,5 +1,5 @@
 //! The routes, and their router.
-ghost use Rattle.std.specs.Prelude.{◌≡◌, IfOk, OnOk};
+ghost use Rattle.std.specs.Prelude.{◌≡◌, [], IfOk, OnOk};
 ghost use Rattle.http_request.specs.Routing.Routes.{Fits, add, routes};
 
 use matchit::{InsertError, Router};
@@ -60,24 +60,33 @@ fn add(router: &mut Router<Route>, text: &str, route: Route) -> Result<(), Alloc
     }
 }
 
+// Adds the routes of the table to a router that has none. (Apart, since a router that is let go at each `?` takes the prover a minute.)
+fn fill(router: &mut Router<Route>) -> Result<(), AllocError>
+    requires { router.old ≡ [] }
+    ensures { OnOk result (router.new ≡ routes) }
+{
+    add(router, "/devices", Route::Devices)?;
+    add(router, "/devices/{name}/list", Route::List)?;
+    add(router, "/registers", Route::Registers)?;
+    add(router, "/registers/{name}/install", Route::Install)?;
+    add(router, "/registers/{name}/exchange", Route::Exchange)?;
+    add(router, "/registers/{name}/reset", Route::Reset)?;
+    add(router, "/registers/{name}/rescale", Route::Rescale)?;
+    add(router, "/registers/{name}/manual", Route::Manual)?;
+    add(router, "/registers/{name}/close", Route::Close)?;
+    add(router, "/registers/{name}/days", Route::Days)?;
+    add(router, "/meters/{name}", Route::Meter)?;
+    add(router, "/meters/{name}/intervals", Route::Intervals)?;
+    add(router, "/meters/{name}/void", Route::Void)?;
+    add(router, "/polls/{number}", Route::Poll)?;
+    Ok(())
+}
+
 /// The router of the table.
 pub fn router(alloc: Global) -> Result<Router<Route>, AllocError>
     ensures { IfOk result (λ r. r ≡ routes) }
 {
     let mut router = Router::new(alloc);
-    add(&mut router, "/devices", Route::Devices)?;
-    add(&mut router, "/devices/{name}/list", Route::List)?;
-    add(&mut router, "/registers", Route::Registers)?;
-    add(&mut router, "/registers/{name}/install", Route::Install)?;
-    add(&mut router, "/registers/{name}/exchange", Route::Exchange)?;
-    add(&mut router, "/registers/{name}/reset", Route::Reset)?;
-    add(&mut router, "/registers/{name}/rescale", Route::Rescale)?;
-    add(&mut router, "/registers/{name}/manual", Route::Manual)?;
-    add(&mut router, "/registers/{name}/close", Route::Close)?;
-    add(&mut router, "/registers/{name}/days", Route::Days)?;
-    add(&mut router, "/meters/{name}", Route::Meter)?;
-    add(&mut router, "/meters/{name}/intervals", Route::Intervals)?;
-    add(&mut router, "/meters/{name}/void", Route::Void)?;
-    add(&mut router, "/polls/{number}", Route::Poll)?;
+    fill(&mut router)?;
     Ok(router)
 }
