@@ -1,6 +1,7 @@
 #!/usr/bin/env python3
-"""ci.py [--minutes PROCESSORS [GB]]: runs `rt ci` as .ci/run does. Its plan of memory goes by what bench/GATE.md tells of each crate, where the kit's own guess is
-up to twice as much and leaves processors idle. All else is the kit's; RT_JOBS=N still has it run N parts at once with no plan.
+"""ci.py [--minutes PROCESSORS [GB]]: runs `rt ci` as .ci/run does. Its plan goes by what bench/GATE.md tells of each crate's proof and tests: by the memory that they
+took, where the kit's own guess is up to twice as much and leaves processors idle, and by their seconds, where the kit goes by lines. All else is the kit's;
+RT_JOBS=N still has it run N parts at once with no plan of memory.
 
 With --minutes it proves nothing, and plays the kit's own schedule, six hundred times as fast, over what that page tells that each part takes on a processor: how many
 minutes so many processors would take with so many GB of memory free (23 by default), if they were as fast as those of the page, and had no other work."""
@@ -12,14 +13,29 @@ sys.dont_write_bytecode = True
 import kit
 
 SECOND = 1 / 600
+# Seconds for each line of a crate that the page lacks, and of the proof of a crate that has tests alone, which is of its front end.
+OF_LINE, OF_FRONT_END = 0.2, 10
+# A part takes its most at its end, so that those that run at once never take all theirs together: of the sum of it, three or four at once took 0.70 in the middle,
+# 0.81 in one of ten looks, and at most 0.89 (on 2026-11-28). What is planned fills 0.85 of the free memory, so with this share 0.95 of it would have been taken.
+AT_ONCE = 0.8
 rt, costs = kit.load_rt(), kit.costs()
-guessed = rt.need
+in_lanes = rt.in_lanes
 
 
-def need(crate):
-    """Returns the most memory that a part of the crate took when it was measured, in bytes, or the kit's guess where the page lacks it."""
-    cost = costs.get(crate.name)
-    return cost.memory if cost and cost.memory else guessed(crate)
+def measured(key, lines, memory):
+    """Returns how long a part takes, in seconds, and how much memory, in bytes, as far as the page tells; a part of no lines has no work."""
+    cost = costs.get(key[0])
+    if not cost or not lines:
+        return lines * OF_LINE, memory
+    if key[1] == "tests":
+        return cost.tests or lines * OF_LINE, AT_ONCE * (cost.memory_of_tests or memory)
+    seconds = cost.seconds or (OF_FRONT_END if cost.tests else lines * OF_LINE)
+    return seconds if key[1] == "proof" else lines * OF_LINE, AT_ONCE * (cost.memory or (1e9 if cost.tests else memory))
+
+
+def by_page(tasks):
+    """Runs tasks as the kit does, by what the page tells of them. The kit ranks them by their work, and takes it in lines."""
+    return in_lanes({key: (waits, *measured(key, lines, memory), call) for key, (waits, lines, memory, call) in tasks.items()})
 
 
 def part(seconds):
@@ -33,17 +49,17 @@ def minutes(processors, gigabytes):
     rt.processors, rt.free = lambda: processors, lambda: gigabytes * 1e9
     tasks = {}
     for crate in sorted(rt.rtlib.crates_below(os.getcwd()), key=lambda it: len(it.below())):
-        cost, lines, memory = costs.get(crate.name, kit.Cost()), crate.count(rb"\n"), need(crate)
+        cost, lines, memory = costs.get(crate.name, kit.Cost()), crate.count(rb"\n"), rt.need(crate)
         below, both = [(it.name, "proof") for it in crate.below()], [(crate.name, "proof"), (crate.name, "tests")]
         tasks[both[0]] = (below, lines, memory, part(cost.seconds))
         tasks[both[1]] = (below, lines * bool(cost.tests), memory, part(cost.tests))
         tasks[crate.name, "edits"] = (both, lines * bool(cost.edits), memory, part(cost.edits))
     began = time.monotonic()
-    rt.in_lanes(tasks)
+    by_page(tasks)
     return (time.monotonic() - began) / SECOND / 60
 
 
-rt.need = need
+rt.in_lanes = by_page
 if sys.argv[1:2] == ["--minutes"]:
     asked = [int(it) for it in sys.argv[2:]]
     print(f"{minutes(asked[0], *(asked[1:] or [23])):.0f} minutes on {asked[0]} processors")

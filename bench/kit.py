@@ -10,8 +10,8 @@ import subprocess
 PAGE = os.path.join(os.path.dirname(os.path.realpath(__file__)), "GATE.md")
 # A crate's row: its name, lines, seconds of the proof, the tests and the edits with their number, their sum, and the most memory of proof and tests.
 ROW = re.compile(r"\| (\w+) \| (\d+) \| (\d*) \| (\d*) \| (?:(\d+) \((\d+)\))? \| \d+ \| ([\d.]*) \| ([\d.]*) \|")
-# What the proof of a crate takes in processor seconds, its tests and its edits, and the most that one of them takes in bytes; None where it was not measured.
-Cost = collections.namedtuple("Cost", "seconds tests edits memory", defaults=[None] * 4)
+# What the proof of a crate takes in processor seconds, its tests and its edits, and the most that proof and tests take in bytes; None where it was not measured.
+Cost = collections.namedtuple("Cost", "seconds tests edits memory memory_of_tests", defaults=[None] * 5)
 
 
 def folder_of_kit():
@@ -63,5 +63,5 @@ def costs(page=PAGE):
     with open(page, encoding="utf-8") as it:
         rows = [it for it in map(ROW.match, it) if it]
     number = lambda text: float(text) if text else None
-    most = lambda row: max((1e9 * float(it) for it in row.group(7, 8) if it), default=None)
-    return {row[1]: Cost(*map(number, row.group(3, 4, 5)), most(row)) for row in rows}
+    bytes_of = lambda text: 1e9 * float(text) if text else None
+    return {row[1]: Cost(*map(number, row.group(3, 4, 5)), *map(bytes_of, row.group(7, 8))) for row in rows}

@@ -3,20 +3,22 @@ use crate::facts::{
     answered, device, entry, held, list, opening, poll, reading, register, reply, whole,
 };
 use crate::new_books::{count, new_books, ready};
+use crate::stores::Stores;
+use crate::tried::{Tried, in_memory};
 use energy_core::Entry;
 use meter_journal::EntryKind;
 use office_events::Fact;
 use office_store::book_facts;
-use sqlite::{Connection, MemStore};
+use sqlite::{Alter, Connection};
 use std::alloc::Global;
 use std::process::Abort;
 use std::test::Fail;
 use store_tables::RowFault;
 
 /// Books facts.
-pub(crate) fn book(
+pub(crate) fn book<S: Alter>(
     alloc: Global,
-    conn: &mut Connection<MemStore>,
+    conn: &mut Connection<S>,
     facts: &[Fact],
 ) -> Result<(), RowFault> {
     ready(conn)?;
@@ -24,9 +26,9 @@ pub(crate) fn book(
 }
 
 /// Books facts of which none is missing.
-pub(crate) fn book_all<const N: usize>(
+pub(crate) fn book_all<S: Alter, const N: usize>(
     alloc: Global,
-    conn: &mut Connection<MemStore>,
+    conn: &mut Connection<S>,
     given: [Option<Fact>; N],
 ) -> Result<(), Fail> {
     let facts = whole(alloc, given)?;
@@ -34,11 +36,12 @@ pub(crate) fn book_all<const N: usize>(
 }
 
 /// New books after these facts were booked at once.
-pub(crate) fn booked<const N: usize>(
+pub(crate) fn booked<D: Stores, const N: usize>(
     alloc: Global,
+    stores: &D,
     given: [Option<Fact>; N],
-) -> Result<Connection<MemStore>, Fail> {
-    let mut conn = new_books(alloc)?;
+) -> Result<Connection<D::Store>, Fail> {
+    let mut conn = new_books(alloc, stores)?;
     book_all(alloc, &mut conn, given)?;
     Ok(conn)
 }
@@ -57,18 +60,21 @@ fn read() -> [Option<Fact>; 3] {
 }
 
 /// The meter m1, installed and read once.
-pub(crate) fn one_reading(alloc: Global) -> Result<Connection<MemStore>, Fail> {
-    let mut conn = booked(alloc, installed(alloc))?;
+pub(crate) fn one_reading<D: Stores>(
+    alloc: Global,
+    stores: &D,
+) -> Result<Connection<D::Store>, Fail> {
+    let mut conn = booked(alloc, stores, installed(alloc))?;
     book_all(alloc, &mut conn, [poll(1)])?;
     book_all(alloc, &mut conn, read())?;
     Ok(conn)
 }
 
 /// The tables have so many rows that pass the tests.
-pub(crate) fn have(
+pub(crate) fn have<S: Alter>(
     rt: &impl Abort,
     alloc: Global,
-    conn: &mut Connection<MemStore>,
+    conn: &mut Connection<S>,
     counts: &[(&str, i64)],
 ) {
     for (rows, number) in counts {
@@ -77,10 +83,10 @@ pub(crate) fn have(
 }
 
 /// Each of these rows is there.
-pub(crate) fn stand(
+pub(crate) fn stand<S: Alter>(
     rt: &impl Abort,
     alloc: Global,
-    conn: &mut Connection<MemStore>,
+    conn: &mut Connection<S>,
     rows: &[&str],
 ) {
     for row in rows {
@@ -122,12 +128,15 @@ static COUNTS: [(&str, i64); 6] = [
     ("voids", 0),
 ];
 
-#[test]
-fn each_fact_has_its_rows(rt: HostRuntime) -> Result<(), Fail> {
-    let mut conn = one_reading(rt.alloc())?;
-    book_all(rt.alloc(), &mut conn, [reply(rt.alloc())])?;
-    stand(&rt, rt.alloc(), &mut conn, &ROWS);
-    have(&rt, rt.alloc(), &mut conn, &COUNTS);
+fn each_fact_has_its_rows<D: Stores>(
+    rt: &impl Abort,
+    alloc: Global,
+    stores: &D,
+) -> Result<(), Fail> {
+    let mut conn = one_reading(alloc, stores)?;
+    book_all(alloc, &mut conn, [reply(alloc)])?;
+    stand(rt, alloc, &mut conn, &ROWS);
+    have(rt, alloc, &mut conn, &COUNTS);
     Ok(())
 }
 
@@ -144,12 +153,15 @@ fn exchanged(alloc: Global) -> [Option<Fact>; 3] {
     ]
 }
 
-#[test]
-fn a_closing_and_a_new_list(rt: HostRuntime) -> Result<(), Fail> {
-    let mut conn = one_reading(rt.alloc())?;
-    book_all(rt.alloc(), &mut conn, exchanged(rt.alloc()))?;
-    stand(&rt, rt.alloc(), &mut conn, &CLOSED);
-    have(&rt, rt.alloc(), &mut conn, &[("points", 1)]);
+fn a_closing_and_a_new_list<D: Stores>(
+    rt: &impl Abort,
+    alloc: Global,
+    stores: &D,
+) -> Result<(), Fail> {
+    let mut conn = one_reading(alloc, stores)?;
+    book_all(alloc, &mut conn, exchanged(alloc))?;
+    stand(rt, alloc, &mut conn, &CLOSED);
+    have(rt, alloc, &mut conn, &[("points", 1)]);
     Ok(())
 }
 
@@ -189,10 +201,13 @@ fn turned_and_set() -> [Option<Fact>; 6] {
     ]
 }
 
-#[test]
-fn a_counter_turns_over_and_is_set(rt: HostRuntime) -> Result<(), Fail> {
-    let mut conn = booked(rt.alloc(), turned_and_set())?;
-    stand(&rt, rt.alloc(), &mut conn, &TURNED);
+fn a_counter_turns_over_and_is_set<D: Stores>(
+    rt: &impl Abort,
+    alloc: Global,
+    stores: &D,
+) -> Result<(), Fail> {
+    let mut conn = booked(alloc, stores, turned_and_set())?;
+    stand(rt, alloc, &mut conn, &TURNED);
     Ok(())
 }
 
@@ -206,15 +221,31 @@ fn backwards(alloc: Global) -> Result<Vec<Fact>, Fail> {
     whole(alloc, [reading(b"m1", 2800, 5100, 0)])
 }
 
-#[test]
-fn all_of_an_event_or_nothing(rt: HostRuntime) -> Result<(), Fail> {
-    let mut conn = one_reading(rt.alloc())?;
-    let refused = one_too_many(rt.alloc())?;
-    assert!(rt; book(rt.alloc(), &mut conn, &refused).is_err());
-    have(&rt, rt.alloc(), &mut conn, &COUNTS);
-    let back = backwards(rt.alloc())?;
-    assert!(rt; book(rt.alloc(), &mut conn, &back).is_err());
-    assert!(rt; book(rt.alloc(), &mut conn, &[]).is_ok());
-    have(&rt, rt.alloc(), &mut conn, &[("entries", 2)]);
+fn all_of_an_event_or_nothing<D: Stores>(
+    rt: &impl Abort,
+    alloc: Global,
+    stores: &D,
+) -> Result<(), Fail> {
+    let mut conn = one_reading(alloc, stores)?;
+    let refused = one_too_many(alloc)?;
+    assert!(rt; book(alloc, &mut conn, &refused).is_err());
+    have(rt, alloc, &mut conn, &COUNTS);
+    let back = backwards(alloc)?;
+    assert!(rt; book(alloc, &mut conn, &back).is_err());
+    assert!(rt; book(alloc, &mut conn, &[]).is_ok());
+    have(rt, alloc, &mut conn, &[("entries", 2)]);
     Ok(())
+}
+
+/// All of these hold.
+pub(crate) fn all_hold<D: Stores>(rt: &impl Abort, alloc: Global, stores: &D) -> Result<(), Fail> {
+    each_fact_has_its_rows(rt, alloc, stores)?;
+    a_closing_and_a_new_list(rt, alloc, stores)?;
+    a_counter_turns_over_and_is_set(rt, alloc, stores)?;
+    all_of_an_event_or_nothing(rt, alloc, stores)
+}
+
+#[test]
+fn facts_are_booked(rt: HostRuntime) -> Result<(), Fail> {
+    in_memory(&rt, rt.alloc(), Tried::Bookings)
 }

@@ -1,13 +1,18 @@
 //! Columns of a row, and numbers as SQL's.
+use crate::new_books::ready;
+use crate::stores::Stores;
+use crate::tried::{Tried, in_memory};
 use sqlite::types::Value;
-use sqlite::{Connection, Error, Row};
+use sqlite::{Error, Row};
 use std::alloc::Global;
+use std::process::Abort;
 use std::test::Fail;
 use store_tables::{RowFault, check_open, number, scale, signed, text, whole};
 
 /// A row of numbers and a text.
-fn one_row(alloc: Global) -> Result<Row, Error> {
-    let mut conn = Connection::open_in_memory(alloc)?;
+fn one_row<D: Stores>(alloc: Global, stores: &D) -> Result<Row, Error> {
+    let mut conn = stores.open(alloc)?;
+    ready(&mut conn)?;
     check_open(&mut conn)?;
     conn.query_row("SELECT 65535, -3, 'kWh', -4", &[])
 }
@@ -19,9 +24,12 @@ static WHOLE: [(usize, u64, u64, Result<u64, RowFault>); 3] = [
     (2, 0, 9, Err(RowFault::Damaged)),
 ];
 
-#[test]
-fn columns_are_read_within_their_bounds(rt: HostRuntime) -> Result<(), Fail> {
-    let row = one_row(rt.alloc())?;
+pub(crate) fn columns_are_read<D: Stores>(
+    rt: &impl Abort,
+    alloc: Global,
+    stores: &D,
+) -> Result<(), Fail> {
+    let row = one_row(alloc, stores)?;
     for (at, low, high, read) in &WHOLE {
         assert!(rt; whole(&row, *at, *low, *high) == *read, "{at} {high}");
     }
@@ -36,4 +44,9 @@ fn columns_are_read_within_their_bounds(rt: HostRuntime) -> Result<(), Fail> {
 fn numbers_keep_their_signs(rt: HostRuntime) {
     assert!(rt; matches!(number(4_102_444_800), Value::Int(4_102_444_800)));
     assert!(rt; matches!(signed(&-3), Value::Int(-3)));
+}
+
+#[test]
+fn columns_are_read_within_their_bounds(rt: HostRuntime) -> Result<(), Fail> {
+    in_memory(&rt, rt.alloc(), Tried::Columns)
 }

@@ -2,18 +2,21 @@
 use crate::damaged_columns::{COLUMNS, UNREAD};
 use crate::made::{found, opened};
 use crate::questions::are_answered;
+use crate::stores::Stores;
 use crate::tables::{loose, strict};
+use crate::tried::{Tried, in_memory};
 use office_books::{Books, BooksFault, StoreFault};
 use office_events::{Device, Fact, Name, Refusal, StoreCause, Timeout, Window};
 use office_store::SqlBooks;
-use sqlite::{Connection, Error, MemStore};
+use sqlite::{Alter, Connection, Error};
 use std::alloc::Global;
+use std::process::Abort;
 use std::test::Fail;
 
 /// Sets a column in each row of a table.
-fn set(
+fn set<S: Alter>(
     alloc: Global,
-    connection: &mut Connection<MemStore>,
+    connection: &mut Connection<S>,
     column: (&str, &str),
     value: &str,
 ) -> Result<(), Error> {
@@ -23,7 +26,10 @@ fn set(
 }
 
 /// The number of the fault of an opening, 13 where a look-up of the books tells damage, and 0 where none does.
-fn told(alloc: Global, connection: Result<Connection<MemStore>, Fail>) -> Result<u8, Fail> {
+fn told<S: Alter + Drop>(
+    alloc: Global,
+    connection: Result<Connection<S>, Fail>,
+) -> Result<u8, Fail> {
     let mut books = match SqlBooks::open(alloc, connection?) {
         Ok(books) => books,
         Err(unopened) => return Ok(unopened.fault.number()),
@@ -35,27 +41,40 @@ fn told(alloc: Global, connection: Result<Connection<MemStore>, Fail>) -> Result
 }
 
 /// What is told where a column of tables that refuse nothing has a value.
-fn told_loosely(alloc: Global, column: (&str, &str), value: &str) -> Result<u8, Fail> {
-    let mut connection = loose(alloc)?;
+fn told_loosely<D: Stores>(
+    alloc: Global,
+    stores: &D,
+    column: (&str, &str),
+    value: &str,
+) -> Result<u8, Fail> {
+    let mut connection = loose(alloc, stores)?;
     set(alloc, &mut connection, column, value)?;
     told(alloc, Ok(connection))
 }
 
 /// The same of the books' own tables. Where these refuse the value, that is damage as well.
-fn told_strictly(alloc: Global, column: (&str, &str), value: &str) -> Result<u8, Fail> {
-    let mut connection = strict(alloc)?;
+fn told_strictly<D: Stores>(
+    alloc: Global,
+    stores: &D,
+    column: (&str, &str),
+    value: &str,
+) -> Result<u8, Fail> {
+    let mut connection = strict(alloc, stores)?;
     match set(alloc, &mut connection, column, value) {
         Ok(()) => told(alloc, Ok(connection)),
         Err(_) => Ok(13),
     }
 }
 
-#[test]
-fn what_no_column_can_be_is_told(rt: HostRuntime) -> Result<(), Fail> {
+fn what_no_column_can_be_is_told<D: Stores>(
+    rt: &impl Abort,
+    alloc: Global,
+    stores: &D,
+) -> Result<(), Fail> {
     for (table, column, text, number) in &COLUMNS {
         for value in ["NULL", *text, *number] {
-            let loose = told_loosely(rt.alloc(), (*table, *column), value)?;
-            let strict = told_strictly(rt.alloc(), (*table, *column), value)?;
+            let loose = told_loosely(alloc, stores, (*table, *column), value)?;
+            let strict = told_strictly(alloc, stores, (*table, *column), value)?;
             let told = [1, 2, 13];
             assert!(rt; told.contains(&loose), "{table} {column} {value}");
             assert!(rt; told.contains(&strict), "{table} {column} {value}");
@@ -64,38 +83,47 @@ fn what_no_column_can_be_is_told(rt: HostRuntime) -> Result<(), Fail> {
     Ok(())
 }
 
-#[test]
-fn what_is_not_read_is_not_told(rt: HostRuntime) -> Result<(), Fail> {
+fn what_is_not_read_is_not_told<D: Stores>(
+    rt: &impl Abort,
+    alloc: Global,
+    stores: &D,
+) -> Result<(), Fail> {
     for column in &UNREAD {
         for value in ["NULL", "'1x'", "-1"] {
-            let told = told_loosely(rt.alloc(), *column, value)?;
+            let told = told_loosely(alloc, stores, *column, value)?;
             assert!(rt; told == 0, "{column:?} {value}");
         }
     }
     Ok(())
 }
 
-#[test]
-fn rows_without_damage_are_not_told(rt: HostRuntime) -> Result<(), Fail> {
-    assert!(rt; told(rt.alloc(), loose(rt.alloc()))? == 0);
-    assert!(rt; told(rt.alloc(), strict(rt.alloc()))? == 0);
+fn rows_without_damage_are_not_told<D: Stores>(
+    rt: &impl Abort,
+    alloc: Global,
+    stores: &D,
+) -> Result<(), Fail> {
+    assert!(rt; told(alloc, loose(alloc, stores))? == 0);
+    assert!(rt; told(alloc, strict(alloc, stores))? == 0);
     Ok(())
 }
 
-#[test]
-fn other_databases_are_no_books(rt: HostRuntime) -> Result<(), Fail> {
-    let blank = Connection::open_in_memory(rt.alloc())?;
-    assert!(rt; told(rt.alloc(), Ok(blank))? == 1);
+fn other_databases_are_no_books<D: Stores>(
+    rt: &impl Abort,
+    alloc: Global,
+    stores: &D,
+) -> Result<(), Fail> {
+    let blank = stores.open(alloc)?;
+    assert!(rt; told(alloc, Ok(blank))? == 1);
     for (column, value, fault) in &[("version", "9", 1u8), ("zone", "'x'", 2)] {
-        let told = told_strictly(rt.alloc(), ("meta", *column), value)?;
+        let told = told_strictly(alloc, stores, ("meta", *column), value)?;
         assert!(rt; told == *fault, "{column}");
     }
     Ok(())
 }
 
 /// Books in which each entry has a counter below zero.
-fn damaged(alloc: Global) -> Result<SqlBooks<MemStore>, Fail> {
-    let mut connection = strict(alloc)?;
+fn damaged<D: Stores>(alloc: Global, stores: &D) -> Result<SqlBooks<D::Store>, Fail> {
+    let mut connection = strict(alloc, stores)?;
     set(alloc, &mut connection, ("entries", "raw"), "-1")?;
     found(alloc, connection)
 }
@@ -107,10 +135,13 @@ fn is_refused_for_damage<B: Books>(alloc: Global, books: B) -> Result<bool, Fail
     Ok(matches!(answer, Err(Refusal::Store(StoreCause::Damaged))))
 }
 
-#[test]
-fn a_question_is_refused_for_damage(rt: HostRuntime) -> Result<(), Fail> {
-    let books = damaged(rt.alloc())?;
-    assert!(rt; is_refused_for_damage(rt.alloc(), books)?);
+fn a_question_is_refused_for_damage<D: Stores>(
+    rt: &impl Abort,
+    alloc: Global,
+    stores: &D,
+) -> Result<(), Fail> {
+    let books = damaged(alloc, stores)?;
+    assert!(rt; is_refused_for_damage(alloc, books)?);
     Ok(())
 }
 
@@ -130,7 +161,7 @@ fn known(alloc: Global) -> Result<Vec<Fact>, Fail> {
 }
 
 /// Whether a question is answered with damage.
-fn is_damaged(books: &mut SqlBooks<MemStore>, meter: &Name) -> bool {
+fn is_damaged<S: Alter + Drop>(books: &mut SqlBooks<S>, meter: &Name) -> bool {
     matches!(
         books.meter(meter),
         Err(BooksFault::Store(StoreFault::Damaged))
@@ -138,20 +169,38 @@ fn is_damaged(books: &mut SqlBooks<MemStore>, meter: &Name) -> bool {
 }
 
 /// Whether facts are refused.
-fn is_refused(books: &mut SqlBooks<MemStore>, facts: Vec<Fact>) -> bool {
+fn is_refused<S: Alter + Drop>(books: &mut SqlBooks<S>, facts: Vec<Fact>) -> bool {
     matches!(
         books.book(facts),
         Err(BooksFault::Store(StoreFault::Refused))
     )
 }
 
-#[test]
-fn failures_are_told_and_counted(rt: HostRuntime) -> Result<(), Fail> {
+fn failures_are_told_and_counted<D: Stores>(
+    rt: &impl Abort,
+    alloc: Global,
+    stores: &D,
+) -> Result<(), Fail> {
     let meter = Name::new(b"m1").ok_or("no name")?;
-    let facts = known(rt.alloc())?;
-    let mut books = damaged(rt.alloc())?;
+    let facts = known(alloc)?;
+    let mut books = damaged(alloc, stores)?;
     assert!(rt; is_damaged(&mut books, &meter) && books.faults() == 1);
     assert!(rt; is_refused(&mut books, facts) && books.faults() == 2);
     assert!(rt; books.register_count(&meter) == Ok(0) && books.faults() == 2);
     Ok(())
+}
+
+/// All of these hold.
+pub(crate) fn all_hold<D: Stores>(rt: &impl Abort, alloc: Global, stores: &D) -> Result<(), Fail> {
+    what_no_column_can_be_is_told(rt, alloc, stores)?;
+    what_is_not_read_is_not_told(rt, alloc, stores)?;
+    rows_without_damage_are_not_told(rt, alloc, stores)?;
+    other_databases_are_no_books(rt, alloc, stores)?;
+    a_question_is_refused_for_damage(rt, alloc, stores)?;
+    failures_are_told_and_counted(rt, alloc, stores)
+}
+
+#[test]
+fn damage_is_told(rt: HostRuntime) -> Result<(), Fail> {
+    in_memory(&rt, rt.alloc(), Tried::Damage)
 }

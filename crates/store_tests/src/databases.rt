@@ -1,12 +1,14 @@
 //! Databases that are no books are handed back.
+use crate::stores::Stores;
+use crate::tried::{Tried, in_memory};
 use office_store::SqlBooks;
-use sqlite::{Connection, Error, MemStore};
+use sqlite::{Alter, Connection, Error};
 use std::alloc::Global;
 use std::process::Abort;
 use std::test::Fail;
 
 /// The number of the fault where a connection is opened, and 0 for none; and the connection.
-fn opening(alloc: Global, connection: Connection<MemStore>) -> (u8, Connection<MemStore>) {
+fn opening<S: Alter + Drop>(alloc: Global, connection: Connection<S>) -> (u8, Connection<S>) {
     match SqlBooks::open(alloc, connection) {
         Ok(books) => (0, books.into_connection()),
         Err(unopened) => (unopened.fault.number(), unopened.connection),
@@ -14,11 +16,11 @@ fn opening(alloc: Global, connection: Connection<MemStore>) -> (u8, Connection<M
 }
 
 /// The same, where new books are made of a connection.
-fn making(
+fn making<S: Alter + Drop>(
     alloc: Global,
-    connection: Connection<MemStore>,
+    connection: Connection<S>,
     zone: &str,
-) -> (u8, Connection<MemStore>) {
+) -> (u8, Connection<S>) {
     match SqlBooks::create(alloc, connection, zone) {
         Ok(books) => (0, books.into_connection()),
         Err(unopened) => (unopened.fault.number(), unopened.connection),
@@ -38,12 +40,12 @@ static STEPS: [Step; 6] = [
 ];
 
 /// The connection after a step, which has its fault.
-fn stepped(
+fn stepped<S: Alter + Drop>(
     rt: &impl Abort,
     alloc: Global,
-    mut connection: Connection<MemStore>,
+    mut connection: Connection<S>,
     step: &Step,
-) -> Result<Connection<MemStore>, Error> {
+) -> Result<Connection<S>, Error> {
     let (change, zone, number) = *step;
     connection.execute_batch(change)?;
     let (fault, left) = match zone {
@@ -54,11 +56,19 @@ fn stepped(
     Ok(left)
 }
 
-#[test]
-fn connections_are_handed_back(rt: HostRuntime) -> Result<(), Fail> {
-    let mut connection = Connection::open_in_memory(rt.alloc())?;
+pub(crate) fn each_is_handed_back<D: Stores>(
+    rt: &impl Abort,
+    alloc: Global,
+    stores: &D,
+) -> Result<(), Fail> {
+    let mut connection = stores.open(alloc)?;
     for step in &STEPS {
-        connection = stepped(&rt, rt.alloc(), connection, step)?;
+        connection = stepped(rt, alloc, connection, step)?;
     }
     Ok(())
+}
+
+#[test]
+fn connections_are_handed_back(rt: HostRuntime) -> Result<(), Fail> {
+    in_memory(&rt, rt.alloc(), Tried::Databases)
 }

@@ -2,9 +2,12 @@
 ghost use Rattle.std.specs.Prelude.{◌≡◌, IfOk};
 
 use crate::one_meter::one_meter;
+use crate::stores::Stores;
+use crate::tried::{Tried, in_memory};
 use mb_wire::ReadFunction;
-use sqlite::{Connection, Error, MemStore, Transaction};
+use sqlite::{Alter, Connection, Error, Transaction};
 use std::alloc::{AllocError, Global};
+use std::process::Abort;
 use std::test::Fail;
 use store_devices::{
     Device, DeviceRow, Point, PointRow, RegisterRow, RegisterScale, device_rows, insert_device,
@@ -65,25 +68,25 @@ fn point(
     })
 }
 
-fn put_list(tx: &mut Transaction<'_, MemStore>, alloc: Global) -> Result<(), Error> {
+fn put_list<S: Alter>(tx: &mut Transaction<'_, S>, alloc: Global) -> Result<(), Error> {
     let scale = point(alloc, "m2.WH_SF", "sunssf", "", SCALE)?;
     let energy = point(alloc, "m2.WH", "acc32", "m2.WH_SF", ENERGY)?;
     replace_points(tx, "inv", &vec![in alloc; scale, energy]?)
 }
 
-fn put_other_list(tx: &mut Transaction<'_, MemStore>, alloc: Global) -> Result<(), Error> {
+fn put_other_list<S: Alter>(tx: &mut Transaction<'_, S>, alloc: Global) -> Result<(), Error> {
     let energy = point(alloc, "wh", "acc32", "-3", ENERGY)?;
     replace_points(tx, "pv", &vec![in alloc; energy]?)
 }
 
-fn add(tx: &mut Transaction<'_, MemStore>, alloc: Global) -> Result<(), Error> {
+fn add<S: Alter>(tx: &mut Transaction<'_, S>, alloc: Global) -> Result<(), Error> {
     insert_device(tx, "pv", DEVICE)?;
     insert_register(tx, "roof", "pv", REGISTER)?;
     put_list(tx, alloc)?;
     put_other_list(tx, alloc)
 }
 
-fn add_second(conn: &mut Connection<MemStore>, alloc: Global) -> Result<(), Error> {
+fn add_second<S: Alter>(conn: &mut Connection<S>, alloc: Global) -> Result<(), Error> {
     if !conn.is_autocommit() {
         return Err(Error::InvalidQuery);
     }
@@ -93,8 +96,11 @@ fn add_second(conn: &mut Connection<MemStore>, alloc: Global) -> Result<(), Erro
 }
 
 /// The meter's device and a second one, with a list each.
-pub(crate) fn two_devices(alloc: Global) -> Result<Connection<MemStore>, Error> {
-    let mut conn = one_meter(alloc)?;
+pub(crate) fn two_devices<D: Stores>(
+    alloc: Global,
+    stores: &D,
+) -> Result<Connection<D::Store>, Error> {
+    let mut conn = one_meter(alloc, stores)?;
     add_second(&mut conn, alloc)?;
     Ok(conn)
 }
@@ -106,9 +112,12 @@ fn is_device(read: &Result<Device, RowFault>, name: &str, row: DeviceRow) -> boo
     }
 }
 
-#[test]
-fn devices_stand_in_the_order_of_their_places(rt: HostRuntime) -> Result<(), Fail> {
-    let mut conn = two_devices(rt.alloc())?;
+fn devices_stand_in_the_order_of_their_places<D: Stores>(
+    rt: &impl Abort,
+    alloc: Global,
+    stores: &D,
+) -> Result<(), Fail> {
+    let mut conn = two_devices(alloc, stores)?;
     let devices = device_rows(&mut conn)?;
     assert!(rt; devices.len() == 2);
     assert!(rt; is_device(&read_device(&devices[0]), "inv", FIRST_DEVICE));
@@ -116,9 +125,12 @@ fn devices_stand_in_the_order_of_their_places(rt: HostRuntime) -> Result<(), Fai
     Ok(())
 }
 
-#[test]
-fn registers_are_those_of_their_device(rt: HostRuntime) -> Result<(), Fail> {
-    let mut conn = two_devices(rt.alloc())?;
+fn registers_are_those_of_their_device<D: Stores>(
+    rt: &impl Abort,
+    alloc: Global,
+    stores: &D,
+) -> Result<(), Fail> {
+    let mut conn = two_devices(alloc, stores)?;
     let registers = register_rows(&mut conn, "inv")?;
     assert!(rt; registers.len() == 1);
     let scale = RegisterScale::At(40_096);
@@ -128,7 +140,7 @@ fn registers_are_those_of_their_device(rt: HostRuntime) -> Result<(), Fail> {
     Ok(())
 }
 
-fn empty_list(conn: &mut Connection<MemStore>) -> Result<(), Error> {
+fn empty_list<S: Alter>(conn: &mut Connection<S>) -> Result<(), Error> {
     if !conn.is_autocommit() {
         return Err(Error::InvalidQuery);
     }
@@ -138,7 +150,7 @@ fn empty_list(conn: &mut Connection<MemStore>) -> Result<(), Error> {
 }
 
 /// How many points the list of a device has.
-fn point_count(conn: &mut Connection<MemStore>, device: &str) -> Result<usize, Error> {
+fn point_count<S: Alter>(conn: &mut Connection<S>, device: &str) -> Result<usize, Error> {
     Ok(point_rows(conn, device)?.len())
 }
 
@@ -153,9 +165,12 @@ fn is_energy(read: &Result<Point, RowFault>) -> bool {
     }
 }
 
-#[test]
-fn points_stand_in_the_order_of_their_list(rt: HostRuntime) -> Result<(), Fail> {
-    let mut conn = two_devices(rt.alloc())?;
+fn points_stand_in_the_order_of_their_list<D: Stores>(
+    rt: &impl Abort,
+    alloc: Global,
+    stores: &D,
+) -> Result<(), Fail> {
+    let mut conn = two_devices(alloc, stores)?;
     let points = point_rows(&mut conn, "inv")?;
     assert!(rt; points.len() == 2);
     assert!(rt; is_energy(&read_point(&points[0])));
@@ -163,4 +178,16 @@ fn points_stand_in_the_order_of_their_list(rt: HostRuntime) -> Result<(), Fail> 
     assert!(rt; point_count(&mut conn, "inv") == Ok(0));
     assert!(rt; point_count(&mut conn, "pv") == Ok(1));
     Ok(())
+}
+
+/// All of these hold.
+pub(crate) fn all_hold<D: Stores>(rt: &impl Abort, alloc: Global, stores: &D) -> Result<(), Fail> {
+    devices_stand_in_the_order_of_their_places(rt, alloc, stores)?;
+    registers_are_those_of_their_device(rt, alloc, stores)?;
+    points_stand_in_the_order_of_their_list(rt, alloc, stores)
+}
+
+#[test]
+fn rows_of_devices_are_kept(rt: HostRuntime) -> Result<(), Fail> {
+    in_memory(&rt, rt.alloc(), Tried::DeviceRows)
 }

@@ -1,12 +1,15 @@
 //! Readings that were held, handed on.
 use crate::lookups::name;
 use crate::new_books::ready;
+use crate::stores::Stores;
+use crate::tried::{Tried, in_memory};
 use crate::two_meters::two_meters;
 use energy_core::Cause;
 use office_books::{RowSink, Span};
 use office_events::{HeldReading, Name};
-use sqlite::{Connection, Error, MemStore};
+use sqlite::{Alter, Connection, Error};
 use std::alloc::Global;
+use std::process::Abort;
 use std::test::Fail;
 use store_queries::holds;
 use store_tables::RowFault;
@@ -37,14 +40,14 @@ impl RowSink<HeldReading> for Taken {
 }
 
 /// Books with the two meters and these readings.
-fn held(alloc: Global) -> Result<Connection<MemStore>, Error> {
-    let mut conn = two_meters(alloc)?;
+fn held<D: Stores>(alloc: Global, stores: &D) -> Result<Connection<D::Store>, Error> {
+    let mut conn = two_meters(alloc, stores)?;
     conn.execute_batch(HOLDS)?;
     Ok(conn)
 }
 
 /// The held readings of m1 that are asked for.
-fn of_m1(alloc: Global, conn: &mut Connection<MemStore>, span: Span) -> Result<Taken, RowFault> {
+fn of_m1<S: Alter>(alloc: Global, conn: &mut Connection<S>, span: Span) -> Result<Taken, RowFault> {
     ready(conn)?;
     let mut taken = Taken {
         readings: Vec::new(alloc),
@@ -79,9 +82,9 @@ fn are(taken: &Taken, wanted: &[Shown]) -> Result<bool, RowFault> {
 }
 
 /// Whether these readings of m1 are handed on, in this order.
-fn hands_on(
+fn hands_on<S: Alter>(
     alloc: Global,
-    conn: &mut Connection<MemStore>,
+    conn: &mut Connection<S>,
     span: Span,
     wanted: &[Shown],
 ) -> Result<bool, RowFault> {
@@ -127,22 +130,39 @@ static PARTS: [Part; 5] = [
     },
 ];
 
-#[test]
-fn held_readings_are_handed_on(rt: HostRuntime) -> Result<(), Fail> {
-    let mut conn = held(rt.alloc())?;
-    assert!(rt; hands_on(rt.alloc(), &mut conn, Span::All, PARTS[0].wanted) == Ok(true));
+fn held_readings_are_handed_on<D: Stores>(
+    rt: &impl Abort,
+    alloc: Global,
+    stores: &D,
+) -> Result<(), Fail> {
+    let mut conn = held(alloc, stores)?;
+    assert!(rt; hands_on(alloc, &mut conn, Span::All, PARTS[0].wanted) == Ok(true));
     Ok(())
 }
 
-#[test]
-fn held_readings_of_a_span_are_handed_on(rt: HostRuntime) -> Result<(), Fail> {
-    let mut conn = held(rt.alloc())?;
+fn held_readings_of_a_span_are_handed_on<D: Stores>(
+    rt: &impl Abort,
+    alloc: Global,
+    stores: &D,
+) -> Result<(), Fail> {
+    let mut conn = held(alloc, stores)?;
     for part in &PARTS {
         let span = Span::Between {
             from: part.from,
             till: part.till,
         };
-        assert!(rt; hands_on(rt.alloc(), &mut conn, span, part.wanted) == Ok(true));
+        assert!(rt; hands_on(alloc, &mut conn, span, part.wanted) == Ok(true));
     }
     Ok(())
+}
+
+/// All of these hold.
+pub(crate) fn all_hold<D: Stores>(rt: &impl Abort, alloc: Global, stores: &D) -> Result<(), Fail> {
+    held_readings_are_handed_on(rt, alloc, stores)?;
+    held_readings_of_a_span_are_handed_on(rt, alloc, stores)
+}
+
+#[test]
+fn held_readings_are_looked_up(rt: HostRuntime) -> Result<(), Fail> {
+    in_memory(&rt, rt.alloc(), Tried::HeldReadings)
 }

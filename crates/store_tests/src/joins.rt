@@ -2,11 +2,14 @@
 use crate::bookings::{book_all, booked, one_reading};
 use crate::facts::{device, opening, reading, register};
 use crate::new_books::ready;
+use crate::stores::Stores;
+use crate::tried::{Tried, in_memory};
 use energy_core::{Last, MAX_TOTAL};
 use meter_audit::Standing;
 use meter_journal::Installed;
-use sqlite::{Connection, MemStore};
+use sqlite::{Alter, Connection};
 use std::alloc::Global;
+use std::process::Abort;
 use std::test::Fail;
 use table_seals::{FiledMeter, FiledOffice, Joining, filed_meters, put_joins};
 
@@ -26,9 +29,9 @@ fn office<'a>(
 }
 
 /// What is kept of books.
-fn filed<'a>(
+fn filed<'a, S: Alter>(
     alloc: Global,
-    conn: &mut Connection<MemStore>,
+    conn: &mut Connection<S>,
     file: &'a str,
 ) -> Result<FiledOffice<'a>, Fail> {
     ready(conn)?;
@@ -38,18 +41,34 @@ fn filed<'a>(
     }
 }
 
-fn old_file(alloc: Global) -> Result<FiledOffice<'static>, Fail> {
-    let mut conn = one_reading(alloc)?;
+fn old_file<D: Stores>(alloc: Global, stores: &D) -> Result<FiledOffice<'static>, Fail> {
+    let mut conn = one_reading(alloc, stores)?;
     filed(alloc, &mut conn, "old.db")
 }
 
 /// Books in which a meter is installed so.
-fn installed(alloc: Global, meter: &[u8], at: u64, raw: u32) -> Result<Connection<MemStore>, Fail> {
-    booked(alloc, [device(), register(), opening(meter, at, raw)])
+fn installed<D: Stores>(
+    alloc: Global,
+    stores: &D,
+    meter: &[u8],
+    at: u64,
+    raw: u32,
+) -> Result<Connection<D::Store>, Fail> {
+    booked(
+        alloc,
+        stores,
+        [device(), register(), opening(meter, at, raw)],
+    )
 }
 
-fn new_file(alloc: Global, meter: &[u8], at: u64, raw: u32) -> Result<FiledOffice<'static>, Fail> {
-    let mut conn = installed(alloc, meter, at, raw)?;
+fn new_file<D: Stores>(
+    alloc: Global,
+    stores: &D,
+    meter: &[u8],
+    at: u64,
+    raw: u32,
+) -> Result<FiledOffice<'static>, Fail> {
+    let mut conn = installed(alloc, stores, meter, at, raw)?;
     filed(alloc, &mut conn, "new.db")
 }
 
@@ -81,18 +100,24 @@ fn said_of_both(
     said(alloc, &with(alloc, joining, next)?)
 }
 
-#[test]
-fn a_meter_goes_on_where_it_stands(rt: HostRuntime) -> Result<(), Fail> {
-    let next = new_file(rt.alloc(), b"m1", 1900, 5200)?;
-    let text = said_of_both(rt.alloc(), old_file(rt.alloc())?, next)?;
+fn a_meter_goes_on_where_it_stands<D: Stores>(
+    rt: &impl Abort,
+    alloc: Global,
+    stores: &D,
+) -> Result<(), Fail> {
+    let next = new_file(alloc, stores, b"m1", 1900, 5200)?;
+    let text = said_of_both(alloc, old_file(alloc, stores)?, next)?;
     assert!(rt; text.as_slice() == b"joined: fine\n".as_slice());
     Ok(())
 }
 
-#[test]
-fn one_that_begins_elsewhere_is_told(rt: HostRuntime) -> Result<(), Fail> {
-    let next = new_file(rt.alloc(), b"m1", 1901, 5201)?;
-    let text = said_of_both(rt.alloc(), old_file(rt.alloc())?, next)?;
+fn one_that_begins_elsewhere_is_told<D: Stores>(
+    rt: &impl Abort,
+    alloc: Global,
+    stores: &D,
+) -> Result<(), Fail> {
+    let next = new_file(alloc, stores, b"m1", 1901, 5201)?;
+    let text = said_of_both(alloc, old_file(alloc, stores)?, next)?;
     assert!(rt;
         text.as_slice()
             == b"meter m1 begins in new.db at 1901 5201 0, stands in old.db at 1900 5200 0\n1 differences between files\n".as_slice()
@@ -100,10 +125,13 @@ fn one_that_begins_elsewhere_is_told(rt: HostRuntime) -> Result<(), Fail> {
     Ok(())
 }
 
-#[test]
-fn one_that_is_missing_is_told(rt: HostRuntime) -> Result<(), Fail> {
-    let next = new_file(rt.alloc(), b"m2", 1899, 0)?;
-    let text = said_of_both(rt.alloc(), old_file(rt.alloc())?, next)?;
+fn one_that_is_missing_is_told<D: Stores>(
+    rt: &impl Abort,
+    alloc: Global,
+    stores: &D,
+) -> Result<(), Fail> {
+    let next = new_file(alloc, stores, b"m2", 1899, 0)?;
+    let text = said_of_both(alloc, old_file(alloc, stores)?, next)?;
     assert!(rt;
         text.as_slice()
             == b"meter m2 begins in new.db at 1899 0 0, meter m1 stands at its register in old.db at 1900 5200 0
@@ -116,34 +144,40 @@ meter m1 is not in new.db, and is open in old.db
 }
 
 /// A file in which the meter is read once more.
-fn next_file(alloc: Global) -> Result<FiledOffice<'static>, Fail> {
-    let mut conn = installed(alloc, b"m1", 1900, 5200)?;
+fn next_file<D: Stores>(alloc: Global, stores: &D) -> Result<FiledOffice<'static>, Fail> {
+    let mut conn = installed(alloc, stores, b"m1", 1900, 5200)?;
     book_all(alloc, &mut conn, [reading(b"m1", 2800, 5300, 0)])?;
     filed(alloc, &mut conn, "next.db")
 }
 
-fn two_files(alloc: Global) -> Result<Joining<'static>, Fail> {
-    let joining = with(alloc, Joining::new(alloc), old_file(alloc)?)?;
-    with(alloc, joining, next_file(alloc)?)
+fn two_files<D: Stores>(alloc: Global, stores: &D) -> Result<Joining<'static>, Fail> {
+    let joining = with(alloc, Joining::new(alloc), old_file(alloc, stores)?)?;
+    with(alloc, joining, next_file(alloc, stores)?)
 }
 
-fn three_files(alloc: Global) -> Result<Joining<'static>, Fail> {
-    let joining = two_files(alloc)?;
-    with(alloc, joining, new_file(alloc, b"m1", 2800, 5300)?)
+fn three_files<D: Stores>(alloc: Global, stores: &D) -> Result<Joining<'static>, Fail> {
+    let joining = two_files(alloc, stores)?;
+    with(alloc, joining, new_file(alloc, stores, b"m1", 2800, 5300)?)
 }
 
-#[test]
-fn a_third_file_goes_on_from_the_second(rt: HostRuntime) -> Result<(), Fail> {
-    let joining = three_files(rt.alloc())?;
-    let text = said(rt.alloc(), &joining)?;
+fn a_third_file_goes_on_from_the_second<D: Stores>(
+    rt: &impl Abort,
+    alloc: Global,
+    stores: &D,
+) -> Result<(), Fail> {
+    let joining = three_files(alloc, stores)?;
+    let text = said(alloc, &joining)?;
     assert!(rt; text.as_slice() == b"joined: fine\n".as_slice());
     Ok(())
 }
 
-#[test]
-fn a_file_that_is_left_out_is_told(rt: HostRuntime) -> Result<(), Fail> {
-    let next = new_file(rt.alloc(), b"m1", 2800, 5300)?;
-    let text = said_of_both(rt.alloc(), old_file(rt.alloc())?, next)?;
+fn a_file_that_is_left_out_is_told<D: Stores>(
+    rt: &impl Abort,
+    alloc: Global,
+    stores: &D,
+) -> Result<(), Fail> {
+    let next = new_file(alloc, stores, b"m1", 2800, 5300)?;
+    let text = said_of_both(alloc, old_file(alloc, stores)?, next)?;
     assert!(rt;
         text.as_slice()
             == b"meter m1 begins in new.db at 2800 5300 0, stands in old.db at 1900 5200 0\n1 differences between files\n".as_slice()
@@ -279,4 +313,18 @@ fn another_zone_is_told(rt: HostRuntime) -> Result<(), Fail> {
             == b"zone is CET-1 in new.db, and UTC0 in old.db\n1 differences between files\n".as_slice()
     );
     Ok(())
+}
+
+/// All of these hold.
+pub(crate) fn all_hold<D: Stores>(rt: &impl Abort, alloc: Global, stores: &D) -> Result<(), Fail> {
+    a_meter_goes_on_where_it_stands(rt, alloc, stores)?;
+    one_that_begins_elsewhere_is_told(rt, alloc, stores)?;
+    one_that_is_missing_is_told(rt, alloc, stores)?;
+    a_third_file_goes_on_from_the_second(rt, alloc, stores)?;
+    a_file_that_is_left_out_is_told(rt, alloc, stores)
+}
+
+#[test]
+fn files_are_held_to_those_before(rt: HostRuntime) -> Result<(), Fail> {
+    in_memory(&rt, rt.alloc(), Tried::Joins)
 }

@@ -1,7 +1,11 @@
 //! The latest moment.
 use crate::lookups::books;
 use crate::new_books::{new_books, ready};
-use sqlite::{Connection, MemStore};
+use crate::stores::Stores;
+use crate::tried::{Tried, in_memory};
+use sqlite::{Alter, Connection};
+use std::alloc::Global;
+use std::process::Abort;
 use std::test::Fail;
 use store_queries::latest;
 use store_tables::RowFault;
@@ -41,15 +45,18 @@ const LATER: [Later; 6] = [
 ];
 
 /// The latest moment after this was done.
-fn latest_after(conn: &mut Connection<MemStore>, text: &str) -> Result<u64, RowFault> {
+fn latest_after<S: Alter>(conn: &mut Connection<S>, text: &str) -> Result<u64, RowFault> {
     conn.execute_batch(text)?;
     ready(conn)?;
     latest(conn)
 }
 
-#[test]
-fn the_latest_moment_is_of_any_table(rt: HostRuntime) -> Result<(), Fail> {
-    let mut conn = books(rt.alloc())?;
+fn the_latest_moment_is_of_any_table<D: Stores>(
+    rt: &impl Abort,
+    alloc: Global,
+    stores: &D,
+) -> Result<(), Fail> {
+    let mut conn = books(alloc, stores)?;
     assert!(rt; latest(&mut conn) == Ok(1900));
     for later in LATER.iter() {
         let latest = latest_after(&mut conn, later.text);
@@ -58,18 +65,36 @@ fn the_latest_moment_is_of_any_table(rt: HostRuntime) -> Result<(), Fail> {
     Ok(())
 }
 
-#[test]
-fn new_books_have_no_moment(rt: HostRuntime) -> Result<(), Fail> {
-    let mut conn = new_books(rt.alloc())?;
+fn new_books_have_no_moment<D: Stores>(
+    rt: &impl Abort,
+    alloc: Global,
+    stores: &D,
+) -> Result<(), Fail> {
+    let mut conn = new_books(alloc, stores)?;
     ready(&mut conn)?;
     assert!(rt; latest(&mut conn) == Ok(0));
     Ok(())
 }
 
-#[test]
-fn a_moment_past_the_last_is_damaged(rt: HostRuntime) -> Result<(), Fail> {
-    let mut conn = books(rt.alloc())?;
+fn a_moment_past_the_last_is_damaged<D: Stores>(
+    rt: &impl Abort,
+    alloc: Global,
+    stores: &D,
+) -> Result<(), Fail> {
+    let mut conn = books(alloc, stores)?;
     let past = latest_after(&mut conn, "UPDATE replies SET moment = 4102444801");
     assert!(rt; past == Err(RowFault::Damaged));
     Ok(())
+}
+
+/// All of these hold.
+pub(crate) fn all_hold<D: Stores>(rt: &impl Abort, alloc: Global, stores: &D) -> Result<(), Fail> {
+    the_latest_moment_is_of_any_table(rt, alloc, stores)?;
+    new_books_have_no_moment(rt, alloc, stores)?;
+    a_moment_past_the_last_is_damaged(rt, alloc, stores)
+}
+
+#[test]
+fn the_latest_moment_is_looked_up(rt: HostRuntime) -> Result<(), Fail> {
+    in_memory(&rt, rt.alloc(), Tried::Latest)
 }

@@ -66,9 +66,13 @@ mod shares;
 #[cfg(test)]
 mod stops;
 #[cfg(test)]
+mod stores;
+#[cfg(test)]
 mod stories;
 #[cfg(test)]
 mod tables;
+#[cfg(test)]
+mod tried;
 #[cfg(test)]
 mod two_meters;
 #[cfg(test)]

@@ -2,14 +2,17 @@
 ghost use Rattle.std.specs.Prelude.{◌≡◌, false, IfOk};
 
 use crate::new_books::{holding, ready};
+use crate::stores::Stores;
+use crate::tried::{Tried, in_memory};
 use mb_wire::{ReadFunction, ReadSpan};
 use office_books::Repeat;
 use office_events::{
     CommandKind, Device, EndedPoll, Name, Poll, PollRow, Register, ScaleSource, Timeout, Window,
 };
 use poll_core::Outcome;
-use sqlite::{Connection, Error, MemStore};
+use sqlite::{Alter, Connection, Error};
 use std::alloc::Global;
+use std::process::Abort;
 use std::test::Fail;
 use store_queries::{
     devices, pending, poll, poll_count, register, register_count, registers, registers_read, repeat,
@@ -25,10 +28,10 @@ INSERT INTO outcomes VALUES (1, 1900, 2, 11);
 INSERT INTO replies VALUES ('desk', 7, x'6162', 'exchange', 1800)";
 
 /// Books with these rows.
-pub(crate) fn books(alloc: Global) -> Result<Connection<MemStore>, Error>
+pub(crate) fn books<D: Stores>(alloc: Global, stores: &D) -> Result<Connection<D::Store>, Error>
     ensures idle { IfOk result (λ conn. conn.in_transaction ≡ false) }
 {
-    holding(alloc, ROWS)
+    holding(alloc, stores, ROWS)
 }
 
 /// A name, as the look-ups take it.
@@ -45,9 +48,12 @@ fn device(text: &[u8], unit: u8, seconds: u64, polls: u64) -> Option<Device> {
     })
 }
 
-#[test]
-fn devices_stand_in_their_order(rt: HostRuntime) -> Result<(), Fail> {
-    let mut conn = books(rt.alloc())?;
+fn devices_stand_in_their_order<D: Stores>(
+    rt: &impl Abort,
+    alloc: Global,
+    stores: &D,
+) -> Result<(), Fail> {
+    let mut conn = books(alloc, stores)?;
     let all = devices(&mut conn)?;
     assert!(rt; all.len() == 2);
     assert!(rt; Some(all[0]) == device(b"inv", 3, 5, 1));
@@ -76,25 +82,31 @@ fn roof() -> Option<Register> {
     })
 }
 
-fn register_named(
-    conn: &mut Connection<MemStore>,
+fn register_named<S: Alter>(
+    conn: &mut Connection<S>,
     text: &[u8],
 ) -> Result<Option<Register>, RowFault> {
     ready(conn)?;
     register(conn, &name(text)?)
 }
 
-#[test]
-fn a_register_is_found_by_its_name(rt: HostRuntime) -> Result<(), Fail> {
-    let mut conn = books(rt.alloc())?;
+fn a_register_is_found_by_its_name<D: Stores>(
+    rt: &impl Abort,
+    alloc: Global,
+    stores: &D,
+) -> Result<(), Fail> {
+    let mut conn = books(alloc, stores)?;
     assert!(rt; register_named(&mut conn, b"roof") == Ok(roof()));
     assert!(rt; register_named(&mut conn, b"pv") == Ok(None));
     Ok(())
 }
 
-#[test]
-fn registers_are_those_of_their_device(rt: HostRuntime) -> Result<(), Fail> {
-    let mut conn = books(rt.alloc())?;
+fn registers_are_those_of_their_device<D: Stores>(
+    rt: &impl Abort,
+    alloc: Global,
+    stores: &D,
+) -> Result<(), Fail> {
+    let mut conn = books(alloc, stores)?;
     let all = registers(&mut conn, &name(b"inv")?)?;
     assert!(rt; all.len() == 1);
     assert!(rt; Some(all[0]) == main());
@@ -114,8 +126,8 @@ static READS: [(&[u8], u8, u16, u16, bool); 9] = [
     (b"pv", 3, 8, 2, false),
 ];
 
-fn count_of_read(
-    conn: &mut Connection<MemStore>,
+fn count_of_read<S: Alter>(
+    conn: &mut Connection<S>,
     device: &[u8],
     span: Option<ReadSpan>,
 ) -> Result<usize, RowFault> {
@@ -125,9 +137,12 @@ fn count_of_read(
 }
 
 /// The counter and the scale of a register lie in a read that gives a reading of it, which has its function.
-#[test]
-fn registers_are_told_by_their_read(rt: HostRuntime) -> Result<(), Fail> {
-    let mut conn = books(rt.alloc())?;
+fn registers_are_told_by_their_read<D: Stores>(
+    rt: &impl Abort,
+    alloc: Global,
+    stores: &D,
+) -> Result<(), Fail> {
+    let mut conn = books(alloc, stores)?;
     for (device, function, address, count, is_read) in &READS {
         let span = ReadSpan::new(*function, *address, *count);
         let found = count_of_read(&mut conn, device, span);
@@ -136,9 +151,12 @@ fn registers_are_told_by_their_read(rt: HostRuntime) -> Result<(), Fail> {
     Ok(())
 }
 
-#[test]
-fn registers_are_counted(rt: HostRuntime) -> Result<(), Fail> {
-    let mut conn = books(rt.alloc())?;
+fn registers_are_counted<D: Stores>(
+    rt: &impl Abort,
+    alloc: Global,
+    stores: &D,
+) -> Result<(), Fail> {
+    let mut conn = books(alloc, stores)?;
     assert!(rt; register_count(&mut conn, &name(b"pv")?) == Ok(1));
     Ok(())
 }
@@ -172,18 +190,20 @@ fn second() -> Option<Poll> {
     })
 }
 
-#[test]
-fn a_poll_has_its_end(rt: HostRuntime) -> Result<(), Fail> {
-    let mut conn = books(rt.alloc())?;
+fn a_poll_has_its_end<D: Stores>(rt: &impl Abort, alloc: Global, stores: &D) -> Result<(), Fail> {
+    let mut conn = books(alloc, stores)?;
     assert!(rt; poll(&mut conn, 1) == Ok(first()));
     ready(&mut conn)?;
     assert!(rt; poll(&mut conn, u64::MAX) == Ok(None));
     Ok(())
 }
 
-#[test]
-fn polls_without_an_end_wait(rt: HostRuntime) -> Result<(), Fail> {
-    let mut conn = books(rt.alloc())?;
+fn polls_without_an_end_wait<D: Stores>(
+    rt: &impl Abort,
+    alloc: Global,
+    stores: &D,
+) -> Result<(), Fail> {
+    let mut conn = books(alloc, stores)?;
     assert!(rt; poll_count(&mut conn) == Ok(2));
     ready(&mut conn)?;
     let waits = pending(&mut conn)?;
@@ -199,8 +219,8 @@ static REQUESTS: [(u64, &[u8], Option<Repeat>); 3] = [
     (8, b"ab", None),
 ];
 
-fn repeat_at(
-    conn: &mut Connection<MemStore>,
+fn repeat_at<S: Alter>(
+    conn: &mut Connection<S>,
     number: u64,
     request: &[u8],
 ) -> Result<Option<Repeat>, RowFault> {
@@ -208,12 +228,32 @@ fn repeat_at(
     repeat(conn, &name(b"desk")?, number, request)
 }
 
-#[test]
-fn a_request_is_compared_with_the_kept_one(rt: HostRuntime) -> Result<(), Fail> {
-    let mut conn = books(rt.alloc())?;
+fn a_request_is_compared_with_the_kept_one<D: Stores>(
+    rt: &impl Abort,
+    alloc: Global,
+    stores: &D,
+) -> Result<(), Fail> {
+    let mut conn = books(alloc, stores)?;
     for (number, request, answer) in &REQUESTS {
         let found = repeat_at(&mut conn, *number, request);
         assert!(rt; found == Ok(*answer), "{number}");
     }
     Ok(())
+}
+
+/// All of these hold.
+pub(crate) fn all_hold<D: Stores>(rt: &impl Abort, alloc: Global, stores: &D) -> Result<(), Fail> {
+    devices_stand_in_their_order(rt, alloc, stores)?;
+    a_register_is_found_by_its_name(rt, alloc, stores)?;
+    registers_are_those_of_their_device(rt, alloc, stores)?;
+    registers_are_told_by_their_read(rt, alloc, stores)?;
+    registers_are_counted(rt, alloc, stores)?;
+    a_poll_has_its_end(rt, alloc, stores)?;
+    polls_without_an_end_wait(rt, alloc, stores)?;
+    a_request_is_compared_with_the_kept_one(rt, alloc, stores)
+}
+
+#[test]
+fn devices_and_polls_are_looked_up(rt: HostRuntime) -> Result<(), Fail> {
+    in_memory(&rt, rt.alloc(), Tried::Lookups)
 }

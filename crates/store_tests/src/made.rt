@@ -1,8 +1,9 @@
-//! Books in a database in memory.
+//! Books in a new database, and an office over books.
+use crate::stores::Stores;
 use office_books::Books;
 use office_core::Office;
 use office_store::SqlBooks;
-use sqlite::{Alter, Connection, MemStore};
+use sqlite::{Alter, Connection};
 use std::alloc::Global;
 use std::test::Fail;
 
@@ -21,9 +22,9 @@ pub(crate) fn made<S: Alter + Drop>(
 /// A zone in which the clocks go forward on 2024-03-31 and back on 2024-10-27.
 const ZONE: &str = "CET-1CEST,M3.5.0,M10.5.0/3";
 
-/// New books in memory.
-pub(crate) fn books(alloc: Global) -> Result<SqlBooks<MemStore>, Fail> {
-    made(alloc, Connection::open_in_memory(alloc)?, ZONE)
+/// New books.
+pub(crate) fn books<D: Stores>(alloc: Global, stores: &D) -> Result<SqlBooks<D::Store>, Fail> {
+    made(alloc, stores.open(alloc)?, ZONE)
 }
 
 /// The books of this connection.

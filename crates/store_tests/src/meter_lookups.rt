@@ -2,12 +2,15 @@
 use crate::lookups::name;
 use crate::new_books::ready;
 use crate::shares::{BOTH, FIRST, Seen, are};
+use crate::stores::Stores;
+use crate::tried::{Tried, in_memory};
 use crate::two_meters::{last, next_standing, row, standing, two_meters};
 use meter_journal::{EntryKind, EntryRow};
 use office_books::{MeterEntry, Span};
 use office_events::{EntryPlace, Installation};
-use sqlite::{Connection, MemStore};
+use sqlite::{Alter, Connection};
 use std::alloc::Global;
+use std::process::Abort;
 use std::test::Fail;
 use store_queries::{
     entry, entry_near, installation, installation_count, intervals, meter, meter_entries,
@@ -15,49 +18,54 @@ use store_queries::{
 };
 use store_tables::RowFault;
 
-fn meter_named(
-    conn: &mut Connection<MemStore>,
+fn meter_named<S: Alter>(
+    conn: &mut Connection<S>,
     text: &[u8],
 ) -> Result<Option<Installation>, RowFault> {
     ready(conn)?;
     meter(conn, &name(text)?)
 }
 
-fn installed_at(
-    conn: &mut Connection<MemStore>,
+fn installed_at<S: Alter>(
+    conn: &mut Connection<S>,
     register: &[u8],
 ) -> Result<Option<Installation>, RowFault> {
     ready(conn)?;
     installation(conn, &name(register)?)
 }
 
-#[test]
-fn meters_are_found_by_name(rt: HostRuntime) -> Result<(), Fail> {
-    let mut conn = two_meters(rt.alloc())?;
+fn meters_are_found_by_name<D: Stores>(
+    rt: &impl Abort,
+    alloc: Global,
+    stores: &D,
+) -> Result<(), Fail> {
+    let mut conn = two_meters(alloc, stores)?;
     let m1 = standing(last(2800, 5300), 300_000);
     assert!(rt; meter_named(&mut conn, b"m1") == Ok(m1));
     assert!(rt; meter_named(&mut conn, b"m2") == Ok(None));
     Ok(())
 }
 
-#[test]
-fn meters_are_counted(rt: HostRuntime) -> Result<(), Fail> {
-    let mut conn = two_meters(rt.alloc())?;
+fn meters_are_counted<D: Stores>(rt: &impl Abort, alloc: Global, stores: &D) -> Result<(), Fail> {
+    let mut conn = two_meters(alloc, stores)?;
     assert!(rt; installation_count(&mut conn) == Ok(2));
     Ok(())
 }
 
-#[test]
-fn the_latest_meter_of_a_register_is_found(rt: HostRuntime) -> Result<(), Fail> {
-    let mut conn = two_meters(rt.alloc())?;
+fn the_latest_meter_of_a_register_is_found<D: Stores>(
+    rt: &impl Abort,
+    alloc: Global,
+    stores: &D,
+) -> Result<(), Fail> {
+    let mut conn = two_meters(alloc, stores)?;
     assert!(rt; installed_at(&mut conn, b"main") == Ok(next_standing()));
     assert!(rt; installed_at(&mut conn, b"roof") == Ok(None));
     Ok(())
 }
 
-fn meters_of(
+fn meters_of<S: Alter>(
     alloc: Global,
-    conn: &mut Connection<MemStore>,
+    conn: &mut Connection<S>,
     register: &[u8],
 ) -> Result<Vec<Installation>, RowFault> {
     ready(conn)?;
@@ -73,12 +81,15 @@ fn are_both(rows: &[Installation]) -> bool {
     }
 }
 
-#[test]
-fn a_register_has_its_meters_in_order(rt: HostRuntime) -> Result<(), Fail> {
-    let mut conn = two_meters(rt.alloc())?;
-    let both = meters_of(rt.alloc(), &mut conn, b"main")?;
+fn a_register_has_its_meters_in_order<D: Stores>(
+    rt: &impl Abort,
+    alloc: Global,
+    stores: &D,
+) -> Result<(), Fail> {
+    let mut conn = two_meters(alloc, stores)?;
+    let both = meters_of(alloc, &mut conn, b"main")?;
     assert!(rt; are_both(&both));
-    let none = meters_of(rt.alloc(), &mut conn, b"roof")?;
+    let none = meters_of(alloc, &mut conn, b"roof")?;
     assert!(rt; none.is_empty());
     Ok(())
 }
@@ -106,32 +117,35 @@ fn last_of_m1() -> Option<EntryPlace> {
     })
 }
 
-fn entry_of_m1(
+fn entry_of_m1<S: Alter>(
     alloc: Global,
-    conn: &mut Connection<MemStore>,
+    conn: &mut Connection<S>,
     place: u64,
 ) -> Result<Option<EntryPlace>, RowFault> {
     ready(conn)?;
     entry(alloc, conn, &name(b"m1")?, place)
 }
 
-#[test]
-fn entries_are_found_with_what_was_before(rt: HostRuntime) -> Result<(), Fail> {
-    let mut conn = two_meters(rt.alloc())?;
+fn entries_are_found_with_what_was_before<D: Stores>(
+    rt: &impl Abort,
+    alloc: Global,
+    stores: &D,
+) -> Result<(), Fail> {
+    let mut conn = two_meters(alloc, stores)?;
     let second = row(2, EntryKind::Reading, last(1900, 5200), true);
     let third = row(3, EntryKind::Reading, last(2000, 5250), false);
     let second = before_closing((1000, 5000, 0), second);
     let third = before_closing((1900, 5200, 200_000), third);
     for (place, found) in [(2, second), (3, third), (5, None)] {
-        let entry = entry_of_m1(rt.alloc(), &mut conn, place);
+        let entry = entry_of_m1(alloc, &mut conn, place);
         assert!(rt; entry == Ok(found), "{place}");
     }
     Ok(())
 }
 
-fn entry_near_m1(
+fn entry_near_m1<S: Alter>(
     alloc: Global,
-    conn: &mut Connection<MemStore>,
+    conn: &mut Connection<S>,
     place: u64,
 ) -> Result<Option<EntryPlace>, RowFault> {
     ready(conn)?;
@@ -139,25 +153,28 @@ fn entry_near_m1(
 }
 
 /// The meter has gone 300 counts of 1 Wh in whole.
-#[test]
-fn entries_are_told_by_the_rows_around(rt: HostRuntime) -> Result<(), Fail> {
-    let mut conn = two_meters(rt.alloc())?;
+fn entries_are_told_by_the_rows_around<D: Stores>(
+    rt: &impl Abort,
+    alloc: Global,
+    stores: &D,
+) -> Result<(), Fail> {
+    let mut conn = two_meters(alloc, stores)?;
     let second = row(2, EntryKind::Reading, last(1900, 5200), true);
     let third = row(3, EntryKind::Reading, last(2000, 5250), false);
     let second = before_closing((1000, 5000, 300_000), second);
     let third = before_closing((1900, 5200, 300_000), third);
     let fourth = last_of_m1();
     for (place, found) in [(2, second), (3, third), (4, fourth), (1, None), (5, None)] {
-        let entry = entry_near_m1(rt.alloc(), &mut conn, place);
+        let entry = entry_near_m1(alloc, &mut conn, place);
         assert!(rt; entry == Ok(found), "{place}");
     }
     Ok(())
 }
 
 /// How many entries of m1 there are from a place on, at most so many, and the place of the first.
-fn listed(
+fn listed<S: Alter>(
     alloc: Global,
-    conn: &mut Connection<MemStore>,
+    conn: &mut Connection<S>,
     from: u64,
     most: u32,
 ) -> Result<(usize, u64), RowFault> {
@@ -166,9 +183,12 @@ fn listed(
     Ok((listed.len(), listed.first().map_or(0, MeterEntry::place)))
 }
 
-#[test]
-fn entries_are_listed_from_a_place_on(rt: HostRuntime) -> Result<(), Fail> {
-    let mut conn = two_meters(rt.alloc())?;
+fn entries_are_listed_from_a_place_on<D: Stores>(
+    rt: &impl Abort,
+    alloc: Global,
+    stores: &D,
+) -> Result<(), Fail> {
+    let mut conn = two_meters(alloc, stores)?;
     let asked = [
         (0, 9, (4, 1)),
         (2, 9, (3, 2)),
@@ -178,24 +198,27 @@ fn entries_are_listed_from_a_place_on(rt: HostRuntime) -> Result<(), Fail> {
     ];
     for (from, most, found) in asked {
         assert!(rt;
-            listed(rt.alloc(), &mut conn, from, most) == Ok(found),
+            listed(alloc, &mut conn, from, most) == Ok(found),
             "{from} {most}"
         );
     }
     Ok(())
 }
 
-fn entries_of_m1(
+fn entries_of_m1<S: Alter>(
     alloc: Global,
-    conn: &mut Connection<MemStore>,
+    conn: &mut Connection<S>,
 ) -> Result<Vec<MeterEntry>, RowFault> {
     ready(conn)?;
     meter_entries(alloc, conn, &name(b"m1")?, 1, 3)
 }
 
-#[test]
-fn entries_are_listed_with_their_rows(rt: HostRuntime) -> Result<(), Fail> {
-    let mut conn = two_meters(rt.alloc())?;
+fn entries_are_listed_with_their_rows<D: Stores>(
+    rt: &impl Abort,
+    alloc: Global,
+    stores: &D,
+) -> Result<(), Fail> {
+    let mut conn = two_meters(alloc, stores)?;
     let second = row(2, EntryKind::Reading, last(1900, 5200), true);
     let third = row(3, EntryKind::Reading, last(2000, 5250), false);
     let wanted = [
@@ -203,31 +226,38 @@ fn entries_are_listed_with_their_rows(rt: HostRuntime) -> Result<(), Fail> {
         MeterEntry::Later { row: second, sf: 0 },
         MeterEntry::Later { row: third, sf: 0 },
     ];
-    let listed = entries_of_m1(rt.alloc(), &mut conn)?;
+    let listed = entries_of_m1(alloc, &mut conn)?;
     assert!(rt; listed.as_slice() == wanted.as_slice());
     Ok(())
 }
 
 /// The quarter hours of m1 that are asked for, and those of its register.
-fn of_m1(alloc: Global, conn: &mut Connection<MemStore>, span: Span) -> Result<Seen, RowFault> {
+fn of_m1<S: Alter>(alloc: Global, conn: &mut Connection<S>, span: Span) -> Result<Seen, RowFault> {
     ready(conn)?;
     let mut seen = Seen::new(alloc);
     intervals(conn, &name(b"m1")?, span, &mut seen)?;
     Ok(seen)
 }
 
-fn of_main(alloc: Global, conn: &mut Connection<MemStore>, span: Span) -> Result<Seen, RowFault> {
+fn of_main<S: Alter>(
+    alloc: Global,
+    conn: &mut Connection<S>,
+    span: Span,
+) -> Result<Seen, RowFault> {
     ready(conn)?;
     let mut seen = Seen::new(alloc);
     register_intervals(conn, &name(b"main")?, span, &mut seen)?;
     Ok(seen)
 }
 
-#[test]
-fn quarter_hours_are_handed_on(rt: HostRuntime) -> Result<(), Fail> {
-    let mut conn = two_meters(rt.alloc())?;
-    assert!(rt; are(&of_m1(rt.alloc(), &mut conn, Span::All), &FIRST));
-    assert!(rt; are(&of_main(rt.alloc(), &mut conn, Span::All), &BOTH));
+fn quarter_hours_are_handed_on<D: Stores>(
+    rt: &impl Abort,
+    alloc: Global,
+    stores: &D,
+) -> Result<(), Fail> {
+    let mut conn = two_meters(alloc, stores)?;
+    assert!(rt; are(&of_m1(alloc, &mut conn, Span::All), &FIRST));
+    assert!(rt; are(&of_main(alloc, &mut conn, Span::All), &BOTH));
     Ok(())
 }
 
@@ -278,24 +308,50 @@ static PARTS: [Part; 5] = [
     },
 ];
 
-#[test]
-fn quarter_hours_of_a_span_are_handed_on(rt: HostRuntime) -> Result<(), Fail> {
-    let mut conn = two_meters(rt.alloc())?;
+fn quarter_hours_of_a_span_are_handed_on<D: Stores>(
+    rt: &impl Abort,
+    alloc: Global,
+    stores: &D,
+) -> Result<(), Fail> {
+    let mut conn = two_meters(alloc, stores)?;
     for part in &PARTS {
         let span = Span::Between {
             from: part.from,
             till: part.till,
         };
-        assert!(rt; are(&of_m1(rt.alloc(), &mut conn, span), part.of_m1));
-        assert!(rt; are(&of_main(rt.alloc(), &mut conn, span), part.of_main));
+        assert!(rt; are(&of_m1(alloc, &mut conn, span), part.of_m1));
+        assert!(rt; are(&of_main(alloc, &mut conn, span), part.of_main));
     }
     Ok(())
 }
 
-#[test]
-fn a_number_out_of_its_range_is_damage(rt: HostRuntime) -> Result<(), Fail> {
-    let mut conn = two_meters(rt.alloc())?;
+fn a_number_out_of_its_range_is_damage<D: Stores>(
+    rt: &impl Abort,
+    alloc: Global,
+    stores: &D,
+) -> Result<(), Fail> {
+    let mut conn = two_meters(alloc, stores)?;
     conn.execute_batch("UPDATE ranges SET \"range\" = 5299 WHERE meter = 'm1'")?;
     assert!(rt; meter_named(&mut conn, b"m1") == Err(RowFault::Damaged));
     Ok(())
+}
+
+/// All of these hold.
+pub(crate) fn all_hold<D: Stores>(rt: &impl Abort, alloc: Global, stores: &D) -> Result<(), Fail> {
+    meters_are_found_by_name(rt, alloc, stores)?;
+    meters_are_counted(rt, alloc, stores)?;
+    the_latest_meter_of_a_register_is_found(rt, alloc, stores)?;
+    a_register_has_its_meters_in_order(rt, alloc, stores)?;
+    entries_are_found_with_what_was_before(rt, alloc, stores)?;
+    entries_are_told_by_the_rows_around(rt, alloc, stores)?;
+    entries_are_listed_from_a_place_on(rt, alloc, stores)?;
+    entries_are_listed_with_their_rows(rt, alloc, stores)?;
+    quarter_hours_are_handed_on(rt, alloc, stores)?;
+    quarter_hours_of_a_span_are_handed_on(rt, alloc, stores)?;
+    a_number_out_of_its_range_is_damage(rt, alloc, stores)
+}
+
+#[test]
+fn meters_are_looked_up(rt: HostRuntime) -> Result<(), Fail> {
+    in_memory(&rt, rt.alloc(), Tried::MeterLookups)
 }

@@ -1,7 +1,10 @@
 //! Rows of meters, written and read back.
 use crate::one_meter::{INSTALLED, OPENED, OPENING, READ, READING, one_meter};
-use sqlite::{Connection, Error, MemStore, Row, Transaction};
+use crate::stores::Stores;
+use crate::tried::{Tried, in_memory};
+use sqlite::{Alter, Connection, Error, Row, Transaction};
 use std::alloc::Global;
+use std::process::Abort;
 use std::test::Fail;
 use store_tables::{
     EntryRow, GREATEST_PLACE, Installation, InstallationRow, RowFault, end_installation, entry_at,
@@ -21,9 +24,12 @@ fn is_installed(found: &Result<Option<Installation>, RowFault>, row: Installatio
     }
 }
 
-#[test]
-fn a_meter_is_found_by_its_name_and_at_its_register(rt: HostRuntime) -> Result<(), Fail> {
-    let mut conn = one_meter(rt.alloc())?;
+fn a_meter_is_found_by_its_name_and_at_its_register<D: Stores>(
+    rt: &impl Abort,
+    alloc: Global,
+    stores: &D,
+) -> Result<(), Fail> {
+    let mut conn = one_meter(alloc, stores)?;
     assert!(rt; is_installed(&installation_of(&mut conn, "m1"), INSTALLED));
     assert!(rt; is_installed(&installation_at(&mut conn, "main"), INSTALLED));
     assert!(rt; matches!(installation_of(&mut conn, "m2"), Ok(None)));
@@ -37,9 +43,12 @@ fn a_meter_is_found_by_its_name_and_at_its_register(rt: HostRuntime) -> Result<(
 /// The entries of the meter by their places.
 static ENTRIES: [(u64, Option<EntryRow>); 3] = [(1, Some(OPENING)), (2, Some(READING)), (3, None)];
 
-#[test]
-fn entries_are_found_by_their_places(rt: HostRuntime) -> Result<(), Fail> {
-    let mut conn = one_meter(rt.alloc())?;
+fn entries_are_found_by_their_places<D: Stores>(
+    rt: &impl Abort,
+    alloc: Global,
+    stores: &D,
+) -> Result<(), Fail> {
+    let mut conn = one_meter(alloc, stores)?;
     for (place, entry) in &ENTRIES {
         assert!(rt; entry_at(&mut conn, "m1", *place) == Ok(*entry), "{place}");
     }
@@ -50,7 +59,7 @@ fn entries_are_found_by_their_places(rt: HostRuntime) -> Result<(), Fail> {
     Ok(())
 }
 
-fn changes(tx: &mut Transaction<'_, MemStore>) -> Result<(), Error> {
+fn changes<S: Alter>(tx: &mut Transaction<'_, S>) -> Result<(), Error> {
     update_last(tx, "m1", READ)?;
     end_installation(tx, "m1")?;
     set_rolls(tx, "m1", 2, 1)?;
@@ -58,7 +67,7 @@ fn changes(tx: &mut Transaction<'_, MemStore>) -> Result<(), Error> {
     Ok(())
 }
 
-fn change(conn: &mut Connection<MemStore>) -> Result<(), Error> {
+fn change<S: Alter>(conn: &mut Connection<S>) -> Result<(), Error> {
     if !conn.is_autocommit() {
         return Err(Error::InvalidQuery);
     }
@@ -68,15 +77,14 @@ fn change(conn: &mut Connection<MemStore>) -> Result<(), Error> {
 }
 
 /// The meter once it has moved to its reading and ended, its reading turned over, and was voided.
-fn ended(alloc: Global) -> Result<Connection<MemStore>, Error> {
-    let mut conn = one_meter(alloc)?;
+fn ended<D: Stores>(alloc: Global, stores: &D) -> Result<Connection<D::Store>, Error> {
+    let mut conn = one_meter(alloc, stores)?;
     change(&mut conn)?;
     Ok(conn)
 }
 
-#[test]
-fn rows_are_changed(rt: HostRuntime) -> Result<(), Fail> {
-    let mut conn = ended(rt.alloc())?;
+fn rows_are_changed<D: Stores>(rt: &impl Abort, alloc: Global, stores: &D) -> Result<(), Fail> {
+    let mut conn = ended(alloc, stores)?;
     let row = InstallationRow {
         is_ended: true,
         last: READ,
@@ -98,7 +106,7 @@ fn rows_are_changed(rt: HostRuntime) -> Result<(), Fail> {
 /// The rows of the meter and of its last place.
 type Seen = (Vec<Row>, Vec<Row>);
 
-fn end_and_see(tx: &mut Transaction<'_, MemStore>) -> Result<Seen, Error> {
+fn end_and_see<S: Alter>(tx: &mut Transaction<'_, S>) -> Result<Seen, Error> {
     let third = EntryRow {
         place: 3,
         moment: 2800,
@@ -109,7 +117,7 @@ fn end_and_see(tx: &mut Transaction<'_, MemStore>) -> Result<Seen, Error> {
     Ok((installation_rows(tx, "m1")?, last_entry_rows(tx, "m1")?))
 }
 
-fn see_inside(conn: &mut Connection<MemStore>) -> Result<Seen, Error> {
+fn see_inside<S: Alter>(conn: &mut Connection<S>) -> Result<Seen, Error> {
     if !conn.is_autocommit() {
         return Err(Error::InvalidQuery);
     }
@@ -127,9 +135,12 @@ fn is_ended(row: &Row) -> bool {
     matches!(read_installation(row), Ok(at) if is_of_row(&at, ended))
 }
 
-#[test]
-fn a_transaction_sees_its_own_writes(rt: HostRuntime) -> Result<(), Fail> {
-    let mut conn = one_meter(rt.alloc())?;
+fn a_transaction_sees_its_own_writes<D: Stores>(
+    rt: &impl Abort,
+    alloc: Global,
+    stores: &D,
+) -> Result<(), Fail> {
+    let mut conn = one_meter(alloc, stores)?;
     let (installed, last) = see_inside(&mut conn)?;
     assert!(rt; installed.len() == 1);
     assert!(rt; is_ended(&installed[0]));
@@ -137,4 +148,17 @@ fn a_transaction_sees_its_own_writes(rt: HostRuntime) -> Result<(), Fail> {
     assert!(rt; first_whole(&last, 1, GREATEST_PLACE) == Ok(Some(3)));
     assert!(rt; entry_at(&mut conn, "m1", 3) == Ok(None));
     Ok(())
+}
+
+/// All of these hold.
+pub(crate) fn all_hold<D: Stores>(rt: &impl Abort, alloc: Global, stores: &D) -> Result<(), Fail> {
+    a_meter_is_found_by_its_name_and_at_its_register(rt, alloc, stores)?;
+    entries_are_found_by_their_places(rt, alloc, stores)?;
+    rows_are_changed(rt, alloc, stores)?;
+    a_transaction_sees_its_own_writes(rt, alloc, stores)
+}
+
+#[test]
+fn rows_of_meters_are_kept(rt: HostRuntime) -> Result<(), Fail> {
+    in_memory(&rt, rt.alloc(), Tried::MeterRows)
 }

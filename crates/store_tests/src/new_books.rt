@@ -1,8 +1,9 @@
-//! New books in memory, what is put into them, and what they show.
+//! New books, what is put into them, and what they show.
 ghost use Rattle.std.specs.Prelude.{◌≡◌, false, IfOk};
 
+use crate::stores::Stores;
 use interval_core::Zone;
-use sqlite::{Alter, Connection, Error, MemStore};
+use sqlite::{Alter, Connection, Error};
 use std::alloc::Global;
 use store_files::{OpenFault, create};
 
@@ -14,9 +15,12 @@ pub(crate) fn fault(answer: Result<Zone, OpenFault>) -> u8 {
     }
 }
 
-/// New books in memory.
-pub(crate) fn new_books(alloc: Global) -> Result<Connection<MemStore>, Error> {
-    let mut conn = Connection::open_in_memory(alloc)?;
+/// New books in an empty database.
+pub(crate) fn new_books<D: Stores>(
+    alloc: Global,
+    stores: &D,
+) -> Result<Connection<D::Store>, Error> {
+    let mut conn = stores.open(alloc)?;
     match create(&mut conn, "UTC0") {
         Ok(_) => Ok(conn),
         Err(_) => Err(Error::InvalidQuery),
@@ -24,14 +28,18 @@ pub(crate) fn new_books(alloc: Global) -> Result<Connection<MemStore>, Error> {
 }
 
 /// New books to which this was done.
-pub(crate) fn changed(alloc: Global, change: &str) -> Result<Connection<MemStore>, Error> {
-    let mut conn = new_books(alloc)?;
+pub(crate) fn changed<D: Stores>(
+    alloc: Global,
+    stores: &D,
+    change: &str,
+) -> Result<Connection<D::Store>, Error> {
+    let mut conn = new_books(alloc, stores)?;
     conn.execute_batch(change)?;
     Ok(conn)
 }
 
 /// That no transaction is under way.
-pub(crate) fn ready(conn: &mut Connection<MemStore>) -> Result<(), Error>
+pub(crate) fn ready<S: Alter>(conn: &mut Connection<S>) -> Result<(), Error>
     ensures same { conn.new ≡ conn.old }
     ensures idle { IfOk result (λ _. conn.new.in_transaction ≡ false) }
 {
@@ -43,10 +51,14 @@ pub(crate) fn ready(conn: &mut Connection<MemStore>) -> Result<(), Error>
 }
 
 /// New books with these rows, and no transaction under way.
-pub(crate) fn holding(alloc: Global, rows: &str) -> Result<Connection<MemStore>, Error>
+pub(crate) fn holding<D: Stores>(
+    alloc: Global,
+    stores: &D,
+    rows: &str,
+) -> Result<Connection<D::Store>, Error>
     ensures idle { IfOk result (λ conn. conn.in_transaction ≡ false) }
 {
-    let mut conn = changed(alloc, rows)?;
+    let mut conn = changed(alloc, stores, rows)?;
     ready(&mut conn)?;
     Ok(conn)
 }
@@ -57,9 +69,9 @@ pub(crate) fn number<S: Alter>(conn: &mut Connection<S>, query: &str) -> Result<
 }
 
 /// How many rows a table has, or those of it that pass a test.
-pub(crate) fn count(
+pub(crate) fn count<S: Alter>(
     alloc: Global,
-    conn: &mut Connection<MemStore>,
+    conn: &mut Connection<S>,
     rows: &str,
 ) -> Result<i64, Error> {
     let query = format!(in alloc; "SELECT count(*) FROM {rows}")?;

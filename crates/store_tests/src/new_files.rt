@@ -1,7 +1,10 @@
 //! A file is made.
 use crate::new_books::{count, fault, new_books, number};
-use sqlite::{Connection, Error, Row};
+use crate::stores::Stores;
+use crate::tried::{Tried, in_memory};
+use sqlite::{Error, Row};
 use std::alloc::Global;
+use std::process::Abort;
 use std::test::Fail;
 use store_files::{OpenFault, create};
 
@@ -36,39 +39,49 @@ fn are_named(rows: &[Row], names: &[&str]) -> bool {
     true
 }
 
-#[test]
-fn a_new_file_has_its_tables_and_one_row(rt: HostRuntime) -> Result<(), Fail> {
-    let mut conn = new_books(rt.alloc())?;
+fn a_new_file_has_its_tables_and_one_row<D: Stores>(
+    rt: &impl Abort,
+    alloc: Global,
+    stores: &D,
+) -> Result<(), Fail> {
+    let mut conn = new_books(alloc, stores)?;
     let listed = conn.query_all("SELECT name FROM sqlite_schema WHERE type = 'table'", &[])?;
     assert!(rt; are_named(&listed, &TABLES));
     for name in &TABLES {
-        let rows = count(rt.alloc(), &mut conn, name);
+        let rows = count(alloc, &mut conn, name);
         assert_eq!(rt; rows, Ok(i64::from(*name == "meta")), "{name}");
     }
     let marked = "meta WHERE id = 1 AND version = 3 AND zone = 'UTC0'";
-    assert!(rt; count(rt.alloc(), &mut conn, marked) == Ok(1));
+    assert!(rt; count(alloc, &mut conn, marked) == Ok(1));
     assert!(rt; fault(create(&mut conn, "UTC0")) == 1);
     Ok(())
 }
 
 /// The fault of a database that has one table.
-fn fault_beside(alloc: Global, table: &str) -> Result<u8, Error> {
-    let mut conn = Connection::open_in_memory(alloc)?;
+fn fault_beside<D: Stores>(alloc: Global, stores: &D, table: &str) -> Result<u8, Error> {
+    let mut conn = stores.open(alloc)?;
     let create_table = format!(in alloc; "CREATE TABLE {table} (x)")?;
     conn.execute_batch(&create_table)?;
     Ok(fault(create(&mut conn, "UTC0")))
 }
 
-#[test]
-fn a_database_with_a_table_is_not_ours(rt: HostRuntime) {
+fn a_database_with_a_table_is_not_ours<D: Stores>(
+    rt: &impl Abort,
+    alloc: Global,
+    stores: &D,
+) -> Result<(), Fail> {
     for table in TABLES.iter().chain(&["notes"]) {
-        assert!(rt; fault_beside(rt.alloc(), table) == Ok(1), "{table}");
+        assert!(rt; fault_beside(alloc, stores, table) == Ok(1), "{table}");
     }
+    Ok(())
 }
 
-#[test]
-fn a_refused_file_has_no_tables(rt: HostRuntime) -> Result<(), Fail> {
-    let mut conn = Connection::open_in_memory(rt.alloc())?;
+fn a_refused_file_has_no_tables<D: Stores>(
+    rt: &impl Abort,
+    alloc: Global,
+    stores: &D,
+) -> Result<(), Fail> {
+    let mut conn = stores.open(alloc)?;
     assert!(rt; fault(create(&mut conn, "x")) == 2);
     conn.execute_batch("BEGIN")?;
     assert!(rt; fault(create(&mut conn, "UTC0")) == 1);
@@ -82,4 +95,16 @@ fn a_refused_file_has_no_tables(rt: HostRuntime) -> Result<(), Fail> {
 fn faults_have_numbers(rt: HostRuntime) {
     assert!(rt; OpenFault::Store.number() == 3);
     assert!(rt; OpenFault::Memory.number() == 4);
+}
+
+/// All of these hold.
+pub(crate) fn all_hold<D: Stores>(rt: &impl Abort, alloc: Global, stores: &D) -> Result<(), Fail> {
+    a_new_file_has_its_tables_and_one_row(rt, alloc, stores)?;
+    a_database_with_a_table_is_not_ours(rt, alloc, stores)?;
+    a_refused_file_has_no_tables(rt, alloc, stores)
+}
+
+#[test]
+fn new_files_are_made(rt: HostRuntime) -> Result<(), Fail> {
+    in_memory(&rt, rt.alloc(), Tried::NewFiles)
 }

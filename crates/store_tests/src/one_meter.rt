@@ -1,6 +1,7 @@
 //! Books with a meter, written row by row.
 use crate::new_books::changed;
-use sqlite::{Connection, Error, MemStore, Transaction};
+use crate::stores::Stores;
+use sqlite::{Alter, Connection, Error, Transaction};
 use std::alloc::Global;
 use store_tables::{
     EntryKind, EntryRow, InstallationRow, LastRow, insert_entry, insert_installation, insert_range,
@@ -53,7 +54,7 @@ pub(crate) const READING: EntryRow = EntryRow {
     sf: 0,
 };
 
-fn open_meter(tx: &mut Transaction<'_, MemStore>) -> Result<(), Error> {
+fn open_meter<S: Alter>(tx: &mut Transaction<'_, S>) -> Result<(), Error> {
     insert_installation(tx, "m1", "main", INSTALLED)?;
     insert_range(tx, "m1", 4_294_967_296)?;
     insert_entry(tx, "m1", OPENING)?;
@@ -61,7 +62,7 @@ fn open_meter(tx: &mut Transaction<'_, MemStore>) -> Result<(), Error> {
     Ok(())
 }
 
-fn in_one_transaction(conn: &mut Connection<MemStore>) -> Result<(), Error> {
+fn in_one_transaction<S: Alter>(conn: &mut Connection<S>) -> Result<(), Error> {
     if !conn.is_autocommit() {
         return Err(Error::InvalidQuery);
     }
@@ -71,8 +72,11 @@ fn in_one_transaction(conn: &mut Connection<MemStore>) -> Result<(), Error> {
 }
 
 /// The meter m1 at the register main, with its opening and a reading.
-pub(crate) fn one_meter(alloc: Global) -> Result<Connection<MemStore>, Error> {
-    let mut conn = changed(alloc, DEVICE)?;
+pub(crate) fn one_meter<D: Stores>(
+    alloc: Global,
+    stores: &D,
+) -> Result<Connection<D::Store>, Error> {
+    let mut conn = changed(alloc, stores, DEVICE)?;
     in_one_transaction(&mut conn)?;
     Ok(conn)
 }

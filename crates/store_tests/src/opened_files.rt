@@ -1,6 +1,9 @@
 //! A file is opened.
 use crate::new_books::{changed, fault, number};
-use sqlite::{Connection, MemStore};
+use crate::stores::Stores;
+use crate::tried::{Tried, in_memory};
+use sqlite::{Alter, Connection};
+use std::alloc::Global;
 use std::process::Abort;
 use std::test::Fail;
 use store_files::open;
@@ -23,10 +26,13 @@ static FILES: [(&str, u8); 14] = [
     ("BEGIN", 1),
 ];
 
-#[test]
-fn other_files_are_refused(rt: HostRuntime) -> Result<(), Fail> {
+fn other_files_are_refused<D: Stores>(
+    rt: &impl Abort,
+    alloc: Global,
+    stores: &D,
+) -> Result<(), Fail> {
     for (change, number) in &FILES {
-        let mut conn = changed(rt.alloc(), change)?;
+        let mut conn = changed(alloc, stores, change)?;
         assert!(rt; fault(open(&mut conn)) == *number, "{change}");
     }
     Ok(())
@@ -86,31 +92,49 @@ static RANGES: [(&str, i64); 3] = [
 static KEPT_RANGES: [(&str, i64); 2] = [("SELECT count(*) FROM ranges", 1), (KEPT, 1_000_000)];
 
 /// What queries show of a file.
-fn shows(rt: &impl Abort, conn: &mut Connection<MemStore>, numbers: &[(&str, i64)]) {
+fn shows<S: Alter>(rt: &impl Abort, conn: &mut Connection<S>, numbers: &[(&str, i64)]) {
     for (query, shown) in numbers {
         assert!(rt; number(conn, query) == Ok(*shown), "{query}");
     }
 }
 
 /// Opens a file, which shows these numbers and those of each file, and is opened again.
-fn is_brought(rt: &impl Abort, conn: &mut Connection<MemStore>, ranges: &[(&str, i64)]) {
+fn is_brought<S: Alter>(rt: &impl Abort, conn: &mut Connection<S>, ranges: &[(&str, i64)]) {
     assert!(rt; fault(open(conn)) == 0);
     shows(rt, conn, &BROUGHT);
     shows(rt, conn, ranges);
     assert!(rt; fault(open(conn)) == 0);
 }
 
-#[test]
-fn a_file_of_version_1_is_brought_to_3(rt: HostRuntime) -> Result<(), Fail> {
-    let mut conn = changed(rt.alloc(), FIRST)?;
-    is_brought(&rt, &mut conn, &RANGES);
+fn a_file_of_version_1_is_brought_to_3<D: Stores>(
+    rt: &impl Abort,
+    alloc: Global,
+    stores: &D,
+) -> Result<(), Fail> {
+    let mut conn = changed(alloc, stores, FIRST)?;
+    is_brought(rt, &mut conn, &RANGES);
     Ok(())
 }
 
-#[test]
-fn a_file_of_version_2_is_brought_to_3(rt: HostRuntime) -> Result<(), Fail> {
-    let mut conn = changed(rt.alloc(), FIRST)?;
+fn a_file_of_version_2_is_brought_to_3<D: Stores>(
+    rt: &impl Abort,
+    alloc: Global,
+    stores: &D,
+) -> Result<(), Fail> {
+    let mut conn = changed(alloc, stores, FIRST)?;
     conn.execute_batch(SECOND)?;
-    is_brought(&rt, &mut conn, &KEPT_RANGES);
+    is_brought(rt, &mut conn, &KEPT_RANGES);
     Ok(())
+}
+
+/// All of these hold.
+pub(crate) fn all_hold<D: Stores>(rt: &impl Abort, alloc: Global, stores: &D) -> Result<(), Fail> {
+    other_files_are_refused(rt, alloc, stores)?;
+    a_file_of_version_1_is_brought_to_3(rt, alloc, stores)?;
+    a_file_of_version_2_is_brought_to_3(rt, alloc, stores)
+}
+
+#[test]
+fn files_are_opened(rt: HostRuntime) -> Result<(), Fail> {
+    in_memory(&rt, rt.alloc(), Tried::OpenedFiles)
 }

@@ -1,6 +1,7 @@
 //! Scripts are played line by line.
 use crate::made::{books, opened};
 use crate::printed::Printed;
+use crate::stores::Stores;
 use office_books::Books;
 use office_core::Office;
 use office_events::{Command, Event, PlannedList, PutList, StartPoll};
@@ -88,7 +89,12 @@ fn play_after<B: Books>(
     play(alloc, &mut office, script)
 }
 
-/// The same over books in memory.
-pub(crate) fn following(alloc: Global, before: &str, script: &str) -> Result<Vec<u8>, Fail> {
-    play_after(alloc, books(alloc)?, before, script)
+/// The same over new books in a database.
+pub(crate) fn following<D: Stores>(
+    alloc: Global,
+    stores: &D,
+    before: &str,
+    script: &str,
+) -> Result<Vec<u8>, Fail> {
+    play_after(alloc, books(alloc, stores)?, before, script)
 }

@@ -1,19 +1,22 @@
 //! Point lists.
 use crate::lookups::{books, name};
 use crate::new_books::ready;
+use crate::stores::Stores;
+use crate::tried::{Tried, in_memory};
 use mb_wire::ReadFunction;
 use office_events::PlannedList;
-use sqlite::{Connection, MemStore};
+use sqlite::{Alter, Connection};
 use std::alloc::Global;
+use std::process::Abort;
 use std::test::Fail;
 use store_queries::list;
 use store_tables::RowFault;
 use sun_points::PointType;
 
 /// The list of a device.
-fn list_of(
+fn list_of<S: Alter>(
     alloc: Global,
-    conn: &mut Connection<MemStore>,
+    conn: &mut Connection<S>,
     text: &[u8],
 ) -> Result<Option<PlannedList>, RowFault> {
     ready(conn)?;
@@ -21,15 +24,18 @@ fn list_of(
 }
 
 /// The list of the first device.
-fn planned(alloc: Global) -> Result<PlannedList, Fail> {
-    let mut conn = books(alloc)?;
+fn planned<D: Stores>(alloc: Global, stores: &D) -> Result<PlannedList, Fail> {
+    let mut conn = books(alloc, stores)?;
     let found = list_of(alloc, &mut conn, b"inv")?;
     Ok(found.ok_or("no list")?)
 }
 
-#[test]
-fn a_list_has_its_points_in_order(rt: HostRuntime) -> Result<(), Fail> {
-    let planned = planned(rt.alloc())?;
+fn a_list_has_its_points_in_order<D: Stores>(
+    rt: &impl Abort,
+    alloc: Global,
+    stores: &D,
+) -> Result<(), Fail> {
+    let planned = planned(alloc, stores)?;
     let points = planned.points();
     assert!(rt; points.len() == 4);
     assert!(rt; points[0].kind == PointType::Acc32);
@@ -39,9 +45,12 @@ fn a_list_has_its_points_in_order(rt: HostRuntime) -> Result<(), Fail> {
     Ok(())
 }
 
-#[test]
-fn a_list_has_the_reads_of_its_plan(rt: HostRuntime) -> Result<(), Fail> {
-    let planned = planned(rt.alloc())?;
+fn a_list_has_the_reads_of_its_plan<D: Stores>(
+    rt: &impl Abort,
+    alloc: Global,
+    stores: &D,
+) -> Result<(), Fail> {
+    let planned = planned(alloc, stores)?;
     let reads = planned.reads();
     assert!(rt; reads.len() == 1);
     assert!(rt; reads[0].span.address == 40_094);
@@ -49,10 +58,13 @@ fn a_list_has_the_reads_of_its_plan(rt: HostRuntime) -> Result<(), Fail> {
     Ok(())
 }
 
-#[test]
-fn a_device_without_points_has_no_list(rt: HostRuntime) -> Result<(), Fail> {
-    let mut conn = books(rt.alloc())?;
-    assert!(rt; matches!(list_of(rt.alloc(), &mut conn, b"pv"), Ok(None)));
+fn a_device_without_points_has_no_list<D: Stores>(
+    rt: &impl Abort,
+    alloc: Global,
+    stores: &D,
+) -> Result<(), Fail> {
+    let mut conn = books(alloc, stores)?;
+    assert!(rt; matches!(list_of(alloc, &mut conn, b"pv"), Ok(None)));
     Ok(())
 }
 
@@ -62,13 +74,29 @@ static NO_LISTS: [&str; 2] = [
     "UPDATE points SET kind = 'int17' WHERE place = 1",
 ];
 
-#[test]
-fn points_that_are_no_list_are_damaged(rt: HostRuntime) -> Result<(), Fail> {
-    let mut conn = books(rt.alloc())?;
+fn points_that_are_no_list_are_damaged<D: Stores>(
+    rt: &impl Abort,
+    alloc: Global,
+    stores: &D,
+) -> Result<(), Fail> {
+    let mut conn = books(alloc, stores)?;
     for change in &NO_LISTS {
         conn.execute_batch(change)?;
-        let answer = list_of(rt.alloc(), &mut conn, b"inv");
+        let answer = list_of(alloc, &mut conn, b"inv");
         assert!(rt; matches!(answer, Err(RowFault::Damaged)), "{change}");
     }
     Ok(())
+}
+
+/// All of these hold.
+pub(crate) fn all_hold<D: Stores>(rt: &impl Abort, alloc: Global, stores: &D) -> Result<(), Fail> {
+    a_list_has_its_points_in_order(rt, alloc, stores)?;
+    a_list_has_the_reads_of_its_plan(rt, alloc, stores)?;
+    a_device_without_points_has_no_list(rt, alloc, stores)?;
+    points_that_are_no_list_are_damaged(rt, alloc, stores)
+}
+
+#[test]
+fn lists_are_looked_up(rt: HostRuntime) -> Result<(), Fail> {
+    in_memory(&rt, rt.alloc(), Tried::PointLists)
 }

@@ -1,11 +1,14 @@
 //! Polls, their outcomes and kept replies, written and read back.
 use crate::one_meter::one_meter;
+use crate::stores::Stores;
+use crate::tried::{Tried, in_memory};
 use energy_core::Cause;
 use mb_wire::ReadFunction;
 use office_events::CommandKind;
 use poll_core::{LostCause, Outcome};
-use sqlite::{Connection, Error, MemStore, Row, Transaction};
+use sqlite::{Alter, Connection, Error, Row, Transaction};
 use std::alloc::Global;
+use std::process::Abort;
 use std::test::Fail;
 use store_devices::{
     HoldRow, OutcomeRow, Poll, PollRow, Repeat, insert_hold, insert_outcome, insert_poll,
@@ -40,7 +43,7 @@ const HELD: HoldRow = HoldRow {
     cause: Cause::TooFast,
 };
 
-fn start(tx: &mut Transaction<'_, MemStore>) -> Result<(), Error> {
+fn start<S: Alter>(tx: &mut Transaction<'_, S>) -> Result<(), Error> {
     insert_poll(tx, "inv", FIRST)?;
     let second = PollRow { number: 2, ..FIRST };
     insert_poll(tx, "inv", second)?;
@@ -50,7 +53,7 @@ fn start(tx: &mut Transaction<'_, MemStore>) -> Result<(), Error> {
     Ok(())
 }
 
-fn start_three(conn: &mut Connection<MemStore>) -> Result<(), Error> {
+fn start_three<S: Alter>(conn: &mut Connection<S>) -> Result<(), Error> {
     if !conn.is_autocommit() {
         return Err(Error::InvalidQuery);
     }
@@ -60,8 +63,11 @@ fn start_three(conn: &mut Connection<MemStore>) -> Result<(), Error> {
 }
 
 /// The meter, three polls of its device, and the end of the second.
-pub(crate) fn three_polls(alloc: Global) -> Result<Connection<MemStore>, Error> {
-    let mut conn = one_meter(alloc)?;
+pub(crate) fn three_polls<D: Stores>(
+    alloc: Global,
+    stores: &D,
+) -> Result<Connection<D::Store>, Error> {
+    let mut conn = one_meter(alloc, stores)?;
     start_three(&mut conn)?;
     Ok(conn)
 }
@@ -73,9 +79,12 @@ fn is_first(found: &Result<Option<Poll>, RowFault>) -> bool {
     }
 }
 
-#[test]
-fn a_poll_is_found_with_its_outcome(rt: HostRuntime) -> Result<(), Fail> {
-    let mut conn = one_meter(rt.alloc())?;
+fn a_poll_is_found_with_its_outcome<D: Stores>(
+    rt: &impl Abort,
+    alloc: Global,
+    stores: &D,
+) -> Result<(), Fail> {
+    let mut conn = one_meter(alloc, stores)?;
     assert!(rt; last_poll(&mut conn) == Ok(None));
     start_three(&mut conn)?;
     assert!(rt; last_poll(&mut conn) == Ok(Some(3)));
@@ -91,9 +100,12 @@ fn has_number(row: &Row, number: u64) -> bool {
     matches!(read_poll(row), Ok(poll) if poll.row.number == number)
 }
 
-#[test]
-fn polls_without_an_outcome_are_pending(rt: HostRuntime) -> Result<(), Fail> {
-    let mut conn = three_polls(rt.alloc())?;
+fn polls_without_an_outcome_are_pending<D: Stores>(
+    rt: &impl Abort,
+    alloc: Global,
+    stores: &D,
+) -> Result<(), Fail> {
+    let mut conn = three_polls(alloc, stores)?;
     let rows = pending_rows(&mut conn)?;
     assert!(rt; rows.len() == 2);
     assert!(rt; has_number(&rows[0], 1));
@@ -101,7 +113,7 @@ fn polls_without_an_outcome_are_pending(rt: HostRuntime) -> Result<(), Fail> {
     Ok(())
 }
 
-fn keep_in(tx: &mut Transaction<'_, MemStore>) -> Result<Vec<Row>, Error> {
+fn keep_in<S: Alter>(tx: &mut Transaction<'_, S>) -> Result<Vec<Row>, Error> {
     insert_hold(tx, "m1", HELD)?;
     let request = b"exchange main";
     insert_reply(tx, "home", 7, request, CommandKind::Exchange, 1900)?;
@@ -109,7 +121,7 @@ fn keep_in(tx: &mut Transaction<'_, MemStore>) -> Result<Vec<Row>, Error> {
 }
 
 /// Keeps a held reading and a request. The rows of the last held reading, as they stood inside.
-pub(crate) fn keep(conn: &mut Connection<MemStore>) -> Result<Vec<Row>, Error> {
+pub(crate) fn keep<S: Alter>(conn: &mut Connection<S>) -> Result<Vec<Row>, Error> {
     if !conn.is_autocommit() {
         return Err(Error::InvalidQuery);
     }
@@ -132,9 +144,12 @@ static REQUESTS: [(&str, u64, &[u8], Option<Repeat>); 4] = [
     ("away", 7, b"exchange main", None),
 ];
 
-#[test]
-fn a_request_is_kept_with_its_bytes(rt: HostRuntime) -> Result<(), Fail> {
-    let mut conn = three_polls(rt.alloc())?;
+fn a_request_is_kept_with_its_bytes<D: Stores>(
+    rt: &impl Abort,
+    alloc: Global,
+    stores: &D,
+) -> Result<(), Fail> {
+    let mut conn = three_polls(alloc, stores)?;
     let held = keep(&mut conn)?;
     assert!(rt; held.len() == 1);
     assert!(rt; first_whole(&held, 1, GREATEST_PLACE) == Ok(Some(1)));
@@ -143,4 +158,16 @@ fn a_request_is_kept_with_its_bytes(rt: HostRuntime) -> Result<(), Fail> {
         assert!(rt; found == Ok(*repeat), "{caller} {number}");
     }
     Ok(())
+}
+
+/// All of these hold.
+pub(crate) fn all_hold<D: Stores>(rt: &impl Abort, alloc: Global, stores: &D) -> Result<(), Fail> {
+    a_poll_is_found_with_its_outcome(rt, alloc, stores)?;
+    polls_without_an_outcome_are_pending(rt, alloc, stores)?;
+    a_request_is_kept_with_its_bytes(rt, alloc, stores)
+}
+
+#[test]
+fn rows_of_polls_are_kept(rt: HostRuntime) -> Result<(), Fail> {
+    in_memory(&rt, rt.alloc(), Tried::PollRows)
 }

@@ -1,12 +1,14 @@
 //! Requests that are sent again.
 use crate::made::{books, found, opened};
 use crate::player::{READ, event_of, play};
+use crate::stores::Stores;
+use crate::tried::{Tried, in_memory};
 use office_books::Books;
 use office_core::Office;
 use office_events::{Answer, Asked, Command, CommandKind, Event, Name, Piece, Refusal};
 use office_store::SqlBooks;
 use script_lines::ScriptLine;
-use sqlite::MemStore;
+use sqlite::Alter;
 use std::alloc::Global;
 use std::process::Abort;
 use std::str;
@@ -92,10 +94,10 @@ fn printed_after<B: Books>(
 }
 
 /// The same by an office that is opened anew over these books, and is sent the repeats.
-fn printed_again(
+fn printed_again<S: Alter + Drop>(
     rt: &impl Abort,
     alloc: Global,
-    made: SqlBooks<MemStore>,
+    made: SqlBooks<S>,
 ) -> Result<Vec<u8>, Fail> {
     let again = found(alloc, made.into_connection())?;
     let (text, _) = printed_after(rt, alloc, again, (5000, ""), &REQUESTS[1..])?;
@@ -110,12 +112,20 @@ const M1: &str = "meter m1 last 5300 sf 0 at 2800 total 300000 ended
 end 3
 ";
 
-#[test]
-fn a_repeat_is_answered_again(rt: HostRuntime) -> Result<(), Fail> {
-    let new = books(rt.alloc())?;
-    let (text, made) = printed_after(&rt, rt.alloc(), new, (0, READ), &REQUESTS)?;
+pub(crate) fn repeat_is_answered<D: Stores>(
+    rt: &impl Abort,
+    alloc: Global,
+    stores: &D,
+) -> Result<(), Fail> {
+    let new = books(alloc, stores)?;
+    let (text, made) = printed_after(rt, alloc, new, (0, READ), &REQUESTS)?;
     assert!(rt; text.as_slice() == M1.as_bytes());
-    let text = printed_again(&rt, rt.alloc(), made)?;
+    let text = printed_again(rt, alloc, made)?;
     assert!(rt; text.as_slice() == M1.as_bytes());
     Ok(())
+}
+
+#[test]
+fn a_repeat_is_answered_again(rt: HostRuntime) -> Result<(), Fail> {
+    in_memory(&rt, rt.alloc(), Tried::Requests)
 }

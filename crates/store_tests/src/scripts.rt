@@ -1,6 +1,9 @@
 //! Scripts give over books in a database the answers that they give over books in memory.
 use crate::player::{READ, following};
+use crate::stores::Stores;
+use crate::tried::{Tried, in_memory};
 use std::alloc::Global;
+use std::process::Abort;
 use std::str;
 use std::test::Fail;
 
@@ -273,11 +276,19 @@ end 1
     ),
 ];
 
-#[test]
-fn scripts_are_answered_as_over_books_in_memory(rt: HostRuntime) -> Result<(), Fail> {
+pub(crate) fn scripts_are_answered<D: Stores>(
+    rt: &impl Abort,
+    alloc: Global,
+    stores: &D,
+) -> Result<(), Fail> {
     for (before, script, printed) in &SCRIPTS {
-        let text = following(rt.alloc(), before, script)?;
+        let text = following(alloc, stores, before, script)?;
         assert!(rt; str::from_utf8(&text)? == *printed, "{script}");
     }
     Ok(())
+}
+
+#[test]
+fn scripts_are_answered_as_over_books_in_memory(rt: HostRuntime) -> Result<(), Fail> {
+    in_memory(&rt, rt.alloc(), Tried::Scripts)
 }

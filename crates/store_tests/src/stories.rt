@@ -1,8 +1,9 @@
 //! Books with two meters that stood one after the other at a register, and what was booked in their table of intervals.
 use crate::new_books::changed;
 use crate::shares::Seen;
+use crate::stores::Stores;
 use energy_core::Step;
-use sqlite::{Connection, Error, MemStore, Transaction};
+use sqlite::{Alter, Connection, Error, Transaction};
 use std::alloc::Global;
 use store_facts::{book_step, meter_intervals, register_intervals};
 use store_tables::RowFault;
@@ -30,14 +31,14 @@ const NEXT: Step = Step {
     mwh: 45_000,
 };
 
-fn exchange(tx: &mut Transaction<'_, MemStore>) -> Result<(), Error> {
+fn exchange<S: Alter>(tx: &mut Transaction<'_, S>) -> Result<(), Error> {
     book_step(tx, "m3", &READING)?;
     book_step(tx, "m0", &NEXT)?;
     book_step(tx, "m1", &READING)?;
     book_step(tx, "m1", &CLOSING)
 }
 
-fn in_one_transaction(conn: &mut Connection<MemStore>) -> Result<(), Error> {
+fn in_one_transaction<S: Alter>(conn: &mut Connection<S>) -> Result<(), Error> {
     if !conn.is_autocommit() {
         return Err(Error::InvalidQuery);
     }
@@ -47,16 +48,16 @@ fn in_one_transaction(conn: &mut Connection<MemStore>) -> Result<(), Error> {
 }
 
 /// The books after what was booked.
-pub(crate) fn booked(alloc: Global) -> Result<Connection<MemStore>, Error> {
-    let mut conn = changed(alloc, METERS)?;
+pub(crate) fn booked<D: Stores>(alloc: Global, stores: &D) -> Result<Connection<D::Store>, Error> {
+    let mut conn = changed(alloc, stores, METERS)?;
     in_one_transaction(&mut conn)?;
     Ok(conn)
 }
 
 /// The shares of a meter, and those of a register.
-pub(crate) fn of_meter(
+pub(crate) fn of_meter<S: Alter>(
     alloc: Global,
-    conn: &mut Connection<MemStore>,
+    conn: &mut Connection<S>,
     meter: &str,
 ) -> Result<Seen, RowFault> {
     let mut seen = Seen::new(alloc);
@@ -64,9 +65,9 @@ pub(crate) fn of_meter(
     Ok(seen)
 }
 
-pub(crate) fn at_register(
+pub(crate) fn at_register<S: Alter>(
     alloc: Global,
-    conn: &mut Connection<MemStore>,
+    conn: &mut Connection<S>,
     register: &str,
 ) -> Result<Seen, RowFault> {
     let mut seen = Seen::new(alloc);

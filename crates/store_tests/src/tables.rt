@@ -1,6 +1,7 @@
 //! Databases with rows in each table.
 use crate::made::books;
-use sqlite::{Connection, MemStore};
+use crate::stores::Stores;
+use sqlite::Connection;
 use std::alloc::Global;
 use std::test::Fail;
 
@@ -35,16 +36,16 @@ INSERT INTO holds VALUES (1, 'm1', 1, 1900, 5100, 1, 2);
 INSERT INTO replies VALUES ('desk', 7, x'766f6964', 'void', 4000)";
 
 /// A database whose tables have the names of books' alone.
-pub(crate) fn loose(alloc: Global) -> Result<Connection<MemStore>, Fail> {
-    let mut connection = Connection::open_in_memory(alloc)?;
+pub(crate) fn loose<D: Stores>(alloc: Global, stores: &D) -> Result<Connection<D::Store>, Fail> {
+    let mut connection = stores.open(alloc)?;
     connection.execute_batch(LOOSE)?;
     connection.execute_batch(ROWS)?;
     Ok(connection)
 }
 
 /// New books to which the same rows were added.
-pub(crate) fn strict(alloc: Global) -> Result<Connection<MemStore>, Fail> {
-    let mut connection = books(alloc)?.into_connection();
+pub(crate) fn strict<D: Stores>(alloc: Global, stores: &D) -> Result<Connection<D::Store>, Fail> {
+    let mut connection = books(alloc, stores)?.into_connection();
     connection.execute_batch(ROWS)?;
     Ok(connection)
 }

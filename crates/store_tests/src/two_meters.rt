@@ -1,11 +1,12 @@
-//! Two meters that stood one after the other at a register, in books in memory.
+//! Two meters that stood one after the other at a register, in new books.
 ghost use Rattle.std.specs.Prelude.{◌≡◌, false, IfOk};
 
 use crate::new_books::holding;
+use crate::stores::Stores;
 use energy_core::{Entry, Last};
 use meter_journal::{EntryKind, EntryRow};
 use office_events::{Installation, Name, Opening};
-use sqlite::{Connection, Error, MemStore};
+use sqlite::{Connection, Error};
 use std::alloc::Global;
 
 /// The meter m1 has a reading, one that was voided, and a closing; the next meter m0 has one reading. The energy of m1 is
@@ -19,10 +20,13 @@ INSERT INTO voids VALUES ('m1', 3, 2700);
 INSERT INTO intervals VALUES ('m1', 900, 177777), ('m1', 1800, 111111), ('m1', 2700, 11112), ('m0', 2700, 40000), ('m0', 3600, 5000)";
 
 /// Books with the two meters.
-pub(crate) fn two_meters(alloc: Global) -> Result<Connection<MemStore>, Error>
+pub(crate) fn two_meters<D: Stores>(
+    alloc: Global,
+    stores: &D,
+) -> Result<Connection<D::Store>, Error>
     ensures idle { IfOk result (λ conn. conn.in_transaction ≡ false) }
 {
-    holding(alloc, ROWS)
+    holding(alloc, stores, ROWS)
 }
 
 /// A moment and a value of a counter of scale 0.

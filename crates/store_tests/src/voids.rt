@@ -1,7 +1,11 @@
 //! Voids are booked, and what they leave is read back by queries.
 use crate::bookings::{book_all, booked, have, one_reading, stand};
 use crate::facts::{device, opening, reading, register, void};
+use crate::stores::Stores;
+use crate::tried::{Tried, in_memory};
 use office_events::Fact;
+use std::alloc::Global;
+use std::process::Abort;
 use std::test::Fail;
 
 /// Rows after the reading at 1900 was voided, after which one at 2800 stands.
@@ -19,17 +23,15 @@ fn voided_between() -> [Option<Fact>; 2] {
     [reading(b"m1", 2800, 5300, 0), void(b"m1", 2)]
 }
 
-#[test]
-fn a_reading_between_others(rt: HostRuntime) -> Result<(), Fail> {
-    let mut conn = one_reading(rt.alloc())?;
-    book_all(rt.alloc(), &mut conn, voided_between())?;
-    stand(&rt, rt.alloc(), &mut conn, &BETWEEN);
-    have(
-        &rt,
-        rt.alloc(),
-        &mut conn,
-        &[("intervals", 3), ("entries", 3)],
-    );
+fn a_reading_between_others<D: Stores>(
+    rt: &impl Abort,
+    alloc: Global,
+    stores: &D,
+) -> Result<(), Fail> {
+    let mut conn = one_reading(alloc, stores)?;
+    book_all(alloc, &mut conn, voided_between())?;
+    stand(rt, alloc, &mut conn, &BETWEEN);
+    have(rt, alloc, &mut conn, &[("intervals", 3), ("entries", 3)]);
     Ok(())
 }
 
@@ -54,12 +56,15 @@ fn two_voided() -> [Option<Fact>; 4] {
     ]
 }
 
-#[test]
-fn two_readings_in_a_row(rt: HostRuntime) -> Result<(), Fail> {
-    let mut conn = one_reading(rt.alloc())?;
-    book_all(rt.alloc(), &mut conn, two_voided())?;
-    stand(&rt, rt.alloc(), &mut conn, &PASSED_BY);
-    have(&rt, rt.alloc(), &mut conn, &[("intervals", 4)]);
+fn two_readings_in_a_row<D: Stores>(
+    rt: &impl Abort,
+    alloc: Global,
+    stores: &D,
+) -> Result<(), Fail> {
+    let mut conn = one_reading(alloc, stores)?;
+    book_all(alloc, &mut conn, two_voided())?;
+    stand(rt, alloc, &mut conn, &PASSED_BY);
+    have(rt, alloc, &mut conn, &[("intervals", 4)]);
     Ok(())
 }
 
@@ -79,12 +84,15 @@ fn last_two_voided() -> [Option<Fact>; 4] {
     ]
 }
 
-#[test]
-fn the_last_two_readings(rt: HostRuntime) -> Result<(), Fail> {
-    let mut conn = one_reading(rt.alloc())?;
-    book_all(rt.alloc(), &mut conn, last_two_voided())?;
-    stand(&rt, rt.alloc(), &mut conn, &ENDED);
-    have(&rt, rt.alloc(), &mut conn, &[("intervals", 2)]);
+fn the_last_two_readings<D: Stores>(
+    rt: &impl Abort,
+    alloc: Global,
+    stores: &D,
+) -> Result<(), Fail> {
+    let mut conn = one_reading(alloc, stores)?;
+    book_all(alloc, &mut conn, last_two_voided())?;
+    stand(rt, alloc, &mut conn, &ENDED);
+    have(rt, alloc, &mut conn, &[("intervals", 2)]);
     Ok(())
 }
 
@@ -98,14 +106,13 @@ static OPENED: [(&str, i64); 3] = [
     ("entries", 2),
 ];
 
-#[test]
-fn the_only_reading(rt: HostRuntime) -> Result<(), Fail> {
-    let mut conn = one_reading(rt.alloc())?;
-    book_all(rt.alloc(), &mut conn, [void(b"m1", 2)])?;
-    have(&rt, rt.alloc(), &mut conn, &OPENED);
+fn the_only_reading<D: Stores>(rt: &impl Abort, alloc: Global, stores: &D) -> Result<(), Fail> {
+    let mut conn = one_reading(alloc, stores)?;
+    book_all(alloc, &mut conn, [void(b"m1", 2)])?;
+    have(rt, alloc, &mut conn, &OPENED);
     let again = [reading(b"m1", 2800, 5300, 0)];
-    book_all(rt.alloc(), &mut conn, again)?;
-    have(&rt, rt.alloc(), &mut conn, &[(BETWEEN[3], 1)]);
+    book_all(alloc, &mut conn, again)?;
+    have(rt, alloc, &mut conn, &[(BETWEEN[3], 1)]);
     Ok(())
 }
 
@@ -128,9 +135,26 @@ fn voided_after_a_turn() -> [Option<Fact>; 6] {
     ]
 }
 
-#[test]
-fn the_next_reading_turns_over(rt: HostRuntime) -> Result<(), Fail> {
-    let mut conn = booked(rt.alloc(), voided_after_a_turn())?;
-    stand(&rt, rt.alloc(), &mut conn, &TURNED);
+fn the_next_reading_turns_over<D: Stores>(
+    rt: &impl Abort,
+    alloc: Global,
+    stores: &D,
+) -> Result<(), Fail> {
+    let mut conn = booked(alloc, stores, voided_after_a_turn())?;
+    stand(rt, alloc, &mut conn, &TURNED);
     Ok(())
+}
+
+/// All of these hold.
+pub(crate) fn all_hold<D: Stores>(rt: &impl Abort, alloc: Global, stores: &D) -> Result<(), Fail> {
+    a_reading_between_others(rt, alloc, stores)?;
+    two_readings_in_a_row(rt, alloc, stores)?;
+    the_last_two_readings(rt, alloc, stores)?;
+    the_only_reading(rt, alloc, stores)?;
+    the_next_reading_turns_over(rt, alloc, stores)
+}
+
+#[test]
+fn voids_are_booked(rt: HostRuntime) -> Result<(), Fail> {
+    in_memory(&rt, rt.alloc(), Tried::Voids)
 }
