@@ -8,6 +8,7 @@ use crate::period_runs::{PeriodWords, run_by_periods};
 use crate::reports::report;
 use crate::run_words::settings_of;
 use crate::scans::{Target, scan};
+use crate::surroundings::Surroundings;
 use command_io::{Buffered, ExitStatus};
 use command_words::CommandLine;
 use file_commands::{OfficeFiles, audit, audit_several, backup, carry, create, report_files};
@@ -23,8 +24,14 @@ use stored_files::{Ending, Failure, ending_of};
 use stored_office::{Task, ending_of_done};
 use sunspec_text::{chain_text, plan_text};
 
-/// Carries a command out over an office's files, says how it ended, and answers the exit status.
-pub(crate) fn carry_out<D: OfficeFiles + NamedFiles>(
+/// Carries a command out, says how it ended, and answers the exit status. It is the one call that says which files are meant.
+pub(crate) fn carry_out(rt: &HostRuntime, line: &CommandLine<'_>) -> ExitCode {
+    let files = Surroundings::of(rt, line);
+    carry_out_over(rt, &files, line)
+}
+
+// Carries it out over an office's files.
+fn carry_out_over<D: OfficeFiles + NamedFiles>(
     rt: &HostRuntime,
     files: &D,
     line: &CommandLine<'_>,

@@ -23,7 +23,6 @@ mod version;
 mod waiting;
 
 use crate::commands::carry_out;
-use crate::surroundings::Surroundings;
 use crate::version::version;
 use crate::waiting::say_waiting;
 use command_words::{WordsFault, command_of};
@@ -52,7 +51,7 @@ fn main(rt: HostRuntime) -> ExitCode {
         say_waiting(&rt);
     }
     match command_of(rt.alloc(), &texts) {
-        Ok(line) => carry_out(&rt, &Surroundings::of(&rt, &line), &line),
+        Ok(line) => carry_out(&rt, &line),
         Err(WordsFault::Help(text)) => ended(&rt, &print_help(&rt, text.as_str())),
         Err(WordsFault::Version) => ended(&rt, &version(&rt)),
         Err(WordsFault::Wrong(text)) => ended(&rt, &Ending::Wrong(text)),
