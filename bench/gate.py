@@ -38,7 +38,7 @@ first. `bench/gate.sh --page --log FILE` makes this page of what `bench/watch.py
   processor. So the tests of one level stand in one crate.
 - **A function costs** 1.4 s low down and 3 s high up; a line of a test 0.65 s. Dear is a body with more than three `?` beside values that must be
   dropped: 30 to 50 s in a test, and 79 s in one that added 14 routes to a router of its own. Where another function has the `?`, and borrows what is dropped, it
-  costs nothing: that took 6 s. Comparisons of tuples are dear, long literals are not: a static of 59 tuples of four texts costs 2.5 s. In a small crate, as the
+  costs little: that took 6 s. Comparisons of tuples are dear, long literals are not: a static of 59 tuples of four texts costs 2.5 s. In a small crate, as the
   second and third of three copies, an `assert_eq!` of two options cost 2 s and `assert!` of the same by `==` 1 s; a match on a tuple of an answer and an option
   4 to 5 s, nested matches 1.7 s, and one with a closure 2.6 s.
 - **A call of a function that is generic over books or files, for a type of these,** costs each function that makes it 3 s (books in memory), 5 to 15 s
