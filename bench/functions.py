@@ -1,5 +1,5 @@
 #!/usr/bin/env python3
-"""functions.sh NAME: seconds of each function in a crate's check from nothing, with its tests where it has some, the dearest first.
+"""functions.sh [NAME]: seconds of each function in a crate's check from nothing, with its tests where it has some, the dearest first.
 
 The check reads the libraries below as they were built and keeps nothing. A function's time is that from the function told before
 it to its own, so the first that needs a library's modules pays for loading them, and the time before the first function stands on
@@ -7,8 +7,11 @@ a line of its own: reading sources, and the libraries that a program is made of.
 
 Then it tells the same by steps, by the names of the kit's files: Lts is the borrow check, and Tie was seen to be dear where a function that is generic over
 books or files is called for a type of these (bench/GATE.md). A step's time is that from the step before it in the same process.
+
+Without a name it runs nothing, and tells the steps of all checks that run on this machine meanwhile, as those of `rt ci`, when it is interrupted (Ctrl-C).
 """
 import collections
+import glob
 import os
 import re
 import subprocess
@@ -22,7 +25,7 @@ import kit
 
 SHOWN = 20
 # What a check writes for a step of a function: Rattle-CRATE-proofs.MODULE.FUNCTION.STEP.oantt
-STEP = re.compile(r"Rattle-\w+-proofs\.(.+)\.(\w+)\.oantt")
+STEP = re.compile(r"Rattle-(\w+)-proofs\.(.+)\.(\w+)\.oantt")
 TOLD = re.compile(r"checked (\S+), \d+ of \d+")
 
 
@@ -34,29 +37,33 @@ def crate_of(rt, name):
 
 
 class Steps:
-    """When each step of a check was done, by the files that it leaves in a folder until it ends."""
+    """When each step of a check was done, by the files that it leaves in a folder until it ends; of all checks where none is named."""
 
-    def __init__(self, pid):
-        self.folder, self.times, self.ended = f"{tempfile.gettempdir()}/rattle-logic-built-locked-{pid}-0", {}, threading.Event()
+    def __init__(self, pid="*"):
+        self.folders, self.times, self.ended = f"{tempfile.gettempdir()}/rattle-logic-built-locked-{pid}-0", {}, threading.Event()
         self.looking = threading.Thread(target=self.look, daemon=True)
         self.looking.start()
 
     def look(self):
         while not self.ended.wait(1):
-            try:
-                with os.scandir(self.folder) as found:
-                    self.times.update((it.name, it.stat().st_mtime) for it in found if it.name not in self.times)
-            except OSError:
-                # (it isn't there yet, or no more)
-                continue
+            for folder in glob.glob(self.folders):
+                times = self.times.setdefault(folder, {})
+                try:
+                    with os.scandir(folder) as found:
+                        times.update((it.name, it.stat().st_mtime) for it in found if it.name not in times)
+                except OSError:
+                    # (it is no more)
+                    continue
 
     def took(self):
-        """Returns the seconds of each step."""
+        """Returns the seconds of each step, its crate, its function and its name."""
         self.ended.set()
         self.looking.join()
-        done = sorted((at, name) for name, at in self.times.items())
-        found = [(at - before, STEP.fullmatch(name)) for (before, _), (at, name) in zip(done, done[1:])]
-        return [(seconds, it[1], it[2]) for seconds, it in found if it]
+        found = []
+        for times in self.times.values():
+            done = sorted((at, name) for name, at in times.items())
+            found += [(at - before, STEP.fullmatch(name)) for (before, _), (at, name) in zip(done, done[1:])]
+        return [(seconds, *it.groups()) for seconds, it in found if it]
 
 
 def timed(words, folder):
@@ -71,6 +78,23 @@ def timed(words, folder):
                 times.append((time.monotonic() - began, told[1]))
             last = line.rstrip("\n") or last
     return times, steps.took(), last, ran.returncode
+
+
+def tell(steps):
+    sums = collections.Counter()
+    for seconds, _, _, step in steps:
+        sums[step] += seconds
+    print("by steps: " + ", ".join(f"{step} {seconds:.0f}" for step, seconds in sums.most_common(8)))
+    for seconds, crate, function, step in sorted(steps, reverse=True)[:SHOWN]:
+        print(f"{seconds:7.1f}  {step} of {crate} {function}")
+
+
+def watch():
+    steps = Steps()
+    try:
+        steps.ended.wait()
+    except KeyboardInterrupt:
+        tell(steps.took())
 
 
 def main(name):
@@ -88,15 +112,14 @@ def main(name):
     for seconds, it in sorted(took, reverse=True)[:SHOWN]:
         print(f"{seconds:7.1f}  {it}")
     print(f"{times[-1][0]:7.1f}  in all, {len(times)} functions")
-    sums = collections.Counter()
-    for seconds, _, step in steps:
-        sums[step] += seconds
-    print("\nby steps: " + ", ".join(f"{step} {seconds:.0f}" for step, seconds in sums.most_common(8)))
-    for seconds, function, step in sorted(steps, reverse=True)[:SHOWN]:
-        print(f"{seconds:7.1f}  {step} of {function}")
+    print()
+    tell(steps)
 
 
 if __name__ == "__main__":
-    if len(sys.argv) != 2:
-        sys.exit("usage: functions.sh NAME")
-    main(sys.argv[1])
+    if len(sys.argv) > 2 or sys.argv[1:2] and sys.argv[1].startswith("-"):
+        sys.exit("usage: functions.sh [NAME]")
+    if sys.argv[1:]:
+        main(sys.argv[1])
+    else:
+        watch()

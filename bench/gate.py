@@ -50,7 +50,8 @@ first. `bench/gate.sh --page --log FILE` makes this page of what `bench/watch.py
 - **The lists of `crates.txt` are short**: a crate lists the libraries that its sources, definitions and proofs name, and no others; the kit finds those
   below. `tests/unnamed.py` tells entries that can go.
 
-`bench/functions.sh NAME` tells which functions of a check are dear, at which of their steps, and what it pays before the first.
+`bench/functions.sh NAME` tells which functions of a check are dear, at which of their steps, and what it pays before the first; without a name, which steps of all
+checks that run, so of a gate.
 `bench/ci.py --minutes PROCESSORS` plays the gate's schedule over this page, and tells how long it takes on so many.
 
 ## By crate
