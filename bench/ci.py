@@ -16,8 +16,8 @@ SECOND = 1 / 600
 # Seconds for each line of a crate that the page lacks, and of the proof of a crate that has tests alone, which is of its front end.
 OF_LINE, OF_FRONT_END = 0.2, 10
 # A part takes its most at its end, so those that run at once seldom take all theirs together: of the sum of it, three or more low ones at once took 0.70 in the
-# middle and 0.89 at most, and high ones 0.59 and 0.92 (on 2026-11-28, under other plans than this). What is planned fills 0.85 of the free memory, so with this share
-# 0.98 of it at the most that was seen. A part that the system kills for memory the kit tries once more.
+# middle and 0.89 at most, and high ones 0.59 and 0.92 (on 2026-11-28, under other plans than this; a whole run by this one had no part killed). What is planned fills
+# 0.85 of the free memory, so with this share 0.98 of it at the most that was seen. A part that the system kills for memory the kit tries once more.
 AT_ONCE = 0.8
 rt, costs = kit.load_rt(), kit.costs()
 in_lanes = rt.in_lanes
