@@ -8,7 +8,8 @@ a line of its own: reading sources, and the libraries that a program is made of.
 Then it tells the same by steps, by the names of the kit's files: Lts is the borrow check, and Tie was seen to be dear where a function that is generic over
 books or files is called for a type of these (bench/GATE.md). A step's time is that from the step before it in the same process.
 
-Without a name it runs nothing, and tells the steps of all checks that run on this machine meanwhile, as those of `rt ci`, when it is interrupted (Ctrl-C).
+Without a name it runs nothing, and tells the steps of all checks that run on this machine meanwhile, as those of `rt ci`, also what these did before, when it is
+interrupted (Ctrl-C).
 """
 import collections
 import glob

@@ -44,8 +44,8 @@ first. `bench/gate.sh --page --log FILE` makes this page of what `bench/watch.py
 - **A call of a function that is generic over books or files, for a type of these,** costs each function that makes it 3 s (books in memory), 5 to 15 s
   (in a database in memory) or 15 to 30 s (in files), and under 1 s where the caller is generic too. So what is done over books is one generic function,
   which one place calls for their type: `stored_office` had nine such calls in one function, which took 125 s for these alone.
-- **By steps**, over a whole gate on 2026-11-28: the borrow check takes half of the time from a crate's first step to its last, `Tie` a sixth, proofs a seventh. Before the first
-  step, after the last and in builds pass a quarter of all.
+- **By steps**, over a whole gate on 2026-11-28, by the clock of each process: seven tenths pass from a check's first step to its last, of which the borrow check takes half, `Tie` a sixth and proofs
+  a seventh; a tenth passes before the first, and two after the last and in what links and builds.
 - **An edit** in `must-fail/` costs 20 to 50 s, and the first one of a crate the crate's proof again; in `tests/edits/` it costs the gate nothing, and
   `tests/edits.sh` 9 s.
 - **A crate should have** under 90 functions and 1,500 lines, no `#[test]` that a crate of tests can hold, and at most 8 edits in `must-fail/`.
