@@ -10,7 +10,6 @@ use meter_audit::{
     fitting_rows_stand_alone, lawful_tables_are_fine, passed_rows_fit, rows_are_told_apart,
     rows_of_journals_fit, start, take_row,
 };
-use std::test::Fail;
 
 /// 5200 at 1900.
 const FIRST: TableRow = TableRow {
@@ -58,43 +57,40 @@ fn refused(row: TableRow) -> Option<RowFault>
 }
 
 #[test]
-fn rows_give_intervals(rt: HostRuntime) -> Result<(), Fail> {
+fn rows_give_intervals(rt: HostRuntime) {
     let mut progress = start(rt.alloc(), &HOUSE);
-    let fault = take_row(&HOUSE, &mut progress, &FIRST)?;
+    let fault = take_row(&HOUSE, &mut progress, &FIRST).expect(&rt, "no row");
     assert!(rt; fault.is_none());
     assert!(rt; progress.check.total == 200_000);
     assert!(rt; progress.wanted.as_slice() == SHARES.as_slice());
     drop_done(&mut progress);
     assert!(rt; progress.wanted.as_slice() == &SHARES[1..]);
-    Ok(())
 }
 
 #[test]
-fn a_row_adds_to_the_last_interval(rt: HostRuntime) -> Result<(), Fail> {
+fn a_row_adds_to_the_last_interval(rt: HostRuntime) {
     let mut progress = start(rt.alloc(), &HOUSE);
-    let _first = take_row(&HOUSE, &mut progress, &FIRST)?;
+    let _first = take_row(&HOUSE, &mut progress, &FIRST).expect(&rt, "no row");
     drop_done(&mut progress);
-    let fault = take_row(&HOUSE, &mut progress, &SECOND)?;
+    let fault = take_row(&HOUSE, &mut progress, &SECOND).expect(&rt, "no row");
     assert!(rt; fault.is_none());
     assert!(rt; progress.check.total == 300_000);
     assert!(rt; progress.wanted.len() == 2);
     assert!(rt; progress.wanted[0].start == 1800 && progress.wanted[0].mwh == 111_111);
     assert!(rt; progress.wanted[1].start == 2700 && progress.wanted[1].mwh == 11_112);
-    Ok(())
 }
 
 #[test]
-fn a_voided_row_gives_none(rt: HostRuntime) -> Result<(), Fail> {
+fn a_voided_row_gives_none(rt: HostRuntime) {
     let mut progress = start(rt.alloc(), &HOUSE);
     let row = TableRow {
         is_voided: true,
         ..FIRST
     };
-    let fault = take_row(&HOUSE, &mut progress, &row)?;
+    let fault = take_row(&HOUSE, &mut progress, &row).expect(&rt, "no row");
     assert!(rt; fault.is_none());
     assert!(rt; progress.check.place == 2 && progress.check.total == 0);
     assert!(rt; progress.wanted.is_empty());
-    Ok(())
 }
 
 #[test]
@@ -114,12 +110,11 @@ fn a_voided_row_is_looked_at_after_one_that_stands(rt: HostRuntime) {
 }
 
 #[test]
-fn a_refused_row_is_passed_over(rt: HostRuntime) -> Result<(), Fail> {
+fn a_refused_row_is_passed_over(rt: HostRuntime) {
     let mut progress = start(rt.alloc(), &HOUSE);
-    let fault = take_row(&HOUSE, &mut progress, &SECOND)?;
+    let fault = take_row(&HOUSE, &mut progress, &SECOND).expect(&rt, "no row");
     assert!(rt; fault == Some(RowFault::Place { wanted: 2 }));
     assert!(rt; progress.check.place == 3 && progress.check.total == 0);
-    Ok(())
 }
 
 #[test]

@@ -8,7 +8,6 @@ use meter_journal::{
     rows_lie_within, rows_stand, shares_move_energy, standing_entries_fit, tally_after,
     truth_is_kept, voids_change_two_rows, voids_go_no_further, voids_leave_no_trace,
 };
-use std::test::Fail;
 
 /// 5200 at 1900, which was voided, and 5300 at 2800.
 const ROWS: [EntryRow; 2] = [
@@ -65,7 +64,7 @@ fn books_after_a_void(rt: HostRuntime) {
 
 #[test]
 fn rows_that_may_be_any(rt: HostRuntime) {
-    let tally = checked_tally(&HOUSE, &ROWS).expect(&rt, "a tally");
+    let tally = checked_tally(&HOUSE, &ROWS).expect(&rt, "no tally");
     assert!(rt; tally.total == 300_000 && tally.last.raw == 5300);
     let back = EntryRow {
         place: 4,
@@ -75,11 +74,14 @@ fn rows_that_may_be_any(rt: HostRuntime) {
 }
 
 #[test]
-fn rows_after_a_void(rt: HostRuntime) -> Result<(), Fail> {
-    let shares = interval_rows(rt.alloc(), &HOUSE, &ROWS)?;
+fn rows_after_a_void(rt: HostRuntime) {
+    let shares = interval_rows(rt.alloc(), &HOUSE, &ROWS).expect(&rt, "no intervals");
     assert!(rt; shares.as_slice() == SHARES.as_slice());
-    assert!(rt; interval_rows(rt.alloc(), &HOUSE, &[])?.is_empty());
-    Ok(())
+    assert!(rt;
+        interval_rows(rt.alloc(), &HOUSE, &[])
+            .expect(&rt, "no intervals")
+            .is_empty()
+    );
 }
 
 #[test]

@@ -4,7 +4,6 @@ use energy_core::Step;
 use interval_core::{DayFault, DayFold, DayTotal, Share, Zone, by_day};
 use std::alloc::Global;
 use std::process::Abort;
-use std::test::Fail;
 
 pub const CENTRAL_EUROPE: &str = "CET-1CEST,M3.5.0,M10.5.0/3";
 
@@ -129,18 +128,17 @@ fn folds_to(
     Ok(are_lent && are_told(fold.into_rows().as_slice(), days))
 }
 
-fn is_spread_so(rt: &impl Abort, alloc: Global, case: &Case) -> Result<bool, Fail> {
-    let zone = Zone::read(case.zone)?;
-    let rows = shares_of(rt, alloc, &case.step)?;
-    Ok(folds_to(rt, alloc, &rows, &zone, case.days)?)
+fn is_spread_so(rt: &impl Abort, alloc: Global, case: &Case) -> bool {
+    let zone = Zone::read(case.zone).expect(rt, "no zone");
+    let rows = shares_of(rt, alloc, &case.step).expect(rt, "no shares");
+    folds_to(rt, alloc, &rows, &zone, case.days).expect(rt, "no days")
 }
 
 #[test]
-fn days_follow_the_clocks_of_a_zone(rt: HostRuntime) -> Result<(), Fail> {
+fn days_follow_the_clocks_of_a_zone(rt: HostRuntime) {
     for (i, case) in CASES.iter().enumerate() {
-        assert!(rt; is_spread_so(&rt, rt.alloc(), case)?, "case {i}");
+        assert!(rt; is_spread_so(&rt, rt.alloc(), case), "case {i}");
     }
-    Ok(())
 }
 
 /// The interval from 2700 has two rows.
@@ -155,10 +153,9 @@ static ROWS: [Share; 5] = [
 static FOUR_INTERVALS: [Told; 1] = [told!(1970, 1, 1, 4, 345_000)];
 
 #[test]
-fn an_interval_with_two_rows_counts_once(rt: HostRuntime) -> Result<(), Fail> {
-    let zone = Zone::read("UTC0")?;
-    assert!(rt; folds_to(&rt, rt.alloc(), &ROWS, &zone, &FOUR_INTERVALS)?);
-    Ok(())
+fn an_interval_with_two_rows_counts_once(rt: HostRuntime) {
+    let zone = Zone::read("UTC0").expect(&rt, "no zone");
+    assert!(rt; folds_to(&rt, rt.alloc(), &ROWS, &zone, &FOUR_INTERVALS).expect(&rt, "no days"));
 }
 
 static ONE_ROW: [Share; 1] = [share!(1_711_839_600, 7)];
@@ -166,14 +163,22 @@ static ONE_ROW: [Share; 1] = [share!(1_711_839_600, 7)];
 static ONE_INTERVAL: [Told; 1] = [told!(2024, 3, 31, 1, 7)];
 
 #[test]
-fn by_day_adds_up_rows(rt: HostRuntime) -> Result<(), Fail> {
-    let zone = Zone::read(CENTRAL_EUROPE)?;
-    assert!(rt; are_told(by_day(rt.alloc(), &[], &zone)?.as_slice(), &[]));
+fn by_day_adds_up_rows(rt: HostRuntime) {
+    let zone = Zone::read(CENTRAL_EUROPE).expect(&rt, "no zone");
     assert!(rt;
         are_told(
-            by_day(rt.alloc(), &ONE_ROW, &zone)?.as_slice(),
+            by_day(rt.alloc(), &[], &zone)
+                .expect(&rt, "no days")
+                .as_slice(),
+            &[]
+        )
+    );
+    assert!(rt;
+        are_told(
+            by_day(rt.alloc(), &ONE_ROW, &zone)
+                .expect(&rt, "no days")
+                .as_slice(),
             &ONE_INTERVAL
         )
     );
-    Ok(())
 }

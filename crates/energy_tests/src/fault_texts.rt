@@ -2,7 +2,6 @@
 use crate::texts::tells;
 use energy_core::{Cause, TermFault};
 use interval_core::{DayFault, ZoneFault};
-use std::test::Fail;
 
 const HELD: [(Cause, &str); 8] = [
     (
@@ -80,9 +79,9 @@ const ZONES: [(ZoneFault, &str); 2] = [
 ];
 
 #[test]
-fn energy(rt: HostRuntime) -> Result<(), Fail> {
-    tells(&rt, rt.alloc(), &HELD)?;
-    tells(&rt, rt.alloc(), &ENTRIES)?;
-    tells(&rt, rt.alloc(), &DAYS)?;
+fn energy(rt: HostRuntime) {
+    tells(&rt, rt.alloc(), &HELD);
+    tells(&rt, rt.alloc(), &ENTRIES);
+    tells(&rt, rt.alloc(), &DAYS);
     tells(&rt, rt.alloc(), &ZONES)
 }

@@ -2,7 +2,6 @@
 use energy_core::Step;
 use interval_core::Share;
 use meter_journal::{append_shares, join};
-use std::test::Fail;
 
 /// The rows of both steps of the first test.
 const ROWS: [Share; 3] = [
@@ -21,14 +20,14 @@ const ROWS: [Share; 3] = [
 ];
 
 #[test]
-fn steps_share_an_interval(rt: HostRuntime) -> Result<(), Fail> {
+fn steps_share_an_interval(rt: HostRuntime) {
     let mut rows = Vec::new(rt.alloc());
     let first = Step {
         from: 1000,
         till: 1900,
         mwh: 200_000,
     };
-    append_shares(&mut rows, &first)?;
+    append_shares(&mut rows, &first).expect(&rt, "no memory");
     let second = Step {
         from: 1900,
         till: 2800,
@@ -36,9 +35,8 @@ fn steps_share_an_interval(rt: HostRuntime) -> Result<(), Fail> {
     };
     let so_far: u64 = rows.iter().map(|row| row.mwh).sum();
     assert!(rt; so_far <= 1_000_000);
-    append_shares(&mut rows, &second)?;
+    append_shares(&mut rows, &second).expect(&rt, "no memory");
     assert!(rt; rows.as_slice() == ROWS.as_slice());
-    Ok(())
 }
 
 const THREE: Share = Share { start: 900, mwh: 3 };

@@ -76,7 +76,7 @@ fn rows_by_place(rt: HostRuntime) {
         reading(4, 2800, 5300, 0),
     ];
     for (place, next) in [(2, Some(rows[2])), (3, Some(rows[2])), (4, None)] {
-        let found = find_row(&rows, place).expect(&rt, "a row");
+        let found = find_row(&rows, place).expect(&rt, "no row");
         assert!(rt; found.row.place == place && found.next == next, "{place}");
     }
     assert!(rt; find_row(&rows, 1).is_none());

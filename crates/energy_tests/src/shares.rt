@@ -3,7 +3,6 @@ use energy_core::Step;
 use interval_core::{INTERVAL, Share, Shares};
 use std::alloc::{AllocError, Global};
 use std::process::Abort;
-use std::test::Fail;
 
 struct Case {
     step: Step,
@@ -88,19 +87,20 @@ fn sum(shares: &[Share]) -> u64 {
 }
 
 #[test]
-fn a_step_is_spread_over_its_intervals(rt: HostRuntime) -> Result<(), Fail> {
+fn a_step_is_spread_over_its_intervals(rt: HostRuntime) {
     for (i, case) in CASES.iter().enumerate() {
-        let shares = shares_of(&rt, rt.alloc(), &case.step)?;
+        let shares = shares_of(&rt, rt.alloc(), &case.step).expect(&rt, "no shares");
         assert!(rt; shares.as_slice() == case.shares, "case {i}");
     }
-    Ok(())
 }
 
 #[test]
-fn three_thousand_intervals_lose_nothing(rt: HostRuntime) -> Result<(), Fail> {
+fn three_thousand_intervals_lose_nothing(rt: HostRuntime) {
     for mwh in LONG {
-        let shares = shares_of(&rt, rt.alloc(), &step!(0, 3000 * INTERVAL, mwh))?;
+        let shares = shares_of(&rt, rt.alloc(), &step!(0, 3000 * INTERVAL, mwh)).expect(
+            &rt,
+            "no shares",
+        );
         assert!(rt; shares.len() == 3000 && sum(&shares) == mwh, "{mwh}");
     }
-    Ok(())
 }

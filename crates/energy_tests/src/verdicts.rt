@@ -349,7 +349,7 @@ fn judges<C: Counter>(rt: &impl Abort, counter: &C, cases: &[Case]) {
 
 /// A counter that turns over there.
 pub(crate) fn ranged(rt: &impl Abort, range: u64) -> Ranged {
-    Ranged::new(range).expect(rt, "a lawful range")
+    Ranged::new(range).expect(rt, "no lawful range")
 }
 
 #[test]

@@ -7,7 +7,7 @@ use office_events::{
 };
 use point_list::{FaultyRow, RowFault};
 use poll_core::Outcome;
-use std::test::Fail;
+use std::process::Abort;
 
 static STATUSES: [(Refusal, u16); 19] = [
     (Refusal::NotFound, 404),
@@ -68,18 +68,18 @@ fn each_kind_of_command_is_told(rt: HostRuntime) {
     assert!(rt; kind_answered(started) == Some(CommandKind::Start));
 }
 
-fn name(text: &[u8]) -> Result<Name, Fail> {
-    Ok(Name::new(text).ok_or("no name")?)
+fn name(rt: &impl Abort, text: &[u8]) -> Name {
+    Name::new(text).expect(rt, "no name")
 }
 
 static METER: &[u8] =
     b"{\"at\":1900,\"ended\":false,\"last\":5200,\"meter\":\"m1\",\"range\":4294967296,\"register\":\"main\",\"sf\":-3,\"total\":\"200000\"}";
 
 // A meter that went on from 5000 to 5200.
-fn installation(sf: i16) -> Result<Installation, Fail> {
+fn installation(rt: &impl Abort, sf: i16) -> Installation {
     let opening = Opening {
-        meter: name(b"m1")?,
-        register: name(b"main")?,
+        meter: name(rt, b"m1"),
+        register: name(rt, b"main"),
         ceiling: 100_000,
         range: 4_294_967_296,
         at: 1000,
@@ -91,19 +91,18 @@ fn installation(sf: i16) -> Result<Installation, Fail> {
         raw: 5200,
         sf,
     };
-    Ok(Installation {
+    Installation {
         opening,
         last,
         total: 200_000,
         ended: false,
-    })
+    }
 }
 
 #[test]
-fn a_meter_is_told(rt: HostRuntime) -> Result<(), Fail> {
-    let row = installation(-3)?;
+fn a_meter_is_told(rt: HostRuntime) {
+    let row = installation(&rt, -3);
     assert!(rt; meter_body(&row).bytes() == METER);
-    Ok(())
 }
 
 static POLL: &[u8] =
@@ -113,14 +112,14 @@ static PENDING: &[u8] =
     b"{\"code\":0,\"device\":\"inv\",\"moment\":0,\"outcome\":0,\"poll\":1,\"started\":1898}";
 
 // A poll that ended so.
-fn poll_row(outcome: Option<Outcome>) -> Result<PollRow, Fail> {
+fn poll_row(rt: &impl Abort, outcome: Option<Outcome>) -> PollRow {
     let poll = Poll {
         number: 1,
-        device: name(b"inv")?,
+        device: name(rt, b"inv"),
         unit: 1,
         at: 1898,
         id: 0,
-        span: ReadSpan::new(3, 40_094, 3).ok_or("no span")?,
+        span: ReadSpan::new(3, 40_094, 3).expect(rt, "no span"),
     };
     let ended = match outcome {
         Some(outcome) => Some(EndedPoll {
@@ -130,16 +129,15 @@ fn poll_row(outcome: Option<Outcome>) -> Result<PollRow, Fail> {
         }),
         None => None,
     };
-    Ok(PollRow { poll, ended })
+    PollRow { poll, ended }
 }
 
 #[test]
-fn a_poll_is_told(rt: HostRuntime) -> Result<(), Fail> {
-    let pending = poll_row(None)?;
+fn a_poll_is_told(rt: HostRuntime) {
+    let pending = poll_row(&rt, None);
     assert!(rt; poll_body(&pending).bytes() == PENDING);
-    let refused = poll_row(Some(Outcome::Exception(2)))?;
+    let refused = poll_row(&rt, Some(Outcome::Exception(2)));
     assert!(rt; poll_body(&refused).bytes() == POLL);
-    Ok(())
 }
 
 static FAULTS: [FaultyRow; 2] = [

@@ -6,7 +6,6 @@ use http_answer::{
 };
 use http_request::Status;
 use std::alloc::Global;
-use std::test::Fail;
 
 // The number of the closing that a body describes.
 fn closing(alloc: Global, bytes: &[u8]) -> Result<u64, BodyFault> {
@@ -98,8 +97,8 @@ static ALL: &[u8] =
     b"{\"name\":\"inv\",\"unit\":1,\"timeout\":5,\"window\":2,\"last\":9,\"rolls\":1,\"meter\":\"m1\",\"raw\":7,\"sf\":-1,\"ceiling\":100,\"before\":3,\"after\":4,\"place\":6}";
 
 #[test]
-fn commands_of_devices_and_meters_have_their_members(rt: HostRuntime) -> Result<(), Fail> {
-    let body = body_of(rt.alloc(), ALL)?;
+fn commands_of_devices_and_meters_have_their_members(rt: HostRuntime) {
+    let body = body_of(rt.alloc(), ALL).expect(&rt, "no body");
     let device = DeviceBody {
         name: "inv",
         unit: 1,
@@ -121,12 +120,11 @@ fn commands_of_devices_and_meters_have_their_members(rt: HostRuntime) -> Result<
         install,
     };
     assert!(rt; exchange_in(&body) == Ok(exchange));
-    Ok(())
 }
 
 #[test]
-fn commands_of_counters_have_their_members(rt: HostRuntime) -> Result<(), Fail> {
-    let body = body_of(rt.alloc(), ALL)?;
+fn commands_of_counters_have_their_members(rt: HostRuntime) {
+    let body = body_of(rt.alloc(), ALL).expect(&rt, "no body");
     let reset = ResetBody {
         before: 3,
         after: 4,
@@ -146,7 +144,6 @@ fn commands_of_counters_have_their_members(rt: HostRuntime) -> Result<(), Fail> 
     };
     assert!(rt; manual_in(&body) == Ok(manual));
     assert_eq!(rt; close_in(&body), Ok(CloseBody { raw: 7, rolls: 1 }));
-    Ok(())
 }
 
 // The moment of the reading by hand that a body describes.

@@ -7,21 +7,20 @@ use office_books::Books;
 use office_core::Office;
 use std::alloc::{AllocError, Global};
 use std::process::Abort;
-use std::test::Fail;
 
 // What is replied where the books fail.
 static FAILED: &[u8] =
     b"HTTP/1.1 503 Service Unavailable\r\nContent-Type: application/json\r\nContent-Length: 14\r\nConnection: close\r\n\r\n{\"refused\":13}";
 
 // Opens an office. Where the books fail, they are handed back, and it is opened again.
-fn opened(alloc: Global, books: FailingBooks) -> Result<Office<FailingBooks>, Fail> {
+fn opened(rt: &impl Abort, alloc: Global, books: FailingBooks) -> Office<FailingBooks> {
     let books = match Office::open(alloc, books, 1900) {
-        Ok(office) => return Ok(office),
+        Ok(office) => return office,
         Err(refused) => refused.0,
     };
     match Office::open(alloc, books, 1900) {
-        Ok(office) => Ok(office),
-        Err(_) => Err(Fail::from("not opened again")),
+        Ok(office) => office,
+        Err(_) => panic!(rt; "not opened again"),
     }
 }
 
@@ -49,29 +48,29 @@ fn play(
     alloc: Global,
     mut office: Office<FailingBooks>,
     cases: &[Case<'_>],
-) -> Result<u64, Fail> {
+) -> u64 {
     for case in cases {
-        let served = serve_again(alloc, &mut office, case)?;
-        has_reply(rt, alloc, case, &served)?;
+        let served = serve_again(alloc, &mut office, case).expect(rt, "no memory");
+        has_reply(rt, alloc, case, &served);
     }
-    Ok(office.into_books().faults())
+    office.into_books().faults()
 }
 
 // Each call of the books fails in turn, until there are no more.
-fn fail_each(rt: &impl Abort, alloc: Global, cases: &[Case<'_>]) -> Result<(), Fail> {
+fn fail_each(rt: &impl Abort, alloc: Global, cases: &[Case<'_>]) {
     for failing in 1..1000 {
-        let books = FailingBooks::new(polled(alloc)?.into_books(), failing);
-        let office = opened(alloc, books)?;
-        if play(rt, alloc, office, cases)? == 0 {
+        let books = FailingBooks::new(polled(rt, alloc).into_books(), failing);
+        let office = opened(rt, alloc, books);
+        if play(rt, alloc, office, cases) == 0 {
             assert!(rt; failing as usize > cases.len(), "{failing} calls");
-            return Ok(());
+            return;
         }
     }
-    Err(Fail::from("a call fails each time"))
+    panic!(rt; "a call fails each time")
 }
 
 #[test]
-fn each_call_of_the_books_may_fail(rt: HostRuntime) -> Result<(), Fail> {
-    fail_each(&rt, rt.alloc(), &QUESTIONS)?;
+fn each_call_of_the_books_may_fail(rt: HostRuntime) {
+    fail_each(&rt, rt.alloc(), &QUESTIONS);
     fail_each(&rt, rt.alloc(), &COMMANDS)
 }

@@ -72,16 +72,10 @@ pub(crate) fn serve<B: Books>(
 }
 
 /// What was served is the case's reply.
-pub(crate) fn has_reply(
-    rt: &impl Abort,
-    alloc: Global,
-    case: &Case<'_>,
-    served: &Served,
-) -> Result<(), AllocError> {
+pub(crate) fn has_reply(rt: &impl Abort, alloc: Global, case: &Case<'_>, served: &Served) {
     assert!(rt; served.handled == Ok(()));
-    let want = reply(alloc, case.status, case.body)?;
+    let want = reply(alloc, case.status, case.body).expect(rt, "no memory");
     assert!(rt; served.given.as_slice() == want.as_bytes());
-    Ok(())
 }
 
 /// Serves a case's request over a link that takes and gives so many bytes a call, and it has its reply.
@@ -91,7 +85,10 @@ pub(crate) fn play<B: Books>(
     office: &mut Office<B>,
     case: &Case<'_>,
     piece: usize,
-) -> Result<(), AllocError> {
-    let served = serve_over(alloc, office, case.at, case.request, piece, None)?;
-    has_reply(rt, alloc, case, &served)
+) {
+    let served = serve_over(alloc, office, case.at, case.request, piece, None).expect(
+        rt,
+        "no memory",
+    );
+    has_reply(rt, alloc, case, &served);
 }

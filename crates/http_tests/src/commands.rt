@@ -6,7 +6,6 @@ use office_events::{
     Reset, VoidEntry,
 };
 use std::alloc::Global;
-use std::test::Fail;
 
 // The command of a body, where the route's parameter is `main`.
 fn command(alloc: Global, route: Route, body: &[u8]) -> Result<Command, CommandFault> {
@@ -261,14 +260,13 @@ static LISTS: [(&[u8], usize, usize); 2] = [
 ];
 
 #[test]
-fn lists_are_put_with_their_plans(rt: HostRuntime) -> Result<(), Fail> {
+fn lists_are_put_with_their_plans(rt: HostRuntime) {
     for (text, points, reads) in &LISTS {
         let Ok(Command::PutList(put)) = command(rt.alloc(), Route::List, text) else {
-            return Err(Fail::from("no list"));
+            panic!(rt; "no list");
         };
         assert!(rt; put.device == Name::new(b"main"));
         assert!(rt; put.list.points().len() == *points);
         assert!(rt; put.list.reads().len() == *reads);
     }
-    Ok(())
 }

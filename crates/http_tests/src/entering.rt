@@ -12,7 +12,6 @@ use office_program::{
 use socket_link::FixedClock;
 use std::alloc::{AllocError, Global};
 use std::process::Abort;
-use std::test::Fail;
 
 /// One file in a folder.
 #[derive(Clone, Copy)]
@@ -234,29 +233,28 @@ static COUNTERS: [Row; 6] = [
 ];
 
 // The rows come one after the other over the same books, which held nothing.
-fn enter_all(rt: &impl Abort, alloc: Global, rows: &[Row]) -> Result<(), Fail> {
-    let mut books = blank(alloc)?;
+fn enter_all(rt: &impl Abort, alloc: Global, rows: &[Row]) {
+    let mut books = blank(rt, alloc);
     for (place, (text, files, moment, end, printed)) in rows.iter().enumerate() {
         let (done, shown) = enter(alloc, books, files, text, *moment);
         assert_eq!(rt; done.end, *end, "row {place}");
         assert_eq!(rt; shown.as_slice(), *printed, "row {place}");
         books = done.books;
     }
-    Ok(())
 }
 
 #[test]
-fn inputs_are_entered(rt: HostRuntime) -> Result<(), Fail> {
-    enter_all(&rt, rt.alloc(), &ONCE)?;
-    enter_all(&rt, rt.alloc(), &BY_HAND)?;
+fn inputs_are_entered(rt: HostRuntime) {
+    enter_all(&rt, rt.alloc(), &ONCE);
+    enter_all(&rt, rt.alloc(), &BY_HAND);
     enter_all(&rt, rt.alloc(), &COUNTERS)
 }
 
 // Where a call of the books fails, nothing is known of the line, and it isn't asked.
 #[test]
-fn a_doubt_that_is_not_told_is_a_refusal(rt: HostRuntime) -> Result<(), Fail> {
+fn a_doubt_that_is_not_told_is_a_refusal(rt: HostRuntime) {
     for failing in 1..12 {
-        let (site, _) = enter(rt.alloc(), blank(rt.alloc())?, &LIST, SITE, 1000);
+        let (site, _) = enter(rt.alloc(), blank(&rt, rt.alloc()), &LIST, SITE, 1000);
         let books = FailingBooks::new(site.books, failing);
         let (done, shown) = enter(rt.alloc(), books, &LIST, b"5 manual main 105002 0\n", 4600);
         let printed = if done.books.faults() == 0 {
@@ -267,7 +265,6 @@ fn a_doubt_that_is_not_told_is_a_refusal(rt: HostRuntime) -> Result<(), Fail> {
         assert_eq!(rt; done.end, ExitStatus::Refused);
         assert_eq!(rt; shown.as_slice(), printed, "{failing}");
     }
-    Ok(())
 }
 
 // A site before it is entered and after, with a changed line and a bad one; and entries by hand, whether they have a mark or not.
@@ -284,8 +281,8 @@ static LOOKS: [(&[u8], &[u8]); 3] = [
 ];
 
 #[test]
-fn looking_books_nothing(rt: HostRuntime) -> Result<(), Fail> {
-    let (done, shown) = check(rt.alloc(), blank(rt.alloc())?, &LIST, SITE);
+fn looking_books_nothing(rt: HostRuntime) {
+    let (done, shown) = check(rt.alloc(), blank(&rt, rt.alloc()), &LIST, SITE);
     assert_eq!(rt; done.end, ExitStatus::Fine);
     assert_eq!(rt; shown.as_slice(), b"new\nnew\nnew\nnew\n".as_slice());
     let (done, shown) = enter(rt.alloc(), done.books, &LIST, SITE, 1000);
@@ -296,7 +293,6 @@ fn looking_books_nothing(rt: HostRuntime) -> Result<(), Fail> {
         assert_eq!(rt; shown.as_slice(), *printed);
         books = done.books;
     }
-    Ok(())
 }
 
 #[test]

@@ -5,15 +5,18 @@ use point_list::{FaultyRow, FaultyRows, RowFault};
 use std::alloc::Global;
 use std::fmt::Display;
 use std::process::Abort;
-use std::test::Fail;
 
 // Each fault says its text, which has no full stop.
-fn tells<F: Display>(rt: &impl Abort, alloc: Global, texts: &[(F, &str)]) -> Result<(), Fail> {
+fn tells<F: Display>(rt: &impl Abort, alloc: Global, texts: &[(F, &str)]) {
     for (fault, text) in texts {
-        assert_eq!(rt; format!(in alloc; "{fault}")?.as_str(), *text);
+        assert_eq!(rt;
+            format!(in alloc; "{fault}")
+                .expect(rt, "no memory")
+                .as_str(),
+            *text
+        );
         assert!(rt; !text.ends_with('.'));
     }
-    Ok(())
 }
 
 const BODIES: [(BodyFault, &str); 3] = [
@@ -35,22 +38,22 @@ const TAKES: [(TakeFault, &str); 3] = [
 ];
 
 #[test]
-fn bodies_and_takes_tell_their_faults(rt: HostRuntime) -> Result<(), Fail> {
-    tells(&rt, rt.alloc(), &BODIES)?;
+fn bodies_and_takes_tell_their_faults(rt: HostRuntime) {
+    tells(&rt, rt.alloc(), &BODIES);
     tells(&rt, rt.alloc(), &TAKES)
 }
 
 // One faulty row.
-fn faulty(alloc: Global) -> Result<FaultyRows, Fail> {
+fn faulty(rt: &impl Abort, alloc: Global) -> FaultyRows {
     let row = FaultyRow {
         row: 2,
         fault: RowFault::Function,
     };
-    Ok(FaultyRows::new(vec![in alloc; row]?))
+    FaultyRows::new(vec![in alloc; row].expect(rt, "no memory"))
 }
 
 #[test]
-fn commands_tell_their_rows(rt: HostRuntime) -> Result<(), Fail> {
+fn commands_tell_their_rows(rt: HostRuntime) {
     let commands = [
         (
             CommandFault::Malformed,
@@ -58,7 +61,7 @@ fn commands_tell_their_rows(rt: HostRuntime) -> Result<(), Fail> {
         ),
         (CommandFault::Negative, "a number of the body is negative"),
         (
-            CommandFault::Faulty(faulty(rt.alloc())?),
+            CommandFault::Faulty(faulty(&rt, rt.alloc())),
             "row 2: the function is not 3 or 4",
         ),
         (CommandFault::Memory, "memory ran out"),

@@ -1,7 +1,6 @@
 //! Heads: where one ends, its limits, and its headers by name.
 use http_request::{Given, HeadState, has_head_end, header_value, parse_head};
 use std::alloc::{AllocError, Global};
-use std::test::Fail;
 
 static ENDED: [&[u8]; 4] = [b"a\n\n", b"a\r\n\r\n", b"\n\r\na\n\r\nmore", b"a\nb\n\r\n"];
 
@@ -102,16 +101,15 @@ fn look_at_front(bytes: &[u8], count: usize) -> Found {
 }
 
 #[test]
-fn heads_have_limits(rt: HostRuntime) -> Result<(), Fail> {
+fn heads_have_limits(rt: HostRuntime) {
     for (header, count, value, size, front, wanted) in &LIMITS {
-        let head = head_of(rt.alloc(), header, *count, *value)?;
+        let head = head_of(rt.alloc(), header, *count, *value).expect(&rt, "no memory");
         assert!(rt; head.len() == *size, "{size}");
         assert!(rt;
             look_at_front(&head, *front) == *wanted,
             "{front} of {size}"
         );
     }
-    Ok(())
 }
 
 static HEADERS: &[u8] = b"GET / HTTP/1.1\r\nHost: a\r\nHOST: b\r\nContent-length:  7 \r\n\r\n";

@@ -47,7 +47,7 @@ fn readings_of_a_day_are_counted_by_cause(rt: HostRuntime) {
         from: read_day("1970-01-02"),
         till: read_day("1970-01-03"),
     };
-    let counts = counted(day, None).expect(&rt, "counts");
+    let counts = counted(day, None).expect(&rt, "no counts");
     for one in &counts.by_cause() {
         assert!(rt; one.count == 1, "{one:?}");
     }
@@ -55,7 +55,7 @@ fn readings_of_a_day_are_counted_by_cause(rt: HostRuntime) {
 
 #[test]
 fn a_cause_is_counted_again(rt: HostRuntime) {
-    let counts = counted(DayRange::all(), Some(Cause::GapTooLong)).expect(&rt, "counts");
+    let counts = counted(DayRange::all(), Some(Cause::GapTooLong)).expect(&rt, "no counts");
     let wanted = HeldCounts {
         gap_too_long: 10,
         ..HeldCounts::none()

@@ -7,7 +7,6 @@ use memory_books::ListBooks;
 use office_core::Office;
 use office_http::{HandleFault, handle_named, turn_away};
 use std::alloc::{AllocError, Global};
-use std::test::Fail;
 
 // Headers of a request to an office that was given the name `office.example`, and whether it may ask.
 static HEADERS: [(&str, bool); 21] = [
@@ -43,12 +42,14 @@ fn may(alloc: Global, headers: &str) -> Result<bool, AllocError> {
 }
 
 #[test]
-fn known_hosts_may_ask(rt: HostRuntime) -> Result<(), Fail> {
+fn known_hosts_may_ask(rt: HostRuntime) {
     for (headers, wanted) in &HEADERS {
-        assert!(rt; may(rt.alloc(), headers)? == *wanted, "{headers}");
+        assert!(rt;
+            may(rt.alloc(), headers).expect(&rt, "no memory") == *wanted,
+            "{headers}"
+        );
     }
     assert!(rt; may_ask(&[], b"no head\r\n\r\n", &parse_head(b"no head\r\n\r\n")));
-    Ok(())
 }
 
 static ASKED: &[u8] = b"GET /meters/m1 HTTP/1.1\r\nHost: office.example:80\r\n\r\n";
@@ -78,14 +79,17 @@ fn is_replied(
 }
 
 #[test]
-fn who_may_not_ask_is_turned_away(rt: HostRuntime) -> Result<(), Fail> {
+fn who_may_not_ask_is_turned_away(rt: HostRuntime) {
     let alloc = rt.alloc();
-    let mut office = opened(alloc)?;
+    let mut office = opened(&rt, alloc);
     let missing = ("404 Not Found", "{\"refused\":1}");
-    assert!(rt; is_replied(alloc, &mut office, ASKED, missing.0, missing.1)?);
+    assert!(rt;
+        is_replied(alloc, &mut office, ASKED, missing.0, missing.1).expect(&rt, "no memory")
+    );
     let away = ("421 Misdirected Request", "{\"fault\":421}");
-    assert!(rt; is_replied(alloc, &mut office, ASKED_ELSEWHERE, away.0, away.1)?);
-    Ok(())
+    assert!(rt;
+        is_replied(alloc, &mut office, ASKED_ELSEWHERE, away.0, away.1).expect(&rt, "no memory")
+    );
 }
 
 #[test]
@@ -98,8 +102,8 @@ fn a_link_that_fails_is_told(rt: HostRuntime) {
 }
 
 #[test]
-fn a_request_is_whole_with_its_body(rt: HostRuntime) -> Result<(), Fail> {
-    let router = router(rt.alloc())?;
+fn a_request_is_whole_with_its_body(rt: HostRuntime) {
+    let router = router(rt.alloc()).expect(&rt, "no router");
     let request =
         b"POST /devices HTTP/1.1\r\nContent-Length: 2\r\nOffice-Caller: a\r\nOffice-Request: 7\r\n\r\n{}";
     for end in 0..request.len() {
@@ -110,5 +114,4 @@ fn a_request_is_whole_with_its_body(rt: HostRuntime) -> Result<(), Fail> {
     }
     assert!(rt; is_whole(&router, request));
     assert!(rt; is_whole(&router, b"no head\r\n\r\n"));
-    Ok(())
 }

@@ -11,7 +11,6 @@ use http_request::{
 use matchit::Router;
 use mb_wire::{Link, MemoryLink};
 use std::alloc::{AllocError, Global};
-use std::test::Fail;
 
 static REQUEST: &[u8] =
     b"POST /devices HTTP/1.1\r\nContent-Length: 4\r\nOffice-Caller: anna\r\nOffice-Request: 7\r\n\r\n{ } and more";
@@ -57,12 +56,11 @@ fn is_read(alloc: Global, router: &Router<Route>, piece: usize) -> Result<bool, 
 }
 
 #[test]
-fn a_request_comes_in_pieces_of_any_size(rt: HostRuntime) -> Result<(), Fail> {
-    let router = router(rt.alloc())?;
+fn a_request_comes_in_pieces_of_any_size(rt: HostRuntime) {
+    let router = router(rt.alloc()).expect(&rt, "no router");
     for piece in 1..100 {
-        assert!(rt; is_read(rt.alloc(), &router, piece)?);
+        assert!(rt; is_read(rt.alloc(), &router, piece).expect(&rt, "no memory"));
     }
-    Ok(())
 }
 
 // How many bytes the request has.
@@ -98,25 +96,23 @@ fn failure_of(
 }
 
 #[test]
-fn an_end_inside_a_request_is_short(rt: HostRuntime) -> Result<(), Fail> {
-    let router = router(rt.alloc())?;
+fn an_end_inside_a_request_is_short(rt: HostRuntime) {
+    let router = router(rt.alloc()).expect(&rt, "no router");
     for end in 0..WHOLE {
-        let failure = failure_of(rt.alloc(), &router, end, None)?;
+        let failure = failure_of(rt.alloc(), &router, end, None).expect(&rt, "no memory");
         assert!(rt; failure.fault == Some(TakeFault::Short));
         assert!(rt; failure.held == end);
         assert!(rt; failure.failures == 0);
     }
-    Ok(())
 }
 
 #[test]
-fn each_take_may_fail(rt: HostRuntime) -> Result<(), Fail> {
-    let router = router(rt.alloc())?;
+fn each_take_may_fail(rt: HostRuntime) {
+    let router = router(rt.alloc()).expect(&rt, "no router");
     for call in 1..10 {
-        let failure = failure_of(rt.alloc(), &router, WHOLE, Some(call))?;
+        let failure = failure_of(rt.alloc(), &router, WHOLE, Some(call)).expect(&rt, "no memory");
         assert!(rt; failure.fault == Some(TakeFault::Read));
         assert!(rt; failure.failures == 1);
         assert!(rt; failure.takes == call);
     }
-    Ok(())
 }

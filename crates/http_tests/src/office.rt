@@ -6,7 +6,7 @@ use memory_books::ListBooks;
 use office_core::Office;
 use office_events::{Command, Event, Name, Piece, StartPoll};
 use std::alloc::Global;
-use std::test::Fail;
+use std::process::Abort;
 
 // A device, a register and a meter.
 static REQUESTS: [&[u8]; 3] = [
@@ -16,77 +16,82 @@ static REQUESTS: [&[u8]; 3] = [
 ];
 
 /// Books in memory that hold nothing.
-pub(crate) fn blank(alloc: Global) -> Result<ListBooks, Fail> {
-    Ok(ListBooks::new(alloc, Zone::read("UTC0")?))
+pub(crate) fn blank(rt: &impl Abort, alloc: Global) -> ListBooks {
+    ListBooks::new(alloc, Zone::read("UTC0").expect(rt, "no zone"))
 }
 
 /// An office over such books.
-pub(crate) fn opened(alloc: Global) -> Result<Office<ListBooks>, Fail> {
-    match Office::open(alloc, blank(alloc)?, 0) {
-        Ok(office) => Ok(office),
-        Err(_) => Err(Fail::from("not opened")),
+pub(crate) fn opened(rt: &impl Abort, alloc: Global) -> Office<ListBooks> {
+    match Office::open(alloc, blank(rt, alloc), 0) {
+        Ok(office) => office,
+        Err(_) => panic!(rt; "not opened"),
     }
 }
 
 // An office to which these requests came at moment 1000.
-fn told(alloc: Global, requests: &[&[u8]]) -> Result<Office<ListBooks>, Fail> {
-    let mut office = opened(alloc)?;
+fn told(rt: &impl Abort, alloc: Global, requests: &[&[u8]]) -> Office<ListBooks> {
+    let mut office = opened(rt, alloc);
     for request in requests {
-        if serve(alloc, &mut office, 1000, request)?.handled.is_err() {
-            return Err(Fail::from("not served"));
+        if serve(alloc, &mut office, 1000, request)
+            .expect(rt, "no memory")
+            .handled
+            .is_err()
+        {
+            panic!(rt; "not served");
         }
     }
-    Ok(office)
+    office
 }
 
 /// An office with a device and a register, at which no meter was installed.
-pub(crate) fn unmetered(alloc: Global) -> Result<Office<ListBooks>, Fail> {
-    told(alloc, &REQUESTS[..2])
+pub(crate) fn unmetered(rt: &impl Abort, alloc: Global) -> Office<ListBooks> {
+    told(rt, alloc, &REQUESTS[..2])
 }
 
 /// An office whose meter showed 5000 at moment 1000.
-pub(crate) fn metered(alloc: Global) -> Result<Office<ListBooks>, Fail> {
-    told(alloc, &REQUESTS)
+pub(crate) fn metered(rt: &impl Abort, alloc: Global) -> Office<ListBooks> {
+    told(rt, alloc, &REQUESTS)
 }
 
 // 3 registers from 40094: the counter 5200 and the scale 0.
 static FRAME: &[u8] = b"\x00\x00\x00\x00\x00\x09\x01\x03\x06\x00\x00\x14\x50\x00\x00";
 
 /// The device is connected, its poll is started, and the reply comes.
-pub(crate) fn poll(alloc: Global) -> Result<[Event; 3], Fail> {
+pub(crate) fn poll(rt: &impl Abort, alloc: Global) -> [Event; 3] {
     let inv = Name::new(b"inv");
-    Ok([
+    [
         Event::Connected(inv),
         Event::Command(Command::StartPoll(StartPoll {
             device: inv,
-            span: ReadSpan::new(3, 40_094, 3).ok_or("no span")?,
+            span: ReadSpan::new(3, 40_094, 3).expect(rt, "no span"),
         })),
-        Event::Bytes(inv, Piece::new(FRAME.to_vec(alloc)?)),
-    ])
+        Event::Bytes(inv, Piece::new(FRAME.to_vec(alloc).expect(rt, "no memory"))),
+    ]
 }
 
 // The office after these events, each at its moment.
 fn following(
+    rt: &impl Abort,
     mut office: Office<ListBooks>,
     moments: &[u64],
     events: &[Event],
-) -> Result<Office<ListBooks>, Fail> {
+) -> Office<ListBooks> {
     for (moment, event) in moments.iter().zip(events) {
         if office.feed(*moment, event).is_err() {
-            return Err(Fail::from("refused"));
+            panic!(rt; "refused");
         }
     }
-    Ok(office)
+    office
 }
 
 /// An office that has polled its device: the meter has gone from 5000 to 5200, which is 200 Wh.
-pub(crate) fn polled(alloc: Global) -> Result<Office<ListBooks>, Fail> {
-    let events = poll(alloc)?;
-    following(metered(alloc)?, &[1898, 1898, 1900], &events)
+pub(crate) fn polled(rt: &impl Abort, alloc: Global) -> Office<ListBooks> {
+    let events = poll(rt, alloc);
+    following(rt, metered(rt, alloc), &[1898, 1898, 1900], &events)
 }
 
 /// Books in which the poll 1 of the device waits since moment 2000.
-pub(crate) fn waiting(alloc: Global) -> Result<ListBooks, Fail> {
-    let events = poll(alloc)?;
-    Ok(following(unmetered(alloc)?, &[2000, 2000], &events)?.into_books())
+pub(crate) fn waiting(rt: &impl Abort, alloc: Global) -> ListBooks {
+    let events = poll(rt, alloc);
+    following(rt, unmetered(rt, alloc), &[2000, 2000], &events).into_books()
 }

@@ -7,50 +7,40 @@ use office_core::Office;
 use office_http::HandleFault;
 use std::alloc::Global;
 use std::process::Abort;
-use std::test::Fail;
 
 // Plays all requests in their order, in pieces of so many bytes.
-fn play_all(rt: &impl Abort, alloc: Global, cases: &[Case<'_>], piece: usize) -> Result<(), Fail> {
-    let mut office = polled(alloc)?;
+fn play_all(rt: &impl Abort, alloc: Global, cases: &[Case<'_>], piece: usize) {
+    let mut office = polled(rt, alloc);
     for case in cases {
-        play(rt, alloc, &mut office, case, piece)?;
+        play(rt, alloc, &mut office, case, piece);
     }
-    Ok(())
 }
 
 #[test]
-fn each_request_has_its_reply(rt: HostRuntime) -> Result<(), Fail> {
+fn each_request_has_its_reply(rt: HostRuntime) {
     for piece in [400, 1] {
-        play_all(&rt, rt.alloc(), &QUESTIONS, piece)?;
-        play_all(&rt, rt.alloc(), &COMMANDS, piece)?;
+        play_all(&rt, rt.alloc(), &QUESTIONS, piece);
+        play_all(&rt, rt.alloc(), &COMMANDS, piece);
     }
-    Ok(())
 }
 
 // Whatever lacks of a request, it is short, and nothing is given. Then the whole request is served.
-fn cut_off(
-    rt: &impl Abort,
-    alloc: Global,
-    office: &mut Office<ListBooks>,
-    case: &Case<'_>,
-) -> Result<(), Fail> {
+fn cut_off(rt: &impl Abort, alloc: Global, office: &mut Office<ListBooks>, case: &Case<'_>) {
     for end in 0..case.request.len() {
         let cut = case.request.get(..end).unwrap_or(case.request);
-        let served = serve(alloc, office, case.at, cut)?;
+        let served = serve(alloc, office, case.at, cut).expect(rt, "no memory");
         assert!(rt; served.handled == Err(HandleFault::Short), "{end} bytes");
         assert!(rt; served.given.is_empty());
     }
-    play(rt, alloc, office, case, 400)?;
-    Ok(())
+    play(rt, alloc, office, case, 400);
 }
 
 #[test]
-fn an_end_inside_a_request_is_short(rt: HostRuntime) -> Result<(), Fail> {
-    let mut office = polled(rt.alloc())?;
+fn an_end_inside_a_request_is_short(rt: HostRuntime) {
+    let mut office = polled(&rt, rt.alloc());
     for case in [&QUESTIONS[0], &QUESTIONS[15]] {
-        cut_off(&rt, rt.alloc(), &mut office, case)?;
+        cut_off(&rt, rt.alloc(), &mut office, case);
     }
-    Ok(())
 }
 
 // What a failed call of the link is told, and what was given then: nothing, or a beginning of the reply.
@@ -63,37 +53,34 @@ fn is_told(fault: HandleFault, given: &[u8], reply: &[u8]) -> bool {
 }
 
 // Each call of the link fails in turn, until there are no more; a command that stands by then gets its kept answer.
-fn fail_each(
-    rt: &impl Abort,
-    alloc: Global,
-    office: &mut Office<ListBooks>,
-    case: &Case<'_>,
-) -> Result<(), Fail> {
-    let want = reply(alloc, case.status, case.body)?;
+fn fail_each(rt: &impl Abort, alloc: Global, office: &mut Office<ListBooks>, case: &Case<'_>) {
+    let want = reply(alloc, case.status, case.body).expect(rt, "no memory");
     for call in 1..100 {
-        let served = serve_over(alloc, office, case.at, case.request, 20, Some(call))?;
+        let served = serve_over(alloc, office, case.at, case.request, 20, Some(call)).expect(
+            rt,
+            "no memory",
+        );
         match served.handled {
             Err(fault) => assert!(rt; is_told(fault, &served.given, want.as_bytes())),
             Ok(()) => {
                 assert!(rt; served.given.as_slice() == want.as_bytes());
                 assert!(rt; call > 2, "{call} calls");
-                return Ok(());
+                return;
             }
         }
     }
-    Err(Fail::from("it fails each time"))
+    panic!(rt; "it fails each time")
 }
 
-fn fail_all(rt: &impl Abort, alloc: Global, cases: &[Case<'_>]) -> Result<(), Fail> {
-    let mut office = polled(alloc)?;
+fn fail_all(rt: &impl Abort, alloc: Global, cases: &[Case<'_>]) {
+    let mut office = polled(rt, alloc);
     for case in cases {
-        fail_each(rt, alloc, &mut office, case)?;
+        fail_each(rt, alloc, &mut office, case);
     }
-    Ok(())
 }
 
 #[test]
-fn each_call_of_the_link_may_fail(rt: HostRuntime) -> Result<(), Fail> {
-    fail_all(&rt, rt.alloc(), &QUESTIONS)?;
+fn each_call_of_the_link_may_fail(rt: HostRuntime) {
+    fail_all(&rt, rt.alloc(), &QUESTIONS);
     fail_all(&rt, rt.alloc(), &COMMANDS)
 }

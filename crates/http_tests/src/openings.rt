@@ -9,19 +9,19 @@ use poll_core::{LostCause, Outcome};
 use socket_link::FixedClock;
 use std::alloc::Global;
 use std::io::Write;
-use std::test::Fail;
+use std::process::Abort;
 
 #[test]
-fn what_waited_is_lost(rt: HostRuntime) -> Result<(), Fail> {
-    let books = waiting(rt.alloc())?;
+fn what_waited_is_lost(rt: HostRuntime) {
+    let books = waiting(&rt, rt.alloc());
     let mut printed = Vec::new(rt.alloc());
     let mut clock = FixedClock::new(&[2100]);
     let Ok(mut office) = open_office(rt.alloc(), books, &mut clock, &mut printed) else {
-        return Err(Fail::from("not opened"));
+        panic!(rt; "not opened");
     };
     assert!(rt; printed.is_empty());
     let Ok(row) = office.poll(1) else {
-        return Err(Fail::from("no poll"));
+        panic!(rt; "no poll");
     };
     let lost = EndedPoll {
         poll: 1,
@@ -29,37 +29,34 @@ fn what_waited_is_lost(rt: HostRuntime) -> Result<(), Fail> {
         outcome: Outcome::Lost(LostCause::Restart),
     };
     assert!(rt; row.ended == Some(lost));
-    Ok(())
 }
 
 // How the opening ends of an office whose clock was set back, and which prints to this writer.
-fn set_back<W: Write>(alloc: Global, output: &mut W) -> Result<ExitStatus, Fail> {
+fn set_back<W: Write>(rt: &impl Abort, alloc: Global, output: &mut W) -> ExitStatus {
     let mut clock = FixedClock::new(&[1999]);
-    match open_office(alloc, waiting(alloc)?, &mut clock, output) {
-        Ok(_) => Err(Fail::from("opened")),
-        Err(unopened) => Ok(unopened.status),
+    match open_office(alloc, waiting(rt, alloc), &mut clock, output) {
+        Ok(_) => panic!(rt; "opened"),
+        Err(unopened) => unopened.status,
     }
 }
 
 #[test]
-fn a_clock_that_was_set_back_is_refused(rt: HostRuntime) -> Result<(), Fail> {
+fn a_clock_that_was_set_back_is_refused(rt: HostRuntime) {
     let mut printed = Vec::new(rt.alloc());
-    assert!(rt; set_back(rt.alloc(), &mut printed)? == ExitStatus::Refused);
+    assert!(rt; set_back(&rt, rt.alloc(), &mut printed) == ExitStatus::Refused);
     assert!(rt; printed.as_slice() == b"refused 3\n".as_slice());
     let mut narrow = Narrow { room: 4 };
-    assert!(rt; set_back(rt.alloc(), &mut narrow)? == ExitStatus::Failed);
-    Ok(())
+    assert!(rt; set_back(&rt, rt.alloc(), &mut narrow) == ExitStatus::Failed);
 }
 
 #[test]
-fn a_store_that_fails_is_told(rt: HostRuntime) -> Result<(), Fail> {
-    let books = FailingBooks::new(blank(rt.alloc())?, 1);
+fn a_store_that_fails_is_told(rt: HostRuntime) {
+    let books = FailingBooks::new(blank(&rt, rt.alloc()), 1);
     let mut printed = Vec::new(rt.alloc());
     let mut clock = FixedClock::new(&[0]);
     let Err(unopened) = open_office(rt.alloc(), books, &mut clock, &mut printed) else {
-        return Err(Fail::from("opened"));
+        panic!(rt; "opened");
     };
     assert!(rt; unopened.status.number() == 1);
     assert!(rt; printed.as_slice() == b"refused 13\n".as_slice());
-    Ok(())
 }

@@ -1,4 +1,5 @@
 //! Commands of the program at a port over books in memory, also where the clock was set back.
+use crate::connections::Sockets;
 use crate::office::metered;
 use command_io::ExitStatus;
 use memory_books::ListBooks;
@@ -8,23 +9,23 @@ use office_rounds::RoundFault;
 use socket_link::FixedClock;
 use std::alloc::Global;
 use std::net::TcpListener;
-use std::test::Fail;
+use std::process::Abort;
 
 /// Books of an office that has a device, a register and a meter since moment 1000.
-fn books(alloc: Global) -> Result<ListBooks, Fail> {
-    Ok(metered(alloc)?.into_books())
+fn books(rt: &impl Abort, alloc: Global) -> ListBooks {
+    metered(rt, alloc).into_books()
 }
 
 /// A listener of this machine, and its port.
-fn taken(rt: &HostRuntime) -> Result<(TcpListener, u16), Fail> {
-    let listener = TcpListener::bind(rt, "127.0.0.1:0")?;
-    let port = listener.local_addr()?.port();
-    Ok((listener, port))
+fn taken(rt: &impl Sockets) -> (TcpListener, u16) {
+    let listener = TcpListener::bind(rt, "127.0.0.1:0").expect(rt, "no listener");
+    let port = listener.local_addr().expect(rt, "no address").port();
+    (listener, port)
 }
 
 /// How serving at a port ends, where the clock tells a moment, and what it prints.
-fn serve(rt: &HostRuntime, moment: u64, port: u16) -> Result<(ServeEnd, Vec<u8>), Fail> {
-    let books = books(rt.alloc())?;
+fn serve<R: Sockets + std::rt::Clock>(rt: &R, moment: u64, port: u16) -> (ServeEnd, Vec<u8>) {
+    let books = books(rt, rt.alloc());
     let place = ("127.0.0.1", port);
     let moments = [moment];
     let mut clock = FixedClock::new(&moments);
@@ -39,13 +40,13 @@ fn serve(rt: &HostRuntime, moment: u64, port: u16) -> Result<(ServeEnd, Vec<u8>)
         &mut clock,
         &mut printed,
     );
-    Ok((done.end, printed))
+    (done.end, printed)
 }
 
 // The opening comes first, and then the port.
 #[test]
-fn serving_ends_by_its_first_fault(rt: HostRuntime) -> Result<(), Fail> {
-    let (_taken, port) = taken(&rt)?;
+fn serving_ends_by_its_first_fault(rt: HostRuntime) {
+    let (_taken, port) = taken(&rt);
     let cases: [(u64, u16, ServeEnd, &[u8]); 3] = [
         (
             999,
@@ -57,16 +58,15 @@ fn serving_ends_by_its_first_fault(rt: HostRuntime) -> Result<(), Fail> {
         (1000, 0, ServeEnd::Served, b""),
     ];
     for (moment, port, end, text) in cases {
-        let (ended, printed) = serve(&rt, moment, port)?;
+        let (ended, printed) = serve(&rt, moment, port);
         assert!(rt; ended == end);
         assert!(rt; printed.as_slice() == text);
     }
-    Ok(())
 }
 
 /// How a round at a port ends, where the clock tells a moment, and what it prints.
-fn poll(rt: &HostRuntime, moment: u64, port: u16) -> Result<(PollEnd, Vec<u8>), Fail> {
-    let books = books(rt.alloc())?;
+fn poll(rt: &impl Sockets, moment: u64, port: u16) -> (PollEnd, Vec<u8>) {
+    let books = books(rt, rt.alloc());
     let place = ("127.0.0.1", port);
     let moments = [moment];
     let mut clock = FixedClock::new(&moments);
@@ -80,13 +80,13 @@ fn poll(rt: &HostRuntime, moment: u64, port: u16) -> Result<(PollEnd, Vec<u8>), 
         &mut clock,
         &mut printed,
     );
-    Ok((done.end, printed))
+    (done.end, printed)
 }
 
 // The opening comes first, then the device, and then its list, which it lacks. Port 1 is nobody's.
 #[test]
-fn a_round_ends_by_its_first_fault(rt: HostRuntime) -> Result<(), Fail> {
-    let (_device, port) = taken(&rt)?;
+fn a_round_ends_by_its_first_fault(rt: HostRuntime) {
+    let (_device, port) = taken(&rt);
     let no_list = PollEnd::Polled(Err(RoundFault::Refused(Refusal::NotFound)));
     let cases: [(u64, u16, PollEnd, &[u8]); 3] = [
         (
@@ -99,9 +99,8 @@ fn a_round_ends_by_its_first_fault(rt: HostRuntime) -> Result<(), Fail> {
         (1000, port, no_list, b"ok\nok\nrefused 1\n"),
     ];
     for (moment, port, end, text) in cases {
-        let (ended, printed) = poll(&rt, moment, port)?;
+        let (ended, printed) = poll(&rt, moment, port);
         assert!(rt; ended == end);
         assert!(rt; printed.as_slice() == text);
     }
-    Ok(())
 }

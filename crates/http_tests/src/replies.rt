@@ -2,7 +2,6 @@
 use http_answer::{ReplyWriter, put_json, put_text_head};
 use http_request::Status;
 use mb_wire::{Link, MemoryLink};
-use std::test::Fail;
 
 static STATUSES: [(Status, &[u8]); 11] = [
     (Status::Fine, b"HTTP/1.1 200 OK\r\n"),

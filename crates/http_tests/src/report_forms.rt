@@ -1,20 +1,20 @@
 //! The words of forms of reports, ranges of days, and rows of periods.
 use energy_report::{EnergyUnit, Format, Period, Row, read_day};
 use interval_core::{Day, DayRange, DayTotal};
-use std::test::Fail;
+use std::process::Abort;
 
 /// A day as it is spelled.
-fn day(text: &str) -> Result<Day, Fail> {
-    Ok(read_day(text).ok_or("no day")?)
+fn day(rt: &impl Abort, text: &str) -> Day {
+    read_day(text).expect(rt, "no day")
 }
 
 /// A day with so many intervals and so much energy.
-fn total(text: &str, count: u32, mwh: u128) -> Result<DayTotal, Fail> {
-    Ok(DayTotal {
-        day: day(text)?,
+fn total(rt: &impl Abort, text: &str, count: u32, mwh: u128) -> DayTotal {
+    DayTotal {
+        day: day(rt, text),
         count,
         mwh,
-    })
+    }
 }
 
 static SPELLED: [(&str, i16, i8, i8); 4] = [
@@ -40,15 +40,14 @@ static MISSPELLED: [&str; 12] = [
 ];
 
 #[test]
-fn a_day_is_read(rt: HostRuntime) -> Result<(), Fail> {
+fn a_day_is_read(rt: HostRuntime) {
     for (text, year, month, date) in &SPELLED {
-        let wanted = Day::new(*year, *month, *date).ok().ok_or("no day")?;
+        let wanted = Day::new(*year, *month, *date).ok().expect(&rt, "no day");
         assert!(rt; read_day(text) == Some(wanted));
     }
     for text in &MISSPELLED {
         assert!(rt; read_day(text) == None);
     }
-    Ok(())
 }
 
 static PERIODS: [(&str, Option<Period>); 4] = [
@@ -103,45 +102,40 @@ fn is_backward(from: Day, till: Day) -> bool {
 }
 
 #[test]
-fn the_last_day_of_a_range_is_not_in_it(rt: HostRuntime) -> Result<(), Fail> {
-    let (first, last) = (day("2024-02-01")?, day("2024-02-29")?);
-    let following = day("2024-03-01")?;
+fn the_last_day_of_a_range_is_not_in_it(rt: HostRuntime) {
+    let (first, last) = (day(&rt, "2024-02-01"), day(&rt, "2024-02-29"));
+    let following = day(&rt, "2024-03-01");
     assert!(rt; is_within(first, following, last));
     assert!(rt; !is_within(first, following, following));
     assert!(rt; !is_within(first, first, first));
-    Ok(())
 }
 
 #[test]
-fn a_range_may_have_no_day(rt: HostRuntime) -> Result<(), Fail> {
-    let (first, next) = (day("2024-02-01")?, day("2024-02-02")?);
+fn a_range_may_have_no_day(rt: HostRuntime) {
+    let (first, next) = (day(&rt, "2024-02-01"), day(&rt, "2024-02-02"));
     assert!(rt; !is_backward(first, next));
     assert!(rt; !is_backward(first, first));
     assert!(rt; is_backward(next, first));
-    Ok(())
 }
 
 #[test]
-fn all_days_are_in_a_range_without_ends(rt: HostRuntime) -> Result<(), Fail> {
-    assert!(rt; DayRange::all().has(day("0000-01-01")?));
+fn all_days_are_in_a_range_without_ends(rt: HostRuntime) {
+    assert!(rt; DayRange::all().has(day(&rt, "0000-01-01")));
     assert!(rt; !DayRange::all().is_backward());
-    Ok(())
 }
 
 #[test]
-fn periods_end_with_their_years(rt: HostRuntime) -> Result<(), Fail> {
-    let (last, first) = (day("2023-12-31")?, day("2024-01-01")?);
+fn periods_end_with_their_years(rt: HostRuntime) {
+    let (last, first) = (day(&rt, "2023-12-31"), day(&rt, "2024-01-01"));
     for period in [Period::Day, Period::Month, Period::Year] {
         assert!(rt; period.has_both(last, last));
         assert!(rt; !period.has_both(last, first));
     }
-    Ok(())
 }
 
 #[test]
-fn a_row_adds_its_days_up(rt: HostRuntime) -> Result<(), Fail> {
-    let row = Row::of(&total("2024-02-28", 96, 5)?).and(&total("2024-02-29", 4, 7)?);
-    assert!(rt; row.first == day("2024-02-28")?);
+fn a_row_adds_its_days_up(rt: HostRuntime) {
+    let row = Row::of(&total(&rt, "2024-02-28", 96, 5)).and(&total(&rt, "2024-02-29", 4, 7));
+    assert!(rt; row.first == day(&rt, "2024-02-28"));
     assert!(rt; (row.count, row.mwh) == (100, 12));
-    Ok(())
 }

@@ -11,7 +11,7 @@ use office_program::{report_books, report_days, report_range, report_range_books
 use socket_link::FixedClock;
 use std::alloc::Global;
 use std::io::Write;
-use std::test::Fail;
+use std::process::Abort;
 
 /// What was booked before.
 #[derive(Clone, Copy)]
@@ -24,11 +24,11 @@ enum Booked {
     Reading,
 }
 
-fn office_of(alloc: Global, booked: Booked) -> Result<Office<ListBooks>, Fail> {
+fn office_of(rt: &impl Abort, alloc: Global, booked: Booked) -> Office<ListBooks> {
     match booked {
-        Booked::Register => unmetered(alloc),
-        Booked::Meter => metered(alloc),
-        Booked::Reading => polled(alloc),
+        Booked::Register => unmetered(rt, alloc),
+        Booked::Meter => metered(rt, alloc),
+        Booked::Reading => polled(rt, alloc),
     }
 }
 
@@ -132,15 +132,14 @@ static REPORTS: [Report; 9] = [
 ];
 
 #[test]
-fn registers_have_reports(rt: HostRuntime) -> Result<(), Fail> {
+fn registers_have_reports(rt: HostRuntime) {
     for (place, (booked, register, by, end, text)) in REPORTS.iter().enumerate() {
-        let mut office = office_of(rt.alloc(), *booked)?;
+        let mut office = office_of(&rt, rt.alloc(), *booked);
         let mut printed = Vec::new(rt.alloc());
         let ended = put_report(&mut office, register, *by, &mut printed);
         assert!(rt; ended == *end, "at {place}");
         assert!(rt; printed.as_slice() == *text, "at {place}");
     }
-    Ok(())
 }
 
 // How many bytes a writer gets before it fails, the register, and how it is reported.
@@ -158,14 +157,13 @@ static NARROW: [(usize, &[u8], By); 8] = [
 ];
 
 #[test]
-fn a_write_that_fails_is_told(rt: HostRuntime) -> Result<(), Fail> {
-    let mut office = polled(rt.alloc())?;
+fn a_write_that_fails_is_told(rt: HostRuntime) {
+    let mut office = polled(&rt, rt.alloc());
     for (room, register, by) in &NARROW {
         let mut narrow = Narrow { room: *room };
         let status = put_report(&mut office, register, *by, &mut narrow);
         assert!(rt; status.number() == 3, "room for {room}");
     }
-    Ok(())
 }
 
 /// What was booked, the moment of the clock, the register, whether its days are asked for by their form, how the command ends, and
@@ -255,12 +253,11 @@ fn report_by(
 }
 
 #[test]
-fn commands_for_reports_end_so(rt: HostRuntime) -> Result<(), Fail> {
+fn commands_for_reports_end_so(rt: HostRuntime) {
     for (place, (booked, moment, register, is_form, end, text)) in CLOCKS.iter().enumerate() {
-        let books = office_of(rt.alloc(), *booked)?.into_books();
+        let books = office_of(&rt, rt.alloc(), *booked).into_books();
         let (ended, printed) = report_by(rt.alloc(), books, *moment, register, *is_form);
         assert!(rt; ended == *end, "at {place}");
         assert!(rt; printed.as_slice() == *text, "at {place}");
     }
-    Ok(())
 }

@@ -3,7 +3,6 @@ use http_request::{Ask, HeadState, Route, Status, ask_of, parse_head, router};
 use matchit::Router;
 use std::alloc::Global;
 use std::process::Abort;
-use std::test::Fail;
 
 // The status that answers what was read, 200 where all tests pass.
 fn status_of(router: &Router<Route>, bytes: &[u8]) -> u16 {
@@ -19,19 +18,12 @@ fn status_of(router: &Router<Route>, bytes: &[u8]) -> u16 {
 }
 
 // Each head that has one of these texts between its front and its back is answered so.
-fn are_answered(
-    rt: &impl Abort,
-    alloc: Global,
-    front: &[u8],
-    texts: &[(&[u8], u16)],
-    back: &[u8],
-) -> Result<(), Fail> {
-    let router = router(alloc)?;
+fn are_answered(rt: &impl Abort, alloc: Global, front: &[u8], texts: &[(&[u8], u16)], back: &[u8]) {
+    let router = router(alloc).expect(rt, "no router");
     for (place, (text, status)) in texts.iter().enumerate() {
-        let head = [front, text, back].concat(alloc)?;
+        let head = [front, text, back].concat(alloc).expect(rt, "no memory");
         assert!(rt; status_of(&router, &head) == *status, "{status} at {place}");
     }
-    Ok(())
 }
 
 static LINES: [(&[u8], u16); 24] = [
@@ -135,7 +127,7 @@ static CALLERS: [(&[u8], u16); 9] = [
 ];
 
 #[test]
-fn heads_are_tested_in_turn(rt: HostRuntime) -> Result<(), Fail> {
+fn heads_are_tested_in_turn(rt: HostRuntime) {
     let heads: [(&[u8], &[(&[u8], u16)], &[u8]); 5] = [
         // routes come before methods
         (b"", &LINES, b" HTTP/1.1\r\n\r\n"),
@@ -161,9 +153,8 @@ fn heads_are_tested_in_turn(rt: HostRuntime) -> Result<(), Fail> {
         ),
     ];
     for (front, texts, back) in heads {
-        are_answered(&rt, rt.alloc(), front, texts, back)?;
+        are_answered(&rt, rt.alloc(), front, texts, back);
     }
-    Ok(())
 }
 
 // The route that a request line leads to, and its name.
@@ -189,10 +180,9 @@ static NAMED: [(&[u8], Route, Option<&str>); 3] = [
 ];
 
 #[test]
-fn a_parameter_is_the_name(rt: HostRuntime) -> Result<(), Fail> {
-    let router = router(rt.alloc())?;
+fn a_parameter_is_the_name(rt: HostRuntime) {
+    let router = router(rt.alloc()).expect(&rt, "no router");
     for (head, route, name) in &NAMED {
         assert!(rt; route_at(&router, head) == Some((*route, *name)));
     }
-    Ok(())
 }

@@ -8,41 +8,40 @@ use office_rounds::RoundFault;
 use socket_link::FixedClock;
 use std::alloc::Global;
 use std::io::Write;
-use std::test::Fail;
+use std::process::Abort;
 
 // How a round of a device ends that has no list.
 fn round<W: Write>(
+    rt: &impl Abort,
     alloc: Global,
     device: &[u8],
     output: &mut W,
-) -> Result<Result<(), RoundFault>, Fail> {
-    let mut office = unmetered(alloc)?;
+) -> Result<(), RoundFault> {
+    let mut office = unmetered(rt, alloc);
     let device = Name::new(device);
     let mut link = MemoryLink::new(&[], &mut [], 260, None);
     let mut clock = FixedClock::new(&[1000]);
-    Ok(poll_round(alloc, &mut link, &mut office, device, &mut clock, output))
+    poll_round(alloc, &mut link, &mut office, device, &mut clock, output)
 }
 
 // A device that is connected and has no list is gone again.
 static ROUNDS: [(&[u8], &[u8]); 2] = [(b"none", b"refused 1\n"), (b"inv", b"ok\nok\nrefused 1\n")];
 
 #[test]
-fn a_refusal_is_printed_after_the_round(rt: HostRuntime) -> Result<(), Fail> {
+fn a_refusal_is_printed_after_the_round(rt: HostRuntime) {
     for (device, text) in &ROUNDS {
         let mut printed = Vec::new(rt.alloc());
-        let done = round(rt.alloc(), device, &mut printed)?;
+        let done = round(&rt, rt.alloc(), device, &mut printed);
         assert!(rt; done == Err(RoundFault::Refused(Refusal::NotFound)));
         assert!(rt; round_status(done).number() == 1);
         assert!(rt; printed.as_slice() == *text);
     }
-    Ok(())
 }
 
 #[test]
-fn a_refusal_that_is_not_printed_is_a_failure(rt: HostRuntime) -> Result<(), Fail> {
-    let done = round(rt.alloc(), b"none", &mut Narrow { room: 3 })?;
+fn a_refusal_that_is_not_printed_is_a_failure(rt: HostRuntime) {
+    let done = round(&rt, rt.alloc(), b"none", &mut Narrow { room: 3 });
     assert!(rt; done == Err(RoundFault::Output));
-    Ok(())
 }
 
 #[test]

@@ -6,7 +6,7 @@ use office_books::MeterEntry;
 use office_core::SiteRow;
 use run_http::{SiteLine, put_entries, put_register_meters, put_site};
 use std::alloc::Global;
-use std::test::Fail;
+use std::process::Abort;
 
 static ENTRIES: &str =
     "1 opening 7 4294967295 0 0 -3 stands\n2 manual 18446744073709551615 4294967295 255 0 3 void\n3 rescale 9 5 0 6 -1 stands\n4 reset 10 6 0 0 -1 stands\n5 closing 11 2 1 0 -1 stands\nend 5\n";
@@ -40,7 +40,7 @@ fn change(at: u64, before: u32, after: u32) -> Entry {
 }
 
 #[test]
-fn each_kind_of_entry_has_its_line(rt: HostRuntime) -> Result<(), Fail> {
+fn each_kind_of_entry_has_its_line(rt: HostRuntime) {
     let opening = Last {
         at: 7,
         raw: u32::MAX,
@@ -54,26 +54,25 @@ fn each_kind_of_entry_has_its_line(rt: HostRuntime) -> Result<(), Fail> {
         later(5, EntryKind::Closing, step(11, 2, 1), -1),
     ];
     let mut text = Vec::new(rt.alloc());
-    put_entries(&mut text, &entries)?;
+    put_entries(&mut text, &entries).expect(&rt, "no memory");
     assert!(rt; text.as_slice() == ENTRIES.as_bytes());
-    Ok(())
 }
 
 static SITE: &str =
     "{\"at\":7,\"registers\":[{\"device\":\"inv\",\"register\":\"main\",\"meter\":\"m1\",\"at\":1950,\"last\":4294967295,\"sf\":-3,\"total\":\"18446744073709551615\",\"earlier\":\"18446744073709551614\",\"ended\":true},{\"device\":\"inv\",\"register\":\"main\",\"meter\":null}]}\n";
 
 // The row of the register of an office that was polled.
-fn polled_row(alloc: Global) -> Result<SiteRow, Fail> {
-    let mut office = polled(alloc)?;
+fn polled_row(rt: &impl Abort, alloc: Global) -> SiteRow {
+    let mut office = polled(rt, alloc);
     let Ok(rows) = office.site() else {
-        return Err(Fail::from("no rows"));
+        panic!(rt; "no rows");
     };
-    Ok(rows.first().copied().ok_or("no row")?)
+    rows.first().copied().expect(rt, "no row")
 }
 
 #[test]
-fn a_scale_may_be_negative_and_a_meter_closed(rt: HostRuntime) -> Result<(), Fail> {
-    let row = polled_row(rt.alloc())?;
+fn a_scale_may_be_negative_and_a_meter_closed(rt: HostRuntime) {
+    let row = polled_row(&rt, rt.alloc());
     let mut closed = row;
     if let Some(meter) = &mut closed.meter {
         meter.last = Last {
@@ -95,18 +94,17 @@ fn a_scale_may_be_negative_and_a_meter_closed(rt: HostRuntime) -> Result<(), Fai
         row: bare,
         earlier: None,
     };
-    put_site(&mut text, 7, &[closed, bare])?;
+    put_site(&mut text, 7, &[closed, bare]).expect(&rt, "no memory");
     assert!(rt; text.as_slice() == SITE.as_bytes());
-    Ok(())
 }
 
 static METERS: &str =
     "m1 1000 18446744073709551615 4294967295 -10 18446744073709551615 ended\nm1 18446744073709551615 0 0 10 0 open\nend 2\n";
 
 #[test]
-fn each_number_of_a_meter_may_be_the_greatest(rt: HostRuntime) -> Result<(), Fail> {
-    let row = polled_row(rt.alloc())?;
-    let row = row.meter.ok_or("no meter")?;
+fn each_number_of_a_meter_may_be_the_greatest(rt: HostRuntime) {
+    let row = polled_row(&rt, rt.alloc());
+    let row = row.meter.expect(&rt, "no meter");
     let mut closed = row;
     closed.last = Last {
         at: u64::MAX,
@@ -124,7 +122,6 @@ fn each_number_of_a_meter_may_be_the_greatest(rt: HostRuntime) -> Result<(), Fai
     };
     open.total = 0;
     let mut text = Vec::new(rt.alloc());
-    put_register_meters(&mut text, &[closed, open])?;
+    put_register_meters(&mut text, &[closed, open]).expect(&rt, "no memory");
     assert!(rt; text.as_slice() == METERS.as_bytes());
-    Ok(())
 }

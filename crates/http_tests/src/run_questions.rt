@@ -16,7 +16,6 @@ use run_http::{
 use run_status::Counts;
 use std::alloc::{AllocError, Global};
 use std::process::Abort;
-use std::test::Fail;
 
 /// What was booked before.
 #[derive(Clone, Copy)]
@@ -384,26 +383,27 @@ static EXCHANGE: [(u64, &[u8]); 2] = [
 ];
 
 // Books of a meter that was read, and to whose office these requests came then.
-fn after(alloc: Global, requests: &[(u64, &[u8])]) -> Result<ListBooks, Fail> {
-    let mut office = polled(alloc)?;
+fn after(rt: &impl Abort, alloc: Global, requests: &[(u64, &[u8])]) -> ListBooks {
+    let mut office = polled(rt, alloc);
     for (moment, request) in requests {
-        if serve(alloc, &mut office, *moment, request)?
+        if serve(alloc, &mut office, *moment, request)
+            .expect(rt, "no memory")
             .handled
             .is_err()
         {
-            return Err(Fail::from("not served"));
+            panic!(rt; "not served");
         }
     }
-    Ok(office.into_books())
+    office.into_books()
 }
 
-fn books_of(alloc: Global, booked: Booked) -> Result<ListBooks, Fail> {
+fn books_of(rt: &impl Abort, alloc: Global, booked: Booked) -> ListBooks {
     match booked {
-        Booked::Nothing => blank(alloc),
-        Booked::Register => Ok(unmetered(alloc)?.into_books()),
-        Booked::Reading => after(alloc, &[]),
-        Booked::Void => after(alloc, &VOID),
-        Booked::Exchange => after(alloc, &EXCHANGE),
+        Booked::Nothing => blank(rt, alloc),
+        Booked::Register => unmetered(rt, alloc).into_books(),
+        Booked::Reading => after(rt, alloc, &[]),
+        Booked::Void => after(rt, alloc, &VOID),
+        Booked::Exchange => after(rt, alloc, &EXCHANGE),
     }
 }
 
@@ -468,30 +468,29 @@ fn sized_reply(alloc: Global, status: &str, body: &str) -> Result<String, AllocE
     }
 }
 
-fn is_replied(alloc: Global, question: &Question) -> Result<bool, Fail> {
+fn is_replied(rt: &impl Abort, alloc: Global, question: &Question) -> bool {
     let (_, booked, at, target, status, body) = *question;
-    let wanted = sized_reply(alloc, status, body)?;
-    match replied(alloc, books_of(alloc, booked)?, 0, at, target)? {
-        Some(text) => Ok(text.as_slice() == wanted.as_bytes()),
-        None => Ok(false),
+    let wanted = sized_reply(alloc, status, body).expect(rt, "no memory");
+    match replied(alloc, books_of(rt, alloc, booked), 0, at, target).expect(rt, "no memory") {
+        Some(text) => text.as_slice() == wanted.as_bytes(),
+        None => false,
     }
 }
 
 #[test]
-fn questions_have_their_replies(rt: HostRuntime) -> Result<(), Fail> {
+fn questions_have_their_replies(rt: HostRuntime) {
     let subjects: [&[Question]; 6] = [&SITES, &INTERVALS, &ENTRIES, &VOIDS, &METERS, &ENERGY];
     for questions in subjects {
         for question in questions {
-            assert!(rt; is_replied(rt.alloc(), question)?, "{}", question.0);
+            assert!(rt; is_replied(&rt, rt.alloc(), question), "{}", question.0);
         }
     }
-    Ok(())
 }
 
 // No target spells this place.
 #[test]
-fn entries_from_the_greatest_place_on_are_none(rt: HostRuntime) -> Result<(), Fail> {
-    let mut office = polled(rt.alloc())?;
+fn entries_from_the_greatest_place_on_are_none(rt: HostRuntime) {
+    let mut office = polled(&rt, rt.alloc());
     let mut text = Vec::new(rt.alloc());
     reply_entries(
         rt.alloc(),
@@ -499,21 +498,27 @@ fn entries_from_the_greatest_place_on_are_none(rt: HostRuntime) -> Result<(), Fa
         &mut office,
         &Name::new(b"m1"),
         u64::MAX,
-    )?;
-    let wanted = text_reply(rt.alloc(), "end 0\n")?;
+    )
+    .expect(&rt, "no memory");
+    let wanted = text_reply(rt.alloc(), "end 0\n").expect(&rt, "no memory");
     assert!(rt; text.as_slice() == wanted.as_bytes());
-    Ok(())
 }
 
 // What is replied to a target over books of a meter that was read.
-fn replied_of_reading(alloc: Global, failing: u64, target: &str) -> Result<Option<Vec<u8>>, Fail> {
-    Ok(replied(
+fn replied_of_reading(
+    rt: &impl Abort,
+    alloc: Global,
+    failing: u64,
+    target: &str,
+) -> Option<Vec<u8>> {
+    replied(
         alloc,
-        books_of(alloc, Booked::Reading)?,
+        books_of(rt, alloc, Booked::Reading),
         failing,
         2800,
         target,
-    )?)
+    )
+    .expect(rt, "no memory")
 }
 
 static METRICS_HEAD: &[u8] = b"HTTP/1.1 200 OK\r\nContent-Type: text/plain; version=0.0.4\r\n";
@@ -522,11 +527,10 @@ static METRICS_ENERGY: &[u8] =
     b"# TYPE sunreg_last_reading_timestamp_seconds gauge\n# HELP sunreg_energy_watthours_total Energy of a meter that is open.\n# TYPE sunreg_energy_watthours_total counter\nsunreg_energy_watthours_total{meter=\"m1\",register=\"main\",device=\"inv\"} 200.000\n# HELP sunreg_last_entry_timestamp_seconds Moment of the last entry of a meter.\n# TYPE sunreg_last_entry_timestamp_seconds gauge\nsunreg_last_entry_timestamp_seconds{meter=\"m1\",register=\"main\",device=\"inv\"} 1900\n";
 
 #[test]
-fn the_metrics_have_the_energy(rt: HostRuntime) -> Result<(), Fail> {
-    let text = replied_of_reading(rt.alloc(), 0, "/metrics")?.ok_or("not opened")?;
+fn the_metrics_have_the_energy(rt: HostRuntime) {
+    let text = replied_of_reading(&rt, rt.alloc(), 0, "/metrics").expect(&rt, "not opened");
     assert!(rt; text.starts_with(METRICS_HEAD));
     assert!(rt; text.ends_with(METRICS_ENERGY));
-    Ok(())
 }
 
 // What failing books show, a target, and how many calls there are of the books whose failure is replied.
@@ -543,16 +547,11 @@ static FAILING: [(&str, &str, u8); 3] = [
 ];
 
 // How many calls of the books have this reply where they fail. Where another fails, which is one of the opening's, or none, all is told.
-fn calls_that_fail(
-    rt: &impl Abort,
-    alloc: Global,
-    target: &str,
-    failure: &[u8],
-) -> Result<u8, Fail> {
-    let whole = replied_of_reading(alloc, 0, target)?.ok_or("not opened")?;
+fn calls_that_fail(rt: &impl Abort, alloc: Global, target: &str, failure: &[u8]) -> u8 {
+    let whole = replied_of_reading(rt, alloc, 0, target).expect(rt, "not opened");
     let mut count = 0u8;
     for failing in 1..20 {
-        if let Some(text) = replied_of_reading(alloc, failing, target)? {
+        if let Some(text) = replied_of_reading(rt, alloc, failing, target) {
             let is_failure = text.as_slice() == failure;
             assert!(rt;
                 is_failure || text.as_slice() == whole.as_slice(),
@@ -561,15 +560,17 @@ fn calls_that_fail(
             count = count.saturating_add(u8::from(is_failure));
         }
     }
-    Ok(count)
+    count
 }
 
 #[test]
-fn failing_books_are_unavailable(rt: HostRuntime) -> Result<(), Fail> {
-    let failure = reply(rt.alloc(), "503 Service Unavailable", "{\"refused\":13}")?;
+fn failing_books_are_unavailable(rt: HostRuntime) {
+    let failure = reply(rt.alloc(), "503 Service Unavailable", "{\"refused\":13}").expect(
+        &rt,
+        "no memory",
+    );
     for (name, target, wanted) in &FAILING {
-        let count = calls_that_fail(&rt, rt.alloc(), target, failure.as_bytes())?;
+        let count = calls_that_fail(&rt, rt.alloc(), target, failure.as_bytes());
         assert!(rt; count == *wanted, "{name}");
     }
-    Ok(())
 }

@@ -8,7 +8,7 @@ use memory_books::ListBooks;
 use office_core::Office;
 use office_events::{Installation, Name, Opening};
 use std::alloc::Global;
-use std::test::Fail;
+use std::process::Abort;
 
 // The meters that earlier files have at a register: the name of each, its energy in mWh, and whether it was closed.
 type Earlier = (&'static [u8], u64, bool);
@@ -78,11 +78,11 @@ static OF_NO_METER: [Case; 2] = [
 ];
 
 // A meter as earlier files have it.
-fn earlier_meter(it: &Earlier) -> Result<Installation, Fail> {
+fn earlier_meter(rt: &impl Abort, it: &Earlier) -> Installation {
     let (meter, total, ended) = *it;
     let opening = Opening {
-        meter: Name::new(meter).ok_or("no name")?,
-        register: Name::new(b"main").ok_or("no name")?,
+        meter: Name::new(meter).expect(rt, "no name"),
+        register: Name::new(b"main").expect(rt, "no name"),
         ceiling: 100_000,
         range: 4_294_967_296,
         at: 0,
@@ -94,55 +94,54 @@ fn earlier_meter(it: &Earlier) -> Result<Installation, Fail> {
         raw: 4,
         sf: -3,
     };
-    Ok(Installation {
+    Installation {
         opening,
         last,
         total,
         ended,
-    })
+    }
 }
 
 // What is replied by an office at moment 2800, with these meters of earlier files at a register.
 fn replied(
+    rt: &impl Abort,
     alloc: Global,
     office: &mut Office<ListBooks>,
     register: &[u8],
     meters: &[Earlier],
-) -> Result<Vec<u8>, Fail> {
+) -> Vec<u8> {
     let mut listed = Vec::new(alloc);
     for it in meters {
-        listed.push(earlier_meter(it)?)?;
+        listed.push(earlier_meter(rt, it)).expect(rt, "no memory");
     }
-    let earlier = [earlier_register(alloc, register, &listed, &[])?];
+    let earlier = [earlier_register(rt, alloc, register, &listed, &[])];
     let mut text = Vec::new(alloc);
-    reply_site_over(alloc, &mut text, office, &earlier, 2800)?;
-    Ok(text)
+    reply_site_over(alloc, &mut text, office, &earlier, 2800).expect(rt, "no memory");
+    text
 }
 
 // Whether an office tells that of a case.
-fn tells(alloc: Global, office: &mut Office<ListBooks>, case: &Case) -> Result<bool, Fail> {
+fn tells(rt: &impl Abort, alloc: Global, office: &mut Office<ListBooks>, case: &Case) -> bool {
     let (_, register, meters, told) = *case;
     let body = format!(in alloc;
         "{{\"at\":2800,\"registers\":[{{\"device\":\"inv\",\"register\":\"main\",\"meter\":{told}}}]}}\n"
-    )?;
-    let want = reply(alloc, "200 OK", &body)?;
-    Ok(replied(alloc, office, register, meters)?.as_slice() == want.as_bytes())
+    ).expect(rt, "no memory");
+    let want = reply(alloc, "200 OK", &body).expect(rt, "no memory");
+    replied(rt, alloc, office, register, meters).as_slice() == want.as_bytes()
 }
 
 #[test]
-fn the_meter_at_a_register_is_that_of_all_files(rt: HostRuntime) -> Result<(), Fail> {
-    let mut office = polled(rt.alloc())?;
+fn the_meter_at_a_register_is_that_of_all_files(rt: HostRuntime) {
+    let mut office = polled(&rt, rt.alloc());
     for case in &OF_A_METER {
-        assert!(rt; tells(rt.alloc(), &mut office, case)?, "{}", case.0);
+        assert!(rt; tells(&rt, rt.alloc(), &mut office, case), "{}", case.0);
     }
-    Ok(())
 }
 
 #[test]
-fn a_register_may_have_meters_in_earlier_files_alone(rt: HostRuntime) -> Result<(), Fail> {
-    let mut office = unmetered(rt.alloc())?;
+fn a_register_may_have_meters_in_earlier_files_alone(rt: HostRuntime) {
+    let mut office = unmetered(&rt, rt.alloc());
     for case in &OF_NO_METER {
-        assert!(rt; tells(rt.alloc(), &mut office, case)?, "{}", case.0);
+        assert!(rt; tells(&rt, rt.alloc(), &mut office, case), "{}", case.0);
     }
-    Ok(())
 }

@@ -8,20 +8,20 @@ use office_core::Office;
 use office_events::Refusal;
 use office_http::HandleFault;
 use std::alloc::Global;
-use std::test::Fail;
+use std::process::Abort;
 
 static INTERVALS: &[u8] = b"GET /meters/m1/intervals HTTP/1.1\r\n\r\n";
 
 // What is given of the intervals, where the books fail after their last row.
-fn cut(alloc: Global, failing: u64) -> Result<Option<Vec<u8>>, Fail> {
-    let books = FailingBooks::after_rows(polled(alloc)?.into_books(), failing);
+fn cut(rt: &impl Abort, alloc: Global, failing: u64) -> Option<Vec<u8>> {
+    let books = FailingBooks::after_rows(polled(rt, alloc).into_books(), failing);
     let Ok(mut office) = Office::open(alloc, books, 1900) else {
-        return Ok(None);
+        return None;
     };
-    let served = serve(alloc, &mut office, 2800, INTERVALS)?;
+    let served = serve(alloc, &mut office, 2800, INTERVALS).expect(rt, "no memory");
     match served.handled {
-        Err(HandleFault::Cut) => Ok(Some(served.given)),
-        _ => Ok(None),
+        Err(HandleFault::Cut) => Some(served.given),
+        _ => None,
     }
 }
 
@@ -29,47 +29,46 @@ static ROWS: &[u8] =
     b"HTTP/1.1 200 OK\r\nContent-Type: text/plain\r\nConnection: close\r\n\r\n900 177777\n1800 22223\n";
 
 #[test]
-fn a_text_that_is_cut_has_no_end(rt: HostRuntime) -> Result<(), Fail> {
+fn a_text_that_is_cut_has_no_end(rt: HostRuntime) {
     let mut cuts = 0u8;
     for failing in 1..20 {
-        if let Some(given) = cut(rt.alloc(), failing)? {
+        if let Some(given) = cut(&rt, rt.alloc(), failing) {
             assert!(rt; given.as_slice() == ROWS);
             cuts = cuts.saturating_add(1);
         }
     }
     assert!(rt; cuts == 1);
-    Ok(())
 }
 
 // An office over these books that has stopped while it settled a poll.
-fn stopped<B: Books>(alloc: Global, books: B) -> Result<Option<Office<B>>, Fail> {
+fn stopped<B: Books>(rt: &impl Abort, alloc: Global, books: B) -> Option<Office<B>> {
     let Ok(mut office) = Office::open(alloc, books, 1900) else {
-        return Ok(None);
+        return None;
     };
     let mut stops = false;
-    for event in &poll(alloc)? {
+    for event in &poll(rt, alloc) {
         stops = matches!(office.feed(1900, event), Err(Refusal::Store(_)));
     }
     if stops {
-        return Ok(Some(office));
+        return Some(office);
     }
-    Ok(None)
+    None
 }
 
 // An office that stops at the first call of the books where it can.
-fn first_stopped(alloc: Global) -> Result<Office<FailingBooks>, Fail> {
+fn first_stopped(rt: &impl Abort, alloc: Global) -> Office<FailingBooks> {
     for failing in 1..20 {
-        let books = FailingBooks::new(polled(alloc)?.into_books(), failing);
-        if let Some(office) = stopped(alloc, books)? {
-            return Ok(office);
+        let books = FailingBooks::new(polled(rt, alloc).into_books(), failing);
+        if let Some(office) = stopped(rt, alloc, books) {
+            return office;
         }
     }
-    Err(Fail::from("it never stops"))
+    panic!(rt; "it never stops")
 }
 
 #[test]
-fn a_stopped_office_is_unavailable(rt: HostRuntime) -> Result<(), Fail> {
-    let mut office = first_stopped(rt.alloc())?;
+fn a_stopped_office_is_unavailable(rt: HostRuntime) {
+    let mut office = first_stopped(&rt, rt.alloc());
     for request in [INTERVALS, COMMANDS[0].request, QUESTIONS[12].request] {
         let case = Case {
             at: 2800,
@@ -77,7 +76,6 @@ fn a_stopped_office_is_unavailable(rt: HostRuntime) -> Result<(), Fail> {
             status: "503 Service Unavailable",
             body: "{\"refused\":15}",
         };
-        play(&rt, rt.alloc(), &mut office, &case, 400)?;
+        play(&rt, rt.alloc(), &mut office, &case, 400);
     }
-    Ok(())
 }

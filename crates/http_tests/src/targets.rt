@@ -6,7 +6,6 @@ use office_books::Span;
 use office_events::Name;
 use run_http::{RunRoute, StatusRoute, run_route};
 use std::alloc::{AllocError, Global};
-use std::test::Fail;
 use web_page::PagePart;
 
 const MALFORMED: Option<StatusRoute> = Some(StatusRoute::Rejected(Status::BadRequest));
@@ -94,7 +93,7 @@ const LONG_SPAN: Span = Span::Between {
 
 // A target may ask for a span, for entries, for voids and for the meters at a register, also of names that are none.
 #[test]
-fn a_target_may_ask_for_rows(rt: HostRuntime) -> Result<(), Fail> {
+fn a_target_may_ask_for_rows(rt: HostRuntime) {
     let targets = [
         (
             "/meters/m1/intervals/0900/9999999999999999999",
@@ -133,13 +132,15 @@ fn a_target_may_ask_for_rows(rt: HostRuntime) -> Result<(), Fail> {
         ("/registers//meters", RunRoute::Meters { register: None }),
     ];
     for (target, route) in targets {
-        assert!(rt; route_of(rt.alloc(), target)? == Some(route), "{target}");
+        assert!(rt;
+            route_of(rt.alloc(), target).expect(&rt, "no memory") == Some(route),
+            "{target}"
+        );
     }
-    Ok(())
 }
 
 #[test]
-fn a_target_may_ask_for_energy(rt: HostRuntime) -> Result<(), Fail> {
+fn a_target_may_ask_for_energy(rt: HostRuntime) {
     let from = read_day("2026-11-01");
     let till = read_day("2026-12-01");
     assert!(rt; from.is_some() && till.is_some());
@@ -152,9 +153,11 @@ fn a_target_may_ask_for_energy(rt: HostRuntime) -> Result<(), Fail> {
             format: Format::Text,
         },
     };
-    let route = route_of(rt.alloc(), "/registers/main/days/2026-11-01/2026-12-01")?;
+    let route = route_of(rt.alloc(), "/registers/main/days/2026-11-01/2026-12-01").expect(
+        &rt,
+        "no memory",
+    );
     assert!(rt; route == Some(asked));
-    Ok(())
 }
 
 // Targets that ask for rows or days by a part that is malformed, and such that ask for neither.
@@ -218,10 +221,9 @@ fn is_answered(
 }
 
 #[test]
-fn other_targets_ask_for_no_rows(rt: HostRuntime) -> Result<(), Fail> {
+fn other_targets_ask_for_no_rows(rt: HostRuntime) {
     for (target, route) in &OTHERS {
-        let is_so = is_answered(rt.alloc(), target, route)?;
+        let is_so = is_answered(rt.alloc(), target, route).expect(&rt, "no memory");
         assert!(rt; is_so, "{target}");
     }
-    Ok(())
 }

@@ -2,7 +2,7 @@
 
 use crate::given::{Line, chain_of, image_of, points_in};
 use std::alloc::Global;
-use std::test::Fail;
+use std::process::Abort;
 use sun_chain::{Common, Model, NamedPoint, PointScale};
 use sun_points::{Point, Scale};
 
@@ -51,13 +51,13 @@ fn is_scaled_by_0(point: &NamedPoint<'_>) -> bool {
 }
 
 // How many points of a model are there, if all of them are absent.
-fn absent_count(alloc: Global, model: &Model) -> Result<Option<usize>, Fail> {
-    let image = image_of(alloc, &LINES)?;
-    let points = points_in(alloc, &image, model)?;
+fn absent_count(rt: &impl Abort, alloc: Global, model: &Model) -> Option<usize> {
+    let image = image_of(rt, alloc, &LINES);
+    let points = points_in(rt, alloc, &image, model);
     let absent = points
         .iter()
         .all(|point| is_absent(point) && is_scaled_by_0(point));
-    Ok(if absent { Some(points.len()) } else { None })
+    if absent { Some(points.len()) } else { None }
 }
 
 static COUNTS: [(Model, usize); 2] = [
@@ -80,12 +80,11 @@ static COUNTS: [(Model, usize); 2] = [
 ];
 
 #[test]
-fn absent_points_are_told(rt: HostRuntime) -> Result<(), Fail> {
+fn absent_points_are_told(rt: HostRuntime) {
     for (model, count) in &COUNTS {
-        let found = absent_count(rt.alloc(), model)?;
+        let found = absent_count(&rt, rt.alloc(), model);
         assert!(rt; found == Some(*count), "{count}");
     }
-    Ok(())
 }
 
 fn is_silent(common: &Common<'_>) -> bool {
@@ -93,11 +92,10 @@ fn is_silent(common: &Common<'_>) -> bool {
 }
 
 #[test]
-fn an_absent_device_says_nothing(rt: HostRuntime) -> Result<(), Fail> {
-    let image = image_of(rt.alloc(), &LINES)?;
-    let chain = chain_of(rt.alloc(), &image)?;
-    let common = chain.common().ok_or("no model 1")?;
+fn an_absent_device_says_nothing(rt: HostRuntime) {
+    let image = image_of(&rt, rt.alloc(), &LINES);
+    let chain = chain_of(&rt, rt.alloc(), &image);
+    let common = chain.common().expect(&rt, "no model 1");
     assert!(rt; is_silent(&common));
     assert!(rt; chain.models().len() == 2);
-    Ok(())
 }

@@ -4,7 +4,6 @@ use crate::given::list_of;
 use crate::narrow::Narrow;
 use point_list::{PointList, WriteListFault, write_list};
 use std::alloc::Global;
-use std::test::Fail;
 
 static TEXT: &[u8] = b"name,function,area,address,type,scale\na,3,0,5,int16,0\n";
 
@@ -16,8 +15,8 @@ fn is_told(alloc: Global, list: &PointList, room: usize, fails: bool) -> bool {
 }
 
 #[test]
-fn fails_at_each_byte(rt: HostRuntime) -> Result<(), Fail> {
-    let list = list_of(rt.alloc(), TEXT)?;
+fn fails_at_each_byte(rt: HostRuntime) {
+    let list = list_of(&rt, rt.alloc(), TEXT);
     for room in 0..TEXT.len() {
         assert!(rt; is_told(rt.alloc(), &list, room, true), "fails at {room}");
         assert!(rt;
@@ -25,14 +24,12 @@ fn fails_at_each_byte(rt: HostRuntime) -> Result<(), Fail> {
             "takes nothing at {room}"
         );
     }
-    Ok(())
 }
 
 #[test]
-fn is_interrupted(rt: HostRuntime) -> Result<(), Fail> {
-    let list = list_of(rt.alloc(), TEXT)?;
+fn is_interrupted(rt: HostRuntime) {
+    let list = list_of(&rt, rt.alloc(), TEXT);
     let mut output = Narrow::new(rt.alloc(), TEXT.len(), true);
     assert!(rt; write_list(rt.alloc(), &list, &mut output).is_ok());
     assert!(rt; output.taken.as_slice() == TEXT);
-    Ok(())
 }

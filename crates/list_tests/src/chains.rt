@@ -2,7 +2,7 @@
 use crate::given::{Line, chain_of, image_of, points_in, put, same};
 use std::alloc::Global;
 use std::io::Write;
-use std::test::Fail;
+use std::process::Abort;
 use sun_chain::{ChainFault, Image, Model, NamedPoint, walk};
 
 // A model 1 of this length, in which only ID and length were read, before an inverter, of which only two points were read,
@@ -74,19 +74,18 @@ static CHAINS: [Chained; 2] = [
     },
 ];
 
-fn is_chained(alloc: Global, want: &Chained) -> Result<bool, Fail> {
-    let image = image_of(alloc, want.lines)?;
-    let chain = chain_of(alloc, &image)?;
+fn is_chained(rt: &impl Abort, alloc: Global, want: &Chained) -> bool {
+    let image = image_of(rt, alloc, want.lines);
+    let chain = chain_of(rt, alloc, &image);
     let ends = (chain.base(), chain.end());
-    Ok(ends == (40000, want.end) && chain.models() == want.models.as_slice())
+    ends == (40000, want.end) && chain.models() == want.models.as_slice()
 }
 
 #[test]
-fn models_stand_in_a_row(rt: HostRuntime) -> Result<(), Fail> {
+fn models_stand_in_a_row(rt: HostRuntime) {
     for want in &CHAINS {
-        assert!(rt; is_chained(rt.alloc(), want)?, "to {}", want.end);
+        assert!(rt; is_chained(&rt, rt.alloc(), want), "to {}", want.end);
     }
-    Ok(())
 }
 
 #[test]
@@ -94,22 +93,23 @@ fn the_next_address(rt: HostRuntime) {
     assert!(rt; INVERTER.next() == 40122);
 }
 
-fn print_value(point: &NamedPoint<'_>, output: &mut Vec<u8>) -> Result<(), Fail> {
-    output.write_all(point.name().as_bytes())?;
-    output.write_all(b" ")?;
-    point.write_value(output)?;
-    output.write_all(b"/")?;
-    Ok(())
+fn print_value(rt: &impl Abort, point: &NamedPoint<'_>, output: &mut Vec<u8>) {
+    output
+        .write_all(point.name().as_bytes())
+        .expect(rt, "not written");
+    output.write_all(b" ").expect(rt, "not written");
+    point.write_value(output).expect(rt, "not written");
+    output.write_all(b"/").expect(rt, "not written");
 }
 
-fn values_in(alloc: Global, lines: &[Line]) -> Result<Vec<u8>, Fail> {
-    let image = image_of(alloc, lines)?;
-    let points = points_in(alloc, &image, &INVERTER)?;
+fn values_in(rt: &impl Abort, alloc: Global, lines: &[Line]) -> Vec<u8> {
+    let image = image_of(rt, alloc, lines);
+    let points = points_in(rt, alloc, &image, &INVERTER);
     let mut values = Vec::new(alloc);
     for point in &points {
-        print_value(point, &mut values)?;
+        print_value(rt, point, &mut values);
     }
-    Ok(values)
+    values
 }
 
 // Images in which the inverter's scale point says 0 and 11, and its two points.
@@ -119,35 +119,32 @@ static VALUES: [(&[Line], &str); 2] = [
 ];
 
 #[test]
-fn a_scale_point_scales(rt: HostRuntime) -> Result<(), Fail> {
+fn a_scale_point_scales(rt: HostRuntime) {
     for (lines, want) in &VALUES {
-        same(&rt, values_in(rt.alloc(), lines)?.as_slice(), want);
+        same(&rt, values_in(&rt, rt.alloc(), lines).as_slice(), want);
     }
-    Ok(())
 }
 
 // A mark at 50000, 64 models of no register, and these words after them.
-fn sixty_four_models(alloc: Global, following: &[u16]) -> Result<Image, Fail> {
+fn sixty_four_models(rt: &impl Abort, alloc: Global, following: &[u16]) -> Image {
     let mut image = Image::new(alloc);
-    put(&mut image, 50000, &[0x5375, 0x6E53])?;
+    put(rt, &mut image, 50000, &[0x5375, 0x6E53]);
     for place in 0..64u16 {
-        put(&mut image, 50002 + 2 * place, &[9, 0])?;
+        put(rt, &mut image, 50002 + 2 * place, &[9, 0]);
     }
-    put(&mut image, 50130, following)?;
-    Ok(image)
+    put(rt, &mut image, 50130, following);
+    image
 }
 
 #[test]
-fn sixty_four_models_are_found(rt: HostRuntime) -> Result<(), Fail> {
-    let image = sixty_four_models(rt.alloc(), &[0xFFFF])?;
-    let chain = chain_of(rt.alloc(), &image)?;
+fn sixty_four_models_are_found(rt: HostRuntime) {
+    let image = sixty_four_models(&rt, rt.alloc(), &[0xFFFF]);
+    let chain = chain_of(&rt, rt.alloc(), &image);
     assert!(rt; chain.models().len() == 64);
-    Ok(())
 }
 
 #[test]
-fn a_65th_model_is_refused(rt: HostRuntime) -> Result<(), Fail> {
-    let image = sixty_four_models(rt.alloc(), &[9, 0, 0xFFFF])?;
+fn a_65th_model_is_refused(rt: HostRuntime) {
+    let image = sixty_four_models(&rt, rt.alloc(), &[9, 0, 0xFFFF]);
     assert!(rt; walk(rt.alloc(), &image).err() == Some(ChainFault::TooMany));
-    Ok(())
 }

@@ -2,7 +2,7 @@
 use crate::given::{Line, chain_of, image_of, put, same};
 use std::alloc::Global;
 use std::io::{self, Write};
-use std::test::Fail;
+use std::process::Abort;
 use sun_chain::{Common, Image};
 
 // A model 1 at 2, with two letters in each of four texts, and the device address 3.
@@ -38,11 +38,11 @@ static LINES: [Line; 7] = [
 ];
 
 // The device with a model 1 of this length, whose end follows.
-fn device(alloc: Global, length: u16) -> Result<Image, Fail> {
-    let mut image = image_of(alloc, &LINES)?;
-    put(&mut image, 3, &[length])?;
-    put(&mut image, length.saturating_add(4), &[0xFFFF])?;
-    Ok(image)
+fn device(rt: &impl Abort, alloc: Global, length: u16) -> Image {
+    let mut image = image_of(rt, alloc, &LINES);
+    put(rt, &mut image, 3, &[length]);
+    put(rt, &mut image, length.saturating_add(4), &[0xFFFF]);
+    image
 }
 
 // What a device says of itself: its texts, each after how many registers it has, and its address.
@@ -62,12 +62,12 @@ fn print_common(common: &Common<'_>, output: &mut Vec<u8>) -> io::Result<()> {
     write!(output, "{}", common.device_address.unwrap_or(0))
 }
 
-fn said(alloc: Global, image: &Image) -> Result<Vec<u8>, Fail> {
-    let chain = chain_of(alloc, image)?;
-    let common = chain.common().ok_or("no model 1")?;
+fn said(rt: &impl Abort, alloc: Global, image: &Image) -> Vec<u8> {
+    let chain = chain_of(rt, alloc, image);
+    let common = chain.common().expect(rt, "no model 1");
     let mut output = Vec::new(alloc);
-    print_common(&common, &mut output)?;
-    Ok(output)
+    print_common(&common, &mut output).expect(rt, "not written");
+    output
 }
 
 // The length of model 1, and what the device says: one register more is for padding.
@@ -78,10 +78,9 @@ static SAYINGS: [(u16, &str); 3] = [
 ];
 
 #[test]
-fn a_device_says_what_it_is(rt: HostRuntime) -> Result<(), Fail> {
+fn a_device_says_what_it_is(rt: HostRuntime) {
     for (length, want) in &SAYINGS {
-        let image = device(rt.alloc(), *length)?;
-        same(&rt, said(rt.alloc(), &image)?.as_slice(), want);
+        let image = device(&rt, rt.alloc(), *length);
+        same(&rt, said(&rt, rt.alloc(), &image).as_slice(), want);
     }
-    Ok(())
 }

@@ -2,7 +2,7 @@
 use crate::narrow::Narrow;
 use std::alloc::Global;
 use std::io::{self, ErrorKind};
-use std::test::Fail;
+use std::process::Abort;
 use sun_points::{Point, Scale, Text, write_scaled};
 
 // Whether a writer got as much of the text as it had room for, and the right error was told where that is not all.
@@ -16,23 +16,22 @@ fn is_cut(output: &Narrow, outcome: io::Result<()>, room: usize, text: &str) -> 
     told && output.taken.as_slice() == &all[..room.min(all.len())]
 }
 
-fn cut_value(alloc: Global, room: usize, fails: bool) -> Result<bool, Fail> {
-    let scale = Scale::new(0xFFFE).ok_or("no scale")?;
+fn cut_value(rt: &impl Abort, alloc: Global, room: usize, fails: bool) -> bool {
+    let scale = Scale::new(0xFFFE).expect(rt, "no scale");
     let mut output = Narrow::new(alloc, room, fails);
     let outcome = write_scaled(-1234, scale, &mut output);
-    Ok(is_cut(&output, outcome, room, "-12.34"))
+    is_cut(&output, outcome, room, "-12.34")
 }
 
 #[test]
-fn a_scaled_value_is_cut(rt: HostRuntime) -> Result<(), Fail> {
+fn a_scaled_value_is_cut(rt: HostRuntime) {
     for room in 0..8usize {
-        assert!(rt; cut_value(rt.alloc(), room, true)?, "fails at {room}");
+        assert!(rt; cut_value(&rt, rt.alloc(), room, true), "fails at {room}");
         assert!(rt;
-            cut_value(rt.alloc(), room, false)?,
+            cut_value(&rt, rt.alloc(), room, false),
             "takes nothing at {room}"
         );
     }
-    Ok(())
 }
 
 static POINTS: [(Point<'static>, &str); 4] = [

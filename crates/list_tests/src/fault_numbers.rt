@@ -2,7 +2,7 @@
 
 use point_list::{FaultyRow, FaultyRows, ListFault, RowFault, WriteListFault};
 use std::alloc::Global;
-use std::test::Fail;
+use std::process::Abort;
 
 static SEVENTH: FaultyRow = FaultyRow {
     row: 7,
@@ -32,25 +32,27 @@ fn of_rows(rt: HostRuntime) {
 }
 
 // Faults of one row.
-fn faults(alloc: Global) -> Result<FaultyRows, Fail> {
+fn faults(rt: &impl Abort, alloc: Global) -> FaultyRows {
     let mut rows = Vec::new(alloc);
-    rows.push(SEVENTH)?;
-    Ok(FaultyRows::new(rows))
+    rows.push(SEVENTH).expect(rt, "no memory");
+    FaultyRows::new(rows)
 }
 
 #[test]
-fn of_lists(rt: HostRuntime) -> Result<(), Fail> {
-    assert!(rt; ListFault::Faults(faults(rt.alloc())?).number().is_none());
+fn of_lists(rt: HostRuntime) {
+    assert!(rt;
+        ListFault::Faults(faults(&rt, rt.alloc()))
+            .number()
+            .is_none()
+    );
     assert!(rt; ListFault::Memory.number() == Some(13));
     assert!(rt; WriteListFault::Write.number() == 1);
     assert!(rt; WriteListFault::Memory.number() == 2);
-    Ok(())
 }
 
 #[test]
-fn faulty_rows_are_kept(rt: HostRuntime) -> Result<(), Fail> {
-    let faults = faults(rt.alloc())?;
+fn faulty_rows_are_kept(rt: HostRuntime) {
+    let faults = faults(&rt, rt.alloc());
     assert!(rt; faults.rows() == [SEVENTH].as_slice());
     assert!(rt; faults.into_rows().as_slice() == [SEVENTH].as_slice());
-    Ok(())
 }

@@ -3,7 +3,7 @@ use crate::texts::tells;
 use device_scan::ScanFault;
 use point_list::{FaultyRow, FaultyRows, ListFault, RowFault, WriteListFault};
 use std::alloc::Global;
-use std::test::Fail;
+use std::process::Abort;
 use sun_chain::{ChainFault, ImageFault};
 
 const IMAGES: [(ImageFault, &str); 2] = [
@@ -77,10 +77,10 @@ const WRITES: [(WriteListFault, &str); 2] = [
 ];
 
 #[test]
-fn lists(rt: HostRuntime) -> Result<(), Fail> {
-    tells(&rt, rt.alloc(), &IMAGES)?;
-    tells(&rt, rt.alloc(), &CHAINS)?;
-    tells(&rt, rt.alloc(), &ROWS)?;
+fn lists(rt: HostRuntime) {
+    tells(&rt, rt.alloc(), &IMAGES);
+    tells(&rt, rt.alloc(), &CHAINS);
+    tells(&rt, rt.alloc(), &ROWS);
     tells(&rt, rt.alloc(), &WRITES)
 }
 
@@ -96,32 +96,32 @@ const FAULTY: [FaultyRow; 2] = [
 ];
 
 // The first so many of them.
-fn faulty(alloc: Global, count: usize) -> Result<FaultyRows, Fail> {
+fn faulty(rt: &impl Abort, alloc: Global, count: usize) -> FaultyRows {
     let mut rows = Vec::new(alloc);
     for row in FAULTY.iter().take(count) {
-        rows.push(*row)?;
+        rows.push(*row).expect(rt, "no memory");
     }
-    Ok(FaultyRows::new(rows))
+    FaultyRows::new(rows)
 }
 
 #[test]
-fn scans(rt: HostRuntime) -> Result<(), Fail> {
+fn scans(rt: HostRuntime) {
     tells(&rt, rt.alloc(), &SCANS)
 }
 
 #[test]
-fn lists_tell_their_first_row(rt: HostRuntime) -> Result<(), Fail> {
+fn lists_tell_their_first_row(rt: HostRuntime) {
     let lists = [
         (
-            ListFault::Faults(faulty(rt.alloc(), 0)?),
+            ListFault::Faults(faulty(&rt, rt.alloc(), 0)),
             "no row is faulty",
         ),
         (
-            ListFault::Faults(faulty(rt.alloc(), 1)?),
+            ListFault::Faults(faulty(&rt, rt.alloc(), 1)),
             "row 2: the function is not 3 or 4",
         ),
         (
-            ListFault::Faults(faulty(rt.alloc(), 2)?),
+            ListFault::Faults(faulty(&rt, rt.alloc(), 2)),
             "row 2: the function is not 3 or 4 (faulty rows: 2)",
         ),
         (ListFault::Memory, "memory ran out"),

@@ -4,7 +4,7 @@ use crate::given::{Line, image_of, points_in, put, same};
 use point_list::type_text;
 use std::alloc::Global;
 use std::io::Write;
-use std::test::Fail;
+use std::process::Abort;
 use sun_chain::{Image, Model, NamedPoint, PointScale};
 use sun_points::Scale;
 
@@ -192,25 +192,23 @@ static METER_MODEL: Model = Model {
 };
 
 // Each register of a model has its offset as value, but for the scale points.
-fn put_model(image: &mut Image, model: &Model, scales: &[(u16, i16)]) -> Result<(), Fail> {
-    put(image, model.address, &[model.id, model.length])?;
+fn put_model(rt: &impl Abort, image: &mut Image, model: &Model, scales: &[(u16, i16)]) {
+    put(rt, image, model.address, &[model.id, model.length]);
     for offset in 2..model.length.saturating_add(2) {
-        put(image, model.address.saturating_add(offset), &[offset])?;
+        put(rt, image, model.address.saturating_add(offset), &[offset]);
     }
     for (address, exponent) in scales {
-        put(image, *address, &[exponent.cast_unsigned()])?;
+        put(rt, image, *address, &[exponent.cast_unsigned()]);
     }
-    Ok(())
 }
 
 // Each register of a model 1 has the two digits of its offset.
-fn put_digits(image: &mut Image) -> Result<(), Fail> {
-    put(image, 40002, &[1, 66])?;
+fn put_digits(rt: &impl Abort, image: &mut Image) {
+    put(rt, image, 40002, &[1, 66]);
     for offset in 2..68u16 {
         let digits = 0x3030 + 256 * (offset / 10) + offset % 10;
-        put(image, 40002 + offset, &[digits])?;
+        put(rt, image, 40002 + offset, &[digits]);
     }
-    Ok(())
 }
 
 // The mark, and the end of the chain.
@@ -226,61 +224,64 @@ static BOTH_ENDS: [Line; 2] = [
 ];
 
 /// The words of the mark, a model 1, a model 103 and a model 203, all full, and the end's ID.
-pub(crate) fn full_image(alloc: Global) -> Result<Image, Fail> {
-    let mut image = image_of(alloc, &BOTH_ENDS)?;
-    put_digits(&mut image)?;
+pub(crate) fn full_image(rt: &impl Abort, alloc: Global) -> Image {
+    let mut image = image_of(rt, alloc, &BOTH_ENDS);
+    put_digits(rt, &mut image);
     let models = [
         (INVERTER_MODEL, INVERTER_SCALES.as_slice()),
         (METER_MODEL, METER_SCALES.as_slice()),
     ];
     for (model, scales) in models {
-        put_model(&mut image, &model, scales)?;
+        put_model(rt, &mut image, &model, scales);
     }
-    Ok(image)
+    image
 }
 
 // A point's name, address and type.
-fn print_place(alloc: Global, point: &NamedPoint<'_>, output: &mut Vec<u8>) -> Result<(), Fail> {
-    let ty = type_text(alloc, point.ty())?;
-    write!(output, "{} {} {ty} ", point.name(), point.address())?;
-    Ok(())
+fn print_place(rt: &impl Abort, alloc: Global, point: &NamedPoint<'_>, output: &mut Vec<u8>) {
+    let ty = type_text(alloc, point.ty()).expect(rt, "no type");
+    write!(output, "{} {} {ty} ", point.name(), point.address()).expect(rt, "not written");
 }
 
-fn print_scale(scale: PointScale, output: &mut Vec<u8>) -> Result<(), Fail> {
+fn print_scale(rt: &impl Abort, scale: PointScale, output: &mut Vec<u8>) {
     match scale {
-        PointScale::Unscaled => output.write_all(b"\n")?,
-        PointScale::Scaled(scale) => write!(output, " at {}\n", scale.exponent())?,
-        PointScale::Faulty => output.write_all(b" faulty\n")?,
+        PointScale::Unscaled => output.write_all(b"\n").expect(rt, "not written"),
+        PointScale::Scaled(scale) => write!(output, " at {}\n", scale.exponent()).expect(
+            rt,
+            "not written",
+        ),
+        PointScale::Faulty => output.write_all(b" faulty\n").expect(rt, "not written"),
     }
-    Ok(())
 }
 
-fn print_point(alloc: Global, point: &NamedPoint<'_>, output: &mut Vec<u8>) -> Result<(), Fail> {
-    print_place(alloc, point, output)?;
-    point.value().write(Scale::default(), output)?;
-    print_scale(point.scale(), output)
+fn print_point(rt: &impl Abort, alloc: Global, point: &NamedPoint<'_>, output: &mut Vec<u8>) {
+    print_place(rt, alloc, point, output);
+    point
+        .value()
+        .write(Scale::default(), output)
+        .expect(rt, "not written");
+    print_scale(rt, point.scale(), output)
 }
 
 // The points of a model of the full image.
-fn points_of(alloc: Global, model: &Model) -> Result<Vec<u8>, Fail> {
-    let image = full_image(alloc)?;
-    let points = points_in(alloc, &image, model)?;
+fn points_of(rt: &impl Abort, alloc: Global, model: &Model) -> Vec<u8> {
+    let image = full_image(rt, alloc);
+    let points = points_in(rt, alloc, &image, model);
     let mut lines = Vec::new(alloc);
     for point in &points {
-        print_point(alloc, point, &mut lines)?;
+        print_point(rt, alloc, point, &mut lines);
     }
-    Ok(lines)
+    lines
 }
 
 #[test]
-fn full_models_have_each_point(rt: HostRuntime) -> Result<(), Fail> {
+fn full_models_have_each_point(rt: HostRuntime) {
     let models = [
         (&DEVICE_MODEL, DEVICE),
         (&INVERTER_MODEL, INVERTER),
         (&METER_MODEL, METER),
     ];
     for (model, want) in models {
-        same(&rt, points_of(rt.alloc(), model)?.as_slice(), want);
+        same(&rt, points_of(&rt, rt.alloc(), model).as_slice(), want);
     }
-    Ok(())
 }

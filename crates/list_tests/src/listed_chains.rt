@@ -3,7 +3,7 @@
 use crate::given::{Line, chain_of, image_of, put, same, written};
 use point_list::{FaultyRow, ListFault, PointList, RowFault, from_chain};
 use std::alloc::Global;
-use std::test::Fail;
+use std::process::Abort;
 use sun_chain::Image;
 
 // Lines of an image, and the list of its chain.
@@ -77,49 +77,53 @@ m1.W_SF,3,0,40024,sunssf,
     },
 ];
 
-fn list_in(alloc: Global, image: &Image) -> Result<PointList, Fail> {
-    let chain = chain_of(alloc, image)?;
-    Ok(from_chain(alloc, &chain).ok().ok_or("no list")?)
+fn list_in(rt: &impl Abort, alloc: Global, image: &Image) -> PointList {
+    let chain = chain_of(rt, alloc, image);
+    from_chain(alloc, &chain).ok().expect(rt, "no list")
 }
 
 // The text of the list of the chain in these lines.
-fn text_of(alloc: Global, lines: &[Line]) -> Result<Vec<u8>, Fail> {
-    let image = image_of(alloc, lines)?;
-    written(alloc, &list_in(alloc, &image)?)
+fn text_of(rt: &impl Abort, alloc: Global, lines: &[Line]) -> Vec<u8> {
+    let image = image_of(rt, alloc, lines);
+    written(rt, alloc, &list_in(rt, alloc, &image))
 }
 
 #[test]
-fn lists_of_chains(rt: HostRuntime) -> Result<(), Fail> {
+fn lists_of_chains(rt: HostRuntime) {
     for (i, chain) in CHAINS.iter().enumerate() {
-        let text = text_of(rt.alloc(), chain.lines)?;
+        let text = text_of(&rt, rt.alloc(), chain.lines);
         assert!(rt; text.as_slice() == chain.text, "chain {i}");
     }
-    Ok(())
 }
 
 // An image of so many meters, all of whose words were read, and of one more, if any words of it were read.
-fn meters(alloc: Global, count: u16, more: &[u16]) -> Result<Image, Fail> {
+fn meters(rt: &impl Abort, alloc: Global, count: u16, more: &[u16]) -> Image {
     let mut image = Image::new(alloc);
-    put(&mut image, 0, &[0x5375, 0x6E53])?;
+    put(rt, &mut image, 0, &[0x5375, 0x6E53]);
     for model in 0..count {
-        put_meter(&mut image, model, &[0; 105])?;
+        put_meter(rt, &mut image, model, &[0; 105]);
     }
     if more.is_empty() {
-        put(&mut image, address_of(count), &[0xFFFF])?;
+        put(rt, &mut image, address_of(count), &[0xFFFF]);
     } else {
-        put_meter(&mut image, count, more)?;
-        put(&mut image, address_of(count.saturating_add(1)), &[0xFFFF])?;
+        put_meter(rt, &mut image, count, more);
+        put(
+            rt,
+            &mut image,
+            address_of(count.saturating_add(1)),
+            &[0xFFFF],
+        );
     }
-    Ok(image)
+    image
 }
 
 fn address_of(model: u16) -> u16 {
     model.saturating_mul(107).saturating_add(2)
 }
 
-fn put_meter(image: &mut Image, model: u16, words: &[u16]) -> Result<(), Fail> {
-    put(image, address_of(model), &[203, 105])?;
-    put(image, address_of(model).saturating_add(2), words)
+fn put_meter(rt: &impl Abort, image: &mut Image, model: u16, words: &[u16]) {
+    put(rt, image, address_of(model), &[203, 105]);
+    put(rt, image, address_of(model).saturating_add(2), words)
 }
 
 // How many full meters an image has, and the words that were read of one more; and how many points their list has, if they
@@ -136,39 +140,45 @@ const TOO_MANY: FaultyRow = FaultyRow {
     fault: RowFault::TooMany,
 };
 
-fn count_in(alloc: Global, image: &Image) -> Result<Option<usize>, Fail> {
-    let chain = chain_of(alloc, image)?;
+fn count_in(rt: &impl Abort, alloc: Global, image: &Image) -> Option<usize> {
+    let chain = chain_of(rt, alloc, image);
     match from_chain(alloc, &chain) {
-        Ok(list) => Ok(Some(list.points().len())),
-        Err(ListFault::Faults(faults)) if faults.rows() == [TOO_MANY].as_slice() => Ok(None),
-        Err(_) => Err("another fault".into()),
+        Ok(list) => Some(list.points().len()),
+        Err(ListFault::Faults(faults)) if faults.rows() == [TOO_MANY].as_slice() => None,
+        Err(_) => panic!(rt; "another fault"),
     }
 }
 
 #[test]
-fn chains_have_512_points_at_most(rt: HostRuntime) -> Result<(), Fail> {
+fn chains_have_512_points_at_most(rt: HostRuntime) {
     for (count, more, points) in COUNTS {
-        let image = meters(rt.alloc(), count, more)?;
-        let found = count_in(rt.alloc(), &image)?;
+        let image = meters(&rt, rt.alloc(), count, more);
+        let found = count_in(&rt, rt.alloc(), &image);
         assert!(rt; found == points, "{points:?}");
     }
-    Ok(())
 }
 
 // The names of the first and the last point of the list of an image's chain.
-fn ends_of(alloc: Global, image: &Image) -> Result<Vec<u8>, Fail> {
-    let list = list_in(alloc, image)?;
+fn ends_of(rt: &impl Abort, alloc: Global, image: &Image) -> Vec<u8> {
+    let list = list_in(rt, alloc, image);
     let mut names = Vec::new(alloc);
     if let [first, .., last] = list.points() {
-        names.extend_from_slice(first.name.as_bytes())?;
-        names.extend_from_slice(last.name.as_bytes())?;
+        names
+            .extend_from_slice(first.name.as_bytes())
+            .expect(rt, "no memory");
+        names
+            .extend_from_slice(last.name.as_bytes())
+            .expect(rt, "no memory");
     }
-    Ok(names)
+    names
 }
 
 #[test]
-fn many_points(rt: HostRuntime) -> Result<(), Fail> {
-    let image = meters(rt.alloc(), 7, &[])?;
-    same(&rt, ends_of(rt.alloc(), &image)?.as_slice(), "m1.Am7.Evt");
-    Ok(())
+fn many_points(rt: HostRuntime) {
+    let image = meters(&rt, rt.alloc(), 7, &[]);
+    same(
+        &rt,
+        ends_of(&rt, rt.alloc(), &image).as_slice(),
+        "m1.Am7.Evt",
+    );
 }

@@ -3,7 +3,7 @@
 use crate::given::{faults_of, list_of, text_of};
 use std::alloc::Global;
 use std::io::Write;
-use std::test::Fail;
+use std::process::Abort;
 
 // What comes after 512 rows, and what is told of it. No row is read after the 513th, whose lesser faults show.
 static AFTER_512_ROWS: [(&str, &str); 3] = [
@@ -13,28 +13,27 @@ static AFTER_512_ROWS: [(&str, &str); 3] = [
 ];
 
 // A text of 512 rows of distinct names.
-fn many_rows(alloc: Global) -> Result<Vec<u8>, Fail> {
-    let mut text = text_of(alloc, "")?;
+fn many_rows(rt: &impl Abort, alloc: Global) -> Vec<u8> {
+    let mut text = text_of(rt, alloc, "");
     for place in 0..512 {
-        write!(text, "p{place},3,0,0,int16,\n")?;
+        write!(text, "p{place},3,0,0,int16,\n").expect(rt, "not written");
     }
-    Ok(text)
+    text
 }
 
 #[test]
-fn as_many_as_may_be(rt: HostRuntime) -> Result<(), Fail> {
-    let list = list_of(rt.alloc(), &many_rows(rt.alloc())?)?;
+fn as_many_as_may_be(rt: HostRuntime) {
+    let list = list_of(&rt, rt.alloc(), &many_rows(&rt, rt.alloc()));
     assert!(rt; list.points().len() == 512);
-    Ok(())
 }
 
 #[test]
-fn too_many(rt: HostRuntime) -> Result<(), Fail> {
+fn too_many(rt: HostRuntime) {
     for (more, told) in &AFTER_512_ROWS {
-        let mut text = many_rows(rt.alloc())?;
-        text.extend_from_slice(more.as_bytes())?;
-        let found = faults_of(rt.alloc(), &text)?;
+        let mut text = many_rows(&rt, rt.alloc());
+        text.extend_from_slice(more.as_bytes())
+            .expect(&rt, "no memory");
+        let found = faults_of(&rt, rt.alloc(), &text);
         assert!(rt; found.as_slice() == told.as_bytes(), "{more}");
     }
-    Ok(())
 }

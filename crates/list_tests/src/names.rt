@@ -2,7 +2,6 @@
 
 use crate::given::name;
 use point_list::PointName;
-use std::test::Fail;
 
 static NAMES: [&str; 4] = ["wh", "m2.WH_SF", "A", "a23456789.123456789_123456789.12"];
 
@@ -17,21 +16,19 @@ static OTHERS: [&str; 7] = [
 ];
 
 #[test]
-fn names(rt: HostRuntime) -> Result<(), Fail> {
+fn names(rt: HostRuntime) {
     for text in &NAMES {
-        let name = name(rt.alloc(), text)?;
+        let name = name(&rt, rt.alloc(), text);
         assert!(rt; name.as_bytes() == text.as_bytes(), "{text}");
         assert!(rt; name.into_bytes().as_slice() == text.as_bytes(), "{text}");
     }
-    Ok(())
 }
 
 #[test]
-fn other_bytes_are_handed_back(rt: HostRuntime) -> Result<(), Fail> {
+fn other_bytes_are_handed_back(rt: HostRuntime) {
     for text in &OTHERS {
-        let bytes = text.as_bytes().to_vec(rt.alloc())?;
-        let back = PointName::new(bytes).err().ok_or("a name")?;
+        let bytes = text.as_bytes().to_vec(rt.alloc()).expect(&rt, "no memory");
+        let back = PointName::new(bytes).err().expect(&rt, "no name");
         assert!(rt; back.as_slice() == text.as_bytes(), "{text}");
     }
-    Ok(())
 }

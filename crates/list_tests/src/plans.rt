@@ -4,7 +4,7 @@ use crate::given::{list_of, same, text_of};
 use read_plan::{Plan, plan, rule_is_least};
 use std::alloc::Global;
 use std::io::Write;
-use std::test::Fail;
+use std::process::Abort;
 
 // The rows of a list; the function, area, address and count of each read; the read and offset of each point.
 struct PlanCase {
@@ -64,41 +64,44 @@ static PLANS: [PlanCase; 8] = [
     },
 ];
 
-fn planned(alloc: Global, rows: &str) -> Result<Plan, Fail> {
-    let list = list_of(alloc, &text_of(alloc, rows)?)?;
-    Ok(plan(alloc, &list)?)
+fn planned(rt: &impl Abort, alloc: Global, rows: &str) -> Plan {
+    let list = list_of(rt, alloc, &text_of(rt, alloc, rows));
+    plan(alloc, &list).expect(rt, "no plan")
 }
 
-fn reads_of(alloc: Global, plan: &Plan) -> Result<Vec<u8>, Fail> {
+fn reads_of(rt: &impl Abort, alloc: Global, plan: &Plan) -> Vec<u8> {
     let mut text = Vec::new(alloc);
     for read in plan.reads() {
         let function = read.span.function.code();
         let area = read.area;
         let address = read.span.address;
         let count = read.span.count;
-        write!(text, "{function} {area} {address} {count}\n")?;
+        write!(text, "{function} {area} {address} {count}\n").expect(rt, "not written");
     }
-    Ok(text)
+    text
 }
 
-fn places_of(alloc: Global, plan: &Plan) -> Result<Vec<u8>, Fail> {
+fn places_of(rt: &impl Abort, alloc: Global, plan: &Plan) -> Vec<u8> {
     let mut text = Vec::new(alloc);
     for point in 0..plan.point_count() {
         let place = plan.place(point);
         let read = place.read;
         let offset = place.offset;
-        write!(text, "{read}+{offset} ")?;
+        write!(text, "{read}+{offset} ").expect(rt, "not written");
     }
-    Ok(text)
+    text
 }
 
 #[test]
-fn worked_plans(rt: HostRuntime) -> Result<(), Fail> {
+fn worked_plans(rt: HostRuntime) {
     rule_is_least();
     for want in &PLANS {
-        let plan = planned(rt.alloc(), want.rows)?;
-        same(&rt, reads_of(rt.alloc(), &plan)?.as_slice(), want.reads);
-        same(&rt, places_of(rt.alloc(), &plan)?.as_slice(), want.places);
+        let plan = planned(&rt, rt.alloc(), want.rows);
+        same(&rt, reads_of(&rt, rt.alloc(), &plan).as_slice(), want.reads);
+        same(
+            &rt,
+            places_of(&rt, rt.alloc(), &plan).as_slice(),
+            want.places,
+        );
     }
-    Ok(())
 }

@@ -2,7 +2,6 @@
 use crate::given::same;
 use std::alloc::Global;
 use std::io::{self, Write};
-use std::test::Fail;
 use sun_points::{PointType, TextLength};
 
 // The types but texts.
@@ -26,9 +25,12 @@ fn lengths(alloc: Global) -> io::Result<Vec<u8>> {
 }
 
 #[test]
-fn registers_by_type(rt: HostRuntime) -> Result<(), Fail> {
-    same(&rt, lengths(rt.alloc())?.as_slice(), "1 1 1 2 2 2 2 1 ");
-    Ok(())
+fn registers_by_type(rt: HostRuntime) {
+    same(
+        &rt,
+        lengths(rt.alloc()).expect(&rt, "no lengths").as_slice(),
+        "1 1 1 2 2 2 2 1 ",
+    );
 }
 
 // The registers of a text, and 0 where a text can't have so many.

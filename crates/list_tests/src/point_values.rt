@@ -2,6 +2,7 @@
 use crate::given::same;
 use point_list::point_type;
 use std::alloc::Global;
+use std::process::Abort;
 use std::test::Fail;
 use sun_points::{Point, PointType, Scale, Text, TextLength, read_point};
 
@@ -129,17 +130,16 @@ static TENTHS: [(Point<'static>, &str); 4] = [
     (Point::Bits(0xAB), "0x000000ab"),
 ];
 
-fn at_a_tenth(alloc: Global, point: &Point<'_>) -> Result<Vec<u8>, Fail> {
-    let tenth = Scale::new(0xFFFF).ok_or("no scale")?;
+fn at_a_tenth(rt: &impl Abort, alloc: Global, point: &Point<'_>) -> Vec<u8> {
+    let tenth = Scale::new(0xFFFF).expect(rt, "no scale");
     let mut output = Vec::new(alloc);
-    point.write(tenth, &mut output)?;
-    Ok(output)
+    point.write(tenth, &mut output).expect(rt, "not written");
+    output
 }
 
 #[test]
-fn numbers_are_scaled(rt: HostRuntime) -> Result<(), Fail> {
+fn numbers_are_scaled(rt: HostRuntime) {
     for (point, want) in &TENTHS {
-        same(&rt, at_a_tenth(rt.alloc(), point)?.as_slice(), want);
+        same(&rt, at_a_tenth(&rt, rt.alloc(), point).as_slice(), want);
     }
-    Ok(())
 }

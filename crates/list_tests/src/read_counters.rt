@@ -4,7 +4,7 @@ use device_scan::{CounterScale, ScanFault, Shown, read_counter};
 use mb_device::{Area, Bank, Kind, Trick};
 use mb_wire::{MemoryLink, ReadFunction};
 use std::alloc::Global;
-use std::test::Fail;
+use std::process::Abort;
 
 static AREAS: [Area; 2] = [
     Area {
@@ -32,12 +32,12 @@ static WORDS: [(Kind, u16, u16); 9] = [
     (Kind::Input, 40017, 0xFFFC),
 ];
 
-fn meter(alloc: Global) -> Result<Bank, Fail> {
-    let mut bank = Bank::new(alloc, &AREAS).ok().ok_or("no bank")?;
+fn meter(rt: &impl Abort, alloc: Global) -> Bank {
+    let mut bank = Bank::new(alloc, &AREAS).ok().expect(rt, "no bank");
     for (kind, address, word) in &WORDS {
         bank.set(*kind, *address, *word);
     }
-    Ok(bank)
+    bank
 }
 
 const HOLDING: ReadFunction = ReadFunction::HoldingRegisters;
@@ -57,15 +57,14 @@ static COUNTERS: [Counter; 6] = [
 ];
 
 #[test]
-fn a_counter_is_read_with_its_scale(rt: HostRuntime) -> Result<(), Fail> {
-    let mut link = StandInLink::new(meter(rt.alloc())?, &[]);
+fn a_counter_is_read_with_its_scale(rt: HostRuntime) {
+    let mut link = StandInLink::new(meter(&rt, rt.alloc()), &[]);
     for (function, address, scale, (raw, sf)) in &COUNTERS {
         let found = read_counter(rt.alloc(), &mut link, 1, *function, *address, *scale);
         let (raw, sf) = (*raw, *sf);
         assert!(rt; found == Ok(Some(Shown { raw, sf })), "{address}");
     }
     assert!(rt; link.gives() == 6);
-    Ok(())
 }
 
 // Counters that show nothing, and how often something is asked for.
@@ -83,15 +82,14 @@ static UNSHOWN: [(ReadFunction, u16, CounterScale, u64); 7] = [
 ];
 
 #[test]
-fn a_counter_without_a_scale_or_words_shows_nothing(rt: HostRuntime) -> Result<(), Fail> {
-    let mut link = StandInLink::new(meter(rt.alloc())?, &[]);
+fn a_counter_without_a_scale_or_words_shows_nothing(rt: HostRuntime) {
+    let mut link = StandInLink::new(meter(&rt, rt.alloc()), &[]);
     for (function, address, scale, gives) in &UNSHOWN {
         let before = link.gives();
         let found = read_counter(rt.alloc(), &mut link, 1, *function, *address, *scale);
         assert!(rt; found == Ok(None), "{address}");
         assert!(rt; link.gives() == before.saturating_add(*gives), "{address}");
     }
-    Ok(())
 }
 
 // What a counter shows.
@@ -101,12 +99,13 @@ fn shown(raw: u32, sf: i16) -> Option<Shown> {
 
 // The counter with the scale after it, under tricks.
 fn tricked(
+    rt: &impl Abort,
     alloc: Global,
     tricks: &[(u64, Trick)],
-) -> Result<Result<Option<Shown>, ScanFault>, Fail> {
-    let mut link = StandInLink::new(meter(alloc)?, tricks);
+) -> Result<Option<Shown>, ScanFault> {
+    let mut link = StandInLink::new(meter(rt, alloc), tricks);
     let scale = CounterScale::Register(40014);
-    Ok(read_counter(alloc, &mut link, 1, INPUT, 40010, scale))
+    read_counter(alloc, &mut link, 1, INPUT, 40010, scale)
 }
 
 static ONCE: [Trick; 5] = [
@@ -118,23 +117,21 @@ static ONCE: [Trick; 5] = [
 ];
 
 #[test]
-fn a_counter_is_asked_for_twice(rt: HostRuntime) -> Result<(), Fail> {
+fn a_counter_is_asked_for_twice(rt: HostRuntime) {
     for trick in &ONCE {
-        let found = tricked(rt.alloc(), &[(1, *trick)])?;
+        let found = tricked(&rt, rt.alloc(), &[(1, *trick)]);
         assert!(rt; found == Ok(shown(131_075, 3)));
     }
-    let silent = tricked(rt.alloc(), &[(1, Trick::Drop), (2, Trick::Drop)])?;
+    let silent = tricked(&rt, rt.alloc(), &[(1, Trick::Drop), (2, Trick::Drop)]);
     assert!(rt; silent == Ok(None));
-    Ok(())
 }
 
 #[test]
-fn a_connection_that_breaks_shows_nothing(rt: HostRuntime) -> Result<(), Fail> {
-    let cut = tricked(rt.alloc(), &[(1, Trick::Cut(5))])?;
+fn a_connection_that_breaks_shows_nothing(rt: HostRuntime) {
+    let cut = tricked(&rt, rt.alloc(), &[(1, Trick::Cut(5))]);
     assert!(rt; cut == Err(ScanFault::Gone));
-    let garbled = tricked(rt.alloc(), &[(1, Trick::Garble)])?;
+    let garbled = tricked(&rt, rt.alloc(), &[(1, Trick::Garble)]);
     assert!(rt; garbled == Err(ScanFault::Garbled));
-    Ok(())
 }
 
 // An exception to the first request, and the words to the second.

@@ -1,7 +1,7 @@
 //! Texts in registers.
 use crate::given::same;
 use std::alloc::Global;
-use std::test::Fail;
+use std::process::Abort;
 use sun_points::Text;
 
 // The registers of a text after which zeros follow, and how it is shown.
@@ -13,26 +13,24 @@ static TEXTS: [([u16; 4], &str); 5] = [
     ([0x4142, 0x4344, 0x4546, 0x47FF], "ABCDEFG\\xFF"),
 ];
 
-fn shown(alloc: Global, words: &[u16]) -> Result<Vec<u8>, Fail> {
+fn shown(rt: &impl Abort, alloc: Global, words: &[u16]) -> Vec<u8> {
     let mut output = Vec::new(alloc);
-    Text { words }.write(&mut output)?;
-    Ok(output)
+    Text { words }.write(&mut output).expect(rt, "not written");
+    output
 }
 
 #[test]
-fn texts_are_shown(rt: HostRuntime) -> Result<(), Fail> {
+fn texts_are_shown(rt: HostRuntime) {
     for (words, want) in &TEXTS {
-        same(&rt, shown(rt.alloc(), words)?.as_slice(), want);
+        same(&rt, shown(&rt, rt.alloc(), words).as_slice(), want);
     }
-    Ok(())
 }
 
 // How many bytes show texts of 125 and 126 registers.
 #[test]
-fn the_longest_text(rt: HostRuntime) -> Result<(), Fail> {
-    let escaped = shown(rt.alloc(), &[0xFFFF; 125])?;
+fn the_longest_text(rt: HostRuntime) {
+    let escaped = shown(&rt, rt.alloc(), &[0xFFFF; 125]);
     assert!(rt; escaped.len() == 1000);
-    let plain = shown(rt.alloc(), &[0x4141; 126])?;
+    let plain = shown(&rt, rt.alloc(), &[0x4141; 126]);
     assert!(rt; plain.len() == 250);
-    Ok(())
 }

@@ -2,7 +2,7 @@
 
 use crate::given::same;
 use std::alloc::Global;
-use std::test::Fail;
+use std::process::Abort;
 use sun_points::{Scale, write_scaled};
 
 static VALUES: [i64; 6] = [0, 5, -5, 2301, i64::MIN, i64::MAX];
@@ -92,43 +92,40 @@ static SCALED: [(i16, &str); 21] = [
     ),
 ];
 
-fn write_at(value: i64, exponent: i16, output: &mut Vec<u8>) -> Result<(), Fail> {
-    let scale = Scale::new(exponent.cast_unsigned()).ok_or("no scale")?;
-    output.push(b' ')?;
-    write_scaled(value, scale, output)?;
-    Ok(())
+fn write_at(rt: &impl Abort, value: i64, exponent: i16, output: &mut Vec<u8>) {
+    let scale = Scale::new(exponent.cast_unsigned()).expect(rt, "no scale");
+    output.push(b' ').expect(rt, "no memory");
+    write_scaled(value, scale, output).expect(rt, "not written");
 }
 
-fn values_at(alloc: Global, exponent: i16) -> Result<Vec<u8>, Fail> {
+fn values_at(rt: &impl Abort, alloc: Global, exponent: i16) -> Vec<u8> {
     let mut line = Vec::new(alloc);
     for value in &VALUES {
-        write_at(*value, exponent, &mut line)?;
+        write_at(rt, *value, exponent, &mut line);
     }
-    Ok(line)
+    line
 }
 
 #[test]
-fn values_at_each_scale(rt: HostRuntime) -> Result<(), Fail> {
+fn values_at_each_scale(rt: HostRuntime) {
     for (exponent, want) in &SCALED {
-        same(&rt, values_at(rt.alloc(), *exponent)?.as_slice(), want);
+        same(&rt, values_at(&rt, rt.alloc(), *exponent).as_slice(), want);
     }
-    Ok(())
 }
 
-fn other_values(alloc: Global) -> Result<Vec<u8>, Fail> {
+fn other_values(rt: &impl Abort, alloc: Global) -> Vec<u8> {
     let mut line = Vec::new(alloc);
-    write_at(12, 3, &mut line)?;
-    write_at(1000, 0, &mut line)?;
-    write_at(-1234, -2, &mut line)?;
-    Ok(line)
+    write_at(rt, 12, 3, &mut line);
+    write_at(rt, 1000, 0, &mut line);
+    write_at(rt, -1234, -2, &mut line);
+    line
 }
 
 #[test]
-fn others_at_a_scale(rt: HostRuntime) -> Result<(), Fail> {
+fn others_at_a_scale(rt: HostRuntime) {
     same(
         &rt,
-        other_values(rt.alloc())?.as_slice(),
+        other_values(&rt, rt.alloc()).as_slice(),
         " 12000 1000 -12.34",
     );
-    Ok(())
 }

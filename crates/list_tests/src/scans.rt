@@ -5,7 +5,6 @@ use device_scan::{ScanFault, ScanObserver, scan_over};
 use mb_device::{Area, Bank, Kind, Trick};
 use std::alloc::Global;
 use std::process::Abort;
-use std::test::Fail;
 use sun_chain::{ChainFault, Image, Model, walk};
 
 // Counts how often it is shown a model.
@@ -25,42 +24,40 @@ static WHOLE: [Area; 1] = [Area {
 }];
 
 // A bank with the words of the full models; its last register is the end's ID.
-fn full_bank(alloc: Global) -> Result<Bank, Fail> {
-    let image = full_image(alloc)?;
-    let mut bank = Bank::new(alloc, &WHOLE).ok().ok_or("no bank")?;
+fn full_bank(rt: &impl Abort, alloc: Global) -> Bank {
+    let image = full_image(rt, alloc);
+    let mut bank = Bank::new(alloc, &WHOLE).ok().expect(rt, "no bank");
     for address in 40000..40230u16 {
         bank.set(Kind::Holding, address, image.word(address).unwrap_or(0));
     }
-    Ok(bank)
+    bank
 }
 
 // Checks that an image has the words of the full models and no others.
-fn is_full(rt: &impl Abort, alloc: Global, found: &Image) -> Result<(), Fail> {
-    let image = full_image(alloc)?;
+fn is_full(rt: &impl Abort, alloc: Global, found: &Image) {
+    let image = full_image(rt, alloc);
     for address in 39990..40240u16 {
         assert!(rt; found.word(address) == image.word(address), "{address}");
     }
-    Ok(())
 }
 
 // Scans the full models under tricks.
-fn scanned(alloc: Global, tricks: &[(u64, Trick)]) -> Result<Result<Image, ScanFault>, Fail> {
-    let mut link = StandInLink::new(full_bank(alloc)?, tricks);
-    Ok(scan_over(alloc, &mut link, 1, &mut Shown(0)))
+fn scanned(rt: &impl Abort, alloc: Global, tricks: &[(u64, Trick)]) -> Result<Image, ScanFault> {
+    let mut link = StandInLink::new(full_bank(rt, alloc), tricks);
+    scan_over(alloc, &mut link, 1, &mut Shown(0))
 }
 
 #[test]
-fn full_models_are_read(rt: HostRuntime) -> Result<(), Fail> {
-    let mut link = StandInLink::new(full_bank(rt.alloc())?, &[]);
+fn full_models_are_read(rt: HostRuntime) {
+    let mut link = StandInLink::new(full_bank(&rt, rt.alloc()), &[]);
     let mut shown = Shown(0);
     let image = scan_over(rt.alloc(), &mut link, 1, &mut shown)
         .ok()
-        .ok_or("no scan")?;
-    is_full(&rt, rt.alloc(), &image)?;
+        .expect(&rt, "no scan");
+    is_full(&rt, rt.alloc(), &image);
     // the mark, four heads, of which the last is asked for twice and then its ID alone, and three models
     assert!(rt; link.gives() == 10);
     assert!(rt; shown.0 == 3);
-    Ok(())
 }
 
 // On any of these frames a reply is lost or wrong, and comes at the second try.
@@ -73,35 +70,34 @@ static ONCE: [Trick; 5] = [
 ];
 
 #[test]
-fn a_reply_that_fails_once_is_asked_for_again(rt: HostRuntime) -> Result<(), Fail> {
+fn a_reply_that_fails_once_is_asked_for_again(rt: HostRuntime) {
     for trick in &ONCE {
         for frame in 1..8u64 {
-            let found = scanned(rt.alloc(), &[(frame, *trick)])?;
-            is_full(&rt, rt.alloc(), &found.ok().ok_or("no scan")?)?;
+            let found = scanned(&rt, rt.alloc(), &[(frame, *trick)]);
+            is_full(&rt, rt.alloc(), &found.ok().expect(&rt, "no scan"));
         }
     }
-    Ok(())
 }
 
 #[test]
-fn a_connection_that_breaks_ends_the_scan(rt: HostRuntime) -> Result<(), Fail> {
-    let cut = scanned(rt.alloc(), &[(3, Trick::Cut(5))])?;
+fn a_connection_that_breaks_ends_the_scan(rt: HostRuntime) {
+    let cut = scanned(&rt, rt.alloc(), &[(3, Trick::Cut(5))]);
     assert!(rt; cut.err() == Some(ScanFault::Gone));
-    let garbled = scanned(rt.alloc(), &[(3, Trick::Garble)])?;
+    let garbled = scanned(&rt, rt.alloc(), &[(3, Trick::Garble)]);
     assert!(rt; garbled.err() == Some(ScanFault::Garbled));
-    Ok(())
 }
 
 // A read that is dropped twice is unread: here the registers of the inverter.
 #[test]
-fn what_fails_twice_is_unread(rt: HostRuntime) -> Result<(), Fail> {
+fn what_fails_twice_is_unread(rt: HostRuntime) {
     let tricks = [(5, Trick::Drop), (6, Trick::Drop)];
-    let image = scanned(rt.alloc(), &tricks)?.ok().ok_or("no scan")?;
+    let image = scanned(&rt, rt.alloc(), &tricks)
+        .ok()
+        .expect(&rt, "no scan");
     assert!(rt; image.word(40071) == Some(50));
     assert!(rt; image.word(40072).is_none());
     assert!(rt; image.word(40121).is_none());
     assert!(rt; image.word(40122) == Some(203));
-    Ok(())
 }
 
 static UPPER: [Area; 1] = [Area {
@@ -111,12 +107,12 @@ static UPPER: [Area; 1] = [Area {
 }];
 
 // A bank above 50000 with these words.
-fn upper_bank(alloc: Global, words: &[(u16, u16)]) -> Result<Bank, Fail> {
-    let mut bank = Bank::new(alloc, &UPPER).ok().ok_or("no bank")?;
+fn upper_bank(rt: &impl Abort, alloc: Global, words: &[(u16, u16)]) -> Bank {
+    let mut bank = Bank::new(alloc, &UPPER).ok().expect(rt, "no bank");
     for (address, word) in words {
         bank.set(Kind::Holding, *address, *word);
     }
-    Ok(bank)
+    bank
 }
 
 // The mark, a model that isn't known, and the end at the last address.
@@ -129,17 +125,16 @@ static TO_THE_LAST: [(u16, u16); 5] = [
 ];
 
 #[test]
-fn a_chain_may_end_at_the_last_address(rt: HostRuntime) -> Result<(), Fail> {
-    let mut link = StandInLink::new(upper_bank(rt.alloc(), &TO_THE_LAST)?, &[]);
+fn a_chain_may_end_at_the_last_address(rt: HostRuntime) {
+    let mut link = StandInLink::new(upper_bank(&rt, rt.alloc(), &TO_THE_LAST), &[]);
     let image = scan_over(rt.alloc(), &mut link, 1, &mut Shown(0))
         .ok()
-        .ok_or("no scan")?;
+        .expect(&rt, "no scan");
     // 40000 twice, 50000, and two heads: the registers of the model aren't asked for
     assert!(rt; link.gives() == 5);
     assert!(rt; image.word(50004).is_none());
-    let chain = walk(rt.alloc(), &image).ok().ok_or("no chain")?;
+    let chain = walk(rt.alloc(), &image).ok().expect(&rt, "no chain");
     assert!(rt; chain.end() == 65535);
-    Ok(())
 }
 
 // A model 1 of 126 registers, and the end.
@@ -153,21 +148,20 @@ static LONG: [(u16, u16); 6] = [
 ];
 
 #[test]
-fn a_long_model_takes_several_reads(rt: HostRuntime) -> Result<(), Fail> {
-    let mut link = StandInLink::new(upper_bank(rt.alloc(), &LONG)?, &[]);
+fn a_long_model_takes_several_reads(rt: HostRuntime) {
+    let mut link = StandInLink::new(upper_bank(&rt, rt.alloc(), &LONG), &[]);
     let image = scan_over(rt.alloc(), &mut link, 1, &mut Shown(0))
         .ok()
-        .ok_or("no scan")?;
+        .expect(&rt, "no scan");
     // 40000 twice, 50000, two heads, 125 registers and one more
     assert!(rt; link.gives() == 7);
     assert!(rt; image.word(50128) == Some(0));
     assert!(rt; image.word(50129) == Some(7));
-    Ok(())
 }
 
 // So many models without registers, and the end after them.
-fn many_models(alloc: Global, count: u16) -> Result<Image, Fail> {
-    let mut bank = upper_bank(alloc, &TO_THE_LAST)?;
+fn many_models(rt: &impl Abort, alloc: Global, count: u16) -> Image {
+    let mut bank = upper_bank(rt, alloc, &TO_THE_LAST);
     for place in 0..count {
         let address = 50002u16.saturating_add(place.saturating_mul(2));
         bank.set(Kind::Holding, address, 9);
@@ -176,18 +170,16 @@ fn many_models(alloc: Global, count: u16) -> Result<Image, Fail> {
     let end = 50002u16.saturating_add(count.saturating_mul(2));
     bank.set(Kind::Holding, end, 0xFFFF);
     let mut link = StandInLink::new(bank, &[]);
-    Ok(
-        scan_over(alloc, &mut link, 1, &mut Shown(0))
-            .ok()
-            .ok_or("no scan")?,
-    )
+
+    scan_over(alloc, &mut link, 1, &mut Shown(0))
+        .ok()
+        .expect(rt, "no scan")
 }
 
 #[test]
-fn a_chain_has_at_most_64_models(rt: HostRuntime) -> Result<(), Fail> {
-    let most = many_models(rt.alloc(), 64)?;
+fn a_chain_has_at_most_64_models(rt: HostRuntime) {
+    let most = many_models(&rt, rt.alloc(), 64);
     assert!(rt; walk(rt.alloc(), &most).is_ok());
-    let more = many_models(rt.alloc(), 65)?;
+    let more = many_models(&rt, rt.alloc(), 65);
     assert!(rt; walk(rt.alloc(), &more).err() == Some(ChainFault::TooMany));
-    Ok(())
 }

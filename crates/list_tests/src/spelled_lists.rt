@@ -3,7 +3,6 @@
 use crate::given::{list_of, text_of};
 use mb_wire::ReadFunction;
 use point_list::{ListedPoint, PointScale};
-use std::test::Fail;
 use sun_points::{PointType, TextLength};
 
 // A counter and its scale point: plainly; with a byte order mark, and lines as spreadsheets end them; with quoted
@@ -41,29 +40,27 @@ fn has_fixed_scale(point: &ListedPoint, exponent: i8) -> bool {
 }
 
 #[test]
-fn a_counter(rt: HostRuntime) -> Result<(), Fail> {
+fn a_counter(rt: HostRuntime) {
     for text in &SPELLINGS {
-        let list = list_of(rt.alloc(), text)?;
+        let list = list_of(&rt, rt.alloc(), text);
         let [counter, scale] = list.points() else {
-            return Err("not two points".into());
+            panic!(rt; "not two points");
         };
         assert!(rt; is_counter(counter));
         assert!(rt; is_scale(scale));
     }
-    Ok(())
 }
 
 #[test]
-fn ends_of_ranges(rt: HostRuntime) -> Result<(), Fail> {
-    let list = list_of(rt.alloc(), &text_of(rt.alloc(), ENDS_OF_RANGES)?)?;
+fn ends_of_ranges(rt: HostRuntime) {
+    let list = list_of(&rt, rt.alloc(), &text_of(&rt, rt.alloc(), ENDS_OF_RANGES));
     let [a, b, c, d] = list.points() else {
-        return Err("not four points".into());
+        panic!(rt; "not four points");
     };
-    let longest = TextLength::new(125).ok_or("no length")?;
+    let longest = TextLength::new(125).expect(&rt, "no length");
     assert!(rt; is_at(a, ReadFunction::InputRegisters, 255, 65535));
     assert!(rt; has_fixed_scale(a, -10));
     assert!(rt; b.kind == PointType::Text(longest));
     assert!(rt; has_fixed_scale(c, 0));
     assert!(rt; has_fixed_scale(d, 10));
-    Ok(())
 }

@@ -1,7 +1,6 @@
 //! Lists that are written.
 
 use crate::given::{list_of, written};
-use std::test::Fail;
 
 // A text that spells a list, and what is written of the list.
 struct Rewritten {
@@ -39,11 +38,10 @@ static TEXTS: [Rewritten; 3] = [
 ];
 
 #[test]
-fn lists_are_written(rt: HostRuntime) -> Result<(), Fail> {
+fn lists_are_written(rt: HostRuntime) {
     for (i, case) in TEXTS.iter().enumerate() {
-        let list = list_of(rt.alloc(), case.text)?;
-        let text = written(rt.alloc(), &list)?;
+        let list = list_of(&rt, rt.alloc(), case.text);
+        let text = written(&rt, rt.alloc(), &list);
         assert!(rt; text.as_slice() == case.written, "text {i}");
     }
-    Ok(())
 }

@@ -3,7 +3,7 @@ use crate::devices::{GAPS, answers_all};
 use crate::examples::{EXAMPLES, Exchange};
 use mb_device::{Area, Bank, Kind};
 use std::alloc::Global;
-use std::test::Fail;
+use std::process::Abort;
 
 // Holding register 11 is 7 and register 12 is 8.
 static IN_GAPS: [Exchange; 6] = [
@@ -34,11 +34,10 @@ static IN_GAPS: [Exchange; 6] = [
 ];
 
 #[test]
-fn gaps_are_no_addresses(rt: HostRuntime) -> Result<(), Fail> {
-    let mut bank = Bank::new(rt.alloc(), &GAPS).ok().ok_or("no bank")?;
+fn gaps_are_no_addresses(rt: HostRuntime) {
+    let mut bank = Bank::new(rt.alloc(), &GAPS).ok().expect(&rt, "no bank");
     assert!(rt; bank.set(Kind::Holding, 11, 7) && bank.set(Kind::Holding, 12, 8));
     answers_all(&rt, &mut bank, &IN_GAPS);
-    Ok(())
 }
 
 static AREAS: [Area; 4] = [
@@ -72,8 +71,8 @@ static DISCRETES: [u16; 14] = [
 ];
 
 // A device with the values of the standard's examples.
-fn bank_of_examples(alloc: Global) -> Result<Bank, &'static str> {
-    let mut bank = Bank::new(alloc, &AREAS).ok().ok_or("no bank")?;
+fn bank_of_examples(rt: &impl Abort, alloc: Global) -> Bank {
+    let mut bank = Bank::new(alloc, &AREAS).ok().expect(rt, "no bank");
     for address in COILS {
         bank.set(Kind::Coil, address, 1);
     }
@@ -83,7 +82,7 @@ fn bank_of_examples(alloc: Global) -> Result<Bank, &'static str> {
     bank.set(Kind::Holding, 107, 0x022B);
     bank.set(Kind::Holding, 109, 0x64);
     bank.set(Kind::Input, 8, 10);
-    Ok(bank)
+    bank
 }
 
 // Reads of what the examples wrote.
@@ -99,9 +98,8 @@ static READ_BACK: [Exchange; 2] = [
 ];
 
 #[test]
-fn examples_of_the_standard_are_answered(rt: HostRuntime) -> Result<(), Fail> {
-    let mut bank = bank_of_examples(rt.alloc())?;
+fn examples_of_the_standard_are_answered(rt: HostRuntime) {
+    let mut bank = bank_of_examples(&rt, rt.alloc());
     answers_all(&rt, &mut bank, &EXAMPLES);
     answers_all(&rt, &mut bank, &READ_BACK);
-    Ok(())
 }

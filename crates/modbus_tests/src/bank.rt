@@ -1,7 +1,6 @@
 //! A device's values.
 use crate::devices::GAPS;
 use mb_device::{Area, Bank, BankFault, Kind};
-use std::test::Fail;
 
 // A value that is set where there is an address or none, and the value that is then got.
 struct Write {
@@ -51,8 +50,8 @@ static WRITES: [Write; 6] = [
 ];
 
 #[test]
-fn values_are_kept_where_there_are_addresses(rt: HostRuntime) -> Result<(), Fail> {
-    let mut bank = Bank::new(rt.alloc(), &GAPS).ok().ok_or("no bank")?;
+fn values_are_kept_where_there_are_addresses(rt: HostRuntime) {
+    let mut bank = Bank::new(rt.alloc(), &GAPS).ok().expect(&rt, "no bank");
     for write in &WRITES {
         let is_there = bank.set(write.kind, write.address, write.value);
         assert!(rt; is_there == write.kept.is_some());
@@ -60,7 +59,6 @@ fn values_are_kept_where_there_are_addresses(rt: HostRuntime) -> Result<(), Fail
     for write in &WRITES {
         assert!(rt; bank.get(write.kind, write.address) == write.kept);
     }
-    Ok(())
 }
 
 // Areas that make no bank beside ten coils from 0, the fault and its number.
@@ -110,7 +108,7 @@ static REFUSED: [Refused; 4] = [
 ];
 
 #[test]
-fn areas_have_their_faults(rt: HostRuntime) -> Result<(), Fail> {
+fn areas_have_their_faults(rt: HostRuntime) {
     let coils = Area {
         kind: Kind::Coil,
         start: 0,
@@ -118,9 +116,8 @@ fn areas_have_their_faults(rt: HostRuntime) -> Result<(), Fail> {
     };
     for refused in &REFUSED {
         let made = Bank::new(rt.alloc(), &[coils, refused.area]);
-        let fault = made.err().ok_or("no fault")?;
+        let fault = made.err().expect(&rt, "no fault");
         assert!(rt; (fault, fault.number()) == (refused.fault, refused.number));
     }
     assert!(rt; BankFault::Memory.number() == 3);
-    Ok(())
 }

@@ -2,7 +2,6 @@
 use crate::first_poll::first_poll;
 use crate::session_script::{Event, GOOD, Line, play};
 use poll_core::{ClockBack, Closing, Outcome, StartFault};
-use std::test::Fail;
 
 /// A start is refused, and the reply still answers the poll.
 static AFTERWARDS: [Line; 2] = [
@@ -23,24 +22,24 @@ static AFTERWARDS: [Line; 2] = [
 ];
 
 #[test]
-fn a_piece_of_an_earlier_moment_is_refused(rt: HostRuntime) -> Result<(), Fail> {
-    let mut session = first_poll(&rt, 5, 2)?;
+fn a_piece_of_an_earlier_moment_is_refused(rt: HostRuntime) {
+    let mut session = first_poll(&rt, 5, 2);
     assert!(rt; !session.settling());
     assert!(rt; session.next(99, &GOOD).err() == Some(ClockBack));
     play(&rt, rt.alloc(), &mut session, &AFTERWARDS)
 }
 
 #[test]
-fn a_tick_of_an_earlier_moment_is_refused(rt: HostRuntime) -> Result<(), Fail> {
-    let mut session = first_poll(&rt, 5, 2)?;
+fn a_tick_of_an_earlier_moment_is_refused(rt: HostRuntime) {
+    let mut session = first_poll(&rt, 5, 2);
     assert!(rt; !session.settling());
     assert!(rt; session.tick(99).err() == Some(ClockBack));
     play(&rt, rt.alloc(), &mut session, &AFTERWARDS)
 }
 
 #[test]
-fn a_closing_of_an_earlier_moment_is_refused(rt: HostRuntime) -> Result<(), Fail> {
-    let mut session = first_poll(&rt, 5, 2)?;
+fn a_closing_of_an_earlier_moment_is_refused(rt: HostRuntime) {
+    let mut session = first_poll(&rt, 5, 2);
     assert!(rt; !session.settling());
     assert!(rt; session.close(99, Closing::Gone).err() == Some(ClockBack));
     play(&rt, rt.alloc(), &mut session, &AFTERWARDS)

@@ -35,10 +35,10 @@ static REGISTERS: [Area; 1] = [Area {
 }];
 
 /// A device whose holding register 0 is 9.
-pub(crate) fn bank_with_nine(alloc: Global) -> Result<Bank, &'static str> {
-    let mut bank = Bank::new(alloc, &REGISTERS).ok().ok_or("no bank")?;
+pub(crate) fn bank_with_nine(rt: &impl Abort, alloc: Global) -> Bank {
+    let mut bank = Bank::new(alloc, &REGISTERS).ok().expect(rt, "no bank");
     bank.set(Kind::Holding, 0, 9);
-    Ok(bank)
+    bank
 }
 
 /// Whether the bank answers a PDU with these bytes.

@@ -3,7 +3,6 @@ use crate::texts::tells;
 use mb_device::{BankFault, ServeFault};
 use mb_wire::{ReplyFault, RequestFault};
 use poll_core::{LostCause, Malformation, StartFault};
-use std::test::Fail;
 
 const REQUESTS: [(RequestFault, &str); 5] = [
     (
@@ -122,20 +121,20 @@ const LOST: [(LostCause, &str); 4] = [
 ];
 
 #[test]
-fn frames(rt: HostRuntime) -> Result<(), Fail> {
-    tells(&rt, rt.alloc(), &REQUESTS)?;
-    tells(&rt, rt.alloc(), &REPLIES)?;
+fn frames(rt: HostRuntime) {
+    tells(&rt, rt.alloc(), &REQUESTS);
+    tells(&rt, rt.alloc(), &REPLIES);
     tells(&rt, rt.alloc(), &MALFORMED)
 }
 
 #[test]
-fn servers(rt: HostRuntime) -> Result<(), Fail> {
-    tells(&rt, rt.alloc(), &BANKS)?;
+fn servers(rt: HostRuntime) {
+    tells(&rt, rt.alloc(), &BANKS);
     tells(&rt, rt.alloc(), &SERVERS)
 }
 
 #[test]
-fn sessions(rt: HostRuntime) -> Result<(), Fail> {
-    tells(&rt, rt.alloc(), &STARTS)?;
+fn sessions(rt: HostRuntime) {
+    tells(&rt, rt.alloc(), &STARTS);
     tells(&rt, rt.alloc(), &LOST)
 }

@@ -3,7 +3,6 @@ use crate::session_script::{Asked, Event, GOOD, Line, feed, play, start};
 use poll_core::{LostCause, Malformation, Outcome, Session};
 use std::alloc::Global;
 use std::process::Abort;
-use std::test::Fail;
 
 /// The poll asks for 3 registers from 40094.
 static FIRST: Asked = Asked {
@@ -15,12 +14,12 @@ static FIRST: Asked = Asked {
 };
 
 /// A session of that timeout and window with the first poll.
-pub fn first_poll(rt: &impl Abort, timeout: u64, window: usize) -> Result<Session, Fail> {
+pub fn first_poll(rt: &impl Abort, timeout: u64, window: usize) -> Session {
     assert!(rt; 1 <= timeout && timeout <= 60);
     assert!(rt; 1 <= window && window <= 16);
     let mut session = Session::new(timeout, window);
-    start(rt, &mut session, &FIRST)?;
-    Ok(session)
+    start(rt, &mut session, &FIRST);
+    session
 }
 
 /// Within a timeout of 5 seconds.
@@ -141,44 +140,39 @@ static OTHER_FRAMES: [[Line; 1]; 6] = [
 ];
 
 /// Plays the lines on sessions of a timeout of 5 seconds and of each window, after their first poll.
-pub fn play_at_windows(rt: &impl Abort, alloc: Global, lines: &[Line]) -> Result<(), Fail> {
+pub fn play_at_windows(rt: &impl Abort, alloc: Global, lines: &[Line]) {
     for window in [1, 2, 16] {
-        let mut session = first_poll(rt, 5, window)?;
-        play(rt, alloc, &mut session, lines)?;
+        let mut session = first_poll(rt, 5, window);
+        play(rt, alloc, &mut session, lines);
     }
-    Ok(())
 }
 
 /// Brings the reply byte by byte: the last one settles the poll.
-fn feed_bytes(rt: &impl Abort, alloc: Global, session: &mut Session) -> Result<(), Fail> {
+fn feed_bytes(rt: &impl Abort, alloc: Global, session: &mut Session) {
     for (i, byte) in GOOD.iter().enumerate() {
-        let told = feed(rt, alloc, session, 104, &[*byte])?;
+        let told = feed(rt, alloc, session, 104, &[*byte]);
         assert!(rt; told.len() == usize::from(i == 14), "byte {i}");
     }
-    Ok(())
 }
 
 #[test]
-fn a_reply_in_time_answers(rt: HostRuntime) -> Result<(), Fail> {
+fn a_reply_in_time_answers(rt: HostRuntime) {
     for lines in &REPLIES {
-        play_at_windows(&rt, rt.alloc(), lines)?;
+        play_at_windows(&rt, rt.alloc(), lines);
     }
-    Ok(())
 }
 
 #[test]
-fn other_frames_are_no_answers(rt: HostRuntime) -> Result<(), Fail> {
+fn other_frames_are_no_answers(rt: HostRuntime) {
     for lines in &OTHER_FRAMES {
-        play_at_windows(&rt, rt.alloc(), lines)?;
+        play_at_windows(&rt, rt.alloc(), lines);
     }
-    Ok(())
 }
 
 #[test]
-fn a_reply_may_come_byte_by_byte(rt: HostRuntime) -> Result<(), Fail> {
+fn a_reply_may_come_byte_by_byte(rt: HostRuntime) {
     for window in [1, 2, 16] {
-        let mut session = first_poll(&rt, 5, window)?;
-        feed_bytes(&rt, rt.alloc(), &mut session)?;
+        let mut session = first_poll(&rt, 5, window);
+        feed_bytes(&rt, rt.alloc(), &mut session);
     }
-    Ok(())
 }

@@ -4,7 +4,7 @@ use crate::devices::bank_with_nine;
 use mb_device::{ServeFault, Server};
 use mb_wire::{Fed, FrameReader, Framing, MemoryLink, write_frame};
 use std::alloc::Global;
-use std::test::Fail;
+use std::process::Abort;
 
 // A length, how many bytes are taken of a frame, and what that is.
 static LENGTHS: [(u16, usize, Framing); 7] = [
@@ -42,27 +42,27 @@ static SERVED: [(u16, Result<u64, ServeFault>, &[u8]); 4] = [
 ];
 
 fn is_served(
+    rt: &impl Abort,
     alloc: Global,
     length: u16,
     answer: Result<u64, ServeFault>,
     given: &[u8],
-) -> Result<bool, &'static str> {
-    let mut bank = bank_with_nine(alloc)?;
+) -> bool {
+    let mut bank = bank_with_nine(rt, alloc);
     let frame = frame_of(length);
     let input = &frame[..usize::from(length).min(255) + 6];
     let mut output = [0; 16];
     let mut link = MemoryLink::new(input, &mut output, 300, None);
     let served = Server::new().serve(&mut link, &mut bank, 2);
-    Ok(served == answer && link.given() == given)
+    served == answer && link.given() == given
 }
 
 #[test]
-fn frames_of_lawful_lengths_are_served(rt: HostRuntime) -> Result<(), Fail> {
+fn frames_of_lawful_lengths_are_served(rt: HostRuntime) {
     for (length, answer, given) in SERVED {
-        let served = is_served(rt.alloc(), length, answer, given)?;
+        let served = is_served(&rt, rt.alloc(), length, answer, given);
         assert!(rt; served, "length {length}");
     }
-    Ok(())
 }
 
 // How many bytes a PDU has, how many its frame has, and the length that stands in it.

@@ -3,7 +3,7 @@ use crate::devices::bank_with_nine;
 use mb_device::{Bank, Kind, ServeFault, Server, Turned};
 use mb_wire::{Link, MemoryLink};
 use std::alloc::Global;
-use std::test::Fail;
+use std::process::Abort;
 
 // A read of holding register 0 by unit 1, and its answer where the register is 9.
 const READ: &[u8] = &[0, 7, 0, 0, 0, 6, 1, 3, 0, 0, 0, 1];
@@ -172,8 +172,8 @@ fn is_over(server: &mut Server, link: &mut MemoryLink<'_>, bank: &mut Bank) -> b
 }
 
 // Whether serving comes to what is said, and a fault is for good.
-fn is_served(alloc: Global, case: &Case) -> Result<bool, &'static str> {
-    let mut bank = bank_with_nine(alloc)?;
+fn is_served(rt: &impl Abort, alloc: Global, case: &Case) -> bool {
+    let mut bank = bank_with_nine(rt, alloc);
     let mut output = [0; 40];
     let mut link = MemoryLink::new(case.input, &mut output, case.piece.max(1), case.fails);
     let mut server = Server::new();
@@ -181,20 +181,19 @@ fn is_served(alloc: Global, case: &Case) -> Result<bool, &'static str> {
     let is_told = served == case.served && link.given() == case.given;
     let counts = (link.takes(), link.failures());
     let is_over = is_over(&mut server, &mut link, &mut bank);
-    Ok(is_told && counts == (case.takes, case.failures) && is_over == served.is_err())
+    is_told && counts == (case.takes, case.failures) && is_over == served.is_err()
 }
 
 #[test]
-fn streams_are_served(rt: HostRuntime) -> Result<(), Fail> {
+fn streams_are_served(rt: HostRuntime) {
     for (i, case) in CASES.iter().enumerate() {
-        assert!(rt; is_served(rt.alloc(), case)?, "case {i}");
+        assert!(rt; is_served(&rt, rt.alloc(), case), "case {i}");
     }
-    Ok(())
 }
 
 #[test]
-fn one_turn_answers_each_frame_of_its_piece(rt: HostRuntime) -> Result<(), Fail> {
-    let mut bank = bank_with_nine(rt.alloc())?;
+fn one_turn_answers_each_frame_of_its_piece(rt: HostRuntime) {
+    let mut bank = bank_with_nine(&rt, rt.alloc());
     let mut output = [0; 40];
     let mut link = MemoryLink::new(MIXED, &mut output, 260, None);
     let mut server = Server::new();
@@ -203,12 +202,11 @@ fn one_turn_answers_each_frame_of_its_piece(rt: HostRuntime) -> Result<(), Fail>
         assert!(rt; turned == Ok(Turned { answered, ended }));
     }
     assert!(rt; link.given() == MIXED_ANSWERS);
-    Ok(())
 }
 
 #[test]
-fn a_full_output_breaks_an_answer_off(rt: HostRuntime) -> Result<(), Fail> {
-    let mut bank = bank_with_nine(rt.alloc())?;
+fn a_full_output_breaks_an_answer_off(rt: HostRuntime) {
+    let mut bank = bank_with_nine(&rt, rt.alloc());
     let mut output = [0; 5];
     let mut link = MemoryLink::new(MIXED, &mut output, 260, None);
     let mut server = Server::new();
@@ -217,7 +215,6 @@ fn a_full_output_breaks_an_answer_off(rt: HostRuntime) -> Result<(), Fail> {
         assert!(rt; link.given() == [0, 2, 0, 0, 0].as_slice());
     }
     assert!(rt; bank.get(Kind::Holding, 0) == Some(5));
-    Ok(())
 }
 
 static NUMBERS: [(ServeFault, u8); 4] = [

@@ -2,7 +2,6 @@
 use crate::first_poll::play_at_windows;
 use crate::session_script::{Event, Line};
 use poll_core::{Closing, LostCause, Outcome, StartFault};
-use std::test::Fail;
 
 const FOUR_BYTES: Line = Line {
     event: Event::Piece {
@@ -65,9 +64,8 @@ static ENDS: [[Line; 4]; 3] = [
 ];
 
 #[test]
-fn the_end_of_a_session_loses_polls(rt: HostRuntime) -> Result<(), Fail> {
+fn the_end_of_a_session_loses_polls(rt: HostRuntime) {
     for lines in &ENDS {
-        play_at_windows(&rt, rt.alloc(), lines)?;
+        play_at_windows(&rt, rt.alloc(), lines);
     }
-    Ok(())
 }

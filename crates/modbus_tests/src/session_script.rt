@@ -3,7 +3,6 @@ use mb_wire::ReadSpan;
 use poll_core::{Closing, Outcome, Session, StartFault};
 use std::alloc::Global;
 use std::process::Abort;
-use std::test::Fail;
 
 /// The latest moment that a session knows.
 const LATEST: u64 = 4_102_444_800;
@@ -40,34 +39,23 @@ pub struct Asked {
 }
 
 /// Brings the events in order, and looks at what each tells.
-pub fn play(
-    rt: &impl Abort,
-    alloc: Global,
-    session: &mut Session,
-    lines: &[Line],
-) -> Result<(), Fail> {
+pub fn play(rt: &impl Abort, alloc: Global, session: &mut Session, lines: &[Line]) {
     for (i, line) in lines.iter().enumerate() {
-        let told = bring(rt, alloc, session, &line.event)?;
+        let told = bring(rt, alloc, session, &line.event);
         assert!(rt; told.as_slice() == line.told, "line {i}");
     }
-    Ok(())
 }
 
-fn bring(
-    rt: &impl Abort,
-    alloc: Global,
-    session: &mut Session,
-    event: &Event,
-) -> Result<Vec<Told>, Fail> {
+fn bring(rt: &impl Abort, alloc: Global, session: &mut Session, event: &Event) -> Vec<Told> {
     match event {
-        Event::Start(asked) => start(rt, session, asked)?,
-        Event::Refused { moment, fault } => refuse(rt, session, *moment, *fault)?,
+        Event::Start(asked) => start(rt, session, asked),
+        Event::Refused { moment, fault } => refuse(rt, session, *moment, *fault),
         Event::Ready { id, count } => is_ready(rt, session, *id, *count),
         Event::Piece { moment, bytes } => return feed(rt, alloc, session, *moment, bytes),
         Event::Tick { moment } => return tick(rt, alloc, session, *moment),
         Event::Close { moment, closing } => return close(rt, alloc, session, *moment, *closing),
     }
-    Ok(Vec::new(alloc))
+    Vec::new(alloc)
 }
 
 // Tries to start the poll, and says how many bytes its frame has.
@@ -76,28 +64,22 @@ fn try_start(
     session: &mut Session,
     asked: &Asked,
     out: &mut [u8; 260],
-) -> Result<Result<usize, StartFault>, Fail> {
+) -> Result<usize, StartFault> {
     assert!(rt; !session.settling());
     assert!(rt; asked.moment <= LATEST);
-    let span = ReadSpan::new(3, asked.address, asked.count).ok_or("no span")?;
-    Ok(session.start(asked.moment, asked.poll, 1, span, out))
+    let span = ReadSpan::new(3, asked.address, asked.count).expect(rt, "no span");
+    session.start(asked.moment, asked.poll, 1, span, out)
 }
 
 /// Starts the poll, and looks at its frame.
-pub fn start(rt: &impl Abort, session: &mut Session, asked: &Asked) -> Result<(), Fail> {
+pub fn start(rt: &impl Abort, session: &mut Session, asked: &Asked) {
     let mut out = [0; 260];
-    let started = try_start(rt, session, asked, &mut out)?;
+    let started = try_start(rt, session, asked, &mut out);
     assert!(rt; started == Ok(12) && out[..12] == asked.frame[..]);
-    Ok(())
 }
 
 /// Tries to start a poll, and looks at why that is refused.
-pub fn refuse(
-    rt: &impl Abort,
-    session: &mut Session,
-    moment: u64,
-    fault: StartFault,
-) -> Result<(), Fail> {
+pub fn refuse(rt: &impl Abort, session: &mut Session, moment: u64, fault: StartFault) {
     let asked = Asked {
         moment,
         poll: 99,
@@ -106,9 +88,8 @@ pub fn refuse(
         frame: [0; 12],
     };
     let mut out = [0; 260];
-    let started = try_start(rt, session, &asked, &mut out)?;
+    let started = try_start(rt, session, &asked, &mut out);
     assert!(rt; started == Err(fault));
-    Ok(())
 }
 
 /// Looks at the next transaction identifier, and at how many polls may start.
@@ -124,35 +105,34 @@ pub fn feed(
     session: &mut Session,
     moment: u64,
     piece: &[u8],
-) -> Result<Vec<Told>, Fail> {
+) -> Vec<Told> {
     assert!(rt; !session.settling());
     assert!(rt; moment <= LATEST);
     let mut told = Vec::new(alloc);
     let mut at = 0;
     'turns: loop {
-        let turn = session.next(moment, &piece[at..])?;
+        let turn = session.next(moment, &piece[at..]).expect(rt, "no turn");
         at += turn.taken;
         match turn.settled {
-            None => return Ok(told),
-            Some(settled) => told.push((settled.poll, settled.outcome))?,
+            None => return told,
+            Some(settled) => told
+                .push((settled.poll, settled.outcome))
+                .expect(rt, "no memory"),
         }
     }
 }
 
 /// Brings a moment with no bytes, and lists what it settles.
-fn tick(
-    rt: &impl Abort,
-    alloc: Global,
-    session: &mut Session,
-    moment: u64,
-) -> Result<Vec<Told>, Fail> {
+fn tick(rt: &impl Abort, alloc: Global, session: &mut Session, moment: u64) -> Vec<Told> {
     assert!(rt; !session.settling());
     assert!(rt; moment <= LATEST);
     let mut told = Vec::new(alloc);
     'turns: loop {
-        match session.tick(moment)? {
-            None => return Ok(told),
-            Some(settled) => told.push((settled.poll, settled.outcome))?,
+        match session.tick(moment).expect(rt, "no tick") {
+            None => return told,
+            Some(settled) => told
+                .push((settled.poll, settled.outcome))
+                .expect(rt, "no memory"),
         }
     }
 }
@@ -164,14 +144,16 @@ fn close(
     session: &mut Session,
     moment: u64,
     closing: Closing,
-) -> Result<Vec<Told>, Fail> {
+) -> Vec<Told> {
     assert!(rt; !session.settling());
     assert!(rt; moment <= LATEST);
     let mut told = Vec::new(alloc);
     'turns: loop {
-        match session.close(moment, closing)? {
-            None => return Ok(told),
-            Some(settled) => told.push((settled.poll, settled.outcome))?,
+        match session.close(moment, closing).expect(rt, "not closed") {
+            None => return told,
+            Some(settled) => told
+                .push((settled.poll, settled.outcome))
+                .expect(rt, "no memory"),
         }
     }
 }

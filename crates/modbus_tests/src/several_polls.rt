@@ -1,7 +1,6 @@
 //! Several polls, one after another and side by side.
 use crate::session_script::{Asked, Event, GOOD, Line, play};
 use poll_core::{Closing, LostCause, Outcome, Session, StartFault};
-use std::test::Fail;
 
 static ONE_AFTER_ANOTHER: [Line; 7] = [
     Line {
@@ -185,27 +184,27 @@ static THREE_ENDS: [Line; 7] = [
 ];
 
 #[test]
-fn one_poll_after_another(rt: HostRuntime) -> Result<(), Fail> {
+fn one_poll_after_another(rt: HostRuntime) {
     let mut session = Session::new(5, 1);
     play(&rt, rt.alloc(), &mut session, &ONE_AFTER_ANOTHER)
 }
 
 #[test]
-fn two_polls_settle_in_the_order_of_their_frames(rt: HostRuntime) -> Result<(), Fail> {
+fn two_polls_settle_in_the_order_of_their_frames(rt: HostRuntime) {
     let mut session = Session::new(5, 2);
-    play(&rt, rt.alloc(), &mut session, &TWO_STARTS)?;
+    play(&rt, rt.alloc(), &mut session, &TWO_STARTS);
     play(&rt, rt.alloc(), &mut session, &SECOND_FIRST)
 }
 
 #[test]
-fn two_polls_are_silent_in_the_order_of_their_starts(rt: HostRuntime) -> Result<(), Fail> {
+fn two_polls_are_silent_in_the_order_of_their_starts(rt: HostRuntime) {
     let mut session = Session::new(5, 2);
-    play(&rt, rt.alloc(), &mut session, &TWO_STARTS)?;
+    play(&rt, rt.alloc(), &mut session, &TWO_STARTS);
     play(&rt, rt.alloc(), &mut session, &BOTH_SILENT)
 }
 
 #[test]
-fn silence_comes_before_frames_and_these_before_loss(rt: HostRuntime) -> Result<(), Fail> {
+fn silence_comes_before_frames_and_these_before_loss(rt: HostRuntime) {
     let mut session = Session::new(5, 3);
     play(&rt, rt.alloc(), &mut session, &THREE_ENDS)
 }

@@ -3,7 +3,7 @@ use crate::devices::bank_with_nine;
 use mb_device::{Bank, Kind, Server, Trick, Turned};
 use mb_wire::{Link, MemoryLink};
 use std::alloc::Global;
-use std::test::Fail;
+use std::process::Abort;
 
 // A write of 5 to holding register 0 by unit 2, and a read of it by unit 1.
 const WRITE_READ: &[u8] = &[
@@ -37,15 +37,15 @@ struct Case {
 }
 
 // Whether serving comes to what is said.
-fn is_served(alloc: Global, case: &Case) -> Result<bool, &'static str> {
-    let mut bank = bank_with_nine(alloc)?;
+fn is_served(rt: &impl Abort, alloc: Global, case: &Case) -> bool {
+    let mut bank = bank_with_nine(rt, alloc);
     let mut output = [0; 48];
     let mut link = MemoryLink::new(case.input, &mut output, case.piece.max(1), None);
     let mut server = Server::tricked(case.tricks);
     let served = server.serve(&mut link, &mut bank, 48);
     let is_told = served == Ok(case.served) && link.given() == case.given;
     let register = bank.get(Kind::Holding, 0);
-    Ok(is_told && link.takes() == case.takes && register == Some(case.register))
+    is_told && link.takes() == case.takes && register == Some(case.register)
 }
 
 // Tricks, and what is given for the write and the read in one piece.
@@ -132,7 +132,7 @@ static ON_BOTH: [(&[(u64, Trick)], &[u8]); 16] = [
 ];
 
 #[test]
-fn each_trick_shows(rt: HostRuntime) -> Result<(), Fail> {
+fn each_trick_shows(rt: HostRuntime) {
     for (i, (tricks, given)) in ON_BOTH.iter().enumerate() {
         let case = Case {
             tricks,
@@ -143,9 +143,8 @@ fn each_trick_shows(rt: HostRuntime) -> Result<(), Fail> {
             takes: if i < 14 { 2 } else { 1 },
             register: 5,
         };
-        assert!(rt; is_served(rt.alloc(), &case)?, "case {i}");
+        assert!(rt; is_served(&rt, rt.alloc(), &case), "case {i}");
     }
-    Ok(())
 }
 
 // The first frame is cut off: the next is neither carried out nor, in pieces of its own, taken.
@@ -218,30 +217,28 @@ static CUTS: [Case; 7] = [
 ];
 
 #[test]
-fn one_frame_is_answered_by_its_trick(rt: HostRuntime) -> Result<(), Fail> {
+fn one_frame_is_answered_by_its_trick(rt: HostRuntime) {
     for (i, case) in CUTS.iter().enumerate() {
-        assert!(rt; is_served(rt.alloc(), case)?, "case {i}");
+        assert!(rt; is_served(&rt, rt.alloc(), case), "case {i}");
     }
-    Ok(())
 }
 
 // How many bytes are given for the longest read, whose answer has 259 and is cut off.
-fn longest_given(alloc: Global, count: u16) -> Result<usize, &'static str> {
-    let mut bank = bank_with_nine(alloc)?;
+fn longest_given(rt: &impl Abort, alloc: Global, count: u16) -> usize {
+    let mut bank = bank_with_nine(rt, alloc);
     let mut output = [0; 300];
     let mut link = MemoryLink::new(LONGEST, &mut output, 260, None);
     let tricks = [(1, Trick::Cut(count))];
     let served = Server::tricked(&tricks).serve(&mut link, &mut bank, 2);
-    served.ok().ok_or("not served")?;
-    Ok(link.given().len())
+    served.ok().expect(rt, "not served");
+    link.given().len()
 }
 
 #[test]
-fn the_longest_answer_is_cut_off(rt: HostRuntime) -> Result<(), Fail> {
+fn the_longest_answer_is_cut_off(rt: HostRuntime) {
     for (count, given) in [(258, 258), (259, 259), (260, 259)] {
-        assert!(rt; longest_given(rt.alloc(), count)? == given, "{count}");
+        assert!(rt; longest_given(&rt, rt.alloc(), count) == given, "{count}");
     }
-    Ok(())
 }
 
 // Whether a server answers that the input ended, and takes and gives nothing more.
@@ -256,8 +253,8 @@ fn is_over(server: &mut Server<'_>, link: &mut MemoryLink<'_>, bank: &mut Bank) 
 }
 
 #[test]
-fn after_a_cut_nothing_is_taken(rt: HostRuntime) -> Result<(), Fail> {
-    let mut bank = bank_with_nine(rt.alloc())?;
+fn after_a_cut_nothing_is_taken(rt: HostRuntime) {
+    let mut bank = bank_with_nine(&rt, rt.alloc());
     let mut output = [0; 48];
     let mut link = MemoryLink::new(READ_WRITE, &mut output, 12, None);
     let mut server = Server::tricked(&[(1, Trick::Cut(4))]);
@@ -267,5 +264,4 @@ fn after_a_cut_nothing_is_taken(rt: HostRuntime) -> Result<(), Fail> {
     };
     assert!(rt; server.turn(&mut link, &mut bank) == Ok(cut));
     assert!(rt; is_over(&mut server, &mut link, &mut bank));
-    Ok(())
 }

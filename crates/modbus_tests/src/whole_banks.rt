@@ -5,7 +5,7 @@ use crate::examples::Exchange;
 use crate::quantities::request_of;
 use mb_device::{Area, Bank, Kind};
 use std::alloc::Global;
-use std::test::Fail;
+use std::process::Abort;
 
 static ALL_ADDRESSES: [Area; 4] = [
     Area {
@@ -30,8 +30,8 @@ static ALL_ADDRESSES: [Area; 4] = [
     },
 ];
 
-fn whole_bank(alloc: Global) -> Result<Bank, &'static str> {
-    Ok(Bank::new(alloc, &ALL_ADDRESSES).ok().ok_or("no bank")?)
+fn whole_bank(rt: &impl Abort, alloc: Global) -> Bank {
+    Bank::new(alloc, &ALL_ADDRESSES).ok().expect(rt, "no bank")
 }
 
 // A request: its function code, its address, the number after that, its byte count, and how many bytes it has; how
@@ -104,15 +104,14 @@ static WRITTEN: [(Kind, u16, u16); 6] = [
 ];
 
 #[test]
-fn whole_banks_answer_to_their_last_address(rt: HostRuntime) -> Result<(), Fail> {
-    let mut bank = whole_bank(rt.alloc())?;
+fn whole_banks_answer_to_their_last_address(rt: HostRuntime) {
+    let mut bank = whole_bank(&rt, rt.alloc());
     for (i, case) in CASES.iter().enumerate() {
         assert!(rt; is_answered(&mut bank, case), "case {i}");
     }
     for (kind, address, value) in WRITTEN {
         assert!(rt; bank.get(kind, address) == Some(value), "{address}");
     }
-    Ok(())
 }
 
 // Reads and other PDUs where all registers are 0.
@@ -140,11 +139,10 @@ static AMONG_ZEROS: [Exchange; 5] = [
 ];
 
 #[test]
-fn a_whole_bank_of_registers_answers(rt: HostRuntime) -> Result<(), Fail> {
-    let mut bank = whole_bank(rt.alloc())?;
+fn a_whole_bank_of_registers_answers(rt: HostRuntime) {
+    let mut bank = whole_bank(&rt, rt.alloc());
     let mut zeros = [0; 252];
     zeros[..2].copy_from_slice(&[3, 0xFA]);
     assert!(rt; answers(&mut bank, &[3, 0, 0, 0, 0x7D], &zeros));
     answers_all(&rt, &mut bank, &AMONG_ZEROS);
-    Ok(())
 }

@@ -13,7 +13,6 @@ use script_text::{
 };
 use std::alloc::Global;
 use std::io;
-use std::test::Fail;
 
 const FRAME: &[u8] = b"\x00\x00\x00\x00\x00\x06\x01\x03\x9c\x9e\x00\x03";
 
@@ -53,13 +52,12 @@ static ANSWERS: [(Answer, &[u8], &str); 8] = [
 ];
 
 #[test]
-fn answers_are_written(rt: HostRuntime) -> Result<(), Fail> {
+fn answers_are_written(rt: HostRuntime) {
     for (answer, frames, wanted) in &ANSWERS {
         let mut written = Vec::new(rt.alloc());
-        write_answer(answer, frames, &mut written)?;
+        write_answer(answer, frames, &mut written).expect(&rt, "not written");
         assert!(rt; written.as_slice() == wanted.as_bytes());
     }
-    Ok(())
 }
 
 // A poll's outcome, its reading, and one that is held.
@@ -90,18 +88,17 @@ const WHOLE: &str =
     "poll 1 answered\nreading m1 5200 rolls 0 step 200000\nheld m1 4294967295 cause 6\nstarted 1 1 2 00ff\n";
 
 #[test]
-fn notes_are_written(rt: HostRuntime) -> Result<(), Fail> {
-    let notes = notes().ok_or("no name")?;
+fn notes_are_written(rt: HostRuntime) {
+    let notes = notes().expect(&rt, "no name");
     let mut written = Vec::new(rt.alloc());
-    write_notes(&notes, &mut written)?;
+    write_notes(&notes, &mut written).expect(&rt, "not written");
     assert!(rt; written.as_slice() == NOTED.as_bytes());
-    Ok(())
 }
 
 // Two bytes are written with each call, and the notes come before the answer.
 #[test]
-fn each_failing_write_is_told(rt: HostRuntime) -> Result<(), Fail> {
-    let notes = notes().ok_or("no name")?;
+fn each_failing_write_is_told(rt: HostRuntime) {
+    let notes = notes().expect(&rt, "no name");
     for failing in 1..80 {
         let mut kept = Kept::new(rt.alloc(), failing, 2);
         let ended = write_accepted(&STARTED, &notes, b"\x00\xff", &mut kept);
@@ -109,7 +106,6 @@ fn each_failing_write_is_told(rt: HostRuntime) -> Result<(), Fail> {
         assert!(rt; ended.is_ok() == whole);
         assert!(rt; whole || failing < 79);
     }
-    Ok(())
 }
 
 // Fifty bytes are written with each call: the frames go in pieces of 64, 64 and 2 digits.
@@ -139,17 +135,16 @@ static OUTCOMES: [(Outcome, &str); 8] = [
 ];
 
 #[test]
-fn outcomes_are_written(rt: HostRuntime) -> Result<(), Fail> {
+fn outcomes_are_written(rt: HostRuntime) {
     for (outcome, wanted) in &OUTCOMES {
         let note = Note::Outcome {
             poll: 7,
             outcome: *outcome,
         };
         let mut written = Vec::new(rt.alloc());
-        write_note(&note, &mut written)?;
+        write_note(&note, &mut written).expect(&rt, "not written");
         assert!(rt; written.as_slice() == wanted.as_bytes());
     }
-    Ok(())
 }
 
 static REFUSALS: [(Refusal, &str); 5] = [
@@ -161,13 +156,12 @@ static REFUSALS: [(Refusal, &str); 5] = [
 ];
 
 #[test]
-fn refusals_are_written(rt: HostRuntime) -> Result<(), Fail> {
+fn refusals_are_written(rt: HostRuntime) {
     for (refusal, wanted) in &REFUSALS {
         let mut written = Vec::new(rt.alloc());
-        write_refusal(*refusal, &mut written)?;
+        write_refusal(*refusal, &mut written).expect(&rt, "not written");
         assert!(rt; written.as_slice() == wanted.as_bytes());
     }
-    Ok(())
 }
 
 static METERS: [(u32, i16, u64, bool, &str); 3] = [
@@ -213,19 +207,18 @@ fn meter(last: Last, total: u64, ended: bool) -> Option<Installation> {
 }
 
 #[test]
-fn meters_are_written(rt: HostRuntime) -> Result<(), Fail> {
+fn meters_are_written(rt: HostRuntime) {
     for (raw, sf, total, ended, wanted) in &METERS {
         let last = Last {
             at: 1900,
             raw: *raw,
             sf: *sf,
         };
-        let row = meter(last, *total, *ended).ok_or("no name")?;
+        let row = meter(last, *total, *ended).expect(&rt, "no name");
         let mut written = Vec::new(rt.alloc());
-        write_meter(&row, &mut written)?;
+        write_meter(&row, &mut written).expect(&rt, "not written");
         assert!(rt; written.as_slice() == wanted.as_bytes());
     }
-    Ok(())
 }
 
 fn poll(ended: Option<EndedPoll>) -> Option<PollRow> {
@@ -253,14 +246,13 @@ static ENDINGS: [(Option<EndedPoll>, &str); 2] = [
 ];
 
 #[test]
-fn polls_are_written(rt: HostRuntime) -> Result<(), Fail> {
+fn polls_are_written(rt: HostRuntime) {
     for (ended, wanted) in &ENDINGS {
-        let row = poll(*ended).ok_or("no poll")?;
+        let row = poll(*ended).expect(&rt, "no poll");
         let mut written = Vec::new(rt.alloc());
-        write_poll(&row, &mut written)?;
+        write_poll(&row, &mut written).expect(&rt, "not written");
         assert!(rt; written.as_slice() == wanted.as_bytes());
     }
-    Ok(())
 }
 
 static FAULTS: [FaultyRow; 2] = [
@@ -283,8 +275,7 @@ fn wrong_lines(alloc: Global) -> io::Result<Vec<u8>> {
 }
 
 #[test]
-fn faults_and_bad_lines_are_written(rt: HostRuntime) -> Result<(), Fail> {
-    let written = wrong_lines(rt.alloc())?;
+fn faults_and_bad_lines_are_written(rt: HostRuntime) {
+    let written = wrong_lines(rt.alloc()).expect(&rt, "not written");
     assert!(rt; written.as_slice() == b"row 1 fault 2\nrow 514 fault 12\nbad line 3\n".as_slice());
-    Ok(())
 }

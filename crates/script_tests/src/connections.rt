@@ -5,7 +5,6 @@ use std::alloc::Global;
 use std::io::{self, Read, Write};
 use std::net::{Shutdown, TcpListener, TcpStream};
 use std::process::Abort;
-use std::test::Fail;
 
 // A read of holding register 0 by unit 1, and its answer where the register is 9.
 const READ: &[u8] = &[0, 7, 0, 0, 0, 6, 1, 3, 0, 0, 0, 1];
@@ -26,12 +25,12 @@ static AREA: [Area; 1] = [Area {
     count: 1,
 }];
 
-fn bank_with_nine(alloc: Global) -> Result<Bank, Fail> {
+fn bank_with_nine(rt: &impl Abort, alloc: Global) -> Bank {
     let Ok(mut bank) = Bank::new(alloc, &AREA) else {
-        return Err(Fail::from("no bank"));
+        panic!(rt; "no bank");
     };
     bank.set(Kind::Holding, 0, 9);
-    Ok(bank)
+    bank
 }
 
 // A peer of the listener that has sent bytes, and sends no more if it is said so.
@@ -71,15 +70,14 @@ fn three_peers(rt: &HostRuntime, listener: &TcpListener) -> io::Result<[TcpStrea
 }
 
 #[test]
-fn each_connection_is_answered_in_turn(rt: HostRuntime) -> Result<(), Fail> {
-    let listener = TcpListener::bind(&rt, "127.0.0.1:0")?;
-    let [mut first, mut second, mut third] = three_peers(&rt, &listener)?;
-    let mut bank = bank_with_nine(rt.alloc())?;
+fn each_connection_is_answered_in_turn(rt: HostRuntime) {
+    let listener = TcpListener::bind(&rt, "127.0.0.1:0").expect(&rt, "no listener");
+    let [mut first, mut second, mut third] = three_peers(&rt, &listener).expect(&rt, "no peers");
+    let mut bank = bank_with_nine(&rt, rt.alloc());
     assert!(rt; answer_all(&listener, 3, &mut bank, &[]).is_ok());
     assert!(rt; is_answered(&rt, rt.alloc(), &mut first, NINE).is_ok());
     assert!(rt; is_answered(&rt, rt.alloc(), &mut second, WRITE).is_ok());
     assert!(rt; is_answered(&rt, rt.alloc(), &mut third, FIVE).is_ok());
-    Ok(())
 }
 
 // A peer whose frame garbles its stream, and one that reads.
@@ -90,32 +88,29 @@ fn two_peers(rt: &HostRuntime, listener: &TcpListener) -> io::Result<[TcpStream;
 }
 
 #[test]
-fn a_garbled_connection_ends_alone(rt: HostRuntime) -> Result<(), Fail> {
-    let listener = TcpListener::bind(&rt, "127.0.0.1:0")?;
-    let [_first, mut second] = two_peers(&rt, &listener)?;
-    let mut bank = bank_with_nine(rt.alloc())?;
+fn a_garbled_connection_ends_alone(rt: HostRuntime) {
+    let listener = TcpListener::bind(&rt, "127.0.0.1:0").expect(&rt, "no listener");
+    let [_first, mut second] = two_peers(&rt, &listener).expect(&rt, "no peers");
+    let mut bank = bank_with_nine(&rt, rt.alloc());
     assert!(rt; answer_all(&listener, 2, &mut bank, &[]).is_ok());
     assert!(rt; is_answered(&rt, rt.alloc(), &mut second, NINE).is_ok());
-    Ok(())
 }
 
 #[test]
-fn a_trick_is_played_on_a_link(rt: HostRuntime) -> Result<(), Fail> {
-    let mut bank = bank_with_nine(rt.alloc())?;
+fn a_trick_is_played_on_a_link(rt: HostRuntime) {
+    let mut bank = bank_with_nine(&rt, rt.alloc());
     let mut output = [0; 64];
     let mut link = MemoryLink::new(READ, &mut output, 260, None);
     let tricks = [(1, Trick::Cut(4))];
     assert!(rt; answer_one(&mut link, &mut bank, &tricks) == Ok(1));
     assert!(rt; link.given() == &NINE[..4]);
-    Ok(())
 }
 
 #[test]
-fn a_link_that_fails_is_told(rt: HostRuntime) -> Result<(), Fail> {
-    let mut bank = bank_with_nine(rt.alloc())?;
+fn a_link_that_fails_is_told(rt: HostRuntime) {
+    let mut bank = bank_with_nine(&rt, rt.alloc());
     let mut output = [0; 64];
     let mut link = MemoryLink::new(READ, &mut output, 260, Some(1));
     let answered = answer_one(&mut link, &mut bank, &[]);
     assert!(rt; answered == Err(ServeFault::Read));
-    Ok(())
 }

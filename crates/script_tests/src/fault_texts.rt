@@ -5,15 +5,14 @@ use script_lines::LineFault;
 use std::alloc::Global;
 use std::fmt::Display;
 use std::process::Abort;
-use std::test::Fail;
 
 // Each fault says its text, which has no full stop.
-fn tells<F: Display>(rt: &impl Abort, alloc: Global, texts: &[(F, &str)]) -> Result<(), Fail> {
+fn tells<F: Display>(rt: &impl Abort, alloc: Global, texts: &[(F, &str)]) {
     for (fault, text) in texts {
-        assert_eq!(rt; format!(in alloc; "{fault}")?.as_str(), *text);
+        let said = format!(in alloc; "{fault}").expect(rt, "no memory");
+        assert_eq!(rt; said.as_str(), *text);
         assert!(rt; !text.ends_with('.'));
     }
-    Ok(())
 }
 
 const LINES: [(LineFault, &str); 2] = [
@@ -54,21 +53,27 @@ const PARTS: [(ListFault, &str); 2] = [
 ];
 
 #[test]
-fn faults_of_inputs_say_their_texts(rt: HostRuntime) -> Result<(), Fail> {
-    tells(&rt, rt.alloc(), &LINES)?;
+fn faults_of_inputs_say_their_texts(rt: HostRuntime) {
+    tells(&rt, rt.alloc(), &LINES);
     tells(&rt, rt.alloc(), &INPUTS)
 }
 
 #[test]
-fn faults_of_devices_say_their_texts(rt: HostRuntime) -> Result<(), Fail> {
-    tells(&rt, rt.alloc(), &DEVICES)?;
+fn faults_of_devices_say_their_texts(rt: HostRuntime) {
+    tells(&rt, rt.alloc(), &DEVICES);
     tells(&rt, rt.alloc(), &PARTS)
 }
 
 #[test]
-fn faults_of_words_say_their_texts(rt: HostRuntime) -> Result<(), Fail> {
-    let wrong = WordsFault::Wrong(String::from_str(rt.alloc(), "error: x\n")?);
-    let help = WordsFault::Help(String::from_str(rt.alloc(), "Usage: x\n")?);
+fn faults_of_words_say_their_texts(rt: HostRuntime) {
+    let wrong = WordsFault::Wrong(String::from_str(rt.alloc(), "error: x\n").expect(
+        &rt,
+        "no memory",
+    ));
+    let help = WordsFault::Help(String::from_str(rt.alloc(), "Usage: x\n").expect(
+        &rt,
+        "no memory",
+    ));
     let texts = [
         (wrong, "error: x\n"),
         (help, "Usage: x\n"),

@@ -4,7 +4,6 @@ use office_events::{Event, Name};
 use poll_core::Closing;
 use script_lines::{GivenList, GivenStart, LineFault, ScriptLine};
 use std::alloc::{AllocError, Global};
-use std::test::Fail;
 
 // What a line of the device `inv` says.
 #[derive(Clone, Copy)]
@@ -97,14 +96,13 @@ fn zeros_listed(alloc: Global, count: usize) -> Result<Vec<u8>, AllocError> {
 }
 
 #[test]
-fn pieces_have_at_most_65536_bytes(rt: HostRuntime) -> Result<(), Fail> {
+fn pieces_have_at_most_65536_bytes(rt: HostRuntime) {
     static ZEROS: [u8; 65_536] = [0; 65_536];
-    let most = zeros_listed(rt.alloc(), 65_536)?;
+    let most = zeros_listed(rt.alloc(), 65_536).expect(&rt, "no memory");
     assert!(rt; says(rt.alloc(), &most, 1900, Said::List(&ZEROS)));
-    let past = zeros_listed(rt.alloc(), 65_537)?;
+    let past = zeros_listed(rt.alloc(), 65_537).expect(&rt, "no memory");
     let read = ScriptLine::read(rt.alloc(), &past);
     assert!(rt; matches!(&read, Err(LineFault::Bad)));
-    Ok(())
 }
 
 // Modbus Application Protocol V1.1b3, sections 6.3 and 6.4: 1 to 125 registers.

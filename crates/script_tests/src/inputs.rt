@@ -5,7 +5,6 @@ use command_io::{ExitStatus, MOST_BYTES, ReadFault, read_whole};
 use script_run::replay;
 use std::alloc::{AllocError, Global};
 use std::io::ErrorKind;
-use std::test::Fail;
 
 // So many empty lines, and a text after them.
 fn after_lines(alloc: Global, count: usize, text: &str) -> Result<String, AllocError> {
@@ -21,25 +20,23 @@ fn after_lines(alloc: Global, count: usize, text: &str) -> Result<String, AllocE
 static LAST_BYTES: [(&str, &str); 2] = [("x", "bad line 4194304\n"), ("x\n", "too long\n")];
 
 #[test]
-fn inputs_of_4194304_bytes_are_run(rt: HostRuntime) -> Result<(), Fail> {
+fn inputs_of_4194304_bytes_are_run(rt: HostRuntime) {
     for (text, output) in &LAST_BYTES {
-        let all = after_lines(rt.alloc(), MOST_BYTES - 1, text)?;
+        let all = after_lines(rt.alloc(), MOST_BYTES - 1, text).expect(&rt, "no memory");
         let mut input = all.as_bytes();
-        let ended = replay(rt.alloc(), zone()?, &mut input, Vec::new(rt.alloc()));
+        let ended = replay(rt.alloc(), zone(&rt), &mut input, Vec::new(rt.alloc()));
         assert!(rt; ended.output.as_slice() == output.as_bytes());
         assert!(rt; ended.status == ExitStatus::Refused);
     }
-    Ok(())
 }
 
 #[test]
-fn no_more_reads_are_made_than_bytes_fit(rt: HostRuntime) -> Result<(), Fail> {
-    let text = after_lines(rt.alloc(), MOST_BYTES, "\n")?;
+fn no_more_reads_are_made_than_bytes_fit(rt: HostRuntime) {
+    let text = after_lines(rt.alloc(), MOST_BYTES, "\n").expect(&rt, "no memory");
     let mut slow = Slow::of(text.as_bytes(), 0, ErrorKind::Other);
     let fault = read_whole(rt.alloc(), &mut slow).err();
     assert!(rt; fault == Some(ReadFault::TooLong));
     assert!(rt; slow.calls == 4_194_305);
-    Ok(())
 }
 
 // 2,000 questions for a poll.
@@ -53,13 +50,12 @@ fn questions(alloc: Global) -> Result<String, AllocError> {
 
 // Of 2,000 answers of 10 bytes each piece but the last ends with a line, and there are few of them.
 #[test]
-fn whole_lines_are_given_out(rt: HostRuntime) -> Result<(), Fail> {
-    let text = questions(rt.alloc())?;
+fn whole_lines_are_given_out(rt: HostRuntime) {
+    let text = questions(rt.alloc()).expect(&rt, "no memory");
     let mut input = text.as_bytes();
     let kept = Kept::new(rt.alloc(), usize::MAX, 8192);
-    let ended = replay(rt.alloc(), zone()?, &mut input, kept);
+    let ended = replay(rt.alloc(), zone(&rt), &mut input, kept);
     assert!(rt; ended.status == ExitStatus::Fine);
     assert!(rt; ended.output.got.len() == 20_000);
     assert!(rt; ended.output.calls == 3);
-    Ok(())
 }

@@ -5,7 +5,6 @@ use command_io::ExitStatus;
 use mb_wire::MemoryLink;
 use script_run::{Connects, Ends, Loopback, loop_text};
 use std::io::{self, ErrorKind};
-use std::test::Fail;
 
 // No connection can be made.
 #[derive(Drop)]
@@ -51,26 +50,24 @@ static ENDS: [(usize, ExitStatus); 9] = [
 ];
 
 #[test]
-fn a_writer_that_fails_ends_the_run(rt: HostRuntime) -> Result<(), Fail> {
-    let mut loopback = Loopback::new(&rt)?;
+fn a_writer_that_fails_ends_the_run(rt: HostRuntime) {
+    let mut loopback = Loopback::new(&rt).expect(&rt, "no loopback");
     for (room, status) in &ENDS {
         let mut input = SCRIPT.as_bytes();
         let mut kept = Kept::new(rt.alloc(), room.saturating_add(1), 1);
-        let ended = loop_text(rt.alloc(), zone()?, &mut input, &mut loopback, &mut kept);
+        let ended = loop_text(rt.alloc(), zone(&rt), &mut input, &mut loopback, &mut kept);
         assert!(rt; kept.got.len() == *room);
         let whole = kept.is_whole(&rt, PRINTED);
         assert!(rt; ended == *status, "{room}");
         assert_eq!(rt; whole, *status == ExitStatus::Refused, "{room}");
     }
-    Ok(())
 }
 
 #[test]
-fn a_connection_that_cannot_be_made_ends_the_run(rt: HostRuntime) -> Result<(), Fail> {
+fn a_connection_that_cannot_be_made_ends_the_run(rt: HostRuntime) {
     let mut printed = Vec::new(rt.alloc());
     let mut input = SCRIPT.as_bytes();
-    let ended = loop_text(rt.alloc(), zone()?, &mut input, &mut Broken, &mut printed);
+    let ended = loop_text(rt.alloc(), zone(&rt), &mut input, &mut Broken, &mut printed);
     assert!(rt; ended == ExitStatus::Failed);
     assert!(rt; printed.as_slice() == b"ok\nrefused 12\nok\n".as_slice());
-    Ok(())
 }

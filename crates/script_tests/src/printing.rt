@@ -4,7 +4,6 @@ use command_io::ExitStatus;
 use point_list::read_list;
 use std::alloc::Global;
 use std::io::{ErrorKind, Read, Write};
-use std::test::Fail;
 use sunspec_text::{chain_text, plan_text, print_plan};
 
 // What an input is given to.
@@ -137,10 +136,10 @@ static PLANS: [(&str, &str); 4] = [
 ];
 
 #[test]
-fn each_failing_write_of_a_list_is_told(rt: HostRuntime) -> Result<(), Fail> {
+fn each_failing_write_of_a_list_is_told(rt: HostRuntime) {
     for (text, output) in &PLANS {
         let Ok(list) = read_list(rt.alloc(), text.as_bytes()) else {
-            return Err(Fail::from("no list"));
+            panic!(rt; "no list");
         };
         for failing in 1..60 {
             let mut kept = Kept::new(rt.alloc(), failing, 8192);
@@ -149,5 +148,4 @@ fn each_failing_write_of_a_list_is_told(rt: HostRuntime) -> Result<(), Fail> {
             assert_eq!(rt; ended == ExitStatus::Fine, whole);
         }
     }
-    Ok(())
 }

@@ -4,7 +4,7 @@ use command_io::ExitStatus;
 use interval_core::Zone;
 use script_run::replay;
 use std::io::ErrorKind;
-use std::test::Fail;
+use std::process::Abort;
 
 // A device with a meter, a read of it, and its reply.
 const READING: &str = "\
@@ -25,10 +25,10 @@ const READING_PRINTED: &str = "\
     reading m1 5200 rolls 0 step 200000\n\
     ok\n";
 
-pub(crate) fn zone() -> Result<Zone, Fail> {
+pub(crate) fn zone(rt: &impl Abort) -> Zone {
     match Zone::read("UTC0") {
-        Ok(zone) => Ok(zone),
-        Err(_) => Err(Fail::from("no zone")),
+        Ok(zone) => zone,
+        Err(_) => panic!(rt; "no zone"),
     }
 }
 
@@ -39,40 +39,37 @@ static SCRIPTS: [(&str, &str, ExitStatus); 3] = [
 ];
 
 #[test]
-fn scripts_are_run(rt: HostRuntime) -> Result<(), Fail> {
+fn scripts_are_run(rt: HostRuntime) {
     for (text, output, status) in &SCRIPTS {
         let mut input = text.as_bytes();
-        let ended = replay(rt.alloc(), zone()?, &mut input, Vec::new(rt.alloc()));
+        let ended = replay(rt.alloc(), zone(&rt), &mut input, Vec::new(rt.alloc()));
         assert!(rt; ended.output.as_slice() == output.as_bytes(), "{text}");
         assert!(rt; ended.status == *status, "{text}");
     }
-    Ok(())
 }
 
 #[test]
-fn each_failing_read_ends_a_script(rt: HostRuntime) -> Result<(), Fail> {
+fn each_failing_read_ends_a_script(rt: HostRuntime) {
     for kind in [ErrorKind::Interrupted, ErrorKind::BrokenPipe] {
         for failing in 1..READING.len() + 2 {
             let mut slow = Slow::of(READING.as_bytes(), failing, kind);
-            let ended = replay(rt.alloc(), zone()?, &mut slow, Vec::new(rt.alloc()));
+            let ended = replay(rt.alloc(), zone(&rt), &mut slow, Vec::new(rt.alloc()));
             assert!(rt; ended.status == ExitStatus::Failed);
             assert!(rt; ended.output.is_empty());
             assert!(rt; slow.calls == failing);
         }
     }
-    Ok(())
 }
 
 #[test]
-fn each_failing_write_ends_a_script(rt: HostRuntime) -> Result<(), Fail> {
+fn each_failing_write_ends_a_script(rt: HostRuntime) {
     for most in [1, 7, 8192] {
         for failing in 1..200 {
             let mut input = READING.as_bytes();
             let kept = Kept::new(rt.alloc(), failing, most);
-            let ended = replay(rt.alloc(), zone()?, &mut input, kept);
+            let ended = replay(rt.alloc(), zone(&rt), &mut input, kept);
             let whole = ended.output.is_whole(&rt, READING_PRINTED);
             assert_eq!(rt; ended.status == ExitStatus::Fine, whole);
         }
     }
-    Ok(())
 }

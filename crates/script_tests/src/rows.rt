@@ -3,7 +3,6 @@ use interval_core::{Day, DayTotal, Share};
 use script_text::{Line, write_day, write_end, write_interval};
 use std::alloc::Global;
 use std::io;
-use std::test::Fail;
 
 // The rows of intervals, and how many there are.
 fn written(alloc: Global, shares: &[Share], count: u64) -> io::Result<Vec<u8>> {
@@ -41,12 +40,11 @@ static INTERVALS: [(&[Share], u64, &str); 2] = [
 ];
 
 #[test]
-fn intervals_are_told(rt: HostRuntime) -> Result<(), Fail> {
+fn intervals_are_told(rt: HostRuntime) {
     for (shares, count, wanted) in &INTERVALS {
-        let told = written(rt.alloc(), shares, *count)?;
+        let told = written(rt.alloc(), shares, *count).expect(&rt, "not written");
         assert!(rt; told.as_slice() == wanted.as_bytes());
     }
-    Ok(())
 }
 
 // A day has 92 intervals where the clocks go an hour forward.
@@ -79,10 +77,10 @@ static DAYS: [(i16, i8, i8, u32, u128, &str); 4] = [
 ];
 
 #[test]
-fn days_are_told(rt: HostRuntime) -> Result<(), Fail> {
+fn days_are_told(rt: HostRuntime) {
     for (year, month, of_month, count, mwh, wanted) in &DAYS {
         let Ok(day) = Day::new(*year, *month, *of_month) else {
-            return Err(Fail::from("no day"));
+            panic!(rt; "no day");
         };
         let total = DayTotal {
             day,
@@ -90,20 +88,18 @@ fn days_are_told(rt: HostRuntime) -> Result<(), Fail> {
             mwh: *mwh,
         };
         let mut told = Vec::new(rt.alloc());
-        write_day(&total, &mut told)?;
+        write_day(&total, &mut told).expect(&rt, "not written");
         assert!(rt; told.as_slice() == wanted.as_bytes());
     }
-    Ok(())
 }
 
 #[test]
-fn a_line_is_built_up(rt: HostRuntime) -> Result<(), Fail> {
+fn a_line_is_built_up(rt: HostRuntime) {
     let mut line = Line::new();
     line.push(b"a");
     line.push_number(b" ", 7u8);
     line.push_right(4, -12i16);
     line.push_pair(5);
-    let copy = line.clone()?;
+    let copy = line.clone().expect(&rt, "no memory");
     assert!(rt; copy.bytes() == b"a 7 -1205".as_slice());
-    Ok(())
 }

@@ -4,7 +4,7 @@ use device_scan::{ScanFault, ScanObserver};
 use mb_wire::MemoryLink;
 use std::alloc::Global;
 use std::io::Write;
-use std::test::Fail;
+use std::process::Abort;
 use sun_chain::Model;
 use sunspec_text::{ScanForm, Site, chain_text, scan_text};
 
@@ -17,13 +17,19 @@ impl ScanObserver for Nobody {
 }
 
 // The words of a device from 40000 on: the mark, a model 103 whose counter WH shows 5000 at scale 0, and the end.
-fn words(alloc: Global) -> Result<Vec<u16>, Fail> {
-    let mut words = [0x5375, 0x6E53, 103, 50].to_vec(alloc)?;
+fn words(rt: &impl Abort, alloc: Global) -> Vec<u16> {
+    let mut words = [0x5375, 0x6E53, 103, 50]
+        .to_vec(alloc)
+        .expect(rt, "no memory");
     for offset in 2..52u16 {
-        words.push(if offset == 25 { 5000 } else { 0 })?;
+        words
+            .push(if offset == 25 { 5000 } else { 0 })
+            .expect(rt, "no memory");
     }
-    words.extend_from_slice(&[0xFFFF, 0])?;
-    Ok(words)
+    words
+        .extend_from_slice(&[0xFFFF, 0])
+        .expect(rt, "no memory");
+    words
 }
 
 // The reads of a scan: the identifier, the first word, how many, and how many bytes that are.
@@ -35,59 +41,62 @@ static READS: [(u8, usize, usize, u8); 4] = [
 ];
 
 // What the device answers to them.
-fn replies(alloc: Global) -> Result<Vec<u8>, Fail> {
-    let words = words(alloc)?;
+fn replies(rt: &impl Abort, alloc: Global) -> Vec<u8> {
+    let words = words(rt, alloc);
     let mut bytes = Vec::new(alloc);
     for (id, from, count, size) in &READS {
-        bytes.extend_from_slice(&[0, *id, 0, 0, 0, size.saturating_add(3), 1, 3, *size])?;
+        bytes
+            .extend_from_slice(&[0, *id, 0, 0, 0, size.saturating_add(3), 1, 3, *size])
+            .expect(rt, "no memory");
         for word in words.iter().skip(*from).take(*count) {
-            bytes.extend_from_slice(&word.to_be_bytes())?;
+            bytes
+                .extend_from_slice(&word.to_be_bytes())
+                .expect(rt, "no memory");
         }
     }
-    Ok(bytes)
+    bytes
 }
 
 // How a scan ends over a link whose call number `fails` fails, and what it prints in a form.
 fn scanned(
+    rt: &impl Abort,
     alloc: Global,
     form: ScanForm<'_>,
     fails: Option<u64>,
-) -> Result<(Result<ExitStatus, ScanFault>, Vec<u8>), Fail> {
-    let bytes = replies(alloc)?;
+) -> (Result<ExitStatus, ScanFault>, Vec<u8>) {
+    let bytes = replies(rt, alloc);
     let mut given = [0; 48];
     let mut output = Vec::new(alloc);
     let mut link = MemoryLink::new(&bytes, &mut given, 1, fails);
     let end = scan_text(alloc, &mut link, 1, form, &mut Nobody, &mut output);
-    Ok((end, output))
+    (end, output)
 }
 
 // What `chain` prints of the same words.
-fn chain(alloc: Global) -> Result<Vec<u8>, Fail> {
-    let mut text = b"40000 ".to_vec(alloc)?;
-    for word in &words(alloc)? {
-        write!(text, "{word:04x}")?;
+fn chain(rt: &impl Abort, alloc: Global) -> Vec<u8> {
+    let mut text = b"40000 ".to_vec(alloc).expect(rt, "no memory");
+    for word in &words(rt, alloc) {
+        write!(text, "{word:04x}").expect(rt, "not written");
     }
     let mut output = Vec::new(alloc);
     let _status = chain_text(alloc, &mut text.as_slice(), &mut output);
-    Ok(output)
+    output
 }
 
 #[test]
-fn a_scan_prints_the_chain(rt: HostRuntime) -> Result<(), Fail> {
-    let (end, printed) = scanned(rt.alloc(), ScanForm::Chain, None)?;
+fn a_scan_prints_the_chain(rt: HostRuntime) {
+    let (end, printed) = scanned(&rt, rt.alloc(), ScanForm::Chain, None);
     assert!(rt; end == Ok(ExitStatus::Fine));
     assert!(rt; printed.starts_with(b"base 40000\nmodel 40002 103 50\n"));
-    assert!(rt; printed.as_slice() == chain(rt.alloc())?.as_slice());
-    Ok(())
+    assert!(rt; printed.as_slice() == chain(&rt, rt.alloc()).as_slice());
 }
 
 #[test]
-fn a_scan_prints_the_list(rt: HostRuntime) -> Result<(), Fail> {
-    let (end, printed) = scanned(rt.alloc(), ScanForm::List, None)?;
+fn a_scan_prints_the_list(rt: HostRuntime) {
+    let (end, printed) = scanned(&rt, rt.alloc(), ScanForm::List, None);
     assert!(rt; end == Ok(ExitStatus::Fine));
     let begin = b"name,function,area,address,type,scale\nm1.A,3,0,40004,uint16,m1.A_SF\n";
     assert!(rt; printed.starts_with(begin));
-    Ok(())
 }
 
 const SITE: Site<'static> = Site {
@@ -105,23 +114,21 @@ const END: &[u8] = b"0a\n\
     # 4 install inv-wh1 inv-wh1 5000 0 CEILING\n";
 
 #[test]
-fn a_scan_prints_the_lines_that_set_a_device_up(rt: HostRuntime) -> Result<(), Fail> {
-    let (end, printed) = scanned(rt.alloc(), ScanForm::Setup(SITE), None)?;
+fn a_scan_prints_the_lines_that_set_a_device_up(rt: HostRuntime) {
+    let (end, printed) = scanned(&rt, rt.alloc(), ScanForm::Setup(SITE), None);
     assert!(rt; end == Ok(ExitStatus::Fine));
     assert!(rt; printed.starts_with(BEGIN));
     assert!(rt; printed.ends_with(END));
-    Ok(())
 }
 
 // The first give, the first take, and a give of the last request.
 static CALLS: [u64; 3] = [1, 13, 180];
 
 #[test]
-fn a_link_that_fails_prints_nothing(rt: HostRuntime) -> Result<(), Fail> {
+fn a_link_that_fails_prints_nothing(rt: HostRuntime) {
     for call in &CALLS {
-        let (end, printed) = scanned(rt.alloc(), ScanForm::Chain, Some(*call))?;
+        let (end, printed) = scanned(&rt, rt.alloc(), ScanForm::Chain, Some(*call));
         assert!(rt; end == Err(ScanFault::Failed), "{call}");
         assert!(rt; printed.is_empty(), "{call}");
     }
-    Ok(())
 }

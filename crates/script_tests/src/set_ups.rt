@@ -3,7 +3,6 @@ use command_io::ExitStatus;
 use mb_device::{Kind, Trick};
 use script_run::{Setup, SetupParts, set_up};
 use std::alloc::Global;
-use std::test::Fail;
 
 // What a text prints, and the status that ends it, if it does.
 fn run(alloc: Global, text: &str) -> (Result<Setup, ExitStatus>, Vec<u8>) {
@@ -96,10 +95,10 @@ const SET_UP: &str = "\
     trick 2 id\n";
 
 #[test]
-fn what_is_taken_is_kept(rt: HostRuntime) -> Result<(), Fail> {
+fn what_is_taken_is_kept(rt: HostRuntime) {
     let (set, _printed) = run(rt.alloc(), SET_UP);
     let Ok(setup) = set else {
-        return Err(Fail::from("not set up"));
+        panic!(rt; "not set up");
     };
     let SetupParts { bank, tricks } = setup.into_parts();
     assert!(rt; bank.get(Kind::Holding, 7) == Some(0));
@@ -108,5 +107,4 @@ fn what_is_taken_is_kept(rt: HostRuntime) -> Result<(), Fail> {
     assert!(rt; bank.get(Kind::Coil, 0) == Some(1));
     let wanted = [(2u64, Trick::Unit), (2, Trick::Id)];
     assert!(rt; tricks.as_slice() == wanted.as_slice());
-    Ok(())
 }

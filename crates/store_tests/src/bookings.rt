@@ -12,38 +12,40 @@ use office_store::book_facts;
 use sqlite::{Alter, Connection};
 use std::alloc::Global;
 use std::process::Abort;
-use std::test::Fail;
 use store_tables::RowFault;
 
 /// Books facts.
 pub(crate) fn book<S: Alter>(
+    rt: &impl Abort,
     alloc: Global,
     conn: &mut Connection<S>,
     facts: &[Fact],
 ) -> Result<(), RowFault> {
-    ready(conn)?;
+    ready(conn).expect(rt, "no idle books");
     book_facts(alloc, conn, facts)
 }
 
 /// Books facts of which none is missing.
 pub(crate) fn book_all<S: Alter, const N: usize>(
+    rt: &impl Abort,
     alloc: Global,
     conn: &mut Connection<S>,
     given: [Option<Fact>; N],
-) -> Result<(), Fail> {
-    let facts = whole(alloc, given)?;
-    Ok(book(alloc, conn, &facts)?)
+) {
+    let facts = whole(rt, alloc, given);
+    book(rt, alloc, conn, &facts).expect(rt, "no booking")
 }
 
 /// New books after these facts were booked at once.
 pub(crate) fn booked<D: Stores, const N: usize>(
+    rt: &impl Abort,
     alloc: Global,
     stores: &D,
     given: [Option<Fact>; N],
-) -> Result<Connection<D::Store>, Fail> {
-    let mut conn = new_books(alloc, stores)?;
-    book_all(alloc, &mut conn, given)?;
-    Ok(conn)
+) -> Connection<D::Store> {
+    let mut conn = new_books(rt, alloc, stores);
+    book_all(rt, alloc, &mut conn, given);
+    conn
 }
 
 fn installed(alloc: Global) -> [Option<Fact>; 4] {
@@ -61,13 +63,14 @@ fn read() -> [Option<Fact>; 3] {
 
 /// The meter m1, installed and read once.
 pub(crate) fn one_reading<D: Stores>(
+    rt: &impl Abort,
     alloc: Global,
     stores: &D,
-) -> Result<Connection<D::Store>, Fail> {
-    let mut conn = booked(alloc, stores, installed(alloc))?;
-    book_all(alloc, &mut conn, [poll(1)])?;
-    book_all(alloc, &mut conn, read())?;
-    Ok(conn)
+) -> Connection<D::Store> {
+    let mut conn = booked(rt, alloc, stores, installed(alloc));
+    book_all(rt, alloc, &mut conn, [poll(1)]);
+    book_all(rt, alloc, &mut conn, read());
+    conn
 }
 
 /// The tables have so many rows that pass the tests.
@@ -78,7 +81,7 @@ pub(crate) fn have<S: Alter>(
     counts: &[(&str, i64)],
 ) {
     for (rows, number) in counts {
-        assert!(rt; count(alloc, conn, rows) == Ok(*number), "{rows}");
+        assert!(rt; count(rt, alloc, conn, rows) == Ok(*number), "{rows}");
     }
 }
 
@@ -90,7 +93,7 @@ pub(crate) fn stand<S: Alter>(
     rows: &[&str],
 ) {
     for row in rows {
-        assert!(rt; count(alloc, conn, row) == Ok(1), "{row}");
+        assert!(rt; count(rt, alloc, conn, row) == Ok(1), "{row}");
     }
 }
 
@@ -128,16 +131,11 @@ static COUNTS: [(&str, i64); 6] = [
     ("voids", 0),
 ];
 
-fn each_fact_has_its_rows<D: Stores>(
-    rt: &impl Abort,
-    alloc: Global,
-    stores: &D,
-) -> Result<(), Fail> {
-    let mut conn = one_reading(alloc, stores)?;
-    book_all(alloc, &mut conn, [reply(alloc)])?;
+fn each_fact_has_its_rows<D: Stores>(rt: &impl Abort, alloc: Global, stores: &D) {
+    let mut conn = one_reading(rt, alloc, stores);
+    book_all(rt, alloc, &mut conn, [reply(alloc)]);
     stand(rt, alloc, &mut conn, &ROWS);
     have(rt, alloc, &mut conn, &COUNTS);
-    Ok(())
 }
 
 fn exchanged(alloc: Global) -> [Option<Fact>; 3] {
@@ -153,16 +151,11 @@ fn exchanged(alloc: Global) -> [Option<Fact>; 3] {
     ]
 }
 
-fn a_closing_and_a_new_list<D: Stores>(
-    rt: &impl Abort,
-    alloc: Global,
-    stores: &D,
-) -> Result<(), Fail> {
-    let mut conn = one_reading(alloc, stores)?;
-    book_all(alloc, &mut conn, exchanged(alloc))?;
+fn a_closing_and_a_new_list<D: Stores>(rt: &impl Abort, alloc: Global, stores: &D) {
+    let mut conn = one_reading(rt, alloc, stores);
+    book_all(rt, alloc, &mut conn, exchanged(alloc));
     stand(rt, alloc, &mut conn, &CLOSED);
     have(rt, alloc, &mut conn, &[("points", 1)]);
-    Ok(())
 }
 
 /// Rows after m1 was exchanged for m2, and the list of its device for a shorter one.
@@ -201,51 +194,45 @@ fn turned_and_set() -> [Option<Fact>; 6] {
     ]
 }
 
-fn a_counter_turns_over_and_is_set<D: Stores>(
-    rt: &impl Abort,
-    alloc: Global,
-    stores: &D,
-) -> Result<(), Fail> {
-    let mut conn = booked(alloc, stores, turned_and_set())?;
+fn a_counter_turns_over_and_is_set<D: Stores>(rt: &impl Abort, alloc: Global, stores: &D) {
+    let mut conn = booked(rt, alloc, stores, turned_and_set());
     stand(rt, alloc, &mut conn, &TURNED);
-    Ok(())
 }
 
 /// The last of these may not follow: the device is known.
-fn one_too_many(alloc: Global) -> Result<Vec<Fact>, Fail> {
-    whole(alloc, [poll(2), reading(b"m1", 2800, 5300, 0), device()])
+fn one_too_many(rt: &impl Abort, alloc: Global) -> Vec<Fact> {
+    whole(
+        rt,
+        alloc,
+        [poll(2), reading(b"m1", 2800, 5300, 0), device()],
+    )
 }
 
 /// This may not follow: the counter would have gone back.
-fn backwards(alloc: Global) -> Result<Vec<Fact>, Fail> {
-    whole(alloc, [reading(b"m1", 2800, 5100, 0)])
+fn backwards(rt: &impl Abort, alloc: Global) -> Vec<Fact> {
+    whole(rt, alloc, [reading(b"m1", 2800, 5100, 0)])
 }
 
-fn all_of_an_event_or_nothing<D: Stores>(
-    rt: &impl Abort,
-    alloc: Global,
-    stores: &D,
-) -> Result<(), Fail> {
-    let mut conn = one_reading(alloc, stores)?;
-    let refused = one_too_many(alloc)?;
-    assert!(rt; book(alloc, &mut conn, &refused).is_err());
+fn all_of_an_event_or_nothing<D: Stores>(rt: &impl Abort, alloc: Global, stores: &D) {
+    let mut conn = one_reading(rt, alloc, stores);
+    let refused = one_too_many(rt, alloc);
+    assert!(rt; book(rt, alloc, &mut conn, &refused).is_err());
     have(rt, alloc, &mut conn, &COUNTS);
-    let back = backwards(alloc)?;
-    assert!(rt; book(alloc, &mut conn, &back).is_err());
-    assert!(rt; book(alloc, &mut conn, &[]).is_ok());
+    let back = backwards(rt, alloc);
+    assert!(rt; book(rt, alloc, &mut conn, &back).is_err());
+    assert!(rt; book(rt, alloc, &mut conn, &[]).is_ok());
     have(rt, alloc, &mut conn, &[("entries", 2)]);
-    Ok(())
 }
 
 /// All of these hold.
-pub(crate) fn all_hold<D: Stores>(rt: &impl Abort, alloc: Global, stores: &D) -> Result<(), Fail> {
-    each_fact_has_its_rows(rt, alloc, stores)?;
-    a_closing_and_a_new_list(rt, alloc, stores)?;
-    a_counter_turns_over_and_is_set(rt, alloc, stores)?;
+pub(crate) fn all_hold<D: Stores>(rt: &impl Abort, alloc: Global, stores: &D) {
+    each_fact_has_its_rows(rt, alloc, stores);
+    a_closing_and_a_new_list(rt, alloc, stores);
+    a_counter_turns_over_and_is_set(rt, alloc, stores);
     all_of_an_event_or_nothing(rt, alloc, stores)
 }
 
 #[test]
-fn facts_are_booked(rt: HostRuntime) -> Result<(), Fail> {
+fn facts_are_booked(rt: HostRuntime) {
     in_memory(&rt, rt.alloc(), Tried::Bookings)
 }

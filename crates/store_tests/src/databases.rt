@@ -2,10 +2,9 @@
 use crate::stores::Stores;
 use crate::tried::{Tried, in_memory};
 use office_store::SqlBooks;
-use sqlite::{Alter, Connection, Error};
+use sqlite::{Alter, Connection};
 use std::alloc::Global;
 use std::process::Abort;
-use std::test::Fail;
 
 /// The number of the fault where a connection is opened, and 0 for none; and the connection.
 fn opening<S: Alter + Drop>(alloc: Global, connection: Connection<S>) -> (u8, Connection<S>) {
@@ -45,30 +44,25 @@ fn stepped<S: Alter + Drop>(
     alloc: Global,
     mut connection: Connection<S>,
     step: &Step,
-) -> Result<Connection<S>, Error> {
+) -> Connection<S> {
     let (change, zone, number) = *step;
-    connection.execute_batch(change)?;
+    connection.execute_batch(change).expect(rt, "no batch");
     let (fault, left) = match zone {
         Some(zone) => making(alloc, connection, zone),
         None => opening(alloc, connection),
     };
     assert!(rt; fault == number, "{change}");
-    Ok(left)
+    left
 }
 
-pub(crate) fn each_is_handed_back<D: Stores>(
-    rt: &impl Abort,
-    alloc: Global,
-    stores: &D,
-) -> Result<(), Fail> {
-    let mut connection = stores.open(alloc)?;
+pub(crate) fn each_is_handed_back<D: Stores>(rt: &impl Abort, alloc: Global, stores: &D) {
+    let mut connection = stores.open(rt, alloc);
     for step in &STEPS {
-        connection = stepped(rt, alloc, connection, step)?;
+        connection = stepped(rt, alloc, connection, step);
     }
-    Ok(())
 }
 
 #[test]
-fn connections_are_handed_back(rt: HostRuntime) -> Result<(), Fail> {
+fn connections_are_handed_back(rt: HostRuntime) {
     in_memory(&rt, rt.alloc(), Tried::Databases)
 }

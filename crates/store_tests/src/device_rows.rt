@@ -1,14 +1,13 @@
 //! Devices, points and registers, written and read back.
-ghost use Rattle.std.specs.Prelude.{◌≡◌, IfOk};
+ghost use Rattle.std.specs.Prelude.{◌≡◌};
 
 use crate::one_meter::one_meter;
 use crate::stores::Stores;
 use crate::tried::{Tried, in_memory};
 use mb_wire::ReadFunction;
 use sqlite::{Alter, Connection, Error, Transaction};
-use std::alloc::{AllocError, Global};
+use std::alloc::Global;
 use std::process::Abort;
-use std::test::Fail;
 use store_devices::{
     Device, DeviceRow, Point, PointRow, RegisterRow, RegisterScale, device_rows, insert_device,
     insert_register, point_rows, read_device, read_point, read_register, register_count,
@@ -52,57 +51,61 @@ const REGISTER: RegisterRow = RegisterRow {
 };
 
 fn point(
+    rt: &impl Abort,
     alloc: Global,
     name: &str,
     kind: &str,
     scale: &str,
     row: PointRow,
-) -> Result<Point, AllocError>
-    ensures { IfOk result (λ p. p.row ≡ row) }
+) -> Point
+    ensures { result.row ≡ row }
 {
-    Ok(Point {
-        name: format!(in alloc; "{name}")?,
-        kind: format!(in alloc; "{kind}")?,
-        scale: format!(in alloc; "{scale}")?,
+    Point {
+        name: format!(in alloc; "{name}").expect(rt, "no memory"),
+        kind: format!(in alloc; "{kind}").expect(rt, "no memory"),
+        scale: format!(in alloc; "{scale}").expect(rt, "no memory"),
         row,
-    })
+    }
 }
 
-fn put_list<S: Alter>(tx: &mut Transaction<'_, S>, alloc: Global) -> Result<(), Error> {
-    let scale = point(alloc, "m2.WH_SF", "sunssf", "", SCALE)?;
-    let energy = point(alloc, "m2.WH", "acc32", "m2.WH_SF", ENERGY)?;
-    replace_points(tx, "inv", &vec![in alloc; scale, energy]?)
+fn put_list<S: Alter>(rt: &impl Abort, tx: &mut Transaction<'_, S>, alloc: Global) {
+    let scale = point(rt, alloc, "m2.WH_SF", "sunssf", "", SCALE);
+    let energy = point(rt, alloc, "m2.WH", "acc32", "m2.WH_SF", ENERGY);
+    let points = vec![in alloc; scale, energy].expect(rt, "no memory");
+    replace_points(tx, "inv", &points).expect(rt, "no point list")
 }
 
-fn put_other_list<S: Alter>(tx: &mut Transaction<'_, S>, alloc: Global) -> Result<(), Error> {
-    let energy = point(alloc, "wh", "acc32", "-3", ENERGY)?;
-    replace_points(tx, "pv", &vec![in alloc; energy]?)
+fn put_other_list<S: Alter>(rt: &impl Abort, tx: &mut Transaction<'_, S>, alloc: Global) {
+    let energy = point(rt, alloc, "wh", "acc32", "-3", ENERGY);
+    let points = vec![in alloc; energy].expect(rt, "no memory");
+    replace_points(tx, "pv", &points).expect(rt, "no point list")
 }
 
-fn add<S: Alter>(tx: &mut Transaction<'_, S>, alloc: Global) -> Result<(), Error> {
-    insert_device(tx, "pv", DEVICE)?;
-    insert_register(tx, "roof", "pv", REGISTER)?;
-    put_list(tx, alloc)?;
-    put_other_list(tx, alloc)
+fn add<S: Alter>(rt: &impl Abort, tx: &mut Transaction<'_, S>, alloc: Global) {
+    insert_device(tx, "pv", DEVICE).expect(rt, "no device");
+    insert_register(tx, "roof", "pv", REGISTER).expect(rt, "no register");
+    put_list(rt, tx, alloc);
+    put_other_list(rt, tx, alloc)
 }
 
-fn add_second<S: Alter>(conn: &mut Connection<S>, alloc: Global) -> Result<(), Error> {
+fn add_second<S: Alter>(rt: &impl Abort, conn: &mut Connection<S>, alloc: Global) {
     if !conn.is_autocommit() {
-        return Err(Error::InvalidQuery);
+        panic!(rt; "a transaction is under way");
     }
     let mut tx = conn.transaction();
-    add(&mut tx, alloc)?;
-    tx.commit()
+    add(rt, &mut tx, alloc);
+    tx.commit().expect(rt, "no commit")
 }
 
 /// The meter's device and a second one, with a list each.
 pub(crate) fn two_devices<D: Stores>(
+    rt: &impl Abort,
     alloc: Global,
     stores: &D,
-) -> Result<Connection<D::Store>, Error> {
-    let mut conn = one_meter(alloc, stores)?;
-    add_second(&mut conn, alloc)?;
-    Ok(conn)
+) -> Connection<D::Store> {
+    let mut conn = one_meter(rt, alloc, stores);
+    add_second(rt, &mut conn, alloc);
+    conn
 }
 
 fn is_device(read: &Result<Device, RowFault>, name: &str, row: DeviceRow) -> bool {
@@ -116,37 +119,31 @@ fn devices_stand_in_the_order_of_their_places<D: Stores>(
     rt: &impl Abort,
     alloc: Global,
     stores: &D,
-) -> Result<(), Fail> {
-    let mut conn = two_devices(alloc, stores)?;
-    let devices = device_rows(&mut conn)?;
+) {
+    let mut conn = two_devices(rt, alloc, stores);
+    let devices = device_rows(&mut conn).expect(rt, "no devices");
     assert!(rt; devices.len() == 2);
     assert!(rt; is_device(&read_device(&devices[0]), "inv", FIRST_DEVICE));
     assert!(rt; is_device(&read_device(&devices[1]), "pv", DEVICE));
-    Ok(())
 }
 
-fn registers_are_those_of_their_device<D: Stores>(
-    rt: &impl Abort,
-    alloc: Global,
-    stores: &D,
-) -> Result<(), Fail> {
-    let mut conn = two_devices(alloc, stores)?;
-    let registers = register_rows(&mut conn, "inv")?;
+fn registers_are_those_of_their_device<D: Stores>(rt: &impl Abort, alloc: Global, stores: &D) {
+    let mut conn = two_devices(rt, alloc, stores);
+    let registers = register_rows(&mut conn, "inv").expect(rt, "no registers");
     assert!(rt; registers.len() == 1);
     let scale = RegisterScale::At(40_096);
     assert!(rt; matches!(read_register(&registers[0]), Ok(main) if main.row.scale == scale));
     assert!(rt; register_count(&mut conn, "pv") == Ok(1));
     assert!(rt; matches!(register_of(&mut conn, "pv"), Ok(None)));
-    Ok(())
 }
 
-fn empty_list<S: Alter>(conn: &mut Connection<S>) -> Result<(), Error> {
+fn empty_list<S: Alter>(rt: &impl Abort, conn: &mut Connection<S>) {
     if !conn.is_autocommit() {
-        return Err(Error::InvalidQuery);
+        panic!(rt; "a transaction is under way");
     }
     let mut tx = conn.transaction();
-    replace_points(&mut tx, "inv", &[])?;
-    tx.commit()
+    replace_points(&mut tx, "inv", &[]).expect(rt, "no point list");
+    tx.commit().expect(rt, "no commit")
 }
 
 /// How many points the list of a device has.
@@ -165,29 +162,24 @@ fn is_energy(read: &Result<Point, RowFault>) -> bool {
     }
 }
 
-fn points_stand_in_the_order_of_their_list<D: Stores>(
-    rt: &impl Abort,
-    alloc: Global,
-    stores: &D,
-) -> Result<(), Fail> {
-    let mut conn = two_devices(alloc, stores)?;
-    let points = point_rows(&mut conn, "inv")?;
+fn points_stand_in_the_order_of_their_list<D: Stores>(rt: &impl Abort, alloc: Global, stores: &D) {
+    let mut conn = two_devices(rt, alloc, stores);
+    let points = point_rows(&mut conn, "inv").expect(rt, "no points");
     assert!(rt; points.len() == 2);
     assert!(rt; is_energy(&read_point(&points[0])));
-    empty_list(&mut conn)?;
+    empty_list(rt, &mut conn);
     assert!(rt; point_count(&mut conn, "inv") == Ok(0));
     assert!(rt; point_count(&mut conn, "pv") == Ok(1));
-    Ok(())
 }
 
 /// All of these hold.
-pub(crate) fn all_hold<D: Stores>(rt: &impl Abort, alloc: Global, stores: &D) -> Result<(), Fail> {
-    devices_stand_in_the_order_of_their_places(rt, alloc, stores)?;
-    registers_are_those_of_their_device(rt, alloc, stores)?;
+pub(crate) fn all_hold<D: Stores>(rt: &impl Abort, alloc: Global, stores: &D) {
+    devices_stand_in_the_order_of_their_places(rt, alloc, stores);
+    registers_are_those_of_their_device(rt, alloc, stores);
     points_stand_in_the_order_of_their_list(rt, alloc, stores)
 }
 
 #[test]
-fn rows_of_devices_are_kept(rt: HostRuntime) -> Result<(), Fail> {
+fn rows_of_devices_are_kept(rt: HostRuntime) {
     in_memory(&rt, rt.alloc(), Tried::DeviceRows)
 }

@@ -9,18 +9,21 @@ use office_events::{
 use point_list::read_list;
 use poll_core::Outcome;
 use std::alloc::Global;
-use std::test::Fail;
+use std::process::Abort;
 
 /// The facts of which none is missing.
 pub(crate) fn whole<const N: usize>(
+    rt: &impl Abort,
     alloc: Global,
     given: [Option<Fact>; N],
-) -> Result<Vec<Fact>, Fail> {
+) -> Vec<Fact> {
     let mut facts = Vec::new(alloc);
-    for fact in Vec::from_array(alloc, given)? {
-        facts.push(fact.ok_or("no fact")?)?;
+    for fact in Vec::from_array(alloc, given).expect(rt, "no memory") {
+        facts
+            .push(fact.expect(rt, "no fact"))
+            .expect(rt, "no memory");
     }
-    Ok(facts)
+    facts
 }
 
 pub(crate) fn device() -> Option<Fact> {

@@ -7,10 +7,9 @@ use crate::two_meters::two_meters;
 use energy_core::Cause;
 use office_books::{RowSink, Span};
 use office_events::{HeldReading, Name};
-use sqlite::{Alter, Connection, Error};
+use sqlite::{Alter, Connection};
 use std::alloc::Global;
 use std::process::Abort;
-use std::test::Fail;
 use store_queries::holds;
 use store_tables::RowFault;
 
@@ -40,20 +39,25 @@ impl RowSink<HeldReading> for Taken {
 }
 
 /// Books with the two meters and these readings.
-fn held<D: Stores>(alloc: Global, stores: &D) -> Result<Connection<D::Store>, Error> {
-    let mut conn = two_meters(alloc, stores)?;
-    conn.execute_batch(HOLDS)?;
-    Ok(conn)
+fn held<D: Stores>(rt: &impl Abort, alloc: Global, stores: &D) -> Connection<D::Store> {
+    let mut conn = two_meters(rt, alloc, stores);
+    conn.execute_batch(HOLDS).expect(rt, "no batch");
+    conn
 }
 
 /// The held readings of m1 that are asked for.
-fn of_m1<S: Alter>(alloc: Global, conn: &mut Connection<S>, span: Span) -> Result<Taken, RowFault> {
-    ready(conn)?;
+fn of_m1<S: Alter>(
+    rt: &impl Abort,
+    alloc: Global,
+    conn: &mut Connection<S>,
+    span: Span,
+) -> Result<Taken, RowFault> {
+    ready(conn).expect(rt, "no idle books");
     let mut taken = Taken {
         readings: Vec::new(alloc),
         is_whole: true,
     };
-    holds(conn, &name(b"m1")?, span, &mut taken)?;
+    holds(conn, &name(rt, b"m1"), span, &mut taken)?;
     Ok(taken)
 }
 
@@ -68,28 +72,29 @@ fn shows(reading: &HeldReading, meter: &Name, shown: &Shown) -> bool {
 }
 
 /// They are these readings of m1, in this order.
-fn are(taken: &Taken, wanted: &[Shown]) -> Result<bool, RowFault> {
-    let meter = name(b"m1")?;
+fn are(rt: &impl Abort, taken: &Taken, wanted: &[Shown]) -> bool {
+    let meter = name(rt, b"m1");
     if !taken.is_whole || taken.readings.len() != wanted.len() {
-        return Ok(false);
+        return false;
     }
     for (reading, shown) in taken.readings.iter().zip(wanted.iter()) {
         if !shows(reading, &meter, shown) {
-            return Ok(false);
+            return false;
         }
     }
-    Ok(true)
+    true
 }
 
 /// Whether these readings of m1 are handed on, in this order.
 fn hands_on<S: Alter>(
+    rt: &impl Abort,
     alloc: Global,
     conn: &mut Connection<S>,
     span: Span,
     wanted: &[Shown],
 ) -> Result<bool, RowFault> {
-    let taken = of_m1(alloc, conn, span)?;
-    are(&taken, wanted)
+    let taken = of_m1(rt, alloc, conn, span)?;
+    Ok(are(rt, &taken, wanted))
 }
 
 /// Moments that are asked for, and the readings of m1 that have one of them.
@@ -130,39 +135,29 @@ static PARTS: [Part; 5] = [
     },
 ];
 
-fn held_readings_are_handed_on<D: Stores>(
-    rt: &impl Abort,
-    alloc: Global,
-    stores: &D,
-) -> Result<(), Fail> {
-    let mut conn = held(alloc, stores)?;
-    assert!(rt; hands_on(alloc, &mut conn, Span::All, PARTS[0].wanted) == Ok(true));
-    Ok(())
+fn held_readings_are_handed_on<D: Stores>(rt: &impl Abort, alloc: Global, stores: &D) {
+    let mut conn = held(rt, alloc, stores);
+    assert!(rt; hands_on(rt, alloc, &mut conn, Span::All, PARTS[0].wanted) == Ok(true));
 }
 
-fn held_readings_of_a_span_are_handed_on<D: Stores>(
-    rt: &impl Abort,
-    alloc: Global,
-    stores: &D,
-) -> Result<(), Fail> {
-    let mut conn = held(alloc, stores)?;
+fn held_readings_of_a_span_are_handed_on<D: Stores>(rt: &impl Abort, alloc: Global, stores: &D) {
+    let mut conn = held(rt, alloc, stores);
     for part in &PARTS {
         let span = Span::Between {
             from: part.from,
             till: part.till,
         };
-        assert!(rt; hands_on(alloc, &mut conn, span, part.wanted) == Ok(true));
+        assert!(rt; hands_on(rt, alloc, &mut conn, span, part.wanted) == Ok(true));
     }
-    Ok(())
 }
 
 /// All of these hold.
-pub(crate) fn all_hold<D: Stores>(rt: &impl Abort, alloc: Global, stores: &D) -> Result<(), Fail> {
-    held_readings_are_handed_on(rt, alloc, stores)?;
+pub(crate) fn all_hold<D: Stores>(rt: &impl Abort, alloc: Global, stores: &D) {
+    held_readings_are_handed_on(rt, alloc, stores);
     held_readings_of_a_span_are_handed_on(rt, alloc, stores)
 }
 
 #[test]
-fn held_readings_are_looked_up(rt: HostRuntime) -> Result<(), Fail> {
+fn held_readings_are_looked_up(rt: HostRuntime) {
     in_memory(&rt, rt.alloc(), Tried::HeldReadings)
 }

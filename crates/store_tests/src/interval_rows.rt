@@ -3,10 +3,9 @@ use crate::shares::{BOTH, FIRST, NEXT, Seen, are};
 use crate::stores::Stores;
 use crate::stories::{at_register, booked, of_meter};
 use crate::tried::{Tried, in_memory};
-use sqlite::{Connection, Error};
+use sqlite::Connection;
 use std::alloc::Global;
 use std::process::Abort;
-use std::test::Fail;
 use store_facts::meter_intervals;
 use store_tables::RowFault;
 
@@ -14,44 +13,39 @@ fn steps_are_shared_out_to_the_rows_of_their_meter<D: Stores>(
     rt: &impl Abort,
     alloc: Global,
     stores: &D,
-) -> Result<(), Fail> {
-    let mut conn = booked(alloc, stores)?;
+) {
+    let mut conn = booked(rt, alloc, stores);
     assert!(rt; are(&of_meter(alloc, &mut conn, "m1"), &FIRST));
     assert!(rt; are(&of_meter(alloc, &mut conn, "m0"), &NEXT));
     assert!(rt; are(&of_meter(alloc, &mut conn, "m2"), &[]));
     assert!(rt; are(&at_register(alloc, &mut conn, "main"), &BOTH));
-    Ok(())
 }
 
 /// The books of two meters, of which the first has a row that can't be.
-fn damaged<D: Stores>(alloc: Global, stores: &D) -> Result<Connection<D::Store>, Error> {
-    let mut conn = booked(alloc, stores)?;
-    conn.execute_batch("UPDATE intervals SET mwh = -1 WHERE start = 1800")?;
-    Ok(conn)
+fn damaged<D: Stores>(rt: &impl Abort, alloc: Global, stores: &D) -> Connection<D::Store> {
+    let mut conn = booked(rt, alloc, stores);
+    conn.execute_batch("UPDATE intervals SET mwh = -1 WHERE start = 1800")
+        .expect(rt, "no batch");
+    conn
 }
 
-fn a_row_out_of_its_ranges_is_damage<D: Stores>(
-    rt: &impl Abort,
-    alloc: Global,
-    stores: &D,
-) -> Result<(), Fail> {
-    let mut conn = damaged(alloc, stores)?;
+fn a_row_out_of_its_ranges_is_damage<D: Stores>(rt: &impl Abort, alloc: Global, stores: &D) {
+    let mut conn = damaged(rt, alloc, stores);
     let mut seen = Seen::new(alloc);
     let answer = meter_intervals(&mut conn, "m1", &mut seen);
     assert!(rt; answer == Err(RowFault::Damaged));
     assert!(rt; seen.are(&[(900, 177_777)]));
     assert!(rt; conn.is_autocommit());
     assert!(rt; are(&of_meter(alloc, &mut conn, "m0"), &NEXT));
-    Ok(())
 }
 
 /// All of these hold.
-pub(crate) fn all_hold<D: Stores>(rt: &impl Abort, alloc: Global, stores: &D) -> Result<(), Fail> {
-    steps_are_shared_out_to_the_rows_of_their_meter(rt, alloc, stores)?;
+pub(crate) fn all_hold<D: Stores>(rt: &impl Abort, alloc: Global, stores: &D) {
+    steps_are_shared_out_to_the_rows_of_their_meter(rt, alloc, stores);
     a_row_out_of_its_ranges_is_damage(rt, alloc, stores)
 }
 
 #[test]
-fn rows_of_intervals_are_kept(rt: HostRuntime) -> Result<(), Fail> {
+fn rows_of_intervals_are_kept(rt: HostRuntime) {
     in_memory(&rt, rt.alloc(), Tried::IntervalRows)
 }

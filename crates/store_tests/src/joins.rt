@@ -10,51 +10,54 @@ use meter_journal::Installed;
 use sqlite::{Alter, Connection};
 use std::alloc::Global;
 use std::process::Abort;
-use std::test::Fail;
 use table_seals::{FiledMeter, FiledOffice, Joining, filed_meters, put_joins};
 
 fn office<'a>(
+    rt: &impl Abort,
     alloc: Global,
     file: &'a str,
     zone: &str,
     meters: Vec<FiledMeter<'a>>,
-) -> Result<FiledOffice<'a>, Fail> {
+) -> FiledOffice<'a> {
     let latest = meters.len();
-    Ok(FiledOffice {
+    FiledOffice {
         file,
-        zone: String::from_str(alloc, zone)?,
+        zone: String::from_str(alloc, zone).expect(rt, "no memory"),
         meters,
         latest,
-    })
+    }
 }
 
 /// What is kept of books.
 fn filed<'a, S: Alter>(
+    rt: &impl Abort,
     alloc: Global,
     conn: &mut Connection<S>,
     file: &'a str,
-) -> Result<FiledOffice<'a>, Fail> {
-    ready(conn)?;
-    match filed_meters(alloc, conn, file)? {
-        Some(meters) => office(alloc, file, "UTC0", meters),
-        None => Err(Fail::from("a value can't be read")),
+) -> FiledOffice<'a> {
+    ready(conn).expect(rt, "no idle books");
+    match filed_meters(alloc, conn, file).expect(rt, "no filed meters") {
+        Some(meters) => office(rt, alloc, file, "UTC0", meters),
+        None => panic!(rt; "a value can't be read"),
     }
 }
 
-fn old_file<D: Stores>(alloc: Global, stores: &D) -> Result<FiledOffice<'static>, Fail> {
-    let mut conn = one_reading(alloc, stores)?;
-    filed(alloc, &mut conn, "old.db")
+fn old_file<D: Stores>(rt: &impl Abort, alloc: Global, stores: &D) -> FiledOffice<'static> {
+    let mut conn = one_reading(rt, alloc, stores);
+    filed(rt, alloc, &mut conn, "old.db")
 }
 
 /// Books in which a meter is installed so.
 fn installed<D: Stores>(
+    rt: &impl Abort,
     alloc: Global,
     stores: &D,
     meter: &[u8],
     at: u64,
     raw: u32,
-) -> Result<Connection<D::Store>, Fail> {
+) -> Connection<D::Store> {
     booked(
+        rt,
         alloc,
         stores,
         [device(), register(), opening(meter, at, raw)],
@@ -62,76 +65,65 @@ fn installed<D: Stores>(
 }
 
 fn new_file<D: Stores>(
+    rt: &impl Abort,
     alloc: Global,
     stores: &D,
     meter: &[u8],
     at: u64,
     raw: u32,
-) -> Result<FiledOffice<'static>, Fail> {
-    let mut conn = installed(alloc, stores, meter, at, raw)?;
-    filed(alloc, &mut conn, "new.db")
+) -> FiledOffice<'static> {
+    let mut conn = installed(rt, alloc, stores, meter, at, raw);
+    filed(rt, alloc, &mut conn, "new.db")
 }
 
 /// What is said of files so far.
-fn said(alloc: Global, joining: &Joining<'_>) -> Result<Vec<u8>, Fail> {
+fn said(rt: &impl Abort, alloc: Global, joining: &Joining<'_>) -> Vec<u8> {
     let mut text = Vec::new(alloc);
-    put_joins(&mut text, joining.lines.as_slice())?;
-    Ok(text)
+    put_joins(&mut text, joining.lines.as_slice()).expect(rt, "no joins");
+    text
 }
 
 /// Holds a file to those before it.
 fn with(
+    rt: &impl Abort,
     alloc: Global,
     joining: Joining<'static>,
     file: FiledOffice<'static>,
-) -> Result<Joining<'static>, Fail> {
+) -> Joining<'static> {
     let mut joining = joining;
-    joining.join(alloc, file)?;
-    Ok(joining)
+    joining.join(alloc, file).expect(rt, "no join");
+    joining
 }
 
 /// What is said of two files.
 fn said_of_both(
+    rt: &impl Abort,
     alloc: Global,
     old: FiledOffice<'static>,
     next: FiledOffice<'static>,
-) -> Result<Vec<u8>, Fail> {
-    let joining = with(alloc, Joining::new(alloc), old)?;
-    said(alloc, &with(alloc, joining, next)?)
+) -> Vec<u8> {
+    let joining = with(rt, alloc, Joining::new(alloc), old);
+    said(rt, alloc, &with(rt, alloc, joining, next))
 }
 
-fn a_meter_goes_on_where_it_stands<D: Stores>(
-    rt: &impl Abort,
-    alloc: Global,
-    stores: &D,
-) -> Result<(), Fail> {
-    let next = new_file(alloc, stores, b"m1", 1900, 5200)?;
-    let text = said_of_both(alloc, old_file(alloc, stores)?, next)?;
+fn a_meter_goes_on_where_it_stands<D: Stores>(rt: &impl Abort, alloc: Global, stores: &D) {
+    let next = new_file(rt, alloc, stores, b"m1", 1900, 5200);
+    let text = said_of_both(rt, alloc, old_file(rt, alloc, stores), next);
     assert!(rt; text.as_slice() == b"joined: fine\n".as_slice());
-    Ok(())
 }
 
-fn one_that_begins_elsewhere_is_told<D: Stores>(
-    rt: &impl Abort,
-    alloc: Global,
-    stores: &D,
-) -> Result<(), Fail> {
-    let next = new_file(alloc, stores, b"m1", 1901, 5201)?;
-    let text = said_of_both(alloc, old_file(alloc, stores)?, next)?;
+fn one_that_begins_elsewhere_is_told<D: Stores>(rt: &impl Abort, alloc: Global, stores: &D) {
+    let next = new_file(rt, alloc, stores, b"m1", 1901, 5201);
+    let text = said_of_both(rt, alloc, old_file(rt, alloc, stores), next);
     assert!(rt;
         text.as_slice()
             == b"meter m1 begins in new.db at 1901 5201 0, stands in old.db at 1900 5200 0\n1 differences between files\n".as_slice()
     );
-    Ok(())
 }
 
-fn one_that_is_missing_is_told<D: Stores>(
-    rt: &impl Abort,
-    alloc: Global,
-    stores: &D,
-) -> Result<(), Fail> {
-    let next = new_file(alloc, stores, b"m2", 1899, 0)?;
-    let text = said_of_both(alloc, old_file(alloc, stores)?, next)?;
+fn one_that_is_missing_is_told<D: Stores>(rt: &impl Abort, alloc: Global, stores: &D) {
+    let next = new_file(rt, alloc, stores, b"m2", 1899, 0);
+    let text = said_of_both(rt, alloc, old_file(rt, alloc, stores), next);
     assert!(rt;
         text.as_slice()
             == b"meter m2 begins in new.db at 1899 0 0, meter m1 stands at its register in old.db at 1900 5200 0
@@ -140,49 +132,43 @@ meter m1 is not in new.db, and is open in old.db
 "
                 .as_slice()
     );
-    Ok(())
 }
 
 /// A file in which the meter is read once more.
-fn next_file<D: Stores>(alloc: Global, stores: &D) -> Result<FiledOffice<'static>, Fail> {
-    let mut conn = installed(alloc, stores, b"m1", 1900, 5200)?;
-    book_all(alloc, &mut conn, [reading(b"m1", 2800, 5300, 0)])?;
-    filed(alloc, &mut conn, "next.db")
+fn next_file<D: Stores>(rt: &impl Abort, alloc: Global, stores: &D) -> FiledOffice<'static> {
+    let mut conn = installed(rt, alloc, stores, b"m1", 1900, 5200);
+    book_all(rt, alloc, &mut conn, [reading(b"m1", 2800, 5300, 0)]);
+    filed(rt, alloc, &mut conn, "next.db")
 }
 
-fn two_files<D: Stores>(alloc: Global, stores: &D) -> Result<Joining<'static>, Fail> {
-    let joining = with(alloc, Joining::new(alloc), old_file(alloc, stores)?)?;
-    with(alloc, joining, next_file(alloc, stores)?)
+fn two_files<D: Stores>(rt: &impl Abort, alloc: Global, stores: &D) -> Joining<'static> {
+    let joining = with(rt, alloc, Joining::new(alloc), old_file(rt, alloc, stores));
+    with(rt, alloc, joining, next_file(rt, alloc, stores))
 }
 
-fn three_files<D: Stores>(alloc: Global, stores: &D) -> Result<Joining<'static>, Fail> {
-    let joining = two_files(alloc, stores)?;
-    with(alloc, joining, new_file(alloc, stores, b"m1", 2800, 5300)?)
+fn three_files<D: Stores>(rt: &impl Abort, alloc: Global, stores: &D) -> Joining<'static> {
+    let joining = two_files(rt, alloc, stores);
+    with(
+        rt,
+        alloc,
+        joining,
+        new_file(rt, alloc, stores, b"m1", 2800, 5300),
+    )
 }
 
-fn a_third_file_goes_on_from_the_second<D: Stores>(
-    rt: &impl Abort,
-    alloc: Global,
-    stores: &D,
-) -> Result<(), Fail> {
-    let joining = three_files(alloc, stores)?;
-    let text = said(alloc, &joining)?;
+fn a_third_file_goes_on_from_the_second<D: Stores>(rt: &impl Abort, alloc: Global, stores: &D) {
+    let joining = three_files(rt, alloc, stores);
+    let text = said(rt, alloc, &joining);
     assert!(rt; text.as_slice() == b"joined: fine\n".as_slice());
-    Ok(())
 }
 
-fn a_file_that_is_left_out_is_told<D: Stores>(
-    rt: &impl Abort,
-    alloc: Global,
-    stores: &D,
-) -> Result<(), Fail> {
-    let next = new_file(alloc, stores, b"m1", 2800, 5300)?;
-    let text = said_of_both(alloc, old_file(alloc, stores)?, next)?;
+fn a_file_that_is_left_out_is_told<D: Stores>(rt: &impl Abort, alloc: Global, stores: &D) {
+    let next = new_file(rt, alloc, stores, b"m1", 2800, 5300);
+    let text = said_of_both(rt, alloc, old_file(rt, alloc, stores), next);
     assert!(rt;
         text.as_slice()
             == b"meter m1 begins in new.db at 2800 5300 0, stands in old.db at 1900 5200 0\n1 differences between files\n".as_slice()
     );
-    Ok(())
 }
 
 /// What a meter has in a file.
@@ -210,15 +196,16 @@ const STAND: Last = Last {
 };
 
 fn file_of(
+    rt: &impl Abort,
     alloc: Global,
     file: &'static str,
     zone: &str,
     had: Had,
-) -> Result<FiledOffice<'static>, Fail> {
+) -> FiledOffice<'static> {
     let meter = FiledMeter {
         file,
-        meter: String::from_str(alloc, "m1")?,
-        register: String::from_str(alloc, had.register)?,
+        meter: String::from_str(alloc, "m1").expect(rt, "no memory"),
+        register: String::from_str(alloc, had.register).expect(rt, "no memory"),
         installed: Installed {
             range: had.range,
             ceiling: had.ceiling,
@@ -231,8 +218,8 @@ fn file_of(
         },
     };
     let mut meters = Vec::new(alloc);
-    meters.push(meter)?;
-    office(alloc, file, zone, meters)
+    meters.push(meter).expect(rt, "no memory");
+    office(rt, alloc, file, zone, meters)
 }
 
 /// What the meter has in the old file and in the new one, and what is said.
@@ -287,44 +274,42 @@ static CHANGES: [Change; 6] = [
     },
 ];
 
-fn is_said(alloc: Global, old: Had, new: Had, told: &[u8]) -> Result<bool, Fail> {
-    let known = file_of(alloc, "old.db", "UTC0", old)?;
-    let next = file_of(alloc, "new.db", "UTC0", new)?;
-    let text = said_of_both(alloc, known, next)?;
-    Ok(text.as_slice() == told)
+fn is_said(rt: &impl Abort, alloc: Global, old: Had, new: Had, told: &[u8]) -> bool {
+    let known = file_of(rt, alloc, "old.db", "UTC0", old);
+    let next = file_of(rt, alloc, "new.db", "UTC0", new);
+    let text = said_of_both(rt, alloc, known, next);
+    text.as_slice() == told
 }
 
 #[test]
-fn what_changed_is_told(rt: HostRuntime) -> Result<(), Fail> {
+fn what_changed_is_told(rt: HostRuntime) {
     for change in &CHANGES {
-        let said = is_said(rt.alloc(), change.old, change.new, change.told)?;
+        let said = is_said(&rt, rt.alloc(), change.old, change.new, change.told);
         assert!(rt; said, "{:?}", change.told);
     }
-    Ok(())
 }
 
 #[test]
-fn another_zone_is_told(rt: HostRuntime) -> Result<(), Fail> {
-    let known = file_of(rt.alloc(), "old.db", "UTC0", HAD)?;
-    let next = file_of(rt.alloc(), "new.db", "CET-1", HAD)?;
-    let text = said_of_both(rt.alloc(), known, next)?;
+fn another_zone_is_told(rt: HostRuntime) {
+    let known = file_of(&rt, rt.alloc(), "old.db", "UTC0", HAD);
+    let next = file_of(&rt, rt.alloc(), "new.db", "CET-1", HAD);
+    let text = said_of_both(&rt, rt.alloc(), known, next);
     assert!(rt;
         text.as_slice()
             == b"zone is CET-1 in new.db, and UTC0 in old.db\n1 differences between files\n".as_slice()
     );
-    Ok(())
 }
 
 /// All of these hold.
-pub(crate) fn all_hold<D: Stores>(rt: &impl Abort, alloc: Global, stores: &D) -> Result<(), Fail> {
-    a_meter_goes_on_where_it_stands(rt, alloc, stores)?;
-    one_that_begins_elsewhere_is_told(rt, alloc, stores)?;
-    one_that_is_missing_is_told(rt, alloc, stores)?;
-    a_third_file_goes_on_from_the_second(rt, alloc, stores)?;
+pub(crate) fn all_hold<D: Stores>(rt: &impl Abort, alloc: Global, stores: &D) {
+    a_meter_goes_on_where_it_stands(rt, alloc, stores);
+    one_that_begins_elsewhere_is_told(rt, alloc, stores);
+    one_that_is_missing_is_told(rt, alloc, stores);
+    a_third_file_goes_on_from_the_second(rt, alloc, stores);
     a_file_that_is_left_out_is_told(rt, alloc, stores)
 }
 
 #[test]
-fn files_are_held_to_those_before(rt: HostRuntime) -> Result<(), Fail> {
+fn files_are_held_to_those_before(rt: HostRuntime) {
     in_memory(&rt, rt.alloc(), Tried::Joins)
 }

@@ -6,7 +6,6 @@ use crate::tried::{Tried, in_memory};
 use sqlite::{Alter, Connection};
 use std::alloc::Global;
 use std::process::Abort;
-use std::test::Fail;
 use store_queries::latest;
 use store_tables::RowFault;
 
@@ -45,56 +44,45 @@ const LATER: [Later; 6] = [
 ];
 
 /// The latest moment after this was done.
-fn latest_after<S: Alter>(conn: &mut Connection<S>, text: &str) -> Result<u64, RowFault> {
-    conn.execute_batch(text)?;
-    ready(conn)?;
+fn latest_after<S: Alter>(
+    rt: &impl Abort,
+    conn: &mut Connection<S>,
+    text: &str,
+) -> Result<u64, RowFault> {
+    conn.execute_batch(text).expect(rt, "no batch");
+    ready(conn).expect(rt, "no idle books");
     latest(conn)
 }
 
-fn the_latest_moment_is_of_any_table<D: Stores>(
-    rt: &impl Abort,
-    alloc: Global,
-    stores: &D,
-) -> Result<(), Fail> {
-    let mut conn = books(alloc, stores)?;
+fn the_latest_moment_is_of_any_table<D: Stores>(rt: &impl Abort, alloc: Global, stores: &D) {
+    let mut conn = books(rt, alloc, stores);
     assert!(rt; latest(&mut conn) == Ok(1900));
     for later in LATER.iter() {
-        let latest = latest_after(&mut conn, later.text);
+        let latest = latest_after(rt, &mut conn, later.text);
         assert!(rt; latest == Ok(later.latest));
     }
-    Ok(())
 }
 
-fn new_books_have_no_moment<D: Stores>(
-    rt: &impl Abort,
-    alloc: Global,
-    stores: &D,
-) -> Result<(), Fail> {
-    let mut conn = new_books(alloc, stores)?;
-    ready(&mut conn)?;
+fn new_books_have_no_moment<D: Stores>(rt: &impl Abort, alloc: Global, stores: &D) {
+    let mut conn = new_books(rt, alloc, stores);
+    ready(&mut conn).expect(rt, "no idle books");
     assert!(rt; latest(&mut conn) == Ok(0));
-    Ok(())
 }
 
-fn a_moment_past_the_last_is_damaged<D: Stores>(
-    rt: &impl Abort,
-    alloc: Global,
-    stores: &D,
-) -> Result<(), Fail> {
-    let mut conn = books(alloc, stores)?;
-    let past = latest_after(&mut conn, "UPDATE replies SET moment = 4102444801");
+fn a_moment_past_the_last_is_damaged<D: Stores>(rt: &impl Abort, alloc: Global, stores: &D) {
+    let mut conn = books(rt, alloc, stores);
+    let past = latest_after(rt, &mut conn, "UPDATE replies SET moment = 4102444801");
     assert!(rt; past == Err(RowFault::Damaged));
-    Ok(())
 }
 
 /// All of these hold.
-pub(crate) fn all_hold<D: Stores>(rt: &impl Abort, alloc: Global, stores: &D) -> Result<(), Fail> {
-    the_latest_moment_is_of_any_table(rt, alloc, stores)?;
-    new_books_have_no_moment(rt, alloc, stores)?;
+pub(crate) fn all_hold<D: Stores>(rt: &impl Abort, alloc: Global, stores: &D) {
+    the_latest_moment_is_of_any_table(rt, alloc, stores);
+    new_books_have_no_moment(rt, alloc, stores);
     a_moment_past_the_last_is_damaged(rt, alloc, stores)
 }
 
 #[test]
-fn the_latest_moment_is_looked_up(rt: HostRuntime) -> Result<(), Fail> {
+fn the_latest_moment_is_looked_up(rt: HostRuntime) {
     in_memory(&rt, rt.alloc(), Tried::Latest)
 }

@@ -1,5 +1,5 @@
 //! Each look-up of devices, registers, polls and requests, once.
-ghost use Rattle.std.specs.Prelude.{◌≡◌, false, IfOk};
+ghost use Rattle.std.specs.Prelude.{◌≡◌, false};
 
 use crate::new_books::{holding, ready};
 use crate::stores::Stores;
@@ -10,10 +10,9 @@ use office_events::{
     CommandKind, Device, EndedPoll, Name, Poll, PollRow, Register, ScaleSource, Timeout, Window,
 };
 use poll_core::Outcome;
-use sqlite::{Alter, Connection, Error};
+use sqlite::{Alter, Connection};
 use std::alloc::Global;
 use std::process::Abort;
-use std::test::Fail;
 use store_queries::{
     devices, pending, poll, poll_count, register, register_count, registers, registers_read, repeat,
 };
@@ -28,15 +27,15 @@ INSERT INTO outcomes VALUES (1, 1900, 2, 11);
 INSERT INTO replies VALUES ('desk', 7, x'6162', 'exchange', 1800)";
 
 /// Books with these rows.
-pub(crate) fn books<D: Stores>(alloc: Global, stores: &D) -> Result<Connection<D::Store>, Error>
-    ensures idle { IfOk result (λ conn. conn.in_transaction ≡ false) }
+pub(crate) fn books<D: Stores>(rt: &impl Abort, alloc: Global, stores: &D) -> Connection<D::Store>
+    ensures idle { result.in_transaction ≡ false }
 {
-    holding(alloc, stores, ROWS)
+    holding(rt, alloc, stores, ROWS)
 }
 
 /// A name, as the look-ups take it.
-pub(crate) fn name(text: &[u8]) -> Result<Name, Error> {
-    Name::new(text).ok_or(Error::InvalidQuery)
+pub(crate) fn name(rt: &impl Abort, text: &[u8]) -> Name {
+    Name::new(text).expect(rt, "no name")
 }
 
 fn device(text: &[u8], unit: u8, seconds: u64, polls: u64) -> Option<Device> {
@@ -48,17 +47,12 @@ fn device(text: &[u8], unit: u8, seconds: u64, polls: u64) -> Option<Device> {
     })
 }
 
-fn devices_stand_in_their_order<D: Stores>(
-    rt: &impl Abort,
-    alloc: Global,
-    stores: &D,
-) -> Result<(), Fail> {
-    let mut conn = books(alloc, stores)?;
-    let all = devices(&mut conn)?;
+fn devices_stand_in_their_order<D: Stores>(rt: &impl Abort, alloc: Global, stores: &D) {
+    let mut conn = books(rt, alloc, stores);
+    let all = devices(&mut conn).expect(rt, "no devices");
     assert!(rt; all.len() == 2);
     assert!(rt; Some(all[0]) == device(b"inv", 3, 5, 1));
     assert!(rt; Some(all[1]) == device(b"pv", 0, 60, 16));
-    Ok(())
 }
 
 /// The registers of the two devices.
@@ -83,34 +77,25 @@ fn roof() -> Option<Register> {
 }
 
 fn register_named<S: Alter>(
+    rt: &impl Abort,
     conn: &mut Connection<S>,
     text: &[u8],
 ) -> Result<Option<Register>, RowFault> {
-    ready(conn)?;
-    register(conn, &name(text)?)
+    ready(conn).expect(rt, "no idle books");
+    register(conn, &name(rt, text))
 }
 
-fn a_register_is_found_by_its_name<D: Stores>(
-    rt: &impl Abort,
-    alloc: Global,
-    stores: &D,
-) -> Result<(), Fail> {
-    let mut conn = books(alloc, stores)?;
-    assert!(rt; register_named(&mut conn, b"roof") == Ok(roof()));
-    assert!(rt; register_named(&mut conn, b"pv") == Ok(None));
-    Ok(())
+fn a_register_is_found_by_its_name<D: Stores>(rt: &impl Abort, alloc: Global, stores: &D) {
+    let mut conn = books(rt, alloc, stores);
+    assert!(rt; register_named(rt, &mut conn, b"roof") == Ok(roof()));
+    assert!(rt; register_named(rt, &mut conn, b"pv") == Ok(None));
 }
 
-fn registers_are_those_of_their_device<D: Stores>(
-    rt: &impl Abort,
-    alloc: Global,
-    stores: &D,
-) -> Result<(), Fail> {
-    let mut conn = books(alloc, stores)?;
-    let all = registers(&mut conn, &name(b"inv")?)?;
+fn registers_are_those_of_their_device<D: Stores>(rt: &impl Abort, alloc: Global, stores: &D) {
+    let mut conn = books(rt, alloc, stores);
+    let all = registers(&mut conn, &name(rt, b"inv")).expect(rt, "no registers");
     assert!(rt; all.len() == 1);
     assert!(rt; Some(all[0]) == main());
-    Ok(())
 }
 
 /// Reads of a device, and whether they give a reading of its register.
@@ -127,38 +112,29 @@ static READS: [(&[u8], u8, u16, u16, bool); 9] = [
 ];
 
 fn count_of_read<S: Alter>(
+    rt: &impl Abort,
     conn: &mut Connection<S>,
     device: &[u8],
     span: Option<ReadSpan>,
 ) -> Result<usize, RowFault> {
-    ready(conn)?;
-    let span = span.ok_or(Error::InvalidQuery)?;
-    Ok(registers_read(conn, &name(device)?, span)?.len())
+    ready(conn).expect(rt, "no idle books");
+    let span = span.expect(rt, "no span");
+    Ok(registers_read(conn, &name(rt, device), span)?.len())
 }
 
 /// The counter and the scale of a register lie in a read that gives a reading of it, which has its function.
-fn registers_are_told_by_their_read<D: Stores>(
-    rt: &impl Abort,
-    alloc: Global,
-    stores: &D,
-) -> Result<(), Fail> {
-    let mut conn = books(alloc, stores)?;
+fn registers_are_told_by_their_read<D: Stores>(rt: &impl Abort, alloc: Global, stores: &D) {
+    let mut conn = books(rt, alloc, stores);
     for (device, function, address, count, is_read) in &READS {
         let span = ReadSpan::new(*function, *address, *count);
-        let found = count_of_read(&mut conn, device, span);
+        let found = count_of_read(rt, &mut conn, device, span);
         assert!(rt; found == Ok(usize::from(*is_read)), "{address} {count}");
     }
-    Ok(())
 }
 
-fn registers_are_counted<D: Stores>(
-    rt: &impl Abort,
-    alloc: Global,
-    stores: &D,
-) -> Result<(), Fail> {
-    let mut conn = books(alloc, stores)?;
-    assert!(rt; register_count(&mut conn, &name(b"pv")?) == Ok(1));
-    Ok(())
+fn registers_are_counted<D: Stores>(rt: &impl Abort, alloc: Global, stores: &D) {
+    let mut conn = books(rt, alloc, stores);
+    assert!(rt; register_count(&mut conn, &name(rt, b"pv")) == Ok(1));
 }
 
 /// The two polls.
@@ -190,26 +166,20 @@ fn second() -> Option<Poll> {
     })
 }
 
-fn a_poll_has_its_end<D: Stores>(rt: &impl Abort, alloc: Global, stores: &D) -> Result<(), Fail> {
-    let mut conn = books(alloc, stores)?;
+fn a_poll_has_its_end<D: Stores>(rt: &impl Abort, alloc: Global, stores: &D) {
+    let mut conn = books(rt, alloc, stores);
     assert!(rt; poll(&mut conn, 1) == Ok(first()));
-    ready(&mut conn)?;
+    ready(&mut conn).expect(rt, "no idle books");
     assert!(rt; poll(&mut conn, u64::MAX) == Ok(None));
-    Ok(())
 }
 
-fn polls_without_an_end_wait<D: Stores>(
-    rt: &impl Abort,
-    alloc: Global,
-    stores: &D,
-) -> Result<(), Fail> {
-    let mut conn = books(alloc, stores)?;
+fn polls_without_an_end_wait<D: Stores>(rt: &impl Abort, alloc: Global, stores: &D) {
+    let mut conn = books(rt, alloc, stores);
     assert!(rt; poll_count(&mut conn) == Ok(2));
-    ready(&mut conn)?;
-    let waits = pending(&mut conn)?;
+    ready(&mut conn).expect(rt, "no idle books");
+    let waits = pending(&mut conn).expect(rt, "no pending polls");
     assert!(rt; waits.len() == 1);
     assert!(rt; Some(waits[0]) == second());
-    Ok(())
 }
 
 /// Requests by their numbers and bytes, and what they are to the kept one.
@@ -220,40 +190,36 @@ static REQUESTS: [(u64, &[u8], Option<Repeat>); 3] = [
 ];
 
 fn repeat_at<S: Alter>(
+    rt: &impl Abort,
     conn: &mut Connection<S>,
     number: u64,
     request: &[u8],
 ) -> Result<Option<Repeat>, RowFault> {
-    ready(conn)?;
-    repeat(conn, &name(b"desk")?, number, request)
+    ready(conn).expect(rt, "no idle books");
+    repeat(conn, &name(rt, b"desk"), number, request)
 }
 
-fn a_request_is_compared_with_the_kept_one<D: Stores>(
-    rt: &impl Abort,
-    alloc: Global,
-    stores: &D,
-) -> Result<(), Fail> {
-    let mut conn = books(alloc, stores)?;
+fn a_request_is_compared_with_the_kept_one<D: Stores>(rt: &impl Abort, alloc: Global, stores: &D) {
+    let mut conn = books(rt, alloc, stores);
     for (number, request, answer) in &REQUESTS {
-        let found = repeat_at(&mut conn, *number, request);
+        let found = repeat_at(rt, &mut conn, *number, request);
         assert!(rt; found == Ok(*answer), "{number}");
     }
-    Ok(())
 }
 
 /// All of these hold.
-pub(crate) fn all_hold<D: Stores>(rt: &impl Abort, alloc: Global, stores: &D) -> Result<(), Fail> {
-    devices_stand_in_their_order(rt, alloc, stores)?;
-    a_register_is_found_by_its_name(rt, alloc, stores)?;
-    registers_are_those_of_their_device(rt, alloc, stores)?;
-    registers_are_told_by_their_read(rt, alloc, stores)?;
-    registers_are_counted(rt, alloc, stores)?;
-    a_poll_has_its_end(rt, alloc, stores)?;
-    polls_without_an_end_wait(rt, alloc, stores)?;
+pub(crate) fn all_hold<D: Stores>(rt: &impl Abort, alloc: Global, stores: &D) {
+    devices_stand_in_their_order(rt, alloc, stores);
+    a_register_is_found_by_its_name(rt, alloc, stores);
+    registers_are_those_of_their_device(rt, alloc, stores);
+    registers_are_told_by_their_read(rt, alloc, stores);
+    registers_are_counted(rt, alloc, stores);
+    a_poll_has_its_end(rt, alloc, stores);
+    polls_without_an_end_wait(rt, alloc, stores);
     a_request_is_compared_with_the_kept_one(rt, alloc, stores)
 }
 
 #[test]
-fn devices_and_polls_are_looked_up(rt: HostRuntime) -> Result<(), Fail> {
+fn devices_and_polls_are_looked_up(rt: HostRuntime) {
     in_memory(&rt, rt.alloc(), Tried::Lookups)
 }

@@ -5,17 +5,18 @@ use office_core::Office;
 use office_store::SqlBooks;
 use sqlite::{Alter, Connection};
 use std::alloc::Global;
-use std::test::Fail;
+use std::process::Abort;
 
 /// New books over this connection.
 pub(crate) fn made<S: Alter + Drop>(
+    rt: &impl Abort,
     alloc: Global,
     connection: Connection<S>,
     zone: &str,
-) -> Result<SqlBooks<S>, Fail> {
+) -> SqlBooks<S> {
     match SqlBooks::create(alloc, connection, zone) {
-        Ok(books) => Ok(books),
-        Err(_) => Err(Fail::from("not made")),
+        Ok(books) => books,
+        Err(_) => panic!(rt; "not made"),
     }
 }
 
@@ -23,25 +24,26 @@ pub(crate) fn made<S: Alter + Drop>(
 const ZONE: &str = "CET-1CEST,M3.5.0,M10.5.0/3";
 
 /// New books.
-pub(crate) fn books<D: Stores>(alloc: Global, stores: &D) -> Result<SqlBooks<D::Store>, Fail> {
-    made(alloc, stores.open(alloc)?, ZONE)
+pub(crate) fn books<D: Stores>(rt: &impl Abort, alloc: Global, stores: &D) -> SqlBooks<D::Store> {
+    made(rt, alloc, stores.open(rt, alloc), ZONE)
 }
 
 /// The books of this connection.
 pub(crate) fn found<S: Alter + Drop>(
+    rt: &impl Abort,
     alloc: Global,
     connection: Connection<S>,
-) -> Result<SqlBooks<S>, Fail> {
+) -> SqlBooks<S> {
     match SqlBooks::open(alloc, connection) {
-        Ok(books) => Ok(books),
-        Err(_) => Err(Fail::from("not found")),
+        Ok(books) => books,
+        Err(_) => panic!(rt; "not found"),
     }
 }
 
 /// An office over books, opened at a moment.
-pub(crate) fn opened<B: Books>(alloc: Global, books: B, moment: u64) -> Result<Office<B>, Fail> {
+pub(crate) fn opened<B: Books>(rt: &impl Abort, alloc: Global, books: B, moment: u64) -> Office<B> {
     match Office::open(alloc, books, moment) {
-        Ok(office) => Ok(office),
-        Err(_) => Err(Fail::from("not opened")),
+        Ok(office) => office,
+        Err(_) => panic!(rt; "not opened"),
     }
 }

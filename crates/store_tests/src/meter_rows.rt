@@ -2,10 +2,9 @@
 use crate::one_meter::{INSTALLED, OPENED, OPENING, READ, READING, one_meter};
 use crate::stores::Stores;
 use crate::tried::{Tried, in_memory};
-use sqlite::{Alter, Connection, Error, Row, Transaction};
+use sqlite::{Alter, Connection, Row, Transaction};
 use std::alloc::Global;
 use std::process::Abort;
-use std::test::Fail;
 use store_tables::{
     EntryRow, GREATEST_PLACE, Installation, InstallationRow, RowFault, end_installation, entry_at,
     entry_rows, first_whole, insert_entry, insert_void, installation_at, installation_of,
@@ -28,8 +27,8 @@ fn a_meter_is_found_by_its_name_and_at_its_register<D: Stores>(
     rt: &impl Abort,
     alloc: Global,
     stores: &D,
-) -> Result<(), Fail> {
-    let mut conn = one_meter(alloc, stores)?;
+) {
+    let mut conn = one_meter(rt, alloc, stores);
     assert!(rt; is_installed(&installation_of(&mut conn, "m1"), INSTALLED));
     assert!(rt; is_installed(&installation_at(&mut conn, "main"), INSTALLED));
     assert!(rt; matches!(installation_of(&mut conn, "m2"), Ok(None)));
@@ -37,54 +36,47 @@ fn a_meter_is_found_by_its_name_and_at_its_register<D: Stores>(
     assert!(rt; last_installation(&mut conn) == Ok(Some(1)));
     assert!(rt; range_of(&mut conn, "m1") == Ok(Some(4_294_967_296)));
     assert!(rt; INSTALLED.last == OPENED);
-    Ok(())
 }
 
 /// The entries of the meter by their places.
 static ENTRIES: [(u64, Option<EntryRow>); 3] = [(1, Some(OPENING)), (2, Some(READING)), (3, None)];
 
-fn entries_are_found_by_their_places<D: Stores>(
-    rt: &impl Abort,
-    alloc: Global,
-    stores: &D,
-) -> Result<(), Fail> {
-    let mut conn = one_meter(alloc, stores)?;
+fn entries_are_found_by_their_places<D: Stores>(rt: &impl Abort, alloc: Global, stores: &D) {
+    let mut conn = one_meter(rt, alloc, stores);
     for (place, entry) in &ENTRIES {
         assert!(rt; entry_at(&mut conn, "m1", *place) == Ok(*entry), "{place}");
     }
-    let rows = entry_rows(&mut conn, "m1")?;
+    let rows = entry_rows(&mut conn, "m1").expect(rt, "no entries");
     assert!(rt; rows.len() == 2);
     assert!(rt; read_entry(&rows[0]) == Ok(OPENING));
     assert!(rt; read_entry(&rows[1]) == Ok(READING));
-    Ok(())
 }
 
-fn changes<S: Alter>(tx: &mut Transaction<'_, S>) -> Result<(), Error> {
-    update_last(tx, "m1", READ)?;
-    end_installation(tx, "m1")?;
-    set_rolls(tx, "m1", 2, 1)?;
-    insert_void(tx, "m1", 2, 2000)?;
-    Ok(())
+fn changes<S: Alter>(rt: &impl Abort, tx: &mut Transaction<'_, S>) {
+    update_last(tx, "m1", READ).expect(rt, "no last row");
+    end_installation(tx, "m1").expect(rt, "no end");
+    set_rolls(tx, "m1", 2, 1).expect(rt, "no rolls");
+    insert_void(tx, "m1", 2, 2000).expect(rt, "no void");
 }
 
-fn change<S: Alter>(conn: &mut Connection<S>) -> Result<(), Error> {
+fn change<S: Alter>(rt: &impl Abort, conn: &mut Connection<S>) {
     if !conn.is_autocommit() {
-        return Err(Error::InvalidQuery);
+        panic!(rt; "a transaction is under way");
     }
     let mut tx = conn.transaction();
-    changes(&mut tx)?;
-    tx.commit()
+    changes(rt, &mut tx);
+    tx.commit().expect(rt, "no commit")
 }
 
 /// The meter once it has moved to its reading and ended, its reading turned over, and was voided.
-fn ended<D: Stores>(alloc: Global, stores: &D) -> Result<Connection<D::Store>, Error> {
-    let mut conn = one_meter(alloc, stores)?;
-    change(&mut conn)?;
-    Ok(conn)
+fn ended<D: Stores>(rt: &impl Abort, alloc: Global, stores: &D) -> Connection<D::Store> {
+    let mut conn = one_meter(rt, alloc, stores);
+    change(rt, &mut conn);
+    conn
 }
 
-fn rows_are_changed<D: Stores>(rt: &impl Abort, alloc: Global, stores: &D) -> Result<(), Fail> {
-    let mut conn = ended(alloc, stores)?;
+fn rows_are_changed<D: Stores>(rt: &impl Abort, alloc: Global, stores: &D) {
+    let mut conn = ended(rt, alloc, stores);
     let row = InstallationRow {
         is_ended: true,
         last: READ,
@@ -97,34 +89,36 @@ fn rows_are_changed<D: Stores>(rt: &impl Abort, alloc: Global, stores: &D) -> Re
     };
     assert!(rt; entry_at(&mut conn, "m1", 2) == Ok(Some(rolled)));
     assert!(rt; entry_at(&mut conn, "m1", 1) == Ok(Some(OPENING)));
-    let voids = void_rows(&mut conn, "m1")?;
+    let voids = void_rows(&mut conn, "m1").expect(rt, "no voids");
     assert!(rt; voids.len() == 1);
     assert!(rt; read_void(&voids[0]) == Ok(2));
-    Ok(())
 }
 
 /// The rows of the meter and of its last place.
 type Seen = (Vec<Row>, Vec<Row>);
 
-fn end_and_see<S: Alter>(tx: &mut Transaction<'_, S>) -> Result<Seen, Error> {
+fn end_and_see<S: Alter>(rt: &impl Abort, tx: &mut Transaction<'_, S>) -> Seen {
     let third = EntryRow {
         place: 3,
         moment: 2800,
         ..READING
     };
-    insert_entry(tx, "m1", third)?;
-    end_installation(tx, "m1")?;
-    Ok((installation_rows(tx, "m1")?, last_entry_rows(tx, "m1")?))
+    insert_entry(tx, "m1", third).expect(rt, "no entry");
+    end_installation(tx, "m1").expect(rt, "no end");
+    (
+        installation_rows(tx, "m1").expect(rt, "no installations"),
+        last_entry_rows(tx, "m1").expect(rt, "no last entry"),
+    )
 }
 
-fn see_inside<S: Alter>(conn: &mut Connection<S>) -> Result<Seen, Error> {
+fn see_inside<S: Alter>(rt: &impl Abort, conn: &mut Connection<S>) -> Seen {
     if !conn.is_autocommit() {
-        return Err(Error::InvalidQuery);
+        panic!(rt; "a transaction is under way");
     }
     let mut tx = conn.transaction();
-    let seen = end_and_see(&mut tx)?;
+    let seen = end_and_see(rt, &mut tx);
     tx.rollback();
-    Ok(seen)
+    seen
 }
 
 fn is_ended(row: &Row) -> bool {
@@ -135,30 +129,25 @@ fn is_ended(row: &Row) -> bool {
     matches!(read_installation(row), Ok(at) if is_of_row(&at, ended))
 }
 
-fn a_transaction_sees_its_own_writes<D: Stores>(
-    rt: &impl Abort,
-    alloc: Global,
-    stores: &D,
-) -> Result<(), Fail> {
-    let mut conn = one_meter(alloc, stores)?;
-    let (installed, last) = see_inside(&mut conn)?;
+fn a_transaction_sees_its_own_writes<D: Stores>(rt: &impl Abort, alloc: Global, stores: &D) {
+    let mut conn = one_meter(rt, alloc, stores);
+    let (installed, last) = see_inside(rt, &mut conn);
     assert!(rt; installed.len() == 1);
     assert!(rt; is_ended(&installed[0]));
     assert!(rt; last.len() == 1);
     assert!(rt; first_whole(&last, 1, GREATEST_PLACE) == Ok(Some(3)));
     assert!(rt; entry_at(&mut conn, "m1", 3) == Ok(None));
-    Ok(())
 }
 
 /// All of these hold.
-pub(crate) fn all_hold<D: Stores>(rt: &impl Abort, alloc: Global, stores: &D) -> Result<(), Fail> {
-    a_meter_is_found_by_its_name_and_at_its_register(rt, alloc, stores)?;
-    entries_are_found_by_their_places(rt, alloc, stores)?;
-    rows_are_changed(rt, alloc, stores)?;
+pub(crate) fn all_hold<D: Stores>(rt: &impl Abort, alloc: Global, stores: &D) {
+    a_meter_is_found_by_its_name_and_at_its_register(rt, alloc, stores);
+    entries_are_found_by_their_places(rt, alloc, stores);
+    rows_are_changed(rt, alloc, stores);
     a_transaction_sees_its_own_writes(rt, alloc, stores)
 }
 
 #[test]
-fn rows_of_meters_are_kept(rt: HostRuntime) -> Result<(), Fail> {
+fn rows_of_meters_are_kept(rt: HostRuntime) {
     in_memory(&rt, rt.alloc(), Tried::MeterRows)
 }

@@ -5,6 +5,7 @@ use crate::stores::Stores;
 use interval_core::Zone;
 use sqlite::{Alter, Connection, Error};
 use std::alloc::Global;
+use std::process::Abort;
 use store_files::{OpenFault, create};
 
 /// The number of the fault, and 0 for none.
@@ -17,25 +18,27 @@ pub(crate) fn fault(answer: Result<Zone, OpenFault>) -> u8 {
 
 /// New books in an empty database.
 pub(crate) fn new_books<D: Stores>(
+    rt: &impl Abort,
     alloc: Global,
     stores: &D,
-) -> Result<Connection<D::Store>, Error> {
-    let mut conn = stores.open(alloc)?;
+) -> Connection<D::Store> {
+    let mut conn = stores.open(rt, alloc);
     match create(&mut conn, "UTC0") {
-        Ok(_) => Ok(conn),
-        Err(_) => Err(Error::InvalidQuery),
+        Ok(_) => conn,
+        Err(_) => panic!(rt; "no new books"),
     }
 }
 
 /// New books to which this was done.
 pub(crate) fn changed<D: Stores>(
+    rt: &impl Abort,
     alloc: Global,
     stores: &D,
     change: &str,
-) -> Result<Connection<D::Store>, Error> {
-    let mut conn = new_books(alloc, stores)?;
-    conn.execute_batch(change)?;
-    Ok(conn)
+) -> Connection<D::Store> {
+    let mut conn = new_books(rt, alloc, stores);
+    conn.execute_batch(change).expect(rt, "no batch");
+    conn
 }
 
 /// That no transaction is under way.
@@ -52,15 +55,16 @@ pub(crate) fn ready<S: Alter>(conn: &mut Connection<S>) -> Result<(), Error>
 
 /// New books with these rows, and no transaction under way.
 pub(crate) fn holding<D: Stores>(
+    rt: &impl Abort,
     alloc: Global,
     stores: &D,
     rows: &str,
-) -> Result<Connection<D::Store>, Error>
-    ensures idle { IfOk result (λ conn. conn.in_transaction ≡ false) }
+) -> Connection<D::Store>
+    ensures idle { result.in_transaction ≡ false }
 {
-    let mut conn = changed(alloc, stores, rows)?;
-    ready(&mut conn)?;
-    Ok(conn)
+    let mut conn = changed(rt, alloc, stores, rows);
+    ready(&mut conn).expect(rt, "no idle books");
+    conn
 }
 
 /// The number that a query answers.
@@ -70,10 +74,11 @@ pub(crate) fn number<S: Alter>(conn: &mut Connection<S>, query: &str) -> Result<
 
 /// How many rows a table has, or those of it that pass a test.
 pub(crate) fn count<S: Alter>(
+    rt: &impl Abort,
     alloc: Global,
     conn: &mut Connection<S>,
     rows: &str,
 ) -> Result<i64, Error> {
-    let query = format!(in alloc; "SELECT count(*) FROM {rows}")?;
+    let query = format!(in alloc; "SELECT count(*) FROM {rows}").expect(rt, "no memory");
     number(conn, &query)
 }

@@ -1,8 +1,9 @@
 //! Books with a meter, written row by row.
 use crate::new_books::changed;
 use crate::stores::Stores;
-use sqlite::{Alter, Connection, Error, Transaction};
+use sqlite::{Alter, Connection, Transaction};
 use std::alloc::Global;
+use std::process::Abort;
 use store_tables::{
     EntryKind, EntryRow, InstallationRow, LastRow, insert_entry, insert_installation, insert_range,
 };
@@ -54,29 +55,29 @@ pub(crate) const READING: EntryRow = EntryRow {
     sf: 0,
 };
 
-fn open_meter<S: Alter>(tx: &mut Transaction<'_, S>) -> Result<(), Error> {
-    insert_installation(tx, "m1", "main", INSTALLED)?;
-    insert_range(tx, "m1", 4_294_967_296)?;
-    insert_entry(tx, "m1", OPENING)?;
-    insert_entry(tx, "m1", READING)?;
-    Ok(())
+fn open_meter<S: Alter>(rt: &impl Abort, tx: &mut Transaction<'_, S>) {
+    insert_installation(tx, "m1", "main", INSTALLED).expect(rt, "no installation");
+    insert_range(tx, "m1", 4_294_967_296).expect(rt, "no range");
+    insert_entry(tx, "m1", OPENING).expect(rt, "no entry");
+    insert_entry(tx, "m1", READING).expect(rt, "no entry");
 }
 
-fn in_one_transaction<S: Alter>(conn: &mut Connection<S>) -> Result<(), Error> {
+fn in_one_transaction<S: Alter>(rt: &impl Abort, conn: &mut Connection<S>) {
     if !conn.is_autocommit() {
-        return Err(Error::InvalidQuery);
+        panic!(rt; "a transaction is under way");
     }
     let mut tx = conn.transaction();
-    open_meter(&mut tx)?;
-    tx.commit()
+    open_meter(rt, &mut tx);
+    tx.commit().expect(rt, "no commit")
 }
 
 /// The meter m1 at the register main, with its opening and a reading.
 pub(crate) fn one_meter<D: Stores>(
+    rt: &impl Abort,
     alloc: Global,
     stores: &D,
-) -> Result<Connection<D::Store>, Error> {
-    let mut conn = changed(alloc, stores, DEVICE)?;
-    in_one_transaction(&mut conn)?;
-    Ok(conn)
+) -> Connection<D::Store> {
+    let mut conn = changed(rt, alloc, stores, DEVICE);
+    in_one_transaction(rt, &mut conn);
+    conn
 }

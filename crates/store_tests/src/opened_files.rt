@@ -5,7 +5,6 @@ use crate::tried::{Tried, in_memory};
 use sqlite::{Alter, Connection};
 use std::alloc::Global;
 use std::process::Abort;
-use std::test::Fail;
 use store_files::open;
 
 /// What is done to a new file, and the fault that its opening then answers.
@@ -26,16 +25,11 @@ static FILES: [(&str, u8); 14] = [
     ("BEGIN", 1),
 ];
 
-fn other_files_are_refused<D: Stores>(
-    rt: &impl Abort,
-    alloc: Global,
-    stores: &D,
-) -> Result<(), Fail> {
+fn other_files_are_refused<D: Stores>(rt: &impl Abort, alloc: Global, stores: &D) {
     for (change, number) in &FILES {
-        let mut conn = changed(alloc, stores, change)?;
+        let mut conn = changed(rt, alloc, stores, change);
         assert!(rt; fault(open(&mut conn)) == *number, "{change}");
     }
-    Ok(())
 }
 
 /// A new file becomes one of version 1 with two meters.
@@ -106,35 +100,25 @@ fn is_brought<S: Alter>(rt: &impl Abort, conn: &mut Connection<S>, ranges: &[(&s
     assert!(rt; fault(open(conn)) == 0);
 }
 
-fn a_file_of_version_1_is_brought_to_3<D: Stores>(
-    rt: &impl Abort,
-    alloc: Global,
-    stores: &D,
-) -> Result<(), Fail> {
-    let mut conn = changed(alloc, stores, FIRST)?;
+fn a_file_of_version_1_is_brought_to_3<D: Stores>(rt: &impl Abort, alloc: Global, stores: &D) {
+    let mut conn = changed(rt, alloc, stores, FIRST);
     is_brought(rt, &mut conn, &RANGES);
-    Ok(())
 }
 
-fn a_file_of_version_2_is_brought_to_3<D: Stores>(
-    rt: &impl Abort,
-    alloc: Global,
-    stores: &D,
-) -> Result<(), Fail> {
-    let mut conn = changed(alloc, stores, FIRST)?;
-    conn.execute_batch(SECOND)?;
+fn a_file_of_version_2_is_brought_to_3<D: Stores>(rt: &impl Abort, alloc: Global, stores: &D) {
+    let mut conn = changed(rt, alloc, stores, FIRST);
+    conn.execute_batch(SECOND).expect(rt, "no batch");
     is_brought(rt, &mut conn, &KEPT_RANGES);
-    Ok(())
 }
 
 /// All of these hold.
-pub(crate) fn all_hold<D: Stores>(rt: &impl Abort, alloc: Global, stores: &D) -> Result<(), Fail> {
-    other_files_are_refused(rt, alloc, stores)?;
-    a_file_of_version_1_is_brought_to_3(rt, alloc, stores)?;
+pub(crate) fn all_hold<D: Stores>(rt: &impl Abort, alloc: Global, stores: &D) {
+    other_files_are_refused(rt, alloc, stores);
+    a_file_of_version_1_is_brought_to_3(rt, alloc, stores);
     a_file_of_version_2_is_brought_to_3(rt, alloc, stores)
 }
 
 #[test]
-fn files_are_opened(rt: HostRuntime) -> Result<(), Fail> {
+fn files_are_opened(rt: HostRuntime) {
     in_memory(&rt, rt.alloc(), Tried::OpenedFiles)
 }

@@ -8,7 +8,7 @@ use office_events::{Command, Event, PlannedList, PutList, StartPoll};
 use point_list::read_list;
 use script_lines::{GivenList, GivenStart, ScriptLine};
 use std::alloc::Global;
-use std::test::Fail;
+use std::process::Abort;
 
 /// A device, its register and its meter; a read of them, and the counter shows 5200 at the scale 0.
 pub(crate) const READ: &str = "1000 device inv 1 5 1
@@ -46,55 +46,59 @@ pub(crate) fn event_of(alloc: Global, line: ScriptLine) -> Option<(u64, Event)> 
 
 /// Carries out a line.
 fn play_line<B: Books>(
+    rt: &impl Abort,
     alloc: Global,
     office: &mut Office<B>,
     line: &str,
     printed: &mut Printed,
-) -> Result<(), Fail> {
-    let told = match ScriptLine::read(alloc, line.as_bytes())? {
+) {
+    let told = match ScriptLine::read(alloc, line.as_bytes()).expect(rt, "no line") {
         ScriptLine::Meter { name } => printed.meter(office, &name),
         ScriptLine::Intervals { name } => printed.intervals(office, &name),
         ScriptLine::Days { name } => printed.days(office, &name),
         ScriptLine::Poll { number } => printed.poll(office, number),
         line => {
-            let (at, event) = event_of(alloc, line).ok_or("no event")?;
-            printed.feed(office, at, &event)
+            let (at, event) = event_of(alloc, line).expect(rt, "no event");
+            printed.feed(rt, office, at, &event)
         }
     };
-    Ok(told?)
+    told.expect(rt, "no answer")
 }
 
 /// What is printed of the lines of a script.
 pub(crate) fn play<B: Books>(
+    rt: &impl Abort,
     alloc: Global,
     office: &mut Office<B>,
     script: &str,
-) -> Result<Vec<u8>, Fail> {
+) -> Vec<u8> {
     let mut printed = Printed::new(alloc);
     for line in script.lines() {
-        play_line(alloc, office, line, &mut printed)?;
+        play_line(rt, alloc, office, line, &mut printed);
     }
-    Ok(printed.into_text()?)
+    printed.into_text().expect(rt, "no memory")
 }
 
 /// What is printed of a script after another, over new books.
 fn play_after<B: Books>(
+    rt: &impl Abort,
     alloc: Global,
     books: B,
     before: &str,
     script: &str,
-) -> Result<Vec<u8>, Fail> {
-    let mut office = opened(alloc, books, 0)?;
-    let _ = play(alloc, &mut office, before)?;
-    play(alloc, &mut office, script)
+) -> Vec<u8> {
+    let mut office = opened(rt, alloc, books, 0);
+    let _ = play(rt, alloc, &mut office, before);
+    play(rt, alloc, &mut office, script)
 }
 
 /// The same over new books in a database.
 pub(crate) fn following<D: Stores>(
+    rt: &impl Abort,
     alloc: Global,
     stores: &D,
     before: &str,
     script: &str,
-) -> Result<Vec<u8>, Fail> {
-    play_after(alloc, books(alloc, stores)?, before, script)
+) -> Vec<u8> {
+    play_after(rt, alloc, books(rt, alloc, stores), before, script)
 }

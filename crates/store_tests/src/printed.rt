@@ -9,6 +9,7 @@ use script_text::{
 };
 use std::alloc::Global;
 use std::io::{self, ErrorKind};
+use std::process::Abort;
 
 /// The text so far, and how many rows it has since they were last counted.
 #[derive(Drop)]
@@ -68,6 +69,7 @@ impl Printed {
     /// Feeds an event: what it brought, and what it is answered.
     pub(crate) fn feed<B: Books>(
         &mut self,
+        rt: &impl Abort,
         office: &mut Office<B>,
         at: u64,
         event: &Event,
@@ -80,7 +82,7 @@ impl Printed {
                 &mut self.text,
             ),
             Err(why) => {
-                write_notes(office.notes(), &mut self.text)?;
+                write_notes(office.notes(), &mut self.text).expect(rt, "no memory");
                 write_refusal(why, &mut self.text)
             }
         }

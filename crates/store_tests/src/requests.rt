@@ -12,7 +12,6 @@ use sqlite::Alter;
 use std::alloc::Global;
 use std::process::Abort;
 use std::str;
-use std::test::Fail;
 
 /// The answers to a request of this caller, with these bytes.
 static REQUESTS: [(&[u8], &str, Result<Answer, Refusal>); 4] = [
@@ -85,23 +84,19 @@ fn printed_after<B: Books>(
     books: B,
     (moment, script): (u64, &str),
     requests: &[(&[u8], &str, Result<Answer, Refusal>)],
-) -> Result<(Vec<u8>, B), Fail> {
-    let mut office = opened(alloc, books, moment)?;
-    let _ = play(alloc, &mut office, script)?;
+) -> (Vec<u8>, B) {
+    let mut office = opened(rt, alloc, books, moment);
+    let _ = play(rt, alloc, &mut office, script);
     are_answered(rt, alloc, &mut office, requests);
-    let text = play(alloc, &mut office, "meter m1\nintervals m1")?;
-    Ok((text, office.into_books()))
+    let text = play(rt, alloc, &mut office, "meter m1\nintervals m1");
+    (text, office.into_books())
 }
 
 /// The same by an office that is opened anew over these books, and is sent the repeats.
-fn printed_again<S: Alter + Drop>(
-    rt: &impl Abort,
-    alloc: Global,
-    made: SqlBooks<S>,
-) -> Result<Vec<u8>, Fail> {
-    let again = found(alloc, made.into_connection())?;
-    let (text, _) = printed_after(rt, alloc, again, (5000, ""), &REQUESTS[1..])?;
-    Ok(text)
+fn printed_again<S: Alter + Drop>(rt: &impl Abort, alloc: Global, made: SqlBooks<S>) -> Vec<u8> {
+    let again = found(rt, alloc, made.into_connection());
+    let (text, _) = printed_after(rt, alloc, again, (5000, ""), &REQUESTS[1..]);
+    text
 }
 
 /// What is printed of it.
@@ -112,20 +107,15 @@ const M1: &str = "meter m1 last 5300 sf 0 at 2800 total 300000 ended
 end 3
 ";
 
-pub(crate) fn repeat_is_answered<D: Stores>(
-    rt: &impl Abort,
-    alloc: Global,
-    stores: &D,
-) -> Result<(), Fail> {
-    let new = books(alloc, stores)?;
-    let (text, made) = printed_after(rt, alloc, new, (0, READ), &REQUESTS)?;
+pub(crate) fn repeat_is_answered<D: Stores>(rt: &impl Abort, alloc: Global, stores: &D) {
+    let new = books(rt, alloc, stores);
+    let (text, made) = printed_after(rt, alloc, new, (0, READ), &REQUESTS);
     assert!(rt; text.as_slice() == M1.as_bytes());
-    let text = printed_again(rt, alloc, made)?;
+    let text = printed_again(rt, alloc, made);
     assert!(rt; text.as_slice() == M1.as_bytes());
-    Ok(())
 }
 
 #[test]
-fn a_repeat_is_answered_again(rt: HostRuntime) -> Result<(), Fail> {
+fn a_repeat_is_answered_again(rt: HostRuntime) {
     in_memory(&rt, rt.alloc(), Tried::Requests)
 }

@@ -5,7 +5,6 @@ use crate::tried::{Tried, in_memory};
 use std::alloc::Global;
 use std::process::Abort;
 use std::str;
-use std::test::Fail;
 
 /// A device, its register and its meter; a read of them waits.
 const WAITING: &str = "1000 device inv 1 5 1
@@ -276,19 +275,17 @@ end 1
     ),
 ];
 
-pub(crate) fn scripts_are_answered<D: Stores>(
-    rt: &impl Abort,
-    alloc: Global,
-    stores: &D,
-) -> Result<(), Fail> {
+pub(crate) fn scripts_are_answered<D: Stores>(rt: &impl Abort, alloc: Global, stores: &D) {
     for (before, script, printed) in &SCRIPTS {
-        let text = following(alloc, stores, before, script)?;
-        assert!(rt; str::from_utf8(&text)? == *printed, "{script}");
+        let text = following(rt, alloc, stores, before, script);
+        assert!(rt;
+            str::from_utf8(&text).expect(rt, "no UTF-8") == *printed,
+            "{script}"
+        );
     }
-    Ok(())
 }
 
 #[test]
-fn scripts_are_answered_as_over_books_in_memory(rt: HostRuntime) -> Result<(), Fail> {
+fn scripts_are_answered_as_over_books_in_memory(rt: HostRuntime) {
     in_memory(&rt, rt.alloc(), Tried::Scripts)
 }

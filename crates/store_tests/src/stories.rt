@@ -3,8 +3,9 @@ use crate::new_books::changed;
 use crate::shares::Seen;
 use crate::stores::Stores;
 use energy_core::Step;
-use sqlite::{Alter, Connection, Error, Transaction};
+use sqlite::{Alter, Connection, Transaction};
 use std::alloc::Global;
+use std::process::Abort;
 use store_facts::{book_step, meter_intervals, register_intervals};
 use store_tables::RowFault;
 
@@ -31,27 +32,31 @@ const NEXT: Step = Step {
     mwh: 45_000,
 };
 
-fn exchange<S: Alter>(tx: &mut Transaction<'_, S>) -> Result<(), Error> {
-    book_step(tx, "m3", &READING)?;
-    book_step(tx, "m0", &NEXT)?;
-    book_step(tx, "m1", &READING)?;
-    book_step(tx, "m1", &CLOSING)
+fn exchange<S: Alter>(rt: &impl Abort, tx: &mut Transaction<'_, S>) {
+    book_step(tx, "m3", &READING).expect(rt, "no step");
+    book_step(tx, "m0", &NEXT).expect(rt, "no step");
+    book_step(tx, "m1", &READING).expect(rt, "no step");
+    book_step(tx, "m1", &CLOSING).expect(rt, "no step")
 }
 
-fn in_one_transaction<S: Alter>(conn: &mut Connection<S>) -> Result<(), Error> {
+fn in_one_transaction<S: Alter>(rt: &impl Abort, conn: &mut Connection<S>) {
     if !conn.is_autocommit() {
-        return Err(Error::InvalidQuery);
+        panic!(rt; "a transaction is under way");
     }
     let mut tx = conn.transaction();
-    exchange(&mut tx)?;
-    tx.commit()
+    exchange(rt, &mut tx);
+    tx.commit().expect(rt, "no commit")
 }
 
 /// The books after what was booked.
-pub(crate) fn booked<D: Stores>(alloc: Global, stores: &D) -> Result<Connection<D::Store>, Error> {
-    let mut conn = changed(alloc, stores, METERS)?;
-    in_one_transaction(&mut conn)?;
-    Ok(conn)
+pub(crate) fn booked<D: Stores>(
+    rt: &impl Abort,
+    alloc: Global,
+    stores: &D,
+) -> Connection<D::Store> {
+    let mut conn = changed(rt, alloc, stores, METERS);
+    in_one_transaction(rt, &mut conn);
+    conn
 }
 
 /// The shares of a meter, and those of a register.

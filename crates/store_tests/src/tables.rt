@@ -3,7 +3,7 @@ use crate::made::books;
 use crate::stores::Stores;
 use sqlite::Connection;
 use std::alloc::Global;
-use std::test::Fail;
+use std::process::Abort;
 
 /// The tables of books by their names and columns, but with no types and no keys.
 const LOOSE: &str = "CREATE TABLE meta (id, version, zone);
@@ -36,16 +36,20 @@ INSERT INTO holds VALUES (1, 'm1', 1, 1900, 5100, 1, 2);
 INSERT INTO replies VALUES ('desk', 7, x'766f6964', 'void', 4000)";
 
 /// A database whose tables have the names of books' alone.
-pub(crate) fn loose<D: Stores>(alloc: Global, stores: &D) -> Result<Connection<D::Store>, Fail> {
-    let mut connection = stores.open(alloc)?;
-    connection.execute_batch(LOOSE)?;
-    connection.execute_batch(ROWS)?;
-    Ok(connection)
+pub(crate) fn loose<D: Stores>(rt: &impl Abort, alloc: Global, stores: &D) -> Connection<D::Store> {
+    let mut connection = stores.open(rt, alloc);
+    connection.execute_batch(LOOSE).expect(rt, "no batch");
+    connection.execute_batch(ROWS).expect(rt, "no batch");
+    connection
 }
 
 /// New books to which the same rows were added.
-pub(crate) fn strict<D: Stores>(alloc: Global, stores: &D) -> Result<Connection<D::Store>, Fail> {
-    let mut connection = books(alloc, stores)?.into_connection();
-    connection.execute_batch(ROWS)?;
-    Ok(connection)
+pub(crate) fn strict<D: Stores>(
+    rt: &impl Abort,
+    alloc: Global,
+    stores: &D,
+) -> Connection<D::Store> {
+    let mut connection = books(rt, alloc, stores).into_connection();
+    connection.execute_batch(ROWS).expect(rt, "no batch");
+    connection
 }

@@ -8,7 +8,6 @@ use crate::{
 };
 use std::alloc::Global;
 use std::process::Abort;
-use std::test::Fail;
 
 /// What is tried: a module of it.
 #[derive(Clone, Copy)]
@@ -37,12 +36,7 @@ pub(crate) enum Tried {
 }
 
 /// Tries it over databases of these stores.
-fn try_over<D: Stores>(
-    rt: &impl Abort,
-    alloc: Global,
-    stores: &D,
-    tried: Tried,
-) -> Result<(), Fail> {
+fn try_over<D: Stores>(rt: &impl Abort, alloc: Global, stores: &D, tried: Tried) {
     match tried {
         Tried::Bookings => bookings::all_hold(rt, alloc, stores),
         Tried::Columns => columns::columns_are_read(rt, alloc, stores),
@@ -69,6 +63,6 @@ fn try_over<D: Stores>(
 }
 
 /// Tries it over databases in memory.
-pub(crate) fn in_memory(rt: &impl Abort, alloc: Global, tried: Tried) -> Result<(), Fail> {
+pub(crate) fn in_memory(rt: &impl Abort, alloc: Global, tried: Tried) {
     try_over(rt, alloc, &InMemory, tried)
 }

@@ -1,13 +1,14 @@
 //! Two meters that stood one after the other at a register, in new books.
-ghost use Rattle.std.specs.Prelude.{◌≡◌, false, IfOk};
+ghost use Rattle.std.specs.Prelude.{◌≡◌, false};
 
 use crate::new_books::holding;
 use crate::stores::Stores;
 use energy_core::{Entry, Last};
 use meter_journal::{EntryKind, EntryRow};
 use office_events::{Installation, Name, Opening};
-use sqlite::{Connection, Error};
+use sqlite::Connection;
 use std::alloc::Global;
+use std::process::Abort;
 
 /// The meter m1 has a reading, one that was voided, and a closing; the next meter m0 has one reading. The energy of m1 is
 /// 200 Wh and 100 Wh, and that of m0 is 45 Wh.
@@ -21,12 +22,13 @@ INSERT INTO intervals VALUES ('m1', 900, 177777), ('m1', 1800, 111111), ('m1', 2
 
 /// Books with the two meters.
 pub(crate) fn two_meters<D: Stores>(
+    rt: &impl Abort,
     alloc: Global,
     stores: &D,
-) -> Result<Connection<D::Store>, Error>
-    ensures idle { IfOk result (λ conn. conn.in_transaction ≡ false) }
+) -> Connection<D::Store>
+    ensures idle { result.in_transaction ≡ false }
 {
-    holding(alloc, stores, ROWS)
+    holding(rt, alloc, stores, ROWS)
 }
 
 /// A moment and a value of a counter of scale 0.

@@ -6,7 +6,6 @@ use crate::tried::{Tried, in_memory};
 use office_events::Fact;
 use std::alloc::Global;
 use std::process::Abort;
-use std::test::Fail;
 
 /// Rows after the reading at 1900 was voided, after which one at 2800 stands.
 static BETWEEN: [&str; 7] = [
@@ -23,16 +22,11 @@ fn voided_between() -> [Option<Fact>; 2] {
     [reading(b"m1", 2800, 5300, 0), void(b"m1", 2)]
 }
 
-fn a_reading_between_others<D: Stores>(
-    rt: &impl Abort,
-    alloc: Global,
-    stores: &D,
-) -> Result<(), Fail> {
-    let mut conn = one_reading(alloc, stores)?;
-    book_all(alloc, &mut conn, voided_between())?;
+fn a_reading_between_others<D: Stores>(rt: &impl Abort, alloc: Global, stores: &D) {
+    let mut conn = one_reading(rt, alloc, stores);
+    book_all(rt, alloc, &mut conn, voided_between());
     stand(rt, alloc, &mut conn, &BETWEEN);
     have(rt, alloc, &mut conn, &[("intervals", 3), ("entries", 3)]);
-    Ok(())
 }
 
 /// Rows after two readings in a row were voided, the later one first: the step to the next passes both by.
@@ -56,16 +50,11 @@ fn two_voided() -> [Option<Fact>; 4] {
     ]
 }
 
-fn two_readings_in_a_row<D: Stores>(
-    rt: &impl Abort,
-    alloc: Global,
-    stores: &D,
-) -> Result<(), Fail> {
-    let mut conn = one_reading(alloc, stores)?;
-    book_all(alloc, &mut conn, two_voided())?;
+fn two_readings_in_a_row<D: Stores>(rt: &impl Abort, alloc: Global, stores: &D) {
+    let mut conn = one_reading(rt, alloc, stores);
+    book_all(rt, alloc, &mut conn, two_voided());
     stand(rt, alloc, &mut conn, &PASSED_BY);
     have(rt, alloc, &mut conn, &[("intervals", 4)]);
-    Ok(())
 }
 
 /// Rows after the last two of three readings were voided, the earlier one first.
@@ -84,16 +73,11 @@ fn last_two_voided() -> [Option<Fact>; 4] {
     ]
 }
 
-fn the_last_two_readings<D: Stores>(
-    rt: &impl Abort,
-    alloc: Global,
-    stores: &D,
-) -> Result<(), Fail> {
-    let mut conn = one_reading(alloc, stores)?;
-    book_all(alloc, &mut conn, last_two_voided())?;
+fn the_last_two_readings<D: Stores>(rt: &impl Abort, alloc: Global, stores: &D) {
+    let mut conn = one_reading(rt, alloc, stores);
+    book_all(rt, alloc, &mut conn, last_two_voided());
     stand(rt, alloc, &mut conn, &ENDED);
     have(rt, alloc, &mut conn, &[("intervals", 2)]);
-    Ok(())
 }
 
 /// What is left after the only reading was voided: the meter stands at its opening.
@@ -106,14 +90,13 @@ static OPENED: [(&str, i64); 3] = [
     ("entries", 2),
 ];
 
-fn the_only_reading<D: Stores>(rt: &impl Abort, alloc: Global, stores: &D) -> Result<(), Fail> {
-    let mut conn = one_reading(alloc, stores)?;
-    book_all(alloc, &mut conn, [void(b"m1", 2)])?;
+fn the_only_reading<D: Stores>(rt: &impl Abort, alloc: Global, stores: &D) {
+    let mut conn = one_reading(rt, alloc, stores);
+    book_all(rt, alloc, &mut conn, [void(b"m1", 2)]);
     have(rt, alloc, &mut conn, &OPENED);
     let again = [reading(b"m1", 2800, 5300, 0)];
-    book_all(alloc, &mut conn, again)?;
+    book_all(rt, alloc, &mut conn, again);
     have(rt, alloc, &mut conn, &[(BETWEEN[3], 1)]);
-    Ok(())
 }
 
 /// Rows after the first reading after a turn was voided: the next one turned over since the opening.
@@ -135,26 +118,21 @@ fn voided_after_a_turn() -> [Option<Fact>; 6] {
     ]
 }
 
-fn the_next_reading_turns_over<D: Stores>(
-    rt: &impl Abort,
-    alloc: Global,
-    stores: &D,
-) -> Result<(), Fail> {
-    let mut conn = booked(alloc, stores, voided_after_a_turn())?;
+fn the_next_reading_turns_over<D: Stores>(rt: &impl Abort, alloc: Global, stores: &D) {
+    let mut conn = booked(rt, alloc, stores, voided_after_a_turn());
     stand(rt, alloc, &mut conn, &TURNED);
-    Ok(())
 }
 
 /// All of these hold.
-pub(crate) fn all_hold<D: Stores>(rt: &impl Abort, alloc: Global, stores: &D) -> Result<(), Fail> {
-    a_reading_between_others(rt, alloc, stores)?;
-    two_readings_in_a_row(rt, alloc, stores)?;
-    the_last_two_readings(rt, alloc, stores)?;
-    the_only_reading(rt, alloc, stores)?;
+pub(crate) fn all_hold<D: Stores>(rt: &impl Abort, alloc: Global, stores: &D) {
+    a_reading_between_others(rt, alloc, stores);
+    two_readings_in_a_row(rt, alloc, stores);
+    the_last_two_readings(rt, alloc, stores);
+    the_only_reading(rt, alloc, stores);
     the_next_reading_turns_over(rt, alloc, stores)
 }
 
 #[test]
-fn voids_are_booked(rt: HostRuntime) -> Result<(), Fail> {
+fn voids_are_booked(rt: HostRuntime) {
     in_memory(&rt, rt.alloc(), Tried::Voids)
 }

@@ -5,35 +5,35 @@ use sqlite::Files;
 use sqlite_disk::{Fuse, Memory};
 use std::alloc::Global;
 use std::process::Abort;
-use std::test::Fail;
 
 /// The files with which the work begins.
-fn given(alloc: Global, work: Work) -> Result<Files<Fuse<Memory>>, Fail> {
+fn given(rt: &impl Abort, alloc: Global, work: Work) -> Files<Fuse<Memory>> {
     let never = Stop {
         file: Stopping::Log,
         calls: u64::MAX,
         is_lost: true,
     };
-    match connected(alloc, files(alloc, b"", b"", never)?) {
-        Ok(conn) => Ok(closed(prepare(conn, work)?)),
-        Err(_left) => Err(Fail::from("not opened")),
+    match connected(alloc, files(rt, alloc, b"", b"", never)) {
+        Ok(conn) => closed(prepare(rt, conn, work)),
+        Err(_left) => panic!(rt; "not opened"),
     }
 }
 
 /// The number of the fault where the machine stopped, and 0 for none; and the files.
 fn worked(
+    rt: &impl Abort,
     alloc: Global,
     given: &Files<Fuse<Memory>>,
     work: Work,
     stop: Stop,
-) -> Result<(u8, Files<Fuse<Memory>>), Fail> {
+) -> (u8, Files<Fuse<Memory>>) {
     let (log, db) = (given.log.inner().bytes(), given.db.inner().bytes());
-    match connected(alloc, files(alloc, log, db, stop)?) {
+    match connected(alloc, files(rt, alloc, log, db, stop)) {
         Ok(conn) => {
             let (fault, store) = carry_out(conn, work);
-            Ok((fault, closed(store)))
+            (fault, closed(store))
         }
-        Err(files) => Ok((3, files)),
+        Err(files) => (3, files),
     }
 }
 
@@ -44,45 +44,38 @@ fn stopped(
     given: &Files<Fuse<Memory>>,
     work: Work,
     stop: Stop,
-) -> Result<bool, Fail> {
-    let (fault, files) = worked(alloc, given, work, stop)?;
+) -> bool {
+    let (fault, files) = worked(rt, alloc, given, work, stop);
     assert!(rt; fault == 0 || fault == 3, "{work:?} {stop:?} {fault}");
-    match connected(alloc, restarted(alloc, files, stop.is_lost)?) {
-        Ok(conn) => stands(rt, conn, work, fault == 0)?,
-        Err(_left) => return Err(Fail::from("not opened")),
+    match connected(alloc, restarted(rt, alloc, files, stop.is_lost)) {
+        Ok(conn) => stands(rt, conn, work, fault == 0),
+        Err(_left) => panic!(rt; "not opened"),
     }
-    Ok(fault == 0)
+    fault == 0
 }
 
 /// The machine stops at each call of a file, until it comes to none.
-fn stop_each(
-    rt: &impl Abort,
-    alloc: Global,
-    work: Work,
-    file: Stopping,
-    is_lost: bool,
-) -> Result<(), Fail> {
-    let given = given(alloc, work)?;
+fn stop_each(rt: &impl Abort, alloc: Global, work: Work, file: Stopping, is_lost: bool) {
+    let given = given(rt, alloc, work);
     for calls in 0..1000 {
         let stop = Stop {
             file,
             calls,
             is_lost,
         };
-        if stopped(rt, alloc, &given, work, stop)? {
+        if stopped(rt, alloc, &given, work, stop) {
             assert!(rt; calls > 5, "{calls} calls");
-            return Ok(());
+            return;
         }
     }
-    Err(Fail::from("it stops each time"))
+    panic!(rt; "it stops each time")
 }
 
 #[test]
-fn a_stop_leaves_the_old_file_or_the_new_one(rt: HostRuntime) -> Result<(), Fail> {
+fn a_stop_leaves_the_old_file_or_the_new_one(rt: HostRuntime) {
     for work in [Work::Making, Work::Bringing] {
         for (file, is_lost) in &STOPS {
-            stop_each(&rt, rt.alloc(), work, *file, *is_lost)?;
+            stop_each(&rt, rt.alloc(), work, *file, *is_lost);
         }
     }
-    Ok(())
 }

@@ -2,7 +2,7 @@
 use sqlite::{Connection, FileStore, Files, Options};
 use sqlite_disk::{Crash, Disk, Fuse, Memory};
 use std::alloc::Global;
-use std::test::Fail;
+use std::process::Abort;
 
 /// The file of the two at whose call the machine stops.
 #[derive(Clone, Copy, Debug)]
@@ -28,28 +28,29 @@ pub(crate) static STOPS: [(Stopping, bool); 4] = [
 ];
 
 /// A file that has these bytes.
-fn file(alloc: Global, bytes: &[u8], calls: u64) -> Result<Fuse<Memory>, Fail> {
+fn file(rt: &impl Abort, alloc: Global, bytes: &[u8], calls: u64) -> Fuse<Memory> {
     let mut file = Memory::new(alloc);
-    file.write_at(0, bytes)?;
-    file.sync()?;
-    Ok(Fuse::new(file, calls))
+    file.write_at(0, bytes).expect(rt, "not written");
+    file.sync().expect(rt, "no sync");
+    Fuse::new(file, calls)
 }
 
 /// A log and a database's file with these bytes, where the machine will stop.
 pub(crate) fn files(
+    rt: &impl Abort,
     alloc: Global,
     log: &[u8],
     db: &[u8],
     stop: Stop,
-) -> Result<Files<Fuse<Memory>>, Fail> {
+) -> Files<Fuse<Memory>> {
     let (log_calls, db_calls) = match stop.file {
         Stopping::Log => (stop.calls, u64::MAX),
         Stopping::Database => (u64::MAX, stop.calls),
     };
-    Ok(Files {
-        log: file(alloc, log, log_calls)?,
-        db: file(alloc, db, db_calls)?,
-    })
+    Files {
+        log: file(rt, alloc, log, log_calls),
+        db: file(rt, alloc, db, db_calls),
+    }
 }
 
 /// A connection to files, or the files where that fails.
@@ -73,17 +74,18 @@ pub(crate) fn closed(store: FileStore<Fuse<Memory>>) -> Files<Fuse<Memory>> {
 
 /// The files once the machine has come back. What was not synced is lost, or is there as it was written.
 pub(crate) fn restarted(
+    rt: &impl Abort,
     alloc: Global,
     mut files: Files<Fuse<Memory>>,
     is_lost: bool,
-) -> Result<Files<Fuse<Memory>>, Fail> {
+) -> Files<Fuse<Memory>> {
     if is_lost {
         files.log.crash();
         files.db.crash();
-        return Ok(files);
+        return files;
     }
-    Ok(Files {
-        log: file(alloc, files.log.inner().bytes(), u64::MAX)?,
-        db: file(alloc, files.db.inner().bytes(), u64::MAX)?,
-    })
+    Files {
+        log: file(rt, alloc, files.log.inner().bytes(), u64::MAX),
+        db: file(rt, alloc, files.db.inner().bytes(), u64::MAX),
+    }
 }

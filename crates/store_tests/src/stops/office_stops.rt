@@ -7,27 +7,31 @@ use sqlite::Files;
 use sqlite_disk::{Fuse, Memory};
 use std::alloc::Global;
 use std::process::Abort;
-use std::test::Fail;
 
 /// Plays all steps. How many were acknowledged where the machine stopped, and the files.
-fn played(alloc: Global, asked: Asked, stop: Stop) -> Result<(usize, Files<Fuse<Memory>>), Fail> {
-    match connected(alloc, files(alloc, b"", b"", stop)?) {
+fn played(
+    rt: &impl Abort,
+    alloc: Global,
+    asked: Asked,
+    stop: Stop,
+) -> (usize, Files<Fuse<Memory>>) {
+    match connected(alloc, files(rt, alloc, b"", b"", stop)) {
         Ok(connection) => {
-            let (steps, store) = play(alloc, connection, asked);
-            Ok((steps?, closed(store)))
+            let (steps, store) = play(rt, alloc, connection, asked);
+            (steps, closed(store))
         }
-        Err(files) => Ok((0, files)),
+        Err(files) => (0, files),
     }
 }
 
 /// How many steps were acknowledged where the machine stopped. These stand afterwards, or one more.
-fn stopped(rt: &impl Abort, alloc: Global, asked: Asked, stop: Stop) -> Result<usize, Fail> {
-    let (steps, files) = played(alloc, asked, stop)?;
-    match connected(alloc, restarted(alloc, files, stop.is_lost)?) {
-        Ok(connection) => stands(rt, alloc, connection, asked, steps)?,
-        Err(_left) => return Err(Fail::from("not opened")),
+fn stopped(rt: &impl Abort, alloc: Global, asked: Asked, stop: Stop) -> usize {
+    let (steps, files) = played(rt, alloc, asked, stop);
+    match connected(alloc, restarted(rt, alloc, files, stop.is_lost)) {
+        Ok(connection) => stands(rt, alloc, connection, asked, steps),
+        Err(_left) => panic!(rt; "not opened"),
     }
-    Ok(steps)
+    steps
 }
 
 /// The machine stops at each call of a file, until it comes to none, so that all steps are acknowledged. For each stop, how
@@ -38,7 +42,7 @@ fn stop_each(
     asked: Asked,
     file: Stopping,
     is_lost: bool,
-) -> Result<Vec<usize>, Fail> {
+) -> Vec<usize> {
     let mut stops = Vec::new(alloc);
     for calls in 0..1000 {
         let stop = Stop {
@@ -46,13 +50,13 @@ fn stop_each(
             calls,
             is_lost,
         };
-        let steps = stopped(rt, alloc, asked, stop)?;
+        let steps = stopped(rt, alloc, asked, stop);
         if steps == 8 {
-            return Ok(stops);
+            return stops;
         }
-        stops.push(steps)?;
+        stops.push(steps).expect(rt, "no memory");
     }
-    Err(Fail::from("it stops each time"))
+    panic!(rt; "it stops each time")
 }
 
 /// How many steps go before each one that books something. The step after the first four connects the device, and books
@@ -70,22 +74,21 @@ fn each_came_up(stops: &[usize]) -> bool {
 }
 
 /// Stops of each file, whether or not what was not synced is lost.
-fn stop_all(rt: &impl Abort, alloc: Global, asked: Asked) -> Result<(), Fail> {
+fn stop_all(rt: &impl Abort, alloc: Global, asked: Asked) {
     for is_lost in [true, false] {
-        let of_log = stop_each(rt, alloc, asked, Stopping::Log, is_lost)?;
+        let of_log = stop_each(rt, alloc, asked, Stopping::Log, is_lost);
         assert!(rt; of_log.len() > 30 && each_came_up(&of_log));
-        let of_database = stop_each(rt, alloc, asked, Stopping::Database, is_lost)?;
+        let of_database = stop_each(rt, alloc, asked, Stopping::Database, is_lost);
         assert!(rt; of_database.len() > 5);
     }
-    Ok(())
 }
 
 #[test]
-fn an_exchange_that_was_acknowledged_stands(rt: HostRuntime) -> Result<(), Fail> {
+fn an_exchange_that_was_acknowledged_stands(rt: HostRuntime) {
     stop_all(&rt, rt.alloc(), Asked::Exchange)
 }
 
 #[test]
-fn a_void_that_was_acknowledged_stands(rt: HostRuntime) -> Result<(), Fail> {
+fn a_void_that_was_acknowledged_stands(rt: HostRuntime) {
     stop_all(&rt, rt.alloc(), Asked::Void)
 }

@@ -9,7 +9,7 @@ use office_store::SqlBooks;
 use script_lines::{GivenStart, ScriptLine};
 use sqlite::{Alter, Connection};
 use std::alloc::Global;
-use std::test::Fail;
+use std::process::Abort;
 
 /// A device, its register and its meter; a read of them, and the counter shows 5200 at the scale 0.
 const READ: &str = "1000 device inv 1 5 1
@@ -20,88 +20,90 @@ const READ: &str = "1000 device inv 1 5 1
 1900 bytes inv 000000000009010306000014500000";
 
 /// Plays all steps but the first over new books: opens an office, feeds it the script, and sends a request.
-fn play_over<B: Books>(alloc: Global, books: B, asked: Asked) -> (Result<usize, Fail>, B) {
+fn play_over<B: Books>(rt: &impl Abort, alloc: Global, books: B, asked: Asked) -> (usize, B) {
     let mut office = match Office::open(alloc, books, 0) {
         Ok(office) => office,
-        Err((books, _)) => return (Ok(1), books),
+        Err((books, _)) => return (1, books),
     };
-    let steps = steps(alloc, &mut office, asked);
+    let steps = steps(rt, alloc, &mut office, asked);
     (steps, office.into_books())
 }
 
 /// Plays all steps over a new database, the first of which makes books. How many steps were acknowledged before the store
 /// refused one.
 pub(crate) fn play<S: Alter + Drop>(
+    rt: &impl Abort,
     alloc: Global,
     connection: Connection<S>,
     asked: Asked,
-) -> (Result<usize, Fail>, S) {
+) -> (usize, S) {
     let books = match SqlBooks::create(alloc, connection, "UTC0") {
         Ok(books) => books,
-        Err(unmade) => return (Ok(0), unmade.connection.into_store()),
+        Err(unmade) => return (0, unmade.connection.into_store()),
     };
-    let (steps, books) = play_over(alloc, books, asked);
+    let (steps, books) = play_over(rt, alloc, books, asked);
     (steps, books.into_connection().into_store())
 }
 
-fn start_of(given: &GivenStart) -> Result<Command, Fail> {
-    Ok(Command::StartPoll(StartPoll {
+fn start_of(rt: &impl Abort, given: &GivenStart) -> Command {
+    Command::StartPoll(StartPoll {
         device: given.device,
-        span: given.span().ok_or("no span")?,
-    }))
+        span: given.span().expect(rt, "no span"),
+    })
 }
 
 /// The event of a line, and its moment.
-fn event_of(alloc: Global, line: &str) -> Result<(u64, Event), Fail> {
-    match ScriptLine::read(alloc, line.as_bytes())? {
-        ScriptLine::Event { at, event } => Ok((at, event)),
-        ScriptLine::Start { at, start } => Ok((at, Event::Command(start_of(&start)?))),
-        _ => Err(Fail::from("no event")),
+fn event_of(rt: &impl Abort, alloc: Global, line: &str) -> (u64, Event) {
+    match ScriptLine::read(alloc, line.as_bytes()).expect(rt, "no line") {
+        ScriptLine::Event { at, event } => (at, event),
+        ScriptLine::Start { at, start } => (at, Event::Command(start_of(rt, &start))),
+        _ => panic!(rt; "no event"),
     }
 }
 
 /// Whether the event of a line is accepted. Nothing refuses it but the store.
-fn accepts<B: Books>(alloc: Global, office: &mut Office<B>, line: &str) -> Result<bool, Fail> {
-    let (at, event) = event_of(alloc, line)?;
+fn accepts<B: Books>(rt: &impl Abort, alloc: Global, office: &mut Office<B>, line: &str) -> bool {
+    let (at, event) = event_of(rt, alloc, line);
     match office.feed(at, &event) {
-        Ok(_) => Ok(true),
-        Err(Refusal::Store(StoreCause::Refused)) => Ok(false),
-        Err(_) => Err(Fail::from("refused")),
+        Ok(_) => true,
+        Err(Refusal::Store(StoreCause::Refused)) => false,
+        Err(_) => panic!(rt; "refused"),
     }
 }
 
 /// Whether a request is acknowledged at a moment. No other reply comes but that the store refused.
 pub(crate) fn acknowledges<B: Books>(
+    rt: &impl Abort,
     alloc: Global,
     office: &mut Office<B>,
     asked: Asked,
     at: u64,
-) -> Result<bool, Fail> {
+) -> bool {
     let mut output = [0; 400];
     let mut link = MemoryLink::new(request_of(asked), &mut output, 400, None);
     if handle(alloc, &mut link, office, at).is_err() {
-        return Err(Fail::from("not handled"));
+        panic!(rt; "not handled");
     }
     let given = link.given();
     let reply = reply_of(asked);
     if given == reply || given == UNAVAILABLE {
-        return Ok(given == reply);
+        return given == reply;
     }
-    Err(Fail::from("another reply"))
+    panic!(rt; "another reply")
 }
 
 /// How many steps are acknowledged before the store refuses one, over new books: these are the first step, then come the
 /// events of the script, and then the request.
-fn steps<B: Books>(alloc: Global, office: &mut Office<B>, asked: Asked) -> Result<usize, Fail> {
+fn steps<B: Books>(rt: &impl Abort, alloc: Global, office: &mut Office<B>, asked: Asked) -> usize {
     let mut steps = 1usize;
     for line in READ.lines() {
-        if !accepts(alloc, office, line)? {
-            return Ok(steps);
+        if !accepts(rt, alloc, office, line) {
+            return steps;
         }
         steps = steps.saturating_add(1);
     }
-    if acknowledges(alloc, office, asked, 2800)? {
+    if acknowledges(rt, alloc, office, asked, 2800) {
         steps = steps.saturating_add(1);
     }
-    Ok(steps)
+    steps
 }

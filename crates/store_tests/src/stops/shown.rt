@@ -1,8 +1,7 @@
 //! What a file shows.
 use interval_core::Zone;
-use sqlite::{Alter, Connection, Error};
+use sqlite::{Alter, Connection};
 use std::process::Abort;
-use std::test::Fail;
 use store_files::OpenFault;
 
 /// The number of the fault, and 0 for none.
@@ -14,18 +13,16 @@ pub(crate) fn fault(answer: Result<Zone, OpenFault>) -> u8 {
 }
 
 /// The number that a query answers.
-pub(crate) fn number<S: Alter>(conn: &mut Connection<S>, query: &str) -> Result<i64, Error> {
-    conn.query_row(query, &[])?.get(0)
+pub(crate) fn number<S: Alter>(rt: &impl Abort, conn: &mut Connection<S>, query: &str) -> i64 {
+    conn.query_row(query, &[])
+        .expect(rt, "no row")
+        .get(0)
+        .expect(rt, "no number")
 }
 
 /// The file shows these numbers.
-pub(crate) fn shows<S: Alter>(
-    rt: &impl Abort,
-    conn: &mut Connection<S>,
-    numbers: &[(&str, i64)],
-) -> Result<(), Fail> {
+pub(crate) fn shows<S: Alter>(rt: &impl Abort, conn: &mut Connection<S>, numbers: &[(&str, i64)]) {
     for (query, shown) in numbers {
-        assert_eq!(rt; number(conn, query)?, *shown, "{query}");
+        assert_eq!(rt; number(rt, conn, query), *shown, "{query}");
     }
-    Ok(())
 }

@@ -9,7 +9,6 @@ use sqlite::{Alter, Connection};
 use std::alloc::Global;
 use std::process::Abort;
 use std::str;
-use std::test::Fail;
 
 /// What is printed once so many steps stand: none, the books, and the events of the script one by one.
 static STANDING: [&str; 8] = [
@@ -72,11 +71,7 @@ fn may_stand(asked: Asked, steps: usize, text: &str) -> bool {
 }
 
 /// A request stands once.
-fn stands_once<S: Alter>(
-    rt: &impl Abort,
-    connection: &mut Connection<S>,
-    asked: Asked,
-) -> Result<(), Fail> {
+fn stands_once<S: Alter>(rt: &impl Abort, connection: &mut Connection<S>, asked: Asked) {
     match asked {
         Asked::Exchange => shows(rt, connection, &EXCHANGED_ROWS),
         Asked::Void => shows(rt, connection, &VOIDED_ROWS),
@@ -84,20 +79,14 @@ fn stands_once<S: Alter>(
 }
 
 /// An office over the books, where what so many steps left is printed, or one more. A request that may stand is sent again.
-fn reopened<B: Books>(
-    rt: &impl Abort,
-    alloc: Global,
-    books: B,
-    asked: Asked,
-    steps: usize,
-) -> Result<B, Fail> {
-    let (mut office, text) = opened(alloc, books)?;
-    let text = str::from_utf8(&text)?;
+fn reopened<B: Books>(rt: &impl Abort, alloc: Global, books: B, asked: Asked, steps: usize) -> B {
+    let (mut office, text) = opened(rt, alloc, books);
+    let text = str::from_utf8(&text).expect(rt, "no UTF-8");
     assert!(rt; may_stand(asked, steps, text), "{steps} {text}");
     if 7 <= steps {
-        assert!(rt; acknowledges(alloc, &mut office, asked, 5000)?);
+        assert!(rt; acknowledges(rt, alloc, &mut office, asked, 5000));
     }
-    Ok(office.into_books())
+    office.into_books()
 }
 
 /// What so many steps left stands, or one more. Where none was acknowledged, there may be no books.
@@ -107,18 +96,17 @@ pub(crate) fn stands<S: Alter + Drop>(
     connection: Connection<S>,
     asked: Asked,
     steps: usize,
-) -> Result<(), Fail> {
+) {
     match SqlBooks::open(alloc, connection) {
         Ok(books) => {
-            let books = reopened(rt, alloc, books, asked, steps)?;
+            let books = reopened(rt, alloc, books, asked, steps);
             if steps < 7 {
-                return Ok(());
+                return;
             }
             stands_once(rt, &mut books.into_connection(), asked)
         }
         Err(unopened) => {
             assert!(rt; steps == 0 && unopened.fault == OpenFault::NotOurs);
-            Ok(())
         }
     }
 }

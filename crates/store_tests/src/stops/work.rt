@@ -3,7 +3,6 @@ use crate::stops::day::{DAY, FIRST, NEW, OLD, READ, ROWS};
 use crate::stops::shown::{fault, number, shows};
 use sqlite::{Alter, Connection};
 use std::process::Abort;
-use std::test::Fail;
 use store_files::{create, open};
 
 /// What is under way when the machine stops.
@@ -16,23 +15,22 @@ pub(crate) enum Work {
 }
 
 /// Makes a file of version 1.
-fn make_old<S: Alter>(conn: &mut Connection<S>) -> Result<(), Fail> {
+fn make_old<S: Alter>(rt: &impl Abort, conn: &mut Connection<S>) {
     if create(conn, "UTC0").is_err() {
-        return Err(Fail::from("not made"));
+        panic!(rt; "not made");
     }
     for text in [READ, DAY, FIRST] {
-        conn.execute_batch(text)?;
+        conn.execute_batch(text).expect(rt, "no batch");
     }
-    Ok(())
 }
 
 /// Makes of an empty database what the work begins with.
-pub(crate) fn prepare<S: Alter + Drop>(mut conn: Connection<S>, work: Work) -> Result<S, Fail> {
+pub(crate) fn prepare<S: Alter + Drop>(rt: &impl Abort, mut conn: Connection<S>, work: Work) -> S {
     match work {
         Work::Making => {}
-        Work::Bringing => make_old(&mut conn)?,
+        Work::Bringing => make_old(rt, &mut conn),
     }
-    Ok(conn.into_store())
+    conn.into_store()
 }
 
 /// Does the work, and gives the number of its fault, and 0 for none.
@@ -45,28 +43,23 @@ pub(crate) fn carry_out<S: Alter + Drop>(mut conn: Connection<S>, work: Work) ->
 }
 
 /// A file is there, or there is none and it can be made.
-fn is_made<S: Alter>(rt: &impl Abort, conn: &mut Connection<S>, is_done: bool) -> Result<(), Fail> {
-    if !is_done && number(conn, "SELECT count(*) FROM sqlite_schema")? == 0 {
+fn is_made<S: Alter>(rt: &impl Abort, conn: &mut Connection<S>, is_done: bool) {
+    if !is_done && number(rt, conn, "SELECT count(*) FROM sqlite_schema") == 0 {
         assert_eq!(rt; fault(open(conn)), 1);
         assert_eq!(rt; fault(create(conn, "UTC0")), 0);
     }
     assert_eq!(rt; fault(open(conn)), 0);
     let marked = "SELECT count(*) FROM meta WHERE id = 1 AND version = 3 AND zone = 'UTC0'";
-    assert_eq!(rt; number(conn, marked)?, 1);
-    Ok(())
+    assert_eq!(rt; number(rt, conn, marked), 1);
 }
 
 /// The old file is there, or the new one, with every row, and opens.
-fn is_brought<S: Alter>(
-    rt: &impl Abort,
-    conn: &mut Connection<S>,
-    is_done: bool,
-) -> Result<(), Fail> {
-    let is_old = !is_done && number(conn, "SELECT version FROM meta")? == 1;
-    shows(rt, conn, &ROWS)?;
-    shows(rt, conn, if is_old { &OLD } else { &NEW })?;
+fn is_brought<S: Alter>(rt: &impl Abort, conn: &mut Connection<S>, is_done: bool) {
+    let is_old = !is_done && number(rt, conn, "SELECT version FROM meta") == 1;
+    shows(rt, conn, &ROWS);
+    shows(rt, conn, if is_old { &OLD } else { &NEW });
     assert_eq!(rt; fault(open(conn)), 0);
-    shows(rt, conn, &ROWS)?;
+    shows(rt, conn, &ROWS);
     shows(rt, conn, &NEW)
 }
 
@@ -76,7 +69,7 @@ pub(crate) fn stands<S: Alter + Drop>(
     mut conn: Connection<S>,
     work: Work,
     is_done: bool,
-) -> Result<(), Fail> {
+) {
     match work {
         Work::Making => is_made(rt, &mut conn, is_done),
         Work::Bringing => is_brought(rt, &mut conn, is_done),
