@@ -9,12 +9,13 @@ Then it tells the same by steps, by the names of the kit's files: Lts is the bor
 books or files is called for a type of these (bench/GATE.md). A step's time is that from the step before it in the same process.
 
 Without a name it runs nothing, and tells the steps of all checks that run on this machine meanwhile, as those of `rt ci`, also what these did before, when it is
-interrupted (Ctrl-C).
+interrupted (Ctrl-C) or told to end.
 """
 import collections
 import glob
 import os
 import re
+import signal
 import subprocess
 import sys
 import tempfile
@@ -92,6 +93,9 @@ def tell(steps):
 
 def watch():
     steps = Steps()
+    # (a shell that starts it in the background has it ignore the first)
+    for number in (signal.SIGINT, signal.SIGTERM):
+        signal.signal(number, signal.default_int_handler)
     try:
         steps.ended.wait()
     except KeyboardInterrupt:

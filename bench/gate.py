@@ -36,11 +36,12 @@ first. `bench/gate.sh --page --log FILE` makes this page of what `bench/watch.py
 - **A crate pays its front end**: 10 to 20 s low down, and a minute or two high up, where the types of the books and of SQLite are read, whatever it has in it.
 - **A crate of tests pays for the whole program that it is built of** besides: one test that asks an empty database a question takes 171 s of a busy
   processor. So the tests of one level stand in one crate.
-- **A function costs** 1.4 s low down and 3 s high up; a line of a test 0.65 s. Dear is a body with more than three `?` beside values that must be
-  dropped: 30 to 50 s in a test, and 79 s in one that added 14 routes to a router of its own. Where another function has the `?`, and borrows what is dropped, it
-  costs little: that took 6 s. Comparisons of tuples are dear, long literals are not: a static of 59 tuples of four texts costs 2.5 s. In a small crate, as the
-  second and third of three copies, an `assert_eq!` of two options cost 2 s and `assert!` of the same by `==` 1 s; a match on a tuple of an answer and an option
-  4 to 5 s, nested matches 1.7 s, and one with a closure 2.6 s.
+- **A function costs** 1.4 s low down and 3 s high up; a line of a test 0.65 s. Dear is a `?`, a branch that drops all that lives: 0.4 s beside a vector or two in a
+  small crate, where `.expect(rt, "..")` cost a tenth of a second; 30 to 50 s in a test that had more than three beside offices and connections, and 79 s in a
+  function that added 14 routes to a router of its own. Where another function has the `?`, and borrows what is dropped, they cost little: those took 6 s. So tests
+  expect what they build. Comparisons of tuples are dear, long literals are not: a static of 59 tuples of four texts costs 2.5 s. In a small crate, as the second and
+  third of three copies, an `assert_eq!` of two options cost 2 s and `assert!` of the same by `==` 1 s; a match on a tuple of an answer and an option 4 to 5 s, nested
+  matches 1.7 s, and one with a closure 2.6 s.
 - **A call of a function that is generic over books or files, for a type of these,** costs each function that makes it 3 s (books in memory), 5 to 15 s
   (in a database in memory) or 15 to 30 s (in files), and under 1 s where the caller is generic too. So what is done over books is one generic function,
   which one place calls for their type: `stored_office` had nine such calls in one function, which took 125 s for these alone.

@@ -10,6 +10,7 @@ use meter_audit::{
     fitting_rows_stand_alone, lawful_tables_are_fine, passed_rows_fit, rows_are_told_apart,
     rows_of_journals_fit, start, take_row,
 };
+use std::test::Fail;
 
 /// 5200 at 1900.
 const FIRST: TableRow = TableRow {
@@ -68,16 +69,17 @@ fn rows_give_intervals(rt: HostRuntime) {
 }
 
 #[test]
-fn a_row_adds_to_the_last_interval(rt: HostRuntime) {
+fn a_row_adds_to_the_last_interval(rt: HostRuntime) -> Result<(), Fail> {
     let mut progress = start(rt.alloc(), &HOUSE);
-    let _first = take_row(&HOUSE, &mut progress, &FIRST).expect(&rt, "no row");
+    let _first = take_row(&HOUSE, &mut progress, &FIRST)?;
     drop_done(&mut progress);
-    let fault = take_row(&HOUSE, &mut progress, &SECOND).expect(&rt, "no row");
+    let fault = take_row(&HOUSE, &mut progress, &SECOND)?;
     assert!(rt; fault.is_none());
     assert!(rt; progress.check.total == 300_000);
     assert!(rt; progress.wanted.len() == 2);
     assert!(rt; progress.wanted[0].start == 1800 && progress.wanted[0].mwh == 111_111);
     assert!(rt; progress.wanted[1].start == 2700 && progress.wanted[1].mwh == 11_112);
+    Ok(())
 }
 
 #[test]

@@ -8,14 +8,9 @@ use socket_link::FixedClock;
 use std::alloc::Global;
 use std::cell::Cell;
 use std::io::{self, ErrorKind, Read, Write};
-use std::net::{Net, Shutdown, TcpListener, TcpStream};
-use std::process::Abort;
+use std::net::{Shutdown, TcpListener, TcpStream};
+use std::test::Fail;
 use std::time::Duration;
-
-/// What a test has that opens sockets of this machine.
-pub(crate) trait Sockets: Abort + AllocGlobal + Net<Listener = TcpListener, Stream = TcpStream> {}
-
-impl<R: Abort + AllocGlobal + Net<Listener = TcpListener, Stream = TcpStream>> Sockets for R {}
 
 /// What a client writes, whether it ends its stream then, and all that it is replied.
 struct Client {
@@ -92,41 +87,43 @@ static NAMED: [Client; 3] = [
 ];
 
 /// A client of a listener that connected and wrote bytes.
-pub(crate) fn client_of(rt: &impl Sockets, listener: &TcpListener, bytes: &[u8]) -> TcpStream {
-    let address = listener.local_addr().expect(rt, "no address");
-    let mut client = TcpStream::connect(rt, address).expect(rt, "no connection");
-    client.write_all(bytes).expect(rt, "not written");
-    client
+pub(crate) fn client_of(
+    rt: &HostRuntime,
+    listener: &TcpListener,
+    bytes: &[u8],
+) -> Result<TcpStream, Fail> {
+    let mut client = TcpStream::connect(rt, listener.local_addr()?)?;
+    client.write_all(bytes)?;
+    Ok(client)
 }
 
 // The streams of clients.
-fn streams_of(rt: &impl Sockets, listener: &TcpListener, clients: &[Client]) -> Vec<TcpStream> {
+fn streams_of(
+    rt: &HostRuntime,
+    listener: &TcpListener,
+    clients: &[Client],
+) -> Result<Vec<TcpStream>, Fail> {
     let mut streams = Vec::new(rt.alloc());
     for client in clients {
-        let mut stream = client_of(rt, listener, client.bytes);
+        let mut stream = client_of(rt, listener, client.bytes)?;
         if client.ends {
-            stream.shutdown(Shutdown::Write).expect(rt, "not shut down");
+            stream.shutdown(Shutdown::Write)?;
         }
-        streams.push(stream).expect(rt, "no memory");
+        streams.push(stream)?;
     }
-    streams
+    Ok(streams)
 }
 
 // Whether each client has its reply, and its stream ends.
-fn are_replied(
-    rt: &impl Abort,
-    alloc: Global,
-    streams: &mut [TcpStream],
-    clients: &[Client],
-) -> bool {
+fn are_replied(alloc: Global, streams: &mut [TcpStream], clients: &[Client]) -> Result<bool, Fail> {
     for (stream, client) in streams.iter_mut().zip(clients) {
         let mut got = Vec::new(alloc);
-        stream.read_to_end(&mut got).expect(rt, "not read");
+        stream.read_to_end(&mut got)?;
         if got.as_slice() != client.reply {
-            return false;
+            return Ok(false);
         }
     }
-    true
+    Ok(true)
 }
 
 /// The energy of `m1`, where it was ended.
@@ -186,25 +183,24 @@ fn serves(
 }
 
 // Whether clients have their replies, and the meter is exchanged once.
-fn are_served(rt: &impl Sockets, clients: &[Client], step: Option<u64>) -> bool {
-    let mut office = metered(rt, rt.alloc());
-    let listener = TcpListener::bind(rt, "127.0.0.1:0").expect(rt, "no listener");
-    let mut streams = streams_of(rt, &listener, clients);
-    let is_done = serves(
-        rt.alloc(),
-        &listener,
-        clients.len() as u64,
-        step,
-        &mut office,
-    ) && energy_of_ended(&mut office) == Some(300_000);
+fn are_served(
+    rt: &HostRuntime,
+    office: &mut Office<ListBooks>,
+    clients: &[Client],
+    step: Option<u64>,
+) -> Result<bool, Fail> {
+    let listener = TcpListener::bind(rt, "127.0.0.1:0")?;
+    let mut streams = streams_of(rt, &listener, clients)?;
+    let is_done = serves(rt.alloc(), &listener, clients.len() as u64, step, office)
+        && energy_of_ended(office) == Some(300_000);
     if !is_done {
-        return false;
+        return Ok(false);
     }
-    are_replied(rt, rt.alloc(), &mut streams, clients)
+    are_replied(rt.alloc(), &mut streams, clients)
 }
 
 #[test]
-fn clients_are_served(rt: HostRuntime) {
+fn clients_are_served(rt: HostRuntime) -> Result<(), Fail> {
     let served: [(&str, &[Client], Option<u64>); 4] = [
         ("each connection has its reply", &ASKING, Some(0)),
         ("each name has its reply", &NAMED, Some(0)),
@@ -212,6 +208,8 @@ fn clients_are_served(rt: HostRuntime) {
         ("one connection is served", &ASKING[..1], None),
     ];
     for (name, clients, step) in served {
-        assert!(rt; are_served(&rt, clients, step), "{name}");
+        let mut office = metered(&rt, rt.alloc());
+        assert!(rt; are_served(&rt, &mut office, clients, step)?, "{name}");
     }
+    Ok(())
 }

@@ -56,16 +56,20 @@ pub(crate) fn metered(rt: &impl Abort, alloc: Global) -> Office<ListBooks> {
 // 3 registers from 40094: the counter 5200 and the scale 0.
 static FRAME: &[u8] = b"\x00\x00\x00\x00\x00\x09\x01\x03\x06\x00\x00\x14\x50\x00\x00";
 
+fn inv() -> Option<Name> {
+    Name::new(b"inv")
+}
+
 /// The device is connected, its poll is started, and the reply comes.
 pub(crate) fn poll(rt: &impl Abort, alloc: Global) -> [Event; 3] {
-    let inv = Name::new(b"inv");
+    let span = ReadSpan::new(3, 40_094, 3).expect(rt, "no span");
+    let frame = FRAME.to_vec(alloc).expect(rt, "no memory");
+    let device = inv();
+    let asked = Command::StartPoll(StartPoll { device, span });
     [
-        Event::Connected(inv),
-        Event::Command(Command::StartPoll(StartPoll {
-            device: inv,
-            span: ReadSpan::new(3, 40_094, 3).expect(rt, "no span"),
-        })),
-        Event::Bytes(inv, Piece::new(FRAME.to_vec(alloc).expect(rt, "no memory"))),
+        Event::Connected(inv()),
+        Event::Command(asked),
+        Event::Bytes(inv(), Piece::new(frame)),
     ]
 }
 

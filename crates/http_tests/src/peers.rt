@@ -1,6 +1,6 @@
 //! Peers of a run, over sockets that don't wait.
 use crate::cases::text_reply;
-use crate::connections::{REPLY, REQUEST, Sockets, Stepping, client_of, energy_of_ended};
+use crate::connections::{REPLY, REQUEST, Stepping, client_of, energy_of_ended};
 use crate::energy_over::Earlier;
 use crate::office::{metered, polled};
 use http_peers::{
@@ -16,7 +16,7 @@ use run_status::RunMonitor;
 use std::alloc::{AllocError, Global};
 use std::io::{self, ErrorKind, Read};
 use std::net::{TcpListener, TcpStream};
-use std::process::Abort;
+use std::test::Fail;
 use std::time::Duration;
 
 // A port, and what a run has beside it.
@@ -52,10 +52,10 @@ impl Listening {
         })
     }
 
-    fn open(rt: &impl Sockets, listener: TcpListener, room: KeptRoom) -> Listening {
-        let poll = Poll::new(rt).expect(rt, "no poll");
-        let listener = registered(listener, &poll).expect(rt, "not registered");
-        Listening::of(rt.alloc(), poll, listener, room).expect(rt, "no memory")
+    fn open(rt: &HostRuntime, listener: TcpListener, room: KeptRoom) -> Result<Listening, Fail> {
+        let poll = Poll::new(rt)?;
+        let listener = registered(listener, &poll)?;
+        Ok(Listening::of(rt.alloc(), poll, listener, room)?)
     }
 
     // What waits is accepted, each peer attended, and those that were replied to are dropped.
@@ -105,54 +105,55 @@ impl Listening {
 // Whether the clients of a listener are served, so that none of them waits, and it is then to be said once that nothing more is
 // kept, or isn't.
 fn serves(
-    rt: &impl Sockets,
+    rt: &HostRuntime,
     listener: TcpListener,
     room: KeptRoom,
+    earlier: &Earlier,
     office: &mut Office<ListBooks>,
     is_full: bool,
-) -> bool {
-    let earlier = Earlier::of_main(rt, rt.alloc());
-    let mut listening = Listening::open(rt, listener, room);
-    listening
-        .turns(&earlier.files(), office)
-        .expect(rt, "a turn failed");
+) -> Result<bool, Fail> {
+    let mut listening = Listening::open(rt, listener, room)?;
+    listening.turns(&earlier.files(), office)?;
     let is_idle = !listening.port.is_waiting() && !listening.port.is_ready();
     let is_told = listening.port.take_full() == is_full;
-    is_idle && is_told && !listening.port.take_full()
+    Ok(is_idle && is_told && !listening.port.take_full())
 }
 
-fn read_all(rt: &impl Abort, alloc: Global, mut stream: TcpStream) -> Vec<u8> {
+fn read_all(alloc: Global, mut stream: TcpStream) -> Result<Vec<u8>, Fail> {
     let mut got = Vec::new(alloc);
-    stream.read_to_end(&mut got).expect(rt, "not read");
-    got
+    stream.read_to_end(&mut got)?;
+    Ok(got)
 }
 
 // What a client is replied that asks this; it is then to be said that nothing more is kept, or isn't.
 fn replied(
-    rt: &impl Sockets,
+    rt: &HostRuntime,
     room: KeptRoom,
     request: &[u8],
+    earlier: &Earlier,
     office: &mut Office<ListBooks>,
     is_full: bool,
-) -> Vec<u8> {
-    let listener = TcpListener::bind(rt, "127.0.0.1:0").expect(rt, "no listener");
-    let client = client_of(rt, &listener, request);
-    if !serves(rt, listener, room, office, is_full) {
-        panic!(rt; "a client waits, or what is kept is told otherwise");
+) -> Result<Vec<u8>, Fail> {
+    let listener = TcpListener::bind(rt, "127.0.0.1:0")?;
+    let client = client_of(rt, &listener, request)?;
+    if !serves(rt, listener, room, earlier, office, is_full)? {
+        return Err(Fail::from("a client waits, or what is kept is told otherwise"));
     }
-    read_all(rt, rt.alloc(), client)
+    read_all(rt.alloc(), client)
 }
 
 static MONTHS: &[u8] = b"GET /registers/main/months HTTP/1.1\r\n\r\n";
 
 // The quarter hour from 900 is in both, and counted once.
 #[test]
-fn a_peer_is_told_of_earlier_files_too(rt: HostRuntime) {
+fn a_peer_is_told_of_earlier_files_too(rt: HostRuntime) -> Result<(), Fail> {
     let mut office = polled(&rt, rt.alloc());
-    let got = replied(&rt, KeptRoom::new(None, 0), MONTHS, &mut office, false);
-    let months = "1970-01    3                   200012\nend 1\n";
-    let want = text_reply(rt.alloc(), months).expect(&rt, "no memory");
+    let earlier = Earlier::of_main(&rt, rt.alloc());
+    let room = KeptRoom::new(None, 0);
+    let got = replied(&rt, room, MONTHS, &earlier, &mut office, false)?;
+    let want = text_reply(rt.alloc(), "1970-01    3                   200012\nend 1\n")?;
     assert!(rt; got.as_slice() == want.as_bytes());
+    Ok(())
 }
 
 static AFTER_LINES: &[u8] =
@@ -166,7 +167,7 @@ static NO_ROOM: &[u8] =
 type Kept = (u64, u64, &'static [u8], bool, &'static [u8], Option<u64>);
 
 #[test]
-fn a_peer_is_replied_to(rt: HostRuntime) {
+fn a_peer_is_replied_to(rt: HostRuntime) -> Result<(), Fail> {
     let peers: [Kept; 2] = [
         (
             REQUEST.len() as u64,
@@ -179,13 +180,15 @@ fn a_peer_is_replied_to(rt: HostRuntime) {
         // a command has no room; empty lines before it don't hide it from who counts what is kept
         (300, 200, AFTER_LINES, true, NO_ROOM, None),
     ];
+    let earlier = Earlier::of_main(&rt, rt.alloc());
     for (most, kept, request, is_full, reply, energy) in peers {
         let mut office = metered(&rt, rt.alloc());
         let room = KeptRoom::new(Some(most), kept);
-        let got = replied(&rt, room, request, &mut office, is_full);
+        let got = replied(&rt, room, request, &earlier, &mut office, is_full)?;
         assert!(rt; got.as_slice() == reply, "room for {most}");
         assert!(rt; energy_of_ended(&mut office) == energy, "room for {most}");
     }
+    Ok(())
 }
 
 static GET: &[u8] = b"GET /meters/m1 HTTP/1.1\r\n\r\n";
@@ -199,20 +202,18 @@ fn reply_of(alloc: Global, text: &[u8]) -> Result<PeerReply, AllocError> {
 }
 
 #[test]
-fn a_command_that_acted_is_counted(rt: HostRuntime) {
+fn a_command_that_acted_is_counted(rt: HostRuntime) -> Result<(), Fail> {
     let mut room = KeptRoom::new(Some(100), 60);
     assert!(rt; !room.lacks(POST));
     room.count(POST, &PeerReply::Open);
-    room.count(
-        POST,
-        &reply_of(rt.alloc(), b"HTTP/1.1 409 Conflict").expect(&rt, "no memory"),
-    );
-    let acted = reply_of(rt.alloc(), b"HTTP/1.1 200 OK").expect(&rt, "no memory");
+    room.count(POST, &reply_of(rt.alloc(), b"HTTP/1.1 409 Conflict")?);
+    let acted = reply_of(rt.alloc(), b"HTTP/1.1 200 OK")?;
     room.count(GET, &acted);
     assert!(rt; !room.lacks(POST));
     room.count(POST, &acted);
     assert!(rt; room.lacks(POST));
     assert!(rt; !room.lacks(GET));
+    Ok(())
 }
 
 #[test]
@@ -230,16 +231,12 @@ fn is_taken(stream: TcpStream, outbox: &mut Outbox) -> bool {
 }
 
 // What comes of a connection on which an outbox was written.
-fn written(rt: &impl Sockets, outbox: &mut Outbox) -> Vec<u8> {
-    let listener = TcpListener::bind(rt, "127.0.0.1:0").expect(rt, "no listener");
-    if !is_taken(client_of(rt, &listener, b""), outbox) {
-        panic!(rt; "a connection takes less than it is given");
+fn written(rt: &HostRuntime, outbox: &mut Outbox) -> Result<Vec<u8>, Fail> {
+    let listener = TcpListener::bind(rt, "127.0.0.1:0")?;
+    if !is_taken(client_of(rt, &listener, b"")?, outbox) {
+        return Err(Fail::from("a connection takes less than it is given"));
     }
-    read_all(
-        rt,
-        rt.alloc(),
-        listener.accept().expect(rt, "no connection").0,
-    )
+    read_all(rt.alloc(), listener.accept()?.0)
 }
 
 // An outbox of some bytes.
@@ -248,23 +245,25 @@ fn outbox_of(alloc: Global, bytes: &[u8]) -> Result<Outbox, AllocError> {
 }
 
 #[test]
-fn what_is_put_is_written_once(rt: HostRuntime) {
-    let mut outbox = outbox_of(rt.alloc(), b"one").expect(&rt, "no memory");
-    outbox.put(b"two").expect(&rt, "no memory");
+fn what_is_put_is_written_once(rt: HostRuntime) -> Result<(), Fail> {
+    let mut outbox = outbox_of(rt.alloc(), b"one")?;
+    outbox.put(b"two")?;
     assert!(rt; outbox.len() == 6);
     assert!(rt; !outbox.is_written());
-    assert!(rt; written(&rt, &mut outbox).as_slice() == b"onetwo".as_slice());
+    assert!(rt; written(&rt, &mut outbox)?.as_slice() == b"onetwo".as_slice());
     assert!(rt; !outbox.is_empty());
+    Ok(())
 }
 
 #[test]
-fn what_was_written_makes_room(rt: HostRuntime) {
+fn what_was_written_makes_room(rt: HostRuntime) -> Result<(), Fail> {
     let mut outbox = Outbox::empty(rt.alloc());
     assert!(rt; outbox.is_empty() && outbox.is_written());
-    outbox.put(b"one").expect(&rt, "no memory");
-    assert!(rt; written(&rt, &mut outbox).as_slice() == b"one".as_slice());
-    outbox.put(b"more").expect(&rt, "no memory");
+    outbox.put(b"one")?;
+    assert!(rt; written(&rt, &mut outbox)?.as_slice() == b"one".as_slice());
+    outbox.put(b"more")?;
     assert!(rt; outbox.len() == 4);
+    Ok(())
 }
 
 #[test]

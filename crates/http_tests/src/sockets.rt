@@ -4,6 +4,7 @@ use mb_wire::{Link, LinkFailed, MemoryLink, Took};
 use socket_link::{Clock, DeadlineLink, FixedClock, SocketLink, SystemClock};
 use std::io::{self, Read};
 use std::net::{TcpListener, TcpStream};
+use std::test::Fail;
 
 // A link to the client that came next.
 fn link_of(listener: &TcpListener) -> io::Result<SocketLink<TcpStream>> {
@@ -31,13 +32,14 @@ fn has_ended(link: &mut SocketLink<TcpStream>) -> bool {
 }
 
 #[test]
-fn a_socket_gives_takes_idles_and_ends(rt: HostRuntime) {
-    let listener = TcpListener::bind(&rt, "127.0.0.1:0").expect(&rt, "no listener");
-    let peer = client_of(&rt, &listener, b"hello");
-    let mut link = link_of(&listener).expect(&rt, "no link");
+fn a_socket_gives_takes_idles_and_ends(rt: HostRuntime) -> Result<(), Fail> {
+    let listener = TcpListener::bind(&rt, "127.0.0.1:0")?;
+    let peer = client_of(&rt, &listener, b"hello")?;
+    let mut link = link_of(&listener)?;
     assert!(rt; takes_hello(&mut link));
     assert!(rt; gives_you(&mut link, peer));
     assert!(rt; has_ended(&mut link));
+    Ok(())
 }
 
 // Whether a link takes and gives.

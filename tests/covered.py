@@ -1,0 +1,46 @@
+#!/usr/bin/env python3
+"""covered.py NAME..: tells, in a minute or two for each of these crates, which of its functions and tests the borrow checker does not cover, before anything is
+proved: also where no library below was built. A check tells the same when it has ended, and the gate after an hour.
+
+It prints a line for each such function and for each error of the front end, and ends on 'N passed, M failed', of the crates; the status is 1 where M > 0.
+"""
+import os
+import subprocess
+import sys
+
+sys.dont_write_bytecode = True
+ROOT = os.path.realpath(os.path.join(os.path.dirname(os.path.realpath(__file__)), ".."))
+sys.path.insert(0, os.path.join(ROOT, "bench"))
+import kit
+
+
+def uncovered(rt, crate):
+    """Returns what the kit says of the crate where it is asked for no proof: the lines of a fault, and its last line where it has not come to its end."""
+    tests = ["--test"] * crate.has_tests()
+    words = crate.words(["--jobs", "1", "--only", "", "--progress", *tests], tests=bool(tests), as_source=True)
+    ran = subprocess.run([*rt.rtlib.guarded(), rt.rtlib.RATTLE, "check", *words], cwd=crate.folder, stdin=subprocess.DEVNULL, capture_output=True, text=True, errors="replace")
+    lines = (ran.stdout + ran.stderr).splitlines() or ["it said nothing"]
+    found = [it for it in lines if it.startswith("ahead of the check: ") or ": error" in it]
+    return found if found or lines[-1].startswith("only=") else [lines[-1]]
+
+
+def main(names):
+    os.chdir(ROOT)
+    rt = kit.load_rt()
+    crates = {it.name: it for it in rt.rtlib.crates_below(ROOT)}
+    unknown = {*names} - {*crates}
+    if unknown or not names:
+        sys.exit(f"covered.py: no crate is named {' '.join(sorted(unknown))}" if unknown else "usage: covered.py NAME..")
+    failed = 0
+    for name in names:
+        found = uncovered(rt, crates[name])
+        for line in found:
+            said = line.removeprefix("ahead of the check: ")
+            print(said if said.startswith(f"{name}::") else f"{name}: {said}", flush=True)
+        failed += bool(found)
+    print(f"{len(names) - failed} passed, {failed} failed")
+    return 1 if failed else 0
+
+
+if __name__ == "__main__":
+    sys.exit(main(sys.argv[1:]))
