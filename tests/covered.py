@@ -18,10 +18,11 @@ def uncovered(rt, crate):
     """Returns what the kit says of the crate where it is asked for no proof: the lines of a fault, and its last line where it has not come to its end."""
     tests = ["--test"] * crate.has_tests()
     words = crate.words(["--jobs", "1", "--only", "", "--progress", *tests], tests=bool(tests), as_source=True)
-    ran = subprocess.run([*rt.rtlib.guarded(), rt.rtlib.RATTLE, "check", *words], cwd=crate.folder, stdin=subprocess.DEVNULL, capture_output=True, text=True, errors="replace")
-    lines = (ran.stdout + ran.stderr).splitlines() or ["it said nothing"]
+    how = {"cwd": crate.folder, "stdin": subprocess.DEVNULL, "stdout": subprocess.PIPE, "stderr": subprocess.STDOUT}
+    ran = subprocess.run([*rt.rtlib.guarded(), rt.rtlib.RATTLE, "check", *words], text=True, errors="replace", **how)
+    lines = ran.stdout.splitlines() or ["it said nothing"]
     found = [it for it in lines if it.startswith("ahead of the check: ") or ": error" in it]
-    return found if found or lines[-1].startswith("only=") else [lines[-1]]
+    return found if found or any(it.startswith("only=") for it in lines) else [lines[-1]]
 
 
 def main(names):
