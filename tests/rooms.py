@@ -5,8 +5,8 @@ import re
 import sys
 
 TOP = os.path.dirname(os.path.dirname(os.path.realpath(__file__)))
-PROGRAMS = {"sunreg", "script_cases"}
-OF_TESTS = {"script_cases", "failing_books"}
+PROGRAMS = {"sunreg", "script_cases", "http_cases"}
+OF_TESTS = {"script_cases", "http_cases", "failing_books"}
 
 
 def lists():
@@ -52,7 +52,7 @@ def main():
     faults = [f"the map lacks {it} --> {name}" for it, name in sorted(wanted - drawn)]
     faults += [f"the map has {it} --> {name}" for it, name in sorted(drawn - wanted)]
     rows = re.findall(r"^\| \[?`(\w+)`", text, re.M)
-    faults += [f"{it} has {rows.count(it)} rows" for it in sorted(crates.keys() - {"script_cases"} | set(rows)) if rows.count(it) != 1 or it not in crates]
+    faults += [f"{it} has {rows.count(it)} rows" for it in sorted(crates.keys() - {"script_cases", "http_cases"} | set(rows)) if rows.count(it) != 1 or it not in crates]
     chain = max((chain_of(crates, it) for it in libraries), key=len)
     for what, count in (("Libraries", len(libraries)), ("Crates of tests", len(tests)), ("The longest chain of libraries", len(chain))):
         if not re.search(rf"^\| {what}\b[^|]*\| {count} \|$", text, re.M):

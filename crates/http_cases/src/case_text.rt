@@ -1,0 +1,58 @@
+//! The text of a case.
+use std::alloc::{AllocError, Global};
+
+/// The bytes of a request. Each line of its text ends with CR LF, unless `~` is its last character. In a line, `~N;` is the byte N,
+/// and `~N*COUNT;` is that byte so many times.
+pub(crate) fn decode(alloc: Global, text: &str) -> Result<Vec<u8>, AllocError> {
+    let mut bytes = Vec::new(alloc);
+    for line in text.split('\n') {
+        match line.strip_suffix('~') {
+            Some(line) => decode_line(line, &mut bytes)?,
+            None => {
+                decode_line(line, &mut bytes)?;
+                bytes.extend_from_slice(b"\r\n")?;
+            }
+        }
+    }
+    Ok(bytes)
+}
+
+fn decode_line(line: &str, bytes: &mut Vec<u8>) -> Result<(), AllocError> {
+    for (place, part) in line.split('~').enumerate() {
+        let rest = if place == 0 {
+            part
+        } else {
+            let (escape, rest) = part.split_once(';').unwrap_or((part, ""));
+            repeat_byte(escape, bytes)?;
+            rest
+        };
+        bytes.extend_from_slice(rest.as_bytes())?;
+    }
+    Ok(())
+}
+
+fn repeat_byte(escape: &str, bytes: &mut Vec<u8>) -> Result<(), AllocError> {
+    let (byte, count) = escape.split_once('*').unwrap_or((escape, "1"));
+    let byte = byte.parse::<u8>().unwrap_or(b'?');
+    for _ in 0..count.parse::<u32>().unwrap_or(1) {
+        bytes.push(byte)?;
+    }
+    Ok(())
+}
+
+/// The number of the first line in which two texts differ, from 1.
+pub(crate) fn differs_at(left: &[u8], right: &[u8]) -> Option<u64> {
+    if left == right {
+        return None;
+    }
+    let mut line = 1u64;
+    for (one, other) in left.iter().zip(right.iter()) {
+        if one != other {
+            break;
+        }
+        if *one == b'\n' {
+            line = line.saturating_add(1);
+        }
+    }
+    Some(line)
+}

@@ -1,0 +1,78 @@
+//! Plays the cases below a folder, the working directory where no argument names another: each case is a text with requests, and the
+//! replies that these must get. It reports each case that differs, and at the end how many agree.
+#![tactic(auto)]
+
+mod case_text;
+mod folders;
+mod playing;
+mod replies;
+
+use crate::case_text::differs_at;
+use crate::folders::{folders_in, names_in};
+use crate::playing::play;
+use std::process::ExitCode;
+use std::{env, fs, io};
+
+/// How many cases agree, and how many do not.
+#[derive(Clone, Copy)]
+struct Tally {
+    agree: u64,
+    differ: u64,
+}
+
+fn main(rt: HostRuntime) -> ExitCode {
+    match play_all(&rt) {
+        Ok(tally) => ExitCode::from(u8::from(tally.differ > 0)),
+        Err(error) => {
+            let _said = eprintln!(rt; "http_cases: {error}");
+            ExitCode::from(3)
+        }
+    }
+}
+
+fn play_all(rt: &HostRuntime) -> io::Result<Tally> {
+    let mut tally = Tally {
+        agree: 0,
+        differ: 0,
+    };
+    let top = env::args(rt)?.nth(1);
+    for subject in &folders_in(rt, top.as_deref().unwrap_or("."))? {
+        play_subject(rt, subject.as_str(), &mut tally)?;
+    }
+    let Tally { agree, differ } = tally;
+    println!(rt; "{agree} cases agree, {differ} differ")?;
+    Ok(tally)
+}
+
+// Plays the cases of a folder, in the order of their names.
+fn play_subject(rt: &HostRuntime, subject: &str, tally: &mut Tally) -> io::Result<()> {
+    for name in &names_in(rt, subject)? {
+        let Some(stem) = name.as_str().strip_suffix(".http") else {
+            continue;
+        };
+        let input = format!(in rt.alloc(); "{subject}/{name}")?;
+        let wanted = format!(in rt.alloc(); "{subject}/{stem}.out")?;
+        if agrees(rt, input.as_str(), wanted.as_str())? {
+            tally.agree = tally.agree.saturating_add(1);
+        } else {
+            tally.differ = tally.differ.saturating_add(1);
+        }
+    }
+    Ok(())
+}
+
+// Plays the case in a file, with requests that come whole, and byte by byte. It reports where the replies differ, if they do.
+fn agrees(rt: &HostRuntime, input: &str, wanted: &str) -> io::Result<bool> {
+    let text = fs::read_to_string(rt, input)?;
+    let wanted = fs::read(rt, wanted)?;
+    for piece in [65_536, 1] {
+        let replies = play(rt.alloc(), text.as_str(), piece)?;
+        if let Some(line) = differs_at(&replies, &wanted) {
+            println!(rt;
+                "{input} differs in line {line} of its replies, read {piece} bytes at a time"
+            )?;
+            return Ok(false);
+        }
+    }
+    Ok(true)
+}

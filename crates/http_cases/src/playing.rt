@@ -1,0 +1,119 @@
+//! A case, played over an office in memory.
+use crate::case_text::decode;
+use crate::replies::{run, serve};
+use interval_core::Zone;
+use memory_books::ListBooks;
+use office_core::Office;
+use office_events::{Command, Event, PlannedList, PutList, StartPoll};
+use point_list::read_list;
+use script_lines::{GivenList, GivenStart, ScriptLine};
+use std::alloc::{AllocError, Global};
+
+type MemoryOffice = Office<ListBooks>;
+
+/// The replies to the requests of a case, each with a line feed after it. A served request is read so many bytes at a time.
+pub(crate) fn play(alloc: Global, text: &str, piece: usize) -> Result<Vec<u8>, AllocError> {
+    match open_office(alloc) {
+        Some(mut office) => play_blocks(alloc, &mut office, text, piece),
+        None => Vec::from_slice(alloc, b"no office\n"),
+    }
+}
+
+fn open_office(alloc: Global) -> Option<MemoryOffice> {
+    let zone = Zone::read("UTC0").ok()?;
+    Office::open(alloc, ListBooks::new(alloc, zone), 0).ok()
+}
+
+fn play_blocks(
+    alloc: Global,
+    office: &mut MemoryOffice,
+    text: &str,
+    piece: usize,
+) -> Result<Vec<u8>, AllocError> {
+    let mut printed = Vec::new(alloc);
+    let text = text.strip_suffix('\n').unwrap_or(text);
+    for block in text.split("\n> ") {
+        play_block(alloc, office, block, piece, &mut printed)?;
+    }
+    Ok(printed)
+}
+
+// Plays a block: `serve MOMENT` or `run MOMENT` and the request below, or lines of a script below any other line.
+fn play_block(
+    alloc: Global,
+    office: &mut MemoryOffice,
+    block: &str,
+    piece: usize,
+    printed: &mut Vec<u8>,
+) -> Result<(), AllocError> {
+    let (head, body) = block.split_once('\n').unwrap_or((block, ""));
+    let (command, at) = head.split_once(' ').unwrap_or((head, ""));
+    let at = at.parse::<u64>().unwrap_or(0);
+    match command {
+        "serve" => {
+            let request = decode(alloc, body)?;
+            serve(alloc, office, at, &request, piece, printed)?;
+        }
+        "run" => {
+            let request = decode(alloc, body)?;
+            run(alloc, office, at, &request, printed)?;
+        }
+        _ => return set_up(alloc, office, body, printed),
+    }
+    printed.push(b'\n')?;
+    Ok(())
+}
+
+// Carries out the lines of a script. Each must be accepted.
+fn set_up(
+    alloc: Global,
+    office: &mut MemoryOffice,
+    lines: &str,
+    printed: &mut Vec<u8>,
+) -> Result<(), AllocError> {
+    for line in lines.split('\n') {
+        let is_silent = line.is_empty() || line.starts_with('#');
+        if !is_silent && !is_accepted(alloc, office, line.as_bytes()) {
+            printed.extend_from_slice(b"rejected: ")?;
+            printed.extend_from_slice(line.as_bytes())?;
+            printed.push(b'\n')?;
+        }
+    }
+    Ok(())
+}
+
+fn is_accepted(alloc: Global, office: &mut MemoryOffice, line: &[u8]) -> bool {
+    match ScriptLine::read(alloc, line) {
+        Ok(ScriptLine::Event { at, event }) => office.feed(at, &event).is_ok(),
+        Ok(ScriptLine::List { at, list }) => is_list_accepted(alloc, office, at, &list),
+        Ok(ScriptLine::Start { at, start }) => is_start_accepted(office, at, &start),
+        _ => false,
+    }
+}
+
+fn is_list_accepted(alloc: Global, office: &mut MemoryOffice, at: u64, list: &GivenList) -> bool {
+    let Ok(points) = read_list(alloc, list.text.as_slice()) else {
+        return false;
+    };
+    let Ok(planned) = PlannedList::new(alloc, points) else {
+        return false;
+    };
+    let put = PutList {
+        device: list.device,
+        list: planned,
+    };
+    office
+        .feed(at, &Event::Command(Command::PutList(put)))
+        .is_ok()
+}
+
+fn is_start_accepted(office: &mut MemoryOffice, at: u64, start: &GivenStart) -> bool {
+    let device = start.device;
+    match start.span() {
+        Some(span) => {
+            let poll = Command::StartPoll(StartPoll { device, span });
+            office.feed(at, &Event::Command(poll)).is_ok()
+        }
+        None => false,
+    }
+}

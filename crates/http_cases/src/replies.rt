@@ -1,0 +1,78 @@
+//! The replies of `serve` and of `run`.
+use http_peers::reply_site_over;
+use mb_wire::MemoryLink;
+use memory_books::ListBooks;
+use office_core::Office;
+use office_http::handle_named;
+use run_http::{
+    PeerReply, RunRoute, ask, reply_energy, reply_entries, reply_intervals, reply_meters,
+    reply_metrics, reply_status, reply_voids, run_route,
+};
+use run_status::Counts;
+use std::alloc::{AllocError, Global};
+
+// The name that `--host-name` gives.
+static NAMES: [&str; 1] = ["office.example"];
+
+// The text in place of a reply where none is given.
+static NO_REPLY: &[u8] = b"no reply";
+
+/// Appends the reply of `serve` to a request, which is read so many bytes at a time.
+pub(crate) fn serve(
+    alloc: Global,
+    office: &mut Office<ListBooks>,
+    at: u64,
+    request: &[u8],
+    piece: usize,
+    printed: &mut Vec<u8>,
+) -> Result<(), AllocError> {
+    let mut output = vec![in alloc; 0u8; 65_536]?;
+    let mut link = MemoryLink::new(request, &mut output, piece.max(1), None);
+    let handled = handle_named(alloc, &NAMES, &mut link, office, at);
+    printed.extend_from_slice(link.given())?;
+    match handled {
+        Ok(()) => Ok(()),
+        Err(_) => printed.extend_from_slice(NO_REPLY),
+    }
+}
+
+/// Appends the reply of `run` to the bytes that a client has sent: its own reply, or that of its office.
+pub(crate) fn run(
+    alloc: Global,
+    office: &mut Office<ListBooks>,
+    at: u64,
+    request: &[u8],
+    printed: &mut Vec<u8>,
+) -> Result<(), AllocError> {
+    match run_route(&NAMES, request) {
+        Some(route) => reply_of_run(alloc, office, at, &route, printed),
+        None => match ask(alloc, request, office, at) {
+            PeerReply::Replied(reply) => printed.extend_from_slice(&reply),
+            PeerReply::Open | PeerReply::Failed => printed.extend_from_slice(NO_REPLY),
+        },
+    }
+}
+
+// Appends the reply of a run's own route, of a run that has counted nothing and has no earlier files.
+fn reply_of_run(
+    alloc: Global,
+    office: &mut Office<ListBooks>,
+    at: u64,
+    route: &RunRoute,
+    printed: &mut Vec<u8>,
+) -> Result<(), AllocError> {
+    match route {
+        RunRoute::Own(own) => reply_status(alloc, printed, *own, &Counts::new(), &[], &[]),
+        RunRoute::Metrics => reply_metrics(alloc, printed, office, &Counts::new(), &[]),
+        RunRoute::Site => reply_site_over(alloc, printed, office, &[], at),
+        RunRoute::Intervals { meter, span } => {
+            reply_intervals(alloc, printed, office, meter, *span)
+        }
+        RunRoute::Entries { meter, from } => reply_entries(alloc, printed, office, meter, *from),
+        RunRoute::Voids { meter } => reply_voids(alloc, printed, office, meter),
+        RunRoute::Meters { register } => reply_meters(alloc, printed, office, register),
+        RunRoute::Energy { register, form } => {
+            reply_energy(alloc, printed, office, register, form)
+        }
+    }
+}
