@@ -18,14 +18,11 @@ pub(crate) fn decode(alloc: Global, text: &str) -> Result<Vec<u8>, AllocError> {
 }
 
 fn decode_line(line: &str, bytes: &mut Vec<u8>) -> Result<(), AllocError> {
-    for (place, part) in line.split('~').enumerate() {
-        let rest = if place == 0 {
-            part
-        } else {
-            let (escape, rest) = part.split_once(';').unwrap_or((part, ""));
-            repeat_byte(escape, bytes)?;
-            rest
-        };
+    let mut parts = line.split('~');
+    bytes.extend_from_slice(parts.next().unwrap_or("").as_bytes())?;
+    for part in parts {
+        let (escape, rest) = part.split_once(';').unwrap_or((part, ""));
+        repeat_byte(escape, bytes)?;
         bytes.extend_from_slice(rest.as_bytes())?;
     }
     Ok(())
