@@ -1,11 +1,13 @@
 #!/usr/bin/env python3
-"""ci.py [--minutes PROCESSORS [GB]]: runs `rt ci` as .ci/run does. Its plan goes by what bench/GATE.md tells of each crate's proof and tests: by the memory that they
+"""ci.py [--program FILE | --minutes PROCESSORS [GB]]: runs `rt ci` as .ci/run does. Its plan goes by what bench/GATE.md tells of each crate's proof and tests: by the memory that they
 took, where the kit's own guess is up to twice as much and leaves processors idle, and by their seconds, where the kit goes by lines. All else is the kit's;
-RT_JOBS=N still has it run N parts at once with no plan of memory.
+RT_JOBS=N still has it run N parts at once with no plan of memory. With --program it copies the program sunreg, as LLVM built it, to FILE: what the kit links or what it
+runs, which may be kept from an earlier run.
 
 With --minutes it proves nothing, and plays the kit's own schedule, six hundred times as fast, over what that page tells that each part takes on a processor: how many
 minutes so many processors would take with so many GB of memory free (23 by default), if they were as fast as those of the page, and had no other work."""
 import os
+import shutil
 import sys
 import time
 
@@ -60,9 +62,41 @@ def minutes(processors, gigabytes):
     return (time.monotonic() - began) / SECOND / 60
 
 
+def copy_program(crate, to):
+    """Copies the program of a crate as LLVM built it, where that is sunreg and stands in the crate's out/."""
+    built = f"{crate.folder}/out/{crate.name}"
+    if crate.name == "sunreg" and os.path.isfile(built):
+        shutil.copyfile(built, f"{to}.new")
+        os.chmod(f"{to}.new", 0o755)
+        os.replace(f"{to}.new", to)
+
+
+def keep_program(to):
+    """Has the kit leave a copy of sunreg at a path, before it runs the program, or where it links it. Another kit may not have both calls."""
+    run, link = getattr(rt, "run", None), getattr(rt.Crate, "link", None)
+
+    def run_and_copy(crate, tests, *more):
+        if not tests:
+            copy_program(crate, to)
+        return run(crate, tests, *more)
+
+    def link_and_copy(crate, made, program, *more):
+        status = link(crate, made, program, *more)
+        if not status and program == f"out/{crate.name}":
+            copy_program(crate, to)
+        return status
+
+    if run:
+        rt.run = run_and_copy
+    if link:
+        rt.Crate.link = link_and_copy
+
+
 rt.in_lanes = by_page
 if sys.argv[1:2] == ["--minutes"]:
     asked = [int(it) for it in sys.argv[2:]]
     print(f"{minutes(asked[0], *(asked[1:] or [23])):.0f} minutes on {asked[0]} processors")
 else:
+    if sys.argv[1:2] == ["--program"]:
+        keep_program(os.path.abspath(sys.argv[2]))
     sys.exit(rt.main(["ci"]))

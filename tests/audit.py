@@ -74,7 +74,8 @@ def read(db, raw):
     device = subprocess.Popen(words, stdin=subprocess.PIPE, stdout=subprocess.DEVNULL, stderr=subprocess.DEVNULL, text=True)
     device.stdin.write(f"area holding 40000 100\nset holding 40095 {raw}\n")
     device.stdin.close()
-    for _turn in range(30):  # (until it listens)
+    until = time.monotonic() + 60
+    while time.monotonic() < until:  # (until it listens)
         done = subprocess.run([PROGRAM, "round", "--db", db, "--device", "inv", "--port", port], capture_output=True, text=True, stdin=subprocess.DEVNULL)
         if done.returncode == 0:
             break

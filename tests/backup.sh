@@ -4,12 +4,13 @@
 # office that books, 40 by default. It ends on 'N passed, M failed'.
 set -u
 here=$(dirname "$(readlink -f "$0")")
-program=${1:-$here/../out/sunreg}
+program=${1:-${SUNREG:-$here/../out/sunreg}}
 [ -x "$program" ] || { echo "backup.sh: $program is not built: run ./sunreg-build" >&2; exit 2; }
 program=$(readlink -f "$program")
 for tool in curl sqlite3; do
-    command -v $tool > /dev/null || { echo "backup.sh: $tool is not installed (apt-get install $tool)" >&2; exit 2; }
+    command -v $tool > /dev/null || { echo "backup.sh: $tool is not installed: run tests/install-tools.sh" >&2; exit 2; }
 done
+. "$here/waiting.sh"
 room=$(mktemp -d) || exit 2
 children=''
 trap 'for it in $children; do kill -9 "$it" 2> /dev/null; done; rm -rf "$room"' EXIT
@@ -206,10 +207,7 @@ same 'it serves' "$(ask /devices)" 405
     done
 ) &
 writer=$!
-for turn in $(seq 100); do
-    [ -e booked ] && break
-    sleep 0.1
-done
+same 'it books' "$(wait_for 60 test -e booked; echo $?)" 0
 made=0
 right=0
 busy=0

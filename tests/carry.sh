@@ -4,12 +4,13 @@
 # and CARRY_PORT from which port on it listens. It ends on 'N passed, M failed'.
 set -u
 here=$(dirname "$(readlink -f "$0")")
-program=${1:-$here/../out/sunreg}
+program=${1:-${SUNREG:-$here/../out/sunreg}}
 [ -x "$program" ] || { echo "carry.sh: $program is not built: run ./sunreg-build" >&2; exit 2; }
 program=$(readlink -f "$program")
 for tool in curl sqlite3; do
-    command -v $tool > /dev/null || { echo "carry.sh: $tool is not installed (apt-get install $tool)" >&2; exit 2; }
+    command -v $tool > /dev/null || { echo "carry.sh: $tool is not installed: run tests/install-tools.sh" >&2; exit 2; }
 done
+. "$here/waiting.sh"
 room=$(mktemp -d) || exit 2
 children=''
 trap 'for it in $children; do kill -9 "$it" 2> /dev/null; done; rm -rf "$room"' EXIT
@@ -70,12 +71,9 @@ polled() {
     printf "$2" | "$program" stand-in --port "$port" --connections 1 > peer 2>&1 &
     peer=$!
     children="$children $peer"
-    for _try in 1 2 3 4 5 6 7 8 9 10; do
-        "$program" round --db "$1" --device inv --port "$port" > out 2> err < /dev/null
-        status=$?
-        grep -q "isn't answered" err || break
-        sleep 0.3
-    done
+    wait_for 30 listens "$port"
+    "$program" round --db "$1" --device inv --port "$port" > out 2> err < /dev/null
+    status=$?
     kill "$peer" 2> /dev/null
     wait "$peer" 2> /dev/null
     came="$status $(grep -E '^(reading|held) ' out | sort | paste -sd ';')"
@@ -229,7 +227,8 @@ port=$((port + 1))
 child=$!
 children="$children $child"
 same 'it runs' "$(ask /meters/m1 | sed -E 's/.*"last":([0-9]*).*/\1/')" 5020
-sleep 1
+# (its first round finds nobody, and is booked)
+same 'its first round' "$(wait_for 30 grep -q ' inv unreachable' ran; echo $?)" 0
 beside=$(sums old.db old.db-wal)
 run carry --from old.db --to running.db
 same 'carry beside it' "$status $(cat out err)" '0 carried 3 meters'

@@ -6,6 +6,7 @@ which command reads it, and whether each line behind the first is a text of its 
 a word a line behind its first, which says what it shows; NAME.in is standard input, NAME.out what is printed, NAME.err the first line on
 standard error and NAME.status the status, each empty, or 0, where there is no such file. ROOM in a word is a folder of the run's own.
 """
+import os
 import pathlib
 import re
 import subprocess
@@ -66,7 +67,7 @@ def play_words(program, path, room):
 
 
 def main():
-    program = pathlib.Path(sys.argv[1] if len(sys.argv) > 1 else HERE.parent / "out" / "sunreg").resolve()
+    program = pathlib.Path(sys.argv[1] if len(sys.argv) > 1 else os.environ.get("SUNREG", HERE.parent / "out" / "sunreg")).resolve()
     if not program.is_file():
         sys.exit(f"cases.sh: {program} is not built: run ./sunreg-build")
     data = HERE.parent / "crates" / "script_cases" / "data"

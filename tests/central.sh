@@ -9,7 +9,7 @@
 # 'N passed, M failed'.
 set -u
 here=$(dirname "$(readlink -f "$0")")
-program=$(readlink -f "${1:-$here/../out/sunreg}")
+program=$(readlink -f "${1:-${SUNREG:-$here/../out/sunreg}}")
 [ -x "$program" ] || { echo "central.sh: $program is not built: tried with a mock alone"; program=; }
 room=$(mktemp -d) || exit 2
 trap 'rm -rf "$room"' EXIT

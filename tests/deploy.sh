@@ -6,7 +6,7 @@
 set -u
 here=$(dirname "$(readlink -f "$0")")
 deploy=$here/../deploy
-program=${1:-$here/../out/sunreg}
+program=${1:-${SUNREG:-$here/../out/sunreg}}
 [ ! -x "$program" ] || program=$(readlink -f "$program")
 room=$(mktemp -d) || exit 2
 children=''

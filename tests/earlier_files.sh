@@ -4,9 +4,9 @@
 # gate. It ends on 'N passed, M failed'.
 set -eu
 here=$(dirname "$(readlink -f "$0")")
-program=${1:-$here/../out/sunreg}
+program=${1:-${SUNREG:-$here/../out/sunreg}}
 [ -x "$program" ] || { echo "earlier_files.sh: $program is not built: run ./sunreg-build" >&2; exit 2; }
 for it in python3 sqlite3; do
-    command -v $it > /dev/null || { echo "earlier_files.sh: $it is not installed (apt-get install $it)" >&2; exit 2; }
+    command -v $it > /dev/null || { echo "earlier_files.sh: $it is not installed: run tests/install-tools.sh" >&2; exit 2; }
 done
 PYTHONDONTWRITEBYTECODE=1 exec python3 "$here/earlier_files.py" "$(readlink -f "$program")"

@@ -1,11 +1,13 @@
 #!/usr/bin/env bash
 # Enters files into an office in a file with the built program: `tests/enter.sh [PROGRAM]`, out/sunreg by default, which
-# `./sunreg-build` makes. It ends on 'N passed, M failed'.
+# `./sunreg-build` makes. It needs sqlite3, and ends on 'N passed, M failed'.
 set -u
 here=$(dirname "$(readlink -f "$0")")
-program=${1:-$here/../out/sunreg}
+program=${1:-${SUNREG:-$here/../out/sunreg}}
 [ -x "$program" ] || { echo "enter.sh: $program is not built: run ./sunreg-build" >&2; exit 2; }
 program=$(readlink -f "$program")
+command -v sqlite3 > /dev/null || { echo 'enter.sh: sqlite3 is not installed: run tests/install-tools.sh' >&2; exit 2; }
+. "$here/waiting.sh"
 room=$(mktemp -d) || exit 2
 trap 'rm -rf "$room"' EXIT
 cd "$room" || exit 2
@@ -51,16 +53,10 @@ enter "$site" -n
 is 'nothing is kept yet' "$came" '0 new;new;new;new / '
 enter "$site"
 is 'a site' "$came" '0 ok;ok;ok;ok / '
-if command -v sqlite3 > /dev/null; then
-    before=$(facts)
-    enter "$site"
-    is 'a site again' "$came" '0 ok;ok;ok;ok / '
-    is 'it acts no second time' "$(facts)" "$before"
-else
-    echo 'enter.sh: sqlite3 is not installed: the facts are not compared' >&2
-    enter "$site"
-    is 'a site again' "$came" '0 ok;ok;ok;ok / '
-fi
+before=$(facts)
+enter "$site"
+is 'a site again' "$came" '0 ok;ok;ok;ok / '
+is 'it acts no second time' "$(facts)" "$before"
 enter "$site" -n
 is 'all is kept' "$came" '0 again;again;again;again / '
 enter "${site}5 register more inv 3 40190 0\n"
@@ -119,12 +115,9 @@ polled() {
     port=$((port + 1))
     printf "$2" | "$program" stand-in --port "$port" --connections 1 > peer 2>&1 &
     peer=$!
-    for _try in 1 2 3 4 5 6 7 8 9 10; do
-        status=0
-        "$program" round --db office.db --device "$1" --port "$port" > out 2> err || status=$?
-        grep -q "isn't answered" err || break
-        sleep 0.3
-    done
+    wait_for 30 listens "$port"
+    status=0
+    "$program" round --db office.db --device "$1" --port "$port" > out 2> err || status=$?
     kill "$peer" 2> /dev/null
     wait "$peer" 2> /dev/null
     came="$status $(paste -sd ';' out) / $(grep -v 'it had no log beside it' err | paste -sd ';')"
@@ -151,11 +144,8 @@ beside() {
     port=$((port + 1))
     printf "$1" | "$program" stand-in --port "$port" --connections 1 > peer 2>&1 &
     peer=$!
-    for _try in 1 2 3 4 5 6 7 8 9 10; do
-        enter "$2" --devices "other=127.0.0.1:1,live=127.0.0.1:$port"
-        grep -q "isn't answered" err || break
-        sleep 0.3
-    done
+    wait_for 30 listens "$port"
+    enter "$2" --devices "other=127.0.0.1:1,live=127.0.0.1:$port"
     kill "$peer" 2> /dev/null
     wait "$peer" 2> /dev/null
 }

@@ -3,12 +3,13 @@
 # `tests/files.sh [PROGRAM]`, out/sunreg by default, which `./sunreg-build` makes. It ends on 'N passed, M failed'.
 set -u
 here=$(dirname "$(readlink -f "$0")")
-program=${1:-$here/../out/sunreg}
+program=${1:-${SUNREG:-$here/../out/sunreg}}
 [ -x "$program" ] || { echo "files.sh: $program is not built: run ./sunreg-build" >&2; exit 2; }
 program=$(readlink -f "$program")
 for tool in curl sqlite3; do
-    command -v $tool > /dev/null || { echo "files.sh: $tool is not installed (apt-get install $tool)" >&2; exit 2; }
+    command -v $tool > /dev/null || { echo "files.sh: $tool is not installed: run tests/install-tools.sh" >&2; exit 2; }
 done
+. "$here/waiting.sh"
 room=$(mktemp -d) || exit 2
 children=''
 trap 'for it in $children; do kill -9 "$it" 2> /dev/null; done; rm -rf "$room"' EXIT
@@ -66,7 +67,7 @@ stand_in() {
         | "$program" stand-in --port "$device" --connections "$1" > stand_in 2>&1 &
     child=$!
     children="$children $child"
-    sleep 1
+    wait_for 30 listens "$device"
 }
 
 run create --db office.db --zone nowhere
@@ -120,11 +121,12 @@ same 'serving ends behind its connections' "$? $(cat served)" '0 '
 "$program" stand-in --port "$port" --connections 1 > /dev/null 2>&1 < /dev/null &
 child=$!
 children="$children $child"
-sleep 1
+wait_for 30 listens "$port"
 run serve --db office.db --port "$port" --connections 1
 is 'a port that is taken' 3 '' 'failed'
 kill -9 "$child"
 
+# (a reading lies seconds behind the opening)
 sleep 2
 stand_in 1 5200
 run round --db office.db --device inv --port "$device"
@@ -144,10 +146,7 @@ stand_in 2 5300
 kill -STOP "$child"
 "$program" round --db office.db --device inv --port "$device" > out 2> err < /dev/null &
 round=$!
-for turn in $(seq 60); do
-    grep -q started out && break
-    sleep 1
-done
+wait_for 60 grep -q started out
 kill -9 "$round"
 wait "$round" 2> /dev/null
 kill -CONT "$child"
@@ -172,6 +171,8 @@ same 'the file opens behind sqlite3' "$status" 0
 if [ -w /dev/full ]; then
     "$program" report --db office.db --register main > /dev/full 2> err < /dev/null
     same 'a write that fails' "$? $(head -n 1 err)" '3 failed'
+else
+    same 'a write that fails' 'no /dev/full here' ''
 fi
 
 # A file and a folder in which nobody may write. Root may, so it is asked as nobody then, by a program where nobody may reach it.

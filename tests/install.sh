@@ -229,7 +229,7 @@ fi
 
 # ---- without
 
-program=${1:-$here/../out/sunreg}
+program=${1:-${SUNREG:-$here/../out/sunreg}}
 room=$(mktemp -d) || exit 2
 mkdir "$room.copy"
 trap 'leave; rm -rf "$room" "$room.copy"' EXIT

@@ -6,7 +6,7 @@
 # It ends on 'N passed, M failed'.
 set -u
 here=$(dirname "$(readlink -f "$0")")
-program=${1:-$here/../out/sunreg}
+program=${1:-${SUNREG:-$here/../out/sunreg}}
 [ -x "$program" ] || { echo "peers.sh: $program is not built: run ./sunreg-build" >&2; exit 2; }
 program=$(readlink -f "$program")
 room=$(mktemp -d) || exit 2

@@ -4,7 +4,7 @@
 # out/sunreg by default, which `./sunreg-build` makes. Half a minute. It ends on 'N passed, M failed'.
 set -eu
 top=$(dirname "$(dirname "$(readlink -f "$0")")")
-program=$(readlink -f "${1:-$top/out/sunreg}")
+program=$(readlink -f "${1:-${SUNREG:-$top/out/sunreg}}")
 [ -x "$program" ] || { echo "readme.sh: $program is not built: run ./sunreg-build" >&2; exit 2; }
 room=$(mktemp -d "${TMPDIR:-/tmp}/readme.XXXXXX")
 clear_up() {
@@ -39,8 +39,13 @@ same 'five commands' "$(grep -c . "$room/commands")" 5
 mkdir "$room/docs"
 cp "$top/docs/inverter.txt" "$room/docs"
 ln -s "$program" "$room/sunreg"
-# (the stand-in in the background is ended with the shell that began it)
-(cd "$room" && { cat commands; echo 'kill $!'; } | sh > out 2> err) || same 'status' "$?" 0
+# (the second in which the stand-in begins ends once it listens, and the stand-in is ended with the shell that began it)
+(cd "$room" && {
+  echo ". $top/tests/waiting.sh"
+  echo 'sleep() { command sleep "$1"; wait_for 60 listens 1502; }'
+  cat commands
+  echo 'kill $!'
+} | sh > out 2> err) || same 'status' "$?" 0
 same 'what is printed' "$(settled < "$room/out")" "$(block text | settled)"
 # (three of these lines stand at the head of the page)
 awk '/^## /{ exit } $0 == "```text" { inside = 1; next } inside && /^```$/ { exit } inside' "$top/README.md" | settled > "$room/head"

@@ -1,12 +1,12 @@
 #!/bin/sh
 # Holds reports on ranges of days, by periods, in both units and three formats, to what Python computes from the same quarter hours:
 # `tests/report.sh [PROGRAM]`, out/sunreg by default, which `./sunreg-build` makes. It needs python3 with the zones of the system, and
-# sqlite3, and is no part of the gate. It ends on 'N passed, M failed'.
+# sqlite3. It ends on 'N passed, M failed'.
 set -eu
 here=$(dirname "$(readlink -f "$0")")
-program=${1:-$here/../out/sunreg}
+program=${1:-${SUNREG:-$here/../out/sunreg}}
 [ -x "$program" ] || { echo "report.sh: $program is not built: run ./sunreg-build" >&2; exit 2; }
 for it in python3 sqlite3; do
-    command -v $it > /dev/null || { echo "report.sh: $it is not installed (apt-get install $it)" >&2; exit 2; }
+    command -v $it > /dev/null || { echo "report.sh: $it is not installed: run tests/install-tools.sh" >&2; exit 2; }
 done
 PYTHONDONTWRITEBYTECODE=1 exec python3 "$here/report.py" "$(readlink -f "$program")"

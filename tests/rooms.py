@@ -1,5 +1,6 @@
 #!/usr/bin/env python3
-"""rooms.py: holds the map, the tables and the counts of docs/ARCHITECTURE.md to crates.txt. It prints what isn't so, and then the counts; the status is 1 where something isn't."""
+"""rooms.py: holds the map, the tables and the counts of docs/ARCHITECTURE.md to crates.txt. It prints what isn't so, and the counts, and ends on
+'N passed, M failed'; the status is 1 where something isn't."""
 import os
 import re
 import sys
@@ -54,10 +55,14 @@ def main():
     rows = re.findall(r"^\| \[?`(\w+)`", text, re.M)
     faults += [f"{it} has {rows.count(it)} rows" for it in sorted(crates.keys() - {"script_cases", "http_cases"} | set(rows)) if rows.count(it) != 1 or it not in crates]
     chain = max((chain_of(crates, it) for it in libraries), key=len)
-    for what, count in (("Libraries", len(libraries)), ("Crates of tests", len(tests)), ("The longest chain of libraries", len(chain))):
+    counted = (("Libraries", len(libraries)), ("Crates of tests", len(tests)), ("The longest chain of libraries", len(chain)))
+    for what, count in counted:
         if not re.search(rf"^\| {what}\b[^|]*\| {count} \|$", text, re.M):
             faults.append(f"the page doesn't say how many: {what}, {count}")
     print("\n".join(faults + [f"{len(libraries)} libraries, {len(tests)} crates of tests; the longest chain has {len(chain)}: {' '.join(chain)}"]))
+    # (an arrow, a crate's row and a count of the page is one each)
+    compared = len(wanted | drawn) + len(crates.keys() - {"script_cases"} | set(rows)) + len(counted)
+    print(f"{compared - len(faults)} passed, {len(faults)} failed")
     return 1 if faults else 0
 
 

@@ -1,4 +1,4 @@
-"""running.py PROGRAM PORT NAME=PATH..: see running.sh. PATH is libmodbus's server, or the Python that has pymodbus or Prometheus's parser."""
+"""running.py PROGRAM PORT [--short] NAME=PATH..: see running.sh. PATH is libmodbus's server, or the Python that has pymodbus or Prometheus's parser."""
 import atexit
 import json
 import os
@@ -17,7 +17,9 @@ import urllib.error
 import urllib.request
 
 PROGRAM, PORT = sys.argv[1], int(sys.argv[2])
+IS_SHORT = "--short" in sys.argv
 PEERS = {name: path for name, _, path in (word.partition("=") for word in sys.argv[3:]) if path}
+SLOW = int(os.environ.get("SLOW", "1"))
 HERE = os.path.dirname(os.path.abspath(__file__))
 EVERY = 2
 ROOM = tempfile.mkdtemp()
@@ -52,7 +54,7 @@ class Device:
     """A device in a thread of this process: it answers, keeps silent, or garbles."""
 
     def __init__(self, how):
-        self.how, self.times, self.shown = how, [], []
+        self.how, self.times, self.shown, self.asked = how, [], [], 0
         self.raw = 5000
         self.listener = socket.create_server(("127.0.0.1", 0))
         self.port = self.listener.getsockname()[1]
@@ -85,6 +87,7 @@ class Device:
                     if not more:
                         return
                     frame += more
+                self.asked += 1
                 if self.how == "silent":
                     continue
                 try:
@@ -147,7 +150,7 @@ class Run:
 
     def wait_for(self, pattern, seconds=60):
         """The first line that matches."""
-        until = time.time() + seconds
+        until = time.time() + seconds * SLOW
         while time.time() < until:
             for line in list(self.lines):
                 if re.fullmatch(pattern, line):
@@ -156,6 +159,16 @@ class Run:
                 time.sleep(0.2)
             time.sleep(0.02)
         return None
+
+
+def wait_until(is_so, seconds, step=0.05):
+    """Waits until something holds, and returns whether it came to hold in that time."""
+    until = time.monotonic() + seconds * SLOW
+    while not is_so():
+        if time.monotonic() > until:
+            return False
+        time.sleep(step)
+    return True
 
 
 def ask(path, number=None, body=None, seconds=30):
@@ -266,6 +279,51 @@ def add_device(number, name):
     same(f"{name}: a meter", ask(f"/registers/r{name}/install", number + 3, json.dumps(meter))[0], 200)
 
 
+def ask_beside_a_crowd():
+    """Has 100 connections by HTTP while all devices are polled: one is silent, and the others come in pieces. Then a table full of silent peers."""
+    since = time.time()
+    mute_peer = socket.create_connection(("127.0.0.1", PORT))
+    took, threads = [], []
+
+    def one_peer(k):
+        took.append(ask_in_pieces(["/status", "/meters/mg0", "/metrics", "/meters/none"][k % 4]))
+
+    for k in range(99):
+        thread = threading.Thread(target=one_peer, args=(k,))
+        thread.start()
+        threads.append(thread)
+        time.sleep(0.05)
+    for thread in threads:
+        thread.join()
+    mute_peer.settimeout(30)
+    holds("a silent peer is dropped", mute_peer.recv(1) == b"")
+    silence = time.time() - since
+    holds("at its limit", 9 <= silence <= 12.5, silence)
+    until = time.time()
+    answers = [line for _, line in took]
+    same("each other is answered", (answers.count("HTTP/1.1 200 OK"), len(answers)), (75, 99))
+    times = sorted(seconds for seconds, _ in took)
+    print(f"replies: median {times[49] * 1000:.1f} ms, 99 % {times[97] * 1000:.1f} ms, most {times[98] * 1000:.1f} ms")
+    holds("within a second", times[98] < 1, times[98])
+    # (a round may begin a millisecond early, since a run's time is a whole number of them)
+    late = [0 if it > EVERY - 0.005 else it for device in good.values() for it in lateness_of(device, since, until)]
+    print(f"lateness: median {sorted(late)[len(late) // 2] * 1000:.1f} ms, most {max(late) * 1000:.1f} ms, of {len(late)} rounds")
+    holds("good devices are polled each time", len(late) >= 3 * int((until - since) / EVERY - 1), len(late))
+    holds("and on time", max(late) < 0.5, max(late))
+    pauses = [b - a for a, b in zip(silent.times, silent.times[1:])]
+    holds("a silent device is tried again at each time", max(pauses[-3:]) < 2 * EVERY + 0.5, pauses)
+
+    # A table full of silent peers, and more of them: the oldest makes room.
+    crowd = [socket.create_connection(("127.0.0.1", PORT)) for _ in range(80)]
+    begun = time.time()
+    same("behind 80 silent peers", ask("/meters/none")[0], 404)
+    wait = time.time() - begun
+    print(f"a reply behind 80 silent peers: {wait * 1000:.0f} ms")
+    holds("a request waits a second or two", wait < 2.5, wait)
+    for stream in crowd:
+        stream.close()
+
+
 # An empty office.
 made = subprocess.run([PROGRAM, "create", "--db", f"{ROOM}/office.db", "--zone", "UTC0"], capture_output=True)
 same("an office is made", made.returncode, 0)
@@ -291,70 +349,29 @@ for name in ["lib", "py"]:
 holds("a device that is silent", run.wait_for(r"\d+ mute silent", 10), run.lines)
 holds("a device that garbles", run.wait_for(r"\d+ noise round answered 0 silent 0 failed 1", 10), run.lines)
 holds("a device that is not there", run.wait_for(r"\d+ dead unreachable", 10), run.lines)
-time.sleep(3 * EVERY)
+rounds = len(good["g0"].shown)
+holds("rounds go on", wait_until(lambda: len(good["g0"].shown) >= rounds + 3, 30), run.lines)
 same("it is said once that a device is not there", sum(line.endswith(" dead unreachable") for line in run.lines), 1)
 holds("no line a poll", not any(" poll " in line for line in run.lines), run.lines)
 
-# 100 connections by HTTP while all of these are polled: one is silent, and the others come in pieces.
-since = time.time()
-mute_peer = socket.create_connection(("127.0.0.1", PORT))
-took, threads = [], []
-
-
-def one_peer(k):
-    took.append(ask_in_pieces(["/status", "/meters/mg0", "/metrics", "/meters/none"][k % 4]))
-
-
-for k in range(99):
-    thread = threading.Thread(target=one_peer, args=(k,))
-    thread.start()
-    threads.append(thread)
-    time.sleep(0.05)
-for thread in threads:
-    thread.join()
-mute_peer.settimeout(30)
-holds("a silent peer is dropped", mute_peer.recv(1) == b"")
-silence = time.time() - since
-holds("at its limit", 9 <= silence <= 12.5, silence)
-until = time.time()
-answers = [line for _, line in took]
-same("each other is answered", (answers.count("HTTP/1.1 200 OK"), len(answers)), (75, 99))
-times = sorted(seconds for seconds, _ in took)
-print(f"replies: median {times[49] * 1000:.1f} ms, 99 % {times[97] * 1000:.1f} ms, most {times[98] * 1000:.1f} ms")
-holds("within a second", times[98] < 1, times[98])
-# (a round may begin a millisecond early, since a run's time is a whole number of them)
-late = [0 if it > EVERY - 0.005 else it for device in good.values() for it in lateness_of(device, since, until)]
-print(f"lateness: median {sorted(late)[len(late) // 2] * 1000:.1f} ms, most {max(late) * 1000:.1f} ms, of {len(late)} rounds")
-holds("good devices are polled each time", len(late) >= 3 * int((until - since) / EVERY - 1), len(late))
-holds("and on time", max(late) < 0.5, max(late))
-pauses = [b - a for a, b in zip(silent.times, silent.times[1:])]
-holds("a silent device is tried again at each time", max(pauses[-3:]) < 2 * EVERY + 0.5, pauses)
-
-# A table full of silent peers, and more of them: the oldest makes room.
-crowd = [socket.create_connection(("127.0.0.1", PORT)) for _ in range(80)]
-begun = time.time()
-same("behind 80 silent peers", ask("/meters/none")[0], 404)
-wait = time.time() - begun
-print(f"a reply behind 80 silent peers: {wait * 1000:.0f} ms")
-holds("a request waits a second or two", wait < 2.5, wait)
-for stream in crowd:
-    stream.close()
+if not IS_SHORT:
+    ask_beside_a_crowd()
 
 # A peer that closes its side once it has asked, one that goes, and one that sends no HTTP.
-with socket.create_connection(("127.0.0.1", PORT), timeout=10) as stream:
+with socket.create_connection(("127.0.0.1", PORT), timeout=10 * SLOW) as stream:
     stream.sendall(b"GET /status HTTP/1.0\r\n\r\n")
     stream.shutdown(socket.SHUT_WR)
     holds("a peer that closes its side", stream.recv(100).startswith(b"HTTP/1.1 200 OK\r\n"))
-with socket.create_connection(("127.0.0.1", PORT), timeout=10) as stream:
+with socket.create_connection(("127.0.0.1", PORT), timeout=10 * SLOW) as stream:
     stream.sendall(b"GET /st")
-with socket.create_connection(("127.0.0.1", PORT), timeout=10) as stream:
+with socket.create_connection(("127.0.0.1", PORT), timeout=10 * SLOW) as stream:
     stream.sendall(b"\x00\x01\x02\r\n\r\n")
     holds("bytes that are no HTTP", stream.recv(100).startswith(b"HTTP/1.1 400 "))
-with socket.create_connection(("127.0.0.1", PORT), timeout=10) as stream:
+with socket.create_connection(("127.0.0.1", PORT), timeout=10 * SLOW) as stream:
     stream.sendall(b"GET /status HTTP/1.1\r\n" + b"a: " + b"b" * 20000)
     line = stream.recv(100)
     holds("a head that is too long", line.startswith(b"HTTP/1.1 431 "), line)
-with socket.create_connection(("127.0.0.1", PORT), timeout=10) as stream:
+with socket.create_connection(("127.0.0.1", PORT), timeout=10 * SLOW) as stream:
     stream.sendall(b"GET /status HTTP/1.1\r\n")
     stream.settimeout(1)
     try:
@@ -362,21 +379,28 @@ with socket.create_connection(("127.0.0.1", PORT), timeout=10) as stream:
     except TimeoutError:
         line = None
     same("a head that is not whole has no reply yet", line, None)
-    stream.settimeout(10)
+    stream.settimeout(10 * SLOW)
     stream.sendall(b"Host: 127.0.0.1\r\n\r\n")
     holds("and one once it is", stream.recv(100).startswith(b"HTTP/1.1 200 OK\r\n"))
-with socket.create_connection(("127.0.0.1", PORT), timeout=10) as stream:
+with socket.create_connection(("127.0.0.1", PORT), timeout=10 * SLOW) as stream:
     stream.setsockopt(socket.SOL_SOCKET, socket.SO_LINGER, struct.pack("ii", 1, 0))
     stream.sendall(b"GET /status HTTP/1.1\r\n")
 
 # What it says of itself.
-status, text = ask("/status")
-told = json.loads(text)
+told = {}
+
+
+def are_counted():
+    """Whether the run counts so many polls of each kind."""
+    told.update(json.loads(ask("/status")[1]))
+    return told["polls"]["answered"] > 20 and told["polls"]["silent"] > 3 and told["polls"]["lost"] > 3
+
+
+holds("polls are counted", wait_until(are_counted, 60), told)
 by_name = {device["name"]: device for device in told["devices"]}
 same("each device has its status", sorted(by_name), sorted(ports))
 holds("a reading of a device that answers", abs(by_name["g0"]["last_reading"] - time.time()) < 3 * EVERY, by_name)
 same("no reading of one that is not there", by_name["dead"]["last_reading"], None)
-holds("polls are counted", told["polls"]["answered"] > 20 and told["polls"]["silent"] > 3 and told["polls"]["lost"] > 3, told)
 text = ask("/metrics")[1]
 values = metrics_in(text)
 if "prometheus" in PEERS:
@@ -479,12 +503,14 @@ good["g2"].raw = 4000
 holds("a reading that is held", run.wait_for(r"\d+ g2 held mg2 4\d\d\d cause \d", 10), run.lines)
 
 # It is killed while it polls. The next start tells what was lost, and the books hold what the devices showed.
-time.sleep(EVERY - time.time() % EVERY + 0.2)
+asked = silent.asked
+holds("a poll waits for its answer", wait_until(lambda: silent.asked > asked, 30, 0.001), asked)
 run.child.send_signal(signal.SIGKILL)
 run.child.wait()
 killed = time.time()
 answered = hold_books("when it was killed", {name: good[name].shown for name in ["g0", "g1"]} | {"lib": [5007] * 1000, "py": [6000] * 1000})
 holds("no answered poll that it told of is lost", answered >= told["polls"]["answered"], (answered, told))
+begun = time.time()
 run = Run(*words, "--for", "7", "--verbose")
 line = run.wait_for(r"books to \d+ lost [1-9]")
 holds("polls were lost by that", line, run.lines)
@@ -501,7 +527,7 @@ for name in ["g0", "g1"]:
     holds(f"{name}: the energy is what it showed", energy in [shown - 5000 for shown in device.shown[-2:]], (energy, device.shown[-3:]))
 same("the energy that servers of others showed", (energy_of("mlib"), energy_of("mpy")), (7, 1000))
 same("it ends when its time is up", run.child.wait(20), 0)
-holds("soon", time.time() - killed < 12, time.time() - killed)
+holds("soon", 6 < time.time() - begun < 12 * SLOW, time.time() - begun)
 hold_books("at its end", {name: good[name].shown for name in ["g0", "g1"]} | {"lib": [5007] * 1000, "py": [6000] * 1000})
 file = books()
 booked = {(meter, str(raw)) for meter, raw in file.execute("SELECT meter, raw FROM entries")}

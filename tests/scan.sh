@@ -3,8 +3,9 @@
 # [PROGRAM]`, out/sunreg by default, which `./sunreg-build` makes. It ends on 'N passed, M failed'.
 set -u
 here=$(dirname "$(readlink -f "$0")")
-program=${1:-$here/../out/sunreg}
+program=${1:-${SUNREG:-$here/../out/sunreg}}
 [ -x "$program" ] || { echo "scan.sh: $program is not built: run ./sunreg-build" >&2; exit 2; }
+. "$here/waiting.sh"
 room=$(mktemp -d) || exit 2
 trap 'rm -rf "$room"' EXIT
 passed=0
@@ -56,12 +57,9 @@ scan() {
     port=$((port + 1))
     printf '%s\n' "$lines" | "$program" stand-in --port "$port" --connections 1 > "$room/peer" 2>&1 &
     peer=$!
-    for _try in 1 2 3 4 5 6 7 8 9 10; do
-        "$program" scan --port "$port" "$@" > "$room/out" 2> "$room/err"
-        status=$?
-        grep -q "isn't answered" "$room/err" || break
-        sleep 0.3
-    done
+    wait_for 30 listens "$port"
+    "$program" scan --port "$port" "$@" > "$room/out" 2> "$room/err"
+    status=$?
     out=$(cat "$room/out")
     kill "$peer" 2> /dev/null
     wait "$peer" 2> /dev/null

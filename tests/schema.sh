@@ -5,7 +5,7 @@ set -eu
 here=$(cd "$(dirname "$0")/.." && pwd)
 file=$1
 zone=${2:-UTC0}
-command -v sqlite3 > /dev/null || { echo "sqlite3 is not installed (apt-get install sqlite3)" >&2; exit 1; }
+command -v sqlite3 > /dev/null || { echo "sqlite3 is not installed: run tests/install-tools.sh" >&2; exit 1; }
 if [ -e "$file" ]; then
     echo "$file is there already" >&2
     exit 1

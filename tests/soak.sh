@@ -4,6 +4,6 @@
 # 'N passed, M failed'. It prints the seed of its choices. SOAK_SEED, SOAK_POLLS (10000) and SOAK_SECONDS (1800) set it, and the bounds.
 set -eu
 here=$(dirname "$(readlink -f "$0")")
-program=${1:-$here/../out/sunreg}
+program=${1:-${SUNREG:-$here/../out/sunreg}}
 [ -x "$program" ] || { echo "soak.sh: $program is not built: run ./sunreg-build" >&2; exit 2; }
 exec python3 "$here/soak.py" "$(readlink -f "$program")"

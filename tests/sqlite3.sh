@@ -4,12 +4,13 @@
 # of the gate. It ends on 'N passed, M failed'.
 set -uo pipefail
 here=$(dirname "$(readlink -f "$0")")
-program=${1:-$here/../out/sunreg}
+program=${1:-${SUNREG:-$here/../out/sunreg}}
 [ -x "$program" ] || { echo "sqlite3.sh: $program is not built: run ./sunreg-build" >&2; exit 2; }
 program=$(readlink -f "$program")
 for tool in curl sqlite3; do
-    command -v $tool > /dev/null || { echo "sqlite3.sh: $tool is not installed (apt-get install $tool)" >&2; exit 2; }
+    command -v $tool > /dev/null || { echo "sqlite3.sh: $tool is not installed: run tests/install-tools.sh" >&2; exit 2; }
 done
+. "$here/waiting.sh"
 room=$(mktemp -d) || exit 2
 children=''
 trap 'for it in $children; do kill -9 "$it" 2> /dev/null; done; rm -rf "$room"' EXIT
@@ -56,7 +57,9 @@ round() {
     "$program" stand-in --port "$device" --connections 1 < bank > stand_in 2>&1 &
     child=$!
     children="$children $child"
+    # (a reading lies seconds behind the one before)
     sleep "${SQLITE3_PAUSE:-2}"
+    wait_for 30 listens "$device"
     "$program" round --db "$1" --device inv --port "$device" < /dev/null
     wait "$child"
 }

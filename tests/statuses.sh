@@ -3,7 +3,7 @@
 # makes. It compares status, standard output and standard error, and ends on 'N passed, M failed'.
 set -u
 here=$(dirname "$(readlink -f "$0")")
-program=${1:-$here/../out/sunreg}
+program=${1:-${SUNREG:-$here/../out/sunreg}}
 [ -x "$program" ] || { echo "statuses.sh: $program is not built: run ./sunreg-build" >&2; exit 2; }
 room=$(mktemp -d) || exit 2
 trap 'rm -rf "$room"' EXIT
@@ -59,8 +59,11 @@ done
 
 run '' --versions
 is 'no such option' 2 '' "error: unexpected argument '--versions' found"
+# (the version and the logic of the kit stand in the sources)
+version=$(sed -n 's/^ *version: "\(.*\)",$/\1/p' "$here/../crates/command_words/src/table.rt")
+logic=$(sed -n 's/^const LOGIC: &str = "\(.*\)";$/\1/p' "$here/../crates/sunreg/src/version.rt")
 run '' --version
-is 'version' 0 "$(head -n 1 "$room/out"; sed -n 2p "$room/out")" ''
+is 'version' 0 "$(printf 'sunreg %s\nproved by the Rattle kit, logic %s' "${version:-none}" "${logic:-none}")" ''
 run '' explain held 1
 is 'explain' 0 "$(printf '%s\n' 'held 1: the device shows 0: not accumulated' \
     "Usual cause: a device that doesn't count this energy, or that has just started." \
@@ -139,6 +142,9 @@ if [ -w /dev/full ]; then
     "$program" help > /dev/full 2> "$room/err"
     status=$?
     is 'help that can not be written' 3 '' 'failed'
+else
+    failed=$((failed + 1))
+    echo 'no /dev/full here: writes that fail are not tried'
 fi
 
 echo "$passed passed, $failed failed"

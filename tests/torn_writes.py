@@ -1,11 +1,15 @@
 #!/usr/bin/env python3
-"""torn_writes.py PROGRAM: tears the write-ahead logs of offices that were killed, and opens each torn copy.
+"""torn_writes.py PROGRAM: damages the write-ahead logs of offices that were killed, and opens each damaged copy.
 
-An office polls a device by rounds, and is killed in the midst of one. Its file and its log are copied, the log is cut (at a frame's begin,
-within its header, within its page, anywhere) or one bit of it is flipped, and `sunreg report` and SQLite open the copy. What is wanted comes
-from a reading of the log by its format: the commits before the first frame that is torn. A copy opens and is whole; its entries and polls
-are the first ones of the untorn copy; each meter's energy is exactly its last reading less its first; a poll has one outcome at most; and
-where the tear stands behind the last commit nothing is missing, least of all a reading that the office printed.
+An office polls a device in rounds and is killed during one. Its file and its log are copied. Then the log is cut (at a frame's
+begin, within its header, within its page, anywhere), or one bit of it is flipped. The first office's log is also changed in each byte
+of its header, in 300 random bytes of its frames, and cut at each frame.
+
+What is expected comes from `wal_model.py`, which reads the log by its format. A log that a crash can leave opens: the copy is
+complete; its entries and polls are the first ones of the untorn copy; each meter's energy is exactly its last reading less its
+first; a poll has at most one outcome; and where the damage lies behind the last commit, nothing is missing. A log that has lost a
+commit is refused by `report`, `audit` and `backup` with status 3, and no byte of either file changes. `recover` then makes an
+office of the commits before the damage, and `audit` finds it fine.
 """
 import collections
 import os
@@ -18,41 +22,15 @@ import tempfile
 import time
 
 import soak
+import wal_model
+from wal_model import frames_of
 
 COPIES = int(os.environ.get("TORN_COPIES", "300"))
 SEED = int(os.environ.get("TORN_SEED", time.time_ns() % 1_000_000_007))
-HEADER, FRAME = 32, 24  # bytes of the log's header, and of a frame's
+HEADER, FRAME = wal_model.HEADER, wal_model.FRAME
 OFFICES = 3
-LEAST, ROUNDS = 24, 100  # so many commits stand in a log that is torn, after at most so many rounds
-Frames = collections.namedtuple("Frames", "size commits end")
-
-
-def summed(data, order, first, second):
-    """The checksum of a log over more bytes."""
-    words = [int.from_bytes(data[at : at + 4], order) for at in range(0, len(data), 4)]
-    for at in range(0, len(words), 2):
-        first = (first + words[at] + second) & 0xFFFFFFFF
-        second = (second + words[at + 1] + first) & 0xFFFFFFFF
-    return first, second
-
-
-def number(data, at):
-    return int.from_bytes(data[at : at + 4], "big")
-
-
-def frames_of(log):
-    """The size of a log's frames, where its commits end, and where its last sound frame ends."""
-    size = FRAME + number(log, 8)
-    order = "big" if number(log, 0) & 1 else "little"
-    sums, commits, end = summed(log[:24], order, 0, 0), [], HEADER
-    while end + size <= len(log) and log[end + 8 : end + 16] == log[16:24]:
-        sums = summed(log[end : end + 8] + log[end + FRAME : end + size], order, *sums)
-        if sums != (number(log, end + 16), number(log, end + 20)):
-            break
-        end += size
-        if number(log, end - size + 4):
-            commits.append(end)
-    return Frames(size, commits, end)
+LEAST, ROUNDS = 24, 100  # so many commits a log has that is damaged, after at most so many rounds
+FLIPS = int(os.environ.get("TORN_FLIPS", "300"))
 
 
 def rows_of(file):
@@ -134,12 +112,52 @@ class Torn:
         ran = subprocess.run(words, stdin=subprocess.DEVNULL, capture_output=True, timeout=60)
         return rows, ran, rows_of(f"{self.copy}/program/office.db")
 
+    def run_over(self, *words):
+        """Runs the program over the copy, whose files it must leave as they are; None where it changed one."""
+        folder = f"{self.copy}/program"
+        before = {name: open(f"{folder}/{name}", "rb").read() for name in os.listdir(folder)}
+        ran = subprocess.run([self.program, *words], stdin=subprocess.DEVNULL, capture_output=True, timeout=60)
+        after = {name: open(f"{folder}/{name}", "rb").read() for name in os.listdir(folder)}
+        return ran if before == after else None
+
+    def refused(self, what, file, log, verdict):
+        """Opens a copy whose log has lost a commit: each command refuses it, and `recover` makes an office of the rest."""
+        self.write("program", file, log)
+        office, new = f"{self.copy}/program/office.db", f"{self.copy}/new.db"
+        for ending in ("", "-wal"):
+            if os.path.exists(new + ending):
+                os.remove(new + ending)
+        for words in (["report", "--db", office, "--register", "r3"], ["audit", "--db", office], ["backup", "--db", office, "--to", new]):
+            ran = self.run_over(*words)
+            told = ran is not None and ran.stderr.decode()
+            place = f"at byte {verdict.end}" if verdict.is_commit else "has a damaged header"
+            soak.holds(f"{what}: {words[0]} refuses it and changes nothing", ran is not None and ran.returncode == 3 and place in told, f"{told!r:.300}")
+        soak.holds(f"{what}: a refused backup leaves no file", not os.path.exists(new))
+        ran = self.run_over("recover", "--db", office, "--to", new)
+        soak.holds(f"{what}: recover changes nothing", ran is not None)
+        if ran is None or ran.returncode != 0:
+            return ran
+        soak.holds(f"{what}: what was recovered is fine", b"fine: " in ran.stdout and self.run_over("audit", "--db", new).returncode == 0)
+        return ran
+
+    def judge_refused(self, file, log, kind, at, commits, verdict):
+        what = f"{kind} {at}, {len(log)} bytes"
+        self.kinds[f"{kind}, refused"] += 1
+        ran = self.refused(what, file, log, verdict)
+        whole = self.cut_behind(file, verdict.log, verdict.end)
+        if not whole.get("meters"):
+            soak.holds(f"{what}: no office is recovered of no commits", ran is not None and ran.returncode == 3)
+            return
+        soak.holds(f"{what}: recover ends well", ran is not None and ran.returncode == 0, f"{ran and ran.stderr.decode()!r:.200}")
+        rows = rows_of(f"{self.copy}/new.db")
+        soak.holds(f"{what}: what was recovered is what the commits before the damage hold", rows == whole)
+
     def cut_behind(self, file, log, end):
         """What SQLite reads of a file whose log ends with a commit."""
-        if end not in self.cuts:
+        if (end, log[:HEADER]) not in self.cuts:
             self.write("cut", file, log[:end])
-            self.cuts[end] = rows_of(f"{self.copy}/cut/office.db")
-        return self.cuts[end]
+            self.cuts[end, log[:HEADER]] = rows_of(f"{self.copy}/cut/office.db")
+        return self.cuts[end, log[:HEADER]]
 
     def tear(self, log, frames):
         """A way of tearing, the first byte that it takes or turns, and the log torn so."""
@@ -162,7 +180,11 @@ class Torn:
         return kind, at, bytes(flipped)
 
     def judge(self, file, log, kind, at, whole, all_commits, told):
-        """Opens a torn copy, and holds it to the whole one."""
+        """Opens a damaged copy, and holds it to the whole one."""
+        verdict = wal_model.verdict(file, log)
+        if not verdict.is_sound:
+            self.judge_refused(file, log, kind, at, all_commits, verdict)
+            return
         commits = [end for end in all_commits if end <= at]
         rows, ran, after = self.opened(file, log)
         what = f"{kind}, {len(log)} bytes, {len(commits)} of {len(all_commits)} commits"
@@ -200,6 +222,20 @@ class Torn:
         else:
             self.lost += 1
 
+    def try_each(self, file, log, frames, whole, told):
+        """Changes each byte of the header, and many of the frames, and cuts the log at each frame."""
+        for at in range(HEADER):
+            changed = bytearray(log)
+            changed[at] ^= self.chance.randrange(1, 256)
+            self.judge(file, bytes(changed), "header byte", at, whole, frames.commits, told)
+        for _ in range(FLIPS):
+            at = self.chance.randrange(HEADER, frames.end)
+            changed = bytearray(log)
+            changed[at] ^= self.chance.randrange(1, 256)
+            self.judge(file, bytes(changed), "frame byte", at, whole, frames.commits, told)
+        for at in range(HEADER, frames.end + 1, frames.size):
+            self.judge(file, log[:at], "each cut", at, whole, frames.commits, told)
+
     def run(self, room):
         for turn in range(OFFICES):
             file, log, told = self.office(f"{room}/office{turn}")
@@ -210,6 +246,8 @@ class Torn:
             for _ in range(COPIES // OFFICES):
                 kind, at, torn = self.tear(log, frames)
                 self.judge(file, torn, kind, at, whole, frames.commits, told)
+            if turn == 0:
+                self.try_each(file, log, frames, whole, told)
         print(f"torn: {' '.join(f'{kind}:{count}' for kind, count in sorted(self.kinds.items()))}; {self.lost} lack commits")
         soak.holds("some copies lack commits, and some lack none", 0 < self.lost < sum(self.kinds.values()))
 

@@ -1,13 +1,13 @@
 #!/usr/bin/env python3
-"""words.py [PROGRAM], words.py --manual [PROGRAM]: what the program tells of itself.
+"""words.py [PROGRAM], words.py --man [PROGRAM], words.py --manual [PROGRAM]: what the program tells of itself.
 
 It holds to each other, by the built program:
 - the tables of numbers in docs/SCRIPT.md, what `explain` says, and the statuses of faults in docs/HTTP.md; each number that they have is explained, and no other
-- the help texts, docs/sunreg.1 (and `man --warnings`, where man is there) and the words that bash completes, in bash
+- the help texts, docs/sunreg.1 and the words that bash completes, in bash
 - each command's example, as it stands: its words are taken
 - the version, and the logic of the kit, where that is there
 - what is said to a person at a terminal who gives no word, and to no one else
-It ends on 'N passed, M failed'. With --manual it prints docs/sunreg.1 anew.
+It ends on 'N passed, M failed'. With --man it holds docs/sunreg.1 to what man shows of it; with --manual it prints that page anew.
 """
 import os
 import pathlib
@@ -101,11 +101,16 @@ def check_run(program):
 def check_manual(program):
     page = HERE.parent / "docs/sunreg.1"
     holds("docs/sunreg.1 (tests/words.sh --manual makes it anew)", page.read_text(), manual.page(program))
-    if shutil.which("man") and shutil.which("groff"):
-        it = subprocess.run(["man", "--warnings", "-E", "UTF-8", "-l", "-Tutf8", "-Z", page], capture_output=True, text=True, env=os.environ | {"MANROFFSEQ": "", "LC_ALL": "C.UTF-8"})
-        holds("man --warnings", (it.returncode, it.stderr), (0, ""))
-        it = subprocess.run(["man", "-l", page], capture_output=True, text=True, env=os.environ | {"MANWIDTH": "100", "LC_ALL": "C.UTF-8"})
-        holds("man shows each command", [name for name, _ in manual.commands(program) if f"\n   {name}\n" not in it.stdout], [])
+
+
+def check_man(program):
+    """Opens the manual page in man, which reports no warning and shows each command."""
+    page = HERE.parent / "docs/sunreg.1"
+    it = subprocess.run(["man", "--warnings", "-E", "UTF-8", "-l", "-Tutf8", "-Z", page], capture_output=True, text=True, env=os.environ | {"MANROFFSEQ": "", "LC_ALL": "C.UTF-8"})
+    holds("man --warnings", (it.returncode, it.stderr), (0, ""))
+    it = subprocess.run(["man", "-l", page], capture_output=True, text=True, env=os.environ | {"MANWIDTH": "100", "LC_ALL": "C.UTF-8"})
+    for name, _ in manual.commands(program):
+        holds(f"man shows {name}", f"\n   {name}\n" in it.stdout, True)
 
 
 COMPLETED = r"""
@@ -129,7 +134,7 @@ def check_completions(program, room):
     names = [name for name, _ in manual.commands(program)]
     holds("bash takes the completions", subprocess.run(["bash", "-uec", f"source {script}; complete -p sunreg"], capture_output=True, text=True).stdout, "complete -F _sunreg sunreg\n")
     holds("commands", completed(script, ""), sorted([*names, "help", "--help", "--version"]))
-    holds("a command's beginning", completed(script, "re"), ["replay", "report"])
+    holds("a command's beginning", completed(script, "re"), ["recover", "replay", "report"])
     holds("commands behind help", completed(script, "help", ""), sorted([*names, "help"]))
     for name in names:
         text = manual.parts(manual.said(program, "help", name))
@@ -182,13 +187,17 @@ def check_terminal(program):
 
 
 def main(words):
-    program = next((it for it in words if not it.startswith("-")), str(HERE.parent / "out/sunreg"))
+    program = next((it for it in words if not it.startswith("-")), os.environ.get("SUNREG", str(HERE.parent / "out/sunreg")))
     if not os.access(program, os.X_OK):
         sys.exit(f"words.py: {program} is not built: run ./sunreg-build")
     program = str(pathlib.Path(program).resolve())
     if "--manual" in words:
         sys.stdout.write(manual.page(program))
         return 0
+    if "--man" in words:
+        check_man(program)
+        print(f"{COUNTS['passed']} passed, {COUNTS['failed']} failed")
+        return COUNTS["failed"] > 0
     with tempfile.TemporaryDirectory() as room:
         check_numbers(program)
         check_wrong(program)

@@ -10,7 +10,7 @@ use Rattle.energy_report.specs.declared.form.Period.TheVariants.{Month, Year}
 use Rattle.command_words.specs.Values.Devices.{Place, devices_in, place_of}
 use Rattle.command_words.specs.Values.Given.{given}
 use Rattle.command_words.specs.ClapTable.Table.{texts}
-use Rattle.command_words.specs.Options.{if_some, is_set, number_at, number_if, number_or, or_else, several_at, text_at, text_or, texts_at}
+use Rattle.command_words.specs.Options.{host_names_of, if_some, is_set, number_at, number_if, number_or, or_else, several_at, text_at, text_or, texts_at}
 use Rattle.command_words.specs.declared.line.CommandLine.{CommandLine}
 use Rattle.command_words.specs.declared.line.CommandLine.TheVariants as line
 use Rattle.command_words.specs.declared.line.FormWords.{FormWords}
@@ -35,6 +35,7 @@ pub data Seal : Type 0 where
 -- a command with the values of its options
 pub data Line : Type 0 where
   Replay : (zone : Text) → Line
+  ReplayFile : (db : Text) → Line
   Plan : Line
   Chain : Line
   Create : (db zone : Text) → Line
@@ -44,6 +45,7 @@ pub data Line : Type 0 where
   Report : (db register : Text) (form : Form) → Line
   ReportFiles : (files : List Text) (register : Text) (form : Form) → Line
   Backup : (db to : Text) → Line
+  Recover : (db to : Text) → Line
   Carry : (from to : Text) (until : Option ℕ) → Line
   Audit : (dbs : List Text) (seal : Seal) → Line
   Scan : (host : Text) (port unit timeout : ℕ) (list : Bool) (setup : Option Text) → Line
@@ -72,6 +74,7 @@ seen_sealing (sealing.Against file) = Against file.now
 
 abbrev pub seen : CommandLine → Line
 seen (line.Replay zone) = Replay zone.now
+seen (line.ReplayFile db) = ReplayFile db.now
 seen line.Plan = Plan
 seen line.Chain = Chain
 seen (line.Create db zone) = Create db.now zone.now
@@ -84,6 +87,7 @@ seen (line.Report db register form) = Report db.now register.now (seen_form form
 seen (line.ReportFiles files register form) =
     ReportFiles (texts files.items) register.now (seen_form form)
 seen (line.Backup db to) = Backup db.now to.now
+seen (line.Recover db to) = Recover db.now to.now
 seen (line.Carry from to until) = Carry from.now to.now until
 seen (line.Audit dbs seal) = Audit (texts dbs.items) (seen_sealing seal)
 seen (line.Scan host port unit timeout list setup) =
@@ -114,10 +118,19 @@ abbrev pub connections_in : List Row → Option ℕ
 connections_in rows = number_at 1000000 (codes "connections") rows
 
 -- by which names HTTP may be asked
-abbrev pub hosts_in : List Row → List Text
-hosts_in rows = texts_at (codes "host-name") rows
+abbrev pub hosts_in : List Row → Option (List Text)
+hosts_in rows = host_names_of (texts_at (codes "host-name") rows)
 
 -- ---- the commands
+
+-- the file of an office has its own zone
+abbrev pub replay_of : (has_zone : Bool) → (zone : Text) → (db : Option Text) → Option Line
+replay_of has_zone zone None = Some (Replay zone)
+replay_of has_zone zone (Some db) = if has_zone then None else Some (ReplayFile db)
+
+abbrev pub replay_in : List Row → Option Line
+replay_in rows =
+    replay_of (is_some (text_at (codes "zone") rows)) (zone_in rows) (db_in rows)
 
 abbrev pub create_in : List Row → Option Line
 create_in rows =
@@ -129,7 +142,7 @@ serve_in rows =
     given (db_in rows) (λ db.
     given (port_in rows) (λ port.
     given (connections_in rows) (λ connections.
-    Some (Serve db port connections (hosts_in rows)))))
+    given (hosts_in rows) (λ hosts. Some (Serve db port connections hosts)))))
 
 abbrev pub round_in : List Row → Option Line
 round_in rows =
@@ -174,6 +187,11 @@ abbrev pub backup_in : List Row → Option Line
 backup_in rows =
     given (db_in rows) (λ db.
     given (text_at (codes "to") rows) (λ to. Some (Backup db to)))
+
+abbrev pub recover_in : List Row → Option Line
+recover_in rows =
+    given (db_in rows) (λ db.
+    given (text_at (codes "to") rows) (λ to. Some (Recover db to)))
 
 abbrev pub carry_in : List Row → Option Line
 carry_in rows =
@@ -259,9 +277,10 @@ run_in rows =
     given (devices_at rows) (λ devices.
     given (if_some carried_by (text_at (codes "carry") rows)) (λ carry.
     given (earlier_in (nat_lt 1 (length dbs)) carry rows) (λ earlier.
+    given (hosts_in rows) (λ hosts.
     given (number_if 1000000 (codes "most-kept") rows) (λ most_kept.
-    Some (Run dbs listen every devices lasts carry earlier (hosts_in rows) most_kept
-    (is_set (codes "verbose") rows))))))))))
+    Some (Run dbs listen every devices lasts carry earlier hosts most_kept
+    (is_set (codes "verbose") rows)))))))))))
 
 abbrev pub explain_in : List Row → Option Line
 explain_in rows =
@@ -277,7 +296,7 @@ completions_in rows =
 -- the command of a name, with what was found of its options
 unfoldable pub command_in : Text → List Row → Option Line
 command_in name rows =
-    if bytes_eq name (codes "replay") then Some (Replay (zone_in rows))
+    if bytes_eq name (codes "replay") then replay_in rows
     else (if bytes_eq name (codes "plan") then Some Plan
     else (if bytes_eq name (codes "chain") then Some Chain
     else (if bytes_eq name (codes "create") then create_in rows
@@ -290,11 +309,12 @@ command_in name rows =
     else (if bytes_eq name (codes "scan") then scan_in rows
     else (if bytes_eq name (codes "enter") then enter_in rows
     else (if bytes_eq name (codes "backup") then backup_in rows
+    else (if bytes_eq name (codes "recover") then recover_in rows
     else (if bytes_eq name (codes "carry") then carry_in rows
     else (if bytes_eq name (codes "audit") then audit_in rows
     else (if bytes_eq name (codes "explain") then explain_in rows
     else (if bytes_eq name (codes "completions") then completions_in rows
-    else None))))))))))))))))
+    else None)))))))))))))))))
 
 -- no command is `replay` without options
 abbrev pub line_in : Option (Text × List Row) → Option Line

@@ -1,6 +1,8 @@
 -- The values that `clap` found of a command's options, and what reading them answers.
-use Rattle.std.specs.Prelude.{◌≡◌, ℕ, Bool, List, [], ◌∷◌, Option, Some, None, false, Result, MatchResult, ⊤, codes, unwrap_or, option_map}
+use Rattle.std.specs.Prelude.{◌≡◌, ℕ, ◌==◌, Bool, ◌||◌, if◌then◌else◌, List, [], ◌∷◌, Option, Some, None, false, Result, MatchResult, ⊤, codes, unwrap_or, option_map}
 use Rattle.std.specs.Str.{bytes_eq}
+use Rattle.std.specs.Char.{is_ascii_alphanumeric}
+use Rattle.std.specs.List.{list_all, list_any}
 use Rattle.std.specs.Option.{option_map_or}
 use Rattle.clap.specs.Words.{Row, Text, all_of, first_of, found_of, rows_of}
 use Rattle.clap.specs.declared.parser.matches.ArgMatches.{ArgMatches}
@@ -54,6 +56,22 @@ text_or otherwise id rows = unwrap_or (text_at id rows) otherwise
 abbrev pub is_set : Text → List Row → Bool
 is_set id rows = option_map_or (λ text. bytes_eq text (codes "true")) (text_at id rows) false
 
+-- ---- names of hosts
+
+-- a letter, a digit, or one of the bytes between the parts of a name or an address
+abbrev pub is_host_byte : ℕ → Bool
+is_host_byte byte =
+    is_ascii_alphanumeric byte || list_any (λ other. other == byte) (codes ".-_:[]")
+
+-- not empty, and of such bytes alone (RFC 3986, section 3.2.2, without what no name of a machine has)
+abbrev pub is_host_name : Text → Bool
+is_host_name [] = false
+is_host_name (byte ∷ bytes) = list_all is_host_byte (byte ∷ bytes)
+
+-- the texts, where each is a name of a host
+abbrev pub host_names_of : List Text → Option (List Text)
+host_names_of names = if list_all is_host_name names then Some names else None
+
 -- a fault is told only where there is no such value, but for want of memory
 abbrev pub IsDue : {A : Type 0} → ValueFault → Option A → Type 0
 IsDue fault.Memory due = ⊤
@@ -66,6 +84,7 @@ IsDue (fault.Shell word) due = None ≡ due
 IsDue (fault.Alone option other) due = None ≡ due
 IsDue (fault.Without option other) due = None ≡ due
 IsDue (fault.Device part fault) due = None ≡ due
+IsDue (fault.HostName word) due = None ≡ due
 
 -- what reading answers of the value that is due, which `seen` compares
 abbrev pub Reads : {T A : Type 0} → (T → A) → Option A → Result T ValueFault → Type 0

@@ -9,7 +9,8 @@ letter_n = 110
 
 abbrev pub commands : List App
 commands =
-    command_with (codes "replay") (optional_option (codes "zone") ∷ [])
+    command_with (codes "replay")
+    (optional_option (codes "db") ∷ optional_option (codes "zone") ∷ [])
     ∷ command_with (codes "plan") []
     ∷ command_with (codes "chain") []
     ∷ command_with (codes "scan")
@@ -38,6 +39,8 @@ commands =
 abbrev pub later_commands : List App
 later_commands =
     command_with (codes "backup")
+    (required_option (codes "db") ∷ required_option (codes "to") ∷ [])
+    ∷ command_with (codes "recover")
     (required_option (codes "db") ∷ required_option (codes "to") ∷ [])
     ∷ command_with (codes "carry")
     (required_option (codes "from") ∷ required_option (codes "to")

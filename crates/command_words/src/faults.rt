@@ -52,6 +52,10 @@ pub enum ValueFault<'a> {
         part: &'a str,
         fault: DeviceFault,
     },
+    /// The word is no name of a host.
+    HostName {
+        word: &'a str,
+    },
     Memory,
 }
 
@@ -125,6 +129,10 @@ impl<'a> Display for ValueFault<'a> {
                     "error: invalid value '{part}' for '--devices <LIST>': {fault}"
                 )?
             }
+            ValueFault::HostName { word } => write!(
+                f,
+                "error: invalid value '{word}' for '--host-name <NAME>': not the name of a host"
+            )?,
             ValueFault::Memory => write!(f, "error: no memory is left")?,
         }
         write!(f, "\n\nFor more information, try '--help'.\n")

@@ -34,6 +34,10 @@ pub enum CommandLine<'a> {
     Replay {
         zone: &'a str,
     },
+    /// A script from standard input, over the books in an office's file.
+    ReplayFile {
+        db: &'a str,
+    },
     /// The reads of a point list from standard input.
     Plan,
     /// The SunSpec models of an image from standard input.
@@ -79,6 +83,11 @@ pub enum CommandLine<'a> {
     },
     /// A whole copy of an office's file.
     Backup {
+        db: &'a str,
+        to: &'a str,
+    },
+    /// A new file with what can be read of an office whose log is damaged.
+    Recover {
         db: &'a str,
         to: &'a str,
     },

@@ -5,7 +5,7 @@ ghost use Rattle.command_words.specs.ClapTable.Table.{texts};
 ghost use Rattle.command_words.specs.Values.Devices.{devices_in, places_of};
 ghost use Rattle.command_words.specs.Lines.{asks_seal, audit_in, backup_in, carry_in, command_in, completions_in, create_in};
 ghost use Rattle.command_words.specs.Lines.{devices_at, devices_if, earlier_in};
-ghost use Rattle.command_words.specs.Lines.{enter_in, explain_in, form_in, line_in, one_sealed, report_in, round_in, run_in, scan_in, seen};
+ghost use Rattle.command_words.specs.Lines.{enter_in, explain_in, form_in, line_in, one_sealed, recover_in, replay_in, report_in, round_in, run_in, scan_in, seen};
 ghost use Rattle.command_words.specs.Lines.{sealing_in, seen_form, seen_sealing, serve_in, stand_in_in};
 ghost use Rattle.command_words.specs.Options.{Reads, rows_in};
 
@@ -13,16 +13,34 @@ use crate::choices::{carry_if, format_if, period_if, unit_if};
 use crate::faults::ValueFault;
 use crate::line::{CommandLine, FormWords, Sealing};
 use crate::options::{
-    is_set, number, number_if, number_or, several, text, text_if, text_or, texts,
+    host_names, is_set, number, number_if, number_or, several, text, text_if, text_or, texts,
 };
 use crate::table::{
-    CONNECTIONS, EARLIER, EVERY, FIRST_UNIT, HOST, HOST_NAME, LASTS, LISTEN, MOST_KEPT, PATIENCE,
-    PORT, TIMEOUT, UNIT, UNTIL, ZONE,
+    CONNECTIONS, EARLIER, EVERY, FIRST_UNIT, HOST, LASTS, LISTEN, MOST_KEPT, PATIENCE, PORT,
+    TIMEOUT, UNIT, UNTIL, ZONE,
 };
 use crate::values::{Device, ListFault, devices_in};
 use clap::ArgMatches;
 use energy_report::Period;
 use std::alloc::Global;
+
+fn replay_line<'a>(found: &ArgMatches<'a>) -> Result<CommandLine<'a>, ValueFault<'a>>
+    ensures { Reads seen (replay_in (rows_in found.now)) result }
+{
+    let zone = text_if(found, "zone");
+    let Some(db) = text_if(found, "db") else {
+        return Ok(CommandLine::Replay {
+            zone: text_or(found, "zone", ZONE),
+        });
+    };
+    if zone.is_some() {
+        return Err(ValueFault::Both {
+            one: "zone",
+            other: "db",
+        });
+    }
+    Ok(CommandLine::ReplayFile { db })
+}
 
 fn create_line<'a>(found: &ArgMatches<'a>) -> Result<CommandLine<'a>, ValueFault<'a>>
     ensures { Reads seen (create_in (rows_in found.now)) result }
@@ -38,7 +56,7 @@ fn serve_line<'a>(alloc: Global, found: &ArgMatches<'a>) -> Result<CommandLine<'
     let db = text(found, "db")?;
     let port = number(found, PORT)?;
     let connections = number(found, CONNECTIONS)?;
-    let host_names = texts(alloc, found, HOST_NAME)?;
+    let host_names = host_names(alloc, found)?;
     Ok(CommandLine::Serve {
         db,
         port: port as u16,
@@ -107,6 +125,14 @@ fn backup_line<'a>(found: &ArgMatches<'a>) -> Result<CommandLine<'a>, ValueFault
     let db = text(found, "db")?;
     let to = text(found, "to")?;
     Ok(CommandLine::Backup { db, to })
+}
+
+fn recover_line<'a>(found: &ArgMatches<'a>) -> Result<CommandLine<'a>, ValueFault<'a>>
+    ensures { Reads seen (recover_in (rows_in found.now)) result }
+{
+    let db = text(found, "db")?;
+    let to = text(found, "to")?;
+    Ok(CommandLine::Recover { db, to })
 }
 
 fn carry_line<'a>(found: &ArgMatches<'a>) -> Result<CommandLine<'a>, ValueFault<'a>>
@@ -295,7 +321,7 @@ fn run_line<'a>(alloc: Global, found: &ArgMatches<'a>) -> Result<CommandLine<'a>
     let devices = devices(alloc, found)?;
     let carry = carry_if(found)?;
     let earlier = earlier_if(found, dbs.len() > 1, carry)?;
-    let host_names = texts(alloc, found, HOST_NAME)?;
+    let host_names = host_names(alloc, found)?;
     let most_kept = number_if(found, MOST_KEPT)?;
     Ok(CommandLine::Run {
         dbs,
@@ -339,9 +365,7 @@ fn command_line<'a>(
     ensures { Reads seen (command_in name.entry.now (rows_in found.now)) result }
 {
     match name {
-        "replay" => Ok(CommandLine::Replay {
-            zone: text_or(found, "zone", ZONE),
-        }),
+        "replay" => replay_line(found),
         "plan" => Ok(CommandLine::Plan),
         "chain" => Ok(CommandLine::Chain),
         "create" => create_line(found),
@@ -356,6 +380,7 @@ fn command_line<'a>(
         "scan" => scan_line(found),
         "enter" => enter_line(alloc, found),
         "backup" => backup_line(found),
+        "recover" => recover_line(found),
         "carry" => carry_line(found),
         "audit" => audit_line(alloc, found),
         "explain" => explain_line(found),

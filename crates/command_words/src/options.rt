@@ -1,13 +1,14 @@
 //! The values of a command's options.
-ghost use Rattle.std.specs.Prelude.{◌≡◌, ◌≤◌, IfOk, Some, option_map};
+ghost use Rattle.std.specs.Prelude.{◌≡◌, ◌≤◌, ◌==◌, IfOk, Some, codes, is_none, option_map};
+ghost use Rattle.std.specs.List.{list_all, list_any};
 ghost use Rattle.clap.specs.Words.{all_of};
 ghost use Rattle.command_words.specs.ClapTable.Table.{texts};
 ghost use Rattle.command_words.specs.Values.Numbers.{number_up_to};
-ghost use Rattle.command_words.specs.Options.{Reads, is_set, number_at, number_if, number_or, rows_in};
+ghost use Rattle.command_words.specs.Options.{Reads, host_names_of, is_host_byte, is_host_name, is_set, number_at, number_if, number_or, rows_in};
 ghost use Rattle.command_words.specs.Options.{several_at, text_at, text_or, texts_at};
 
 use crate::faults::ValueFault;
-use crate::table::NumberOption;
+use crate::table::{HOST_NAME, NumberOption};
 use crate::values::number_up_to;
 use clap::ArgMatches;
 use std::alloc::Global;
@@ -122,6 +123,60 @@ pub fn texts<'a>(
     match values.to_vec(alloc) {
         Ok(values) => Ok(values),
         Err(_) => Err(ValueFault::Memory),
+    }
+}
+
+// Whether a byte is one of these.
+fn is_among(bytes: &[u8], byte: u8) -> bool
+    ensures { result ≡ list_any (λ other. other == byte) bytes.now }
+{
+    bytes.iter().any(|other| *other == byte)
+}
+
+// Whether a byte may be one of the name of a host.
+fn is_host_byte(byte: u8) -> bool
+    ensures { result ≡ is_host_byte byte }
+{
+    byte.is_ascii_alphanumeric() || is_among(b".-_:[]", byte)
+}
+
+fn are_host_bytes(bytes: &[u8]) -> bool
+    ensures { result ≡ list_all is_host_byte bytes.now }
+{
+    bytes.iter().all(|byte| is_host_byte(*byte))
+}
+
+// Whether a text is the name of a host, or an address.
+fn is_host_name(name: &str) -> bool
+    ensures { result ≡ is_host_name name.now }
+{
+    match name.as_bytes() {
+        [] => false,
+        bytes => are_host_bytes(bytes),
+    }
+}
+
+// The first text that is not the name of a host.
+fn other_than_hosts<'a>(names: &[&'a str]) -> Option<&'a str>
+    ensures { is_none result ≡ list_all is_host_name (texts names.now) }
+{
+    for name in names {
+        if !is_host_name(*name) {
+            return Some(*name);
+        }
+    }
+    None
+}
+
+// By which names HTTP may be asked.
+pub fn host_names<'a>(alloc: Global, found: &ArgMatches<'a>) -> Result<Vec<&'a str>, ValueFault<'a>>
+    ensures { Reads (λ names. texts names.items)
+        (host_names_of (texts_at (codes "host-name") (rows_in found.now))) result }
+{
+    let names = texts(alloc, found, HOST_NAME)?;
+    match other_than_hosts(&names) {
+        Some(word) => Err(ValueFault::HostName { word }),
+        None => Ok(names),
     }
 }
 

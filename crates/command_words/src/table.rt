@@ -123,6 +123,12 @@ const NEW_DB: OptionText<'static> = OptionText {
     help: "File that gets the tables; it must have none yet",
 };
 
+const SCRIPT_DB: OptionText<'static> = OptionText {
+    name: "db",
+    value: Value::Optional("FILE"),
+    help: "Runs it over this office's file instead, which has its own zone",
+};
+
 const SCRIPT_ZONE: OptionText<'static> = OptionText {
     name: "zone",
     value: Value::Optional("TEXT"),
@@ -203,9 +209,9 @@ const REGISTER: OptionText<'static> = OptionText {
 
 const REPLAY: CommandText<'static> = CommandText {
     name: "replay",
-    about: "Runs a script from standard input over books in memory",
+    about: "Runs a script over books in memory or in a file (the default)",
     after: "Example: sunreg replay --zone UTC0 < script.txt",
-    options: &[SCRIPT_ZONE],
+    options: &[SCRIPT_DB, SCRIPT_ZONE],
 };
 
 const PLAN: CommandText<'static> = CommandText {
@@ -317,6 +323,24 @@ const BACKUP: CommandText<'static> = CommandText {
     about: "Makes one whole file of an office",
     after: "Example: sunreg backup --db office.db --to copy.db",
     options: &[DB, COPY],
+};
+
+const RECOVER: CommandText<'static> = CommandText {
+    name: "recover",
+    about: "Makes a new file of what a damaged log still holds",
+    after: "Example: sunreg recover --db office.db --to recovered.db",
+    options: &[
+        OptionText {
+            name: "db",
+            value: Value::Required("FILE"),
+            help: "The office's file, whose log is damaged; both stay as they are",
+        },
+        OptionText {
+            name: "to",
+            value: Value::Required("FILE"),
+            help: "File that is made; there must be none of that name yet",
+        },
+    ],
 };
 
 const CARRY: CommandText<'static> = CommandText {
@@ -512,6 +536,7 @@ const COMMANDS: &[CommandText<'static>] = &[
 // Those after them.
 const LATER_COMMANDS: &[CommandText<'static>] = &[
     BACKUP,
+    RECOVER,
     CARRY,
     AUDIT,
     STAND_IN,
@@ -541,8 +566,7 @@ pub fn program() -> ProgramText<'static>
         name: "sunreg",
         version: "1.0",
         about: "Polls SunSpec meters by Modbus TCP; keeps their energy by quarter hours and days",
-        after: "Without a command it is replay. Help on a command, for example: sunreg help run\n\
-                Exit status: 0 fine, 1 refused, 2 wrong words, 3 a file, stream or socket failed",
+        after: "Exit status: 0 fine, 1 refused, 2 wrong words, 3 a file, stream or socket failed",
         commands: commands(),
         later: later_commands(),
     }

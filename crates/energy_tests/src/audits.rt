@@ -6,9 +6,7 @@ use energy_core::{Cause, TermFault};
 use interval_core::Share;
 use meter_audit::{
     IntervalDifference, IntervalFault, RefusedRow, RowFault, RowKind, TableRow, check_rows,
-    drop_done, fine_tables_are_lawful, first_difference, fitting_rows_pass,
-    fitting_rows_stand_alone, lawful_tables_are_fine, passed_rows_fit, rows_are_told_apart,
-    rows_of_journals_fit, start, take_row,
+    drop_done, first_difference, start, take_row,
 };
 use std::test::Fail;
 
@@ -228,15 +226,4 @@ fn an_interval_alone(rt: HostRuntime) {
         found_done: 2,
     };
     assert!(rt; first_difference(&SHARES[..1], &SHARES) == Some(wanted));
-}
-
-#[test]
-fn laws_of_checks_hold() {
-    rows_of_journals_fit();
-    fitting_rows_stand_alone();
-    fine_tables_are_lawful();
-    lawful_tables_are_fine();
-    passed_rows_fit();
-    fitting_rows_pass();
-    rows_are_told_apart();
 }

@@ -1,13 +1,8 @@
-//! Tests of books that are made anew, and of the laws.
+//! Computes the rows and the last entry of a meter again after a void.
 use crate::samples::HOUSE;
 use energy_core::{Entry, Last};
 use interval_core::Share;
-use meter_journal::{
-    EntryKind, EntryRow, checked_tally, entries_go_on, interval_rows, interval_rows_add_up,
-    interval_rows_are_accounts, journals_are_kept, journals_balance, places_were_kept,
-    rows_lie_within, rows_stand, shares_move_energy, standing_entries_fit, tally_after,
-    truth_is_kept, voids_change_two_rows, voids_go_no_further, voids_leave_no_trace,
-};
+use meter_journal::{EntryKind, EntryRow, checked_tally, interval_rows, tally_after};
 
 /// 5200 at 1900, which was voided, and 5300 at 2800.
 const ROWS: [EntryRow; 2] = [
@@ -82,26 +77,4 @@ fn rows_after_a_void(rt: HostRuntime) {
             .expect(&rt, "no intervals")
             .is_empty()
     );
-}
-
-#[test]
-fn laws_hold() {
-    journals_balance();
-    journals_are_kept();
-    interval_rows_are_accounts();
-    interval_rows_add_up();
-    truth_is_kept();
-    rows_stand();
-    standing_entries_fit();
-    voids_leave_no_trace();
-}
-
-#[test]
-fn laws_of_one_more_line_hold() {
-    rows_lie_within();
-    entries_go_on();
-    voids_go_no_further();
-    places_were_kept();
-    voids_change_two_rows();
-    shares_move_energy();
 }

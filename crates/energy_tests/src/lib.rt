@@ -20,8 +20,6 @@ mod joined_shares;
 #[cfg(test)]
 mod journal_rows;
 #[cfg(test)]
-mod laws;
-#[cfg(test)]
 mod numbers;
 #[cfg(test)]
 mod samples;

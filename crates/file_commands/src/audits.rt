@@ -4,17 +4,20 @@ use crate::opening::open_in;
 use command_words::Sealing;
 use office_store::OpenFault;
 use sqlite::{Alter, Connection};
-use std::fs::File;
-use std::io::{self, Read, Write};
+use std::fs::{self, File};
+use std::io::{self, ErrorKind, Read, Write};
 use std::str::from_utf8;
 use stored_files::{
-    AuditFault, Databases, Ending, Failure, Joining, audit_stored, check_stored_seal,
+    AuditFault, Databases, Ending, Failure, Joining, Named, audit_stored, check_stored_seal,
     hold_to_earlier, meters_stored, seal_stored, told_zone, write_audit, write_checked,
     write_joins, write_seal,
 };
 
-/// The most bytes that are read of a seal. One of 4,096 meters, each with a thousand voids, has fewer.
+/// The most bytes of a seal. One of 4,096 meters, each with a thousand voids, has fewer.
 const MOST_SEAL: u64 = 300_000_000;
+
+/// What each seal begins with.
+const SEAL_BEGIN: &[u8; 5] = b"seal ";
 
 // Prints the seal of the tables.
 fn print_seal<S: Alter>(
@@ -71,13 +74,36 @@ fn audit_in<'a, D: Databases>(
     }
 }
 
-// What a seal's file has.
-fn seal_in(rt: &HostRuntime, file: &str) -> io::Result<Vec<u8>> {
-    let mut bytes = Vec::new(rt.alloc());
-    File::open(rt, file)?
-        .take(MOST_SEAL)
-        .read_to_end(&mut bytes)?;
-    Ok(bytes)
+// The length of a seal's file, which must be a regular file; none where it is longer than any seal.
+fn seal_length(rt: &HostRuntime, file: &str) -> io::Result<Option<u64>> {
+    let found = fs::metadata(rt, file)?;
+    if !found.is_file() {
+        return Err(io::Error::from(ErrorKind::InvalidInput));
+    }
+    let length = found.len();
+    Ok(if length <= MOST_SEAL {
+        Some(length)
+    } else {
+        None
+    })
+}
+
+// What a seal's file has; none where that is no seal, as its first bytes or its length show.
+fn seal_in(rt: &HostRuntime, file: &str) -> io::Result<Option<Vec<u8>>> {
+    let Some(length) = seal_length(rt, file)? else {
+        return Ok(None);
+    };
+    let mut open = File::open(rt, file)?;
+    let mut begin = [0u8; 5];
+    let count = open.read(&mut begin)?;
+    if begin[..count] != SEAL_BEGIN[..] {
+        return Ok(None);
+    }
+    let Ok(mut bytes) = SEAL_BEGIN.to_vec(rt.alloc()) else {
+        return Err(io::Error::from(ErrorKind::OutOfMemory));
+    };
+    open.take(length).read_to_end(&mut bytes)?;
+    Ok(Some(bytes))
 }
 
 fn ended(told: Result<bool, Failure<'_>>) -> Ending<'_> {
@@ -95,11 +121,15 @@ fn audit_against<'a, D: Databases>(
     path: &'a str,
     file: &'a str,
 ) -> Ending<'a> {
-    let Ok(bytes) = seal_in(rt, file) else {
-        return Ending::Failed(Failure::Unaudited {
-            path: file,
-            fault: AuditFault::Unread,
-        });
+    let bytes = match seal_in(rt, file) {
+        Ok(Some(bytes)) => bytes,
+        Ok(None) => return Ending::NoSeal(file),
+        Err(_) => {
+            return Ending::Failed(Failure::Unaudited {
+                path: file,
+                fault: AuditFault::Unread,
+            });
+        }
     };
     let Ok(text) = from_utf8(bytes.as_slice()) else {
         return Ending::NoSeal(file);
@@ -180,7 +210,7 @@ fn audit_file<'a, D: Databases>(
     so_far: bool,
     joining: &mut Joining<'a>,
 ) -> Result<bool, Failure<'a>> {
-    if write!(io::writer(rt), "file {path}\n").is_err() {
+    if write!(io::writer(rt), "file {}\n", Named(path)).is_err() {
         return Err(Failure::Streams);
     }
     let mut connection = open_in(rt, databases, path)?;

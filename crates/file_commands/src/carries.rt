@@ -1,38 +1,16 @@
 //! A new file in which the meters of an office's file stand as they stood there.
-use crate::backups::{give_name, part_of};
 use crate::copies::{Pair, make_whole, remove};
 use crate::escaped::Escaped;
 use crate::files::{OfficeFiles, Opening};
 use crate::opening::open_in;
+use crate::parts::{begin_part, begin_part_again, finish_part, make_empty_log, unwritable};
 use carried_books::CarryFault;
 use office_events::{Name, Refusal};
 use printed_numbers::{Kind, meaning_of};
 use sqlite::Connection;
-use std::fs::{self, File, OpenOptions};
-use std::io::{self, ErrorKind, Write};
-use std::os::unix::fs::OpenOptionsExt;
+use std::io::{self, Write};
 use std::str::from_utf8;
-use stored_files::{CarryEnd, CopyFault, Databases, Ending, Failure, carry_stored};
-
-// Makes an empty file that is its owner's alone.
-fn make_part(rt: &HostRuntime, part: &str) -> io::Result<()> {
-    drop(
-        OpenOptions::new()
-            .write(true)
-            .create_new(true)
-            .mode(0o600)
-            .open(rt, part)?,
-    );
-    Ok(())
-}
-
-// The fault of the new file that can't be written.
-fn unwritable(to: &str) -> Failure<'_> {
-    Failure::Uncopied {
-        path: to,
-        fault: CopyFault::Unwritable,
-    }
-}
+use stored_files::{CarryEnd, CopyFault, Databases, Ending, Failure, Named, carry_stored};
 
 /// Why meters were not carried into a new file.
 #[derive(Drop)]
@@ -84,42 +62,16 @@ fn carry_into_part<'a, D: Databases>(
     }
 }
 
-// Gives a file a name that nothing has, in one step where the system has links, and brings that to the disk.
-fn link_name(rt: &HostRuntime, part: &str, to: &str) -> io::Result<()> {
-    match fs::hard_link(rt, part, to) {
-        Ok(()) => {}
-        Err(error) if error.kind() == ErrorKind::AlreadyExists => return Err(error),
-        Err(_) => return give_name(rt, part, to),
-    }
-    fs::remove_file(rt, part)?;
-    let mut folder = fs::canonicalize(rt, to)?;
-    folder.pop();
-    File::open(rt, folder.as_str())?.sync_all()
-}
-
-// Removes the log, which was moved into the file, and gives that its name.
-fn name_whole(rt: &HostRuntime, to: &str, part: &Pair) -> io::Result<()> {
-    fs::remove_file(rt, part.log.as_str())?;
-    link_name(rt, part.file.as_str(), to)
-}
-
-// Makes the new file whole, and gives it its name.
+// Moves the log of the new file into it, and gives it its name.
 fn finish<'a>(rt: &HostRuntime, to: &'a str, part: &Pair) -> Result<(), Failure<'a>> {
     match make_whole(rt, part.file.as_str()) {
         Ok(()) => {}
         Err(CopyFault::Memory) => return Err(Failure::Memory),
         Err(_) => return Err(unwritable(to)),
     }
-    match name_whole(rt, to, part) {
-        Ok(()) => Ok(()),
-        Err(error) if error.kind() == ErrorKind::AlreadyExists => {
-            Err(Failure::Uncopied {
-                path: to,
-                fault: CopyFault::Exists,
-            })
-        }
-        Err(_) => Err(unwritable(to)),
-    }
+    finish_part(rt, to, part)?;
+    make_empty_log(rt, to);
+    Ok(())
 }
 
 // Carries the meters of a database into the part of a new file, and makes that the new file. It answers how many they are.
@@ -143,7 +95,7 @@ fn carry_whole<'a, D: Databases>(
 }
 
 /// Carries the meters of a database, that of the file at a path, into a new file, as they stand at its end, and answers how many they are.
-/// Of a carry that fails nothing is left.
+/// Of a carry that fails nothing is left. One that was cut off is made again: the old file is this process's alone.
 pub fn carry_open<'a, D: Databases>(
     rt: &HostRuntime,
     databases: &D,
@@ -151,13 +103,10 @@ pub fn carry_open<'a, D: Databases>(
     old: Connection<D::Store>,
     to: &'a str,
 ) -> Result<u64, NotCarried<'a>> {
-    let part = match part_of(rt, to) {
+    let part = match begin_part_again(rt, databases, to) {
         Ok(part) => part,
         Err(failure) => return Err(NotCarried::Failed(failure)),
     };
-    if make_part(rt, part.file.as_str()).is_err() {
-        return Err(NotCarried::Failed(unwritable(to)));
-    }
     let carried = carry_whole(rt, databases, from, old, to, &part, None);
     if carried.is_err() {
         remove(rt, &part);
@@ -178,8 +127,10 @@ pub(crate) fn write_refusal<W: Write>(errors: &mut W, path: &str, why: Refusal) 
     match meaning_of(Kind::Refused, u32::from(why.number())) {
         Some(meaning) => write!(
             errors,
-            "sunreg: {path}: {}; {}\n",
-            meaning.means, meaning.remedy
+            "sunreg: {}: {}; {}\n",
+            Named(path),
+            meaning.means,
+            meaning.remedy
         ),
         None => Ok(()),
     }
@@ -188,6 +139,7 @@ pub(crate) fn write_refusal<W: Write>(errors: &mut W, path: &str, why: Refusal) 
 // Which meter of a file has no entry yet.
 fn write_not_yet<W: Write>(errors: &mut W, path: &str, meter: &Name) -> io::Result<()> {
     let name = from_utf8(meter.as_bytes()).unwrap_or("a meter");
+    let path = Named(path);
     write!(
         errors,
         "sunreg: {path}: the meter {name} was installed after the moment of --until: give a later one\n"
@@ -270,13 +222,10 @@ pub fn carry<'a, D: OfficeFiles>(
     to: &'a str,
     until: Option<u32>,
 ) -> Ending<'a> {
-    let part = match part_of(rt, to) {
+    let part = match begin_part(rt, to) {
         Ok(part) => part,
         Err(failure) => return Ending::Failed(failure),
     };
-    if make_part(rt, part.file.as_str()).is_err() {
-        return Ending::Failed(unwritable(to));
-    }
     let until = match until {
         Some(moment) => Some(u64::from(moment)),
         None => None,

@@ -1,12 +1,14 @@
 //! Copies of a file and its log.
-use crate::paths::{is_blank, length_of, log_of, real_path};
 use sqlite::Unknown;
 use std::env;
 use std::fs::{self, File, OpenOptions};
 use std::io::{self, ErrorKind, Read};
 use std::os::unix::fs::OpenOptionsExt;
 use std::time::{SystemTime, UNIX_EPOCH};
-use stored_files::{CopyFault, FileConnection, FileFault, open_file, whole_file};
+use stored_files::{
+    CopyFault, FileConnection, FileFault, check_beside, is_blank, length_of, log_of, open_file,
+    real_path, whole_file,
+};
 
 /// How often a file is copied whose log is moved into it meanwhile.
 const TRIES: u32 = 8;
@@ -27,7 +29,8 @@ pub(crate) fn remove(rt: &HostRuntime, pair: &Pair) {
     let _gone = fs::remove_file(rt, pair.log.as_str());
 }
 
-/// The file of a path, where it lies, and its log. With a journal of another program's it isn't whole.
+/// The file of a path, where it lies, and its log. With a journal of another program's it isn't whole. The log may have lost commits:
+/// [`sound_pair_at`] refuses that.
 pub(crate) fn pair_at(rt: &HostRuntime, path: &str) -> Result<Pair, FileFault> {
     match fs::exists(rt, path) {
         Ok(true) => {}
@@ -45,6 +48,12 @@ pub(crate) fn pair_at(rt: &HostRuntime, path: &str) -> Result<Pair, FileFault> {
     } else {
         Err(FileFault::Unreadable)
     }
+}
+
+/// The same, where the log has lost no commits.
+pub(crate) fn sound_pair_at(rt: &HostRuntime, path: &str) -> Result<Pair, FileFault> {
+    check_beside(rt, path)?;
+    pair_at(rt, path)
 }
 
 // The header of a log, as far as it goes: nothing where there is none.
@@ -99,6 +108,17 @@ pub(crate) fn copy_settled(rt: &HostRuntime, source: &Pair, copy: &Pair) -> io::
     Ok(false)
 }
 
+/// The same until no commit came between the reading of its frames, of which the copy then has some and lacks some before.
+pub(crate) fn copy_sound(rt: &HostRuntime, source: &Pair, copy: &Pair) -> io::Result<bool> {
+    for _ in 0..TRIES {
+        if copy_settled(rt, source, copy)? && check_beside(rt, copy.file.as_str()).is_ok() {
+            return Ok(true);
+        }
+        remove(rt, copy);
+    }
+    Ok(false)
+}
+
 /// Moves the log of an office's file into it, which then holds the office alone. Both must be this process's alone.
 pub(crate) fn make_whole(rt: &HostRuntime, file: &str) -> Result<(), CopyFault> {
     match whole_file(rt, file, Unknown) {
@@ -132,9 +152,9 @@ pub(crate) fn open_copy(
     rt: &HostRuntime,
     path: &str,
 ) -> Result<FileConnection<Unknown>, FileFault> {
-    let source = pair_at(rt, path)?;
+    let source = sound_pair_at(rt, path)?;
     let copy = passing_names(rt)?;
-    let opened = match copy_settled(rt, &source, &copy) {
+    let opened = match copy_sound(rt, &source, &copy) {
         Ok(true) => open_file(rt, copy.file.as_str(), Unknown),
         Ok(false) => Err(FileFault::Busy),
         Err(_) => Err(FileFault::Unreadable),

@@ -14,7 +14,9 @@ use interval_core::DayRange;
 use office_events::{Installation, Name, Refusal};
 use std::io::{self, Write};
 use std::str::from_utf8;
-use stored_files::{Databases, Ending, Failure, JoinFault, JoinedOffice, ending_of, join_stored};
+use stored_files::{
+    Databases, Ending, Failure, JoinFault, JoinedOffice, Named, ending_of, join_stored,
+};
 
 // What to do where files don't join.
 const REMEDY: &str =
@@ -27,6 +29,7 @@ fn name_of(row: &Installation) -> &str {
 
 // Says where a meter begins that joins none, and where one stands by the files before.
 fn say_apart<E: Write>(errors: &mut E, before: &str, path: &str, apart: &Apart) {
+    let (before, path) = (Named(before), Named(path));
     let begins = &apart.begins.opening;
     let stands = &apart.stands.last;
     let state = if apart.stands.ended {
@@ -55,8 +58,12 @@ fn say_apart<E: Write>(errors: &mut E, before: &str, path: &str, apart: &Apart) 
 
 // Says why a file doesn't join those before it.
 fn say_unjoined<E: Write>(errors: &mut E, before: &str, path: &str, why: &Unjoined) {
+    if let Unjoined::Apart(apart) = why {
+        return say_apart(errors, before, path, apart);
+    }
+    let (before, path) = (Named(before), Named(path));
     match why {
-        Unjoined::Apart(apart) => say_apart(errors, before, path, apart),
+        Unjoined::Apart(_) => {}
         Unjoined::NotRecorded => {
             let _said = write!(
                 errors,
@@ -76,6 +83,7 @@ fn say_unjoined<E: Write>(errors: &mut E, before: &str, path: &str, why: &Unjoin
 
 // Says that a file is of another zone.
 fn say_other_zone<E: Write>(errors: &mut E, before: &str, path: &str) {
+    let (before, path) = (Named(before), Named(path));
     let _said = write!(
         errors,
         "sunreg: {path}: its days are those of another zone than the days of {before}: {}\n",

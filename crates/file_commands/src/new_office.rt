@@ -1,71 +1,120 @@
 //! The making of an office in a file.
-use crate::paths::{is_blank, length_of, log_of};
+use crate::copies::{Pair, make_whole, remove};
+use crate::parts::{
+    begin_new_part, check_name, finish_part, make_empty_log, rename_over, unwritable,
+};
 use interval_core::Zone;
 use office_store::OpenFault;
-use std::fs::{self, Permissions};
-use std::os::unix::fs::PermissionsExt;
-use stored_files::{Databases, Ending, Failure, create_stored, is_bare};
+use std::{fs, io};
+use stored_files::{
+    CopyFault, Databases, Ending, Failure, check_regular, create_stored, is_bare, is_blank,
+    length_of, log_of, real_path,
+};
 
-// Lets only its owner read and write a file, where it is there and that can be set.
-fn keep_private(rt: &HostRuntime, path: &str) {
-    let _set = fs::set_permissions(rt, path, Permissions::from_mode(0o600));
+// Why no office is made in a file that isn't empty.
+fn why_occupied<'a, D: Databases>(databases: &D, path: &'a str) -> Failure<'a> {
+    match databases.make(path) {
+        Ok(connection) if is_bare(&connection) => Failure::Occupied { path },
+        Ok(_) => Failure::Unmade {
+            path,
+            fault: OpenFault::NotOurs,
+        },
+        Err(fault) => Failure::File { path, fault },
+    }
 }
 
-// Makes the tables of a new office in the database at a path.
+// Makes the tables of a new office in a part, and moves its log into it.
+fn fill_part<'a, D: Databases>(
+    rt: &HostRuntime,
+    databases: &D,
+    path: &'a str,
+    zone: &str,
+    part: &Pair,
+) -> Result<(), Failure<'a>> {
+    let connection = match databases.make(part.file.as_str()) {
+        Ok(connection) => connection,
+        Err(fault) => return Err(Failure::File { path, fault }),
+    };
+    if let Err(fault) = create_stored(rt.alloc(), connection, zone) {
+        return Err(Failure::Unmade { path, fault });
+    }
+    match make_whole(rt, part.file.as_str()) {
+        Ok(()) => Ok(()),
+        Err(CopyFault::Memory) => Err(Failure::Memory),
+        Err(_) => Err(unwritable(path)),
+    }
+}
+
+// Gives a part the name of an empty file, whose rights it gets.
+fn replace_empty(rt: &HostRuntime, part: &Pair, path: &str) -> io::Result<()> {
+    let rights = fs::metadata(rt, path)?.permissions();
+    fs::set_permissions(rt, part.file.as_str(), rights)?;
+    fs::remove_file(rt, part.log.as_str())?;
+    rename_over(rt, part.file.as_str(), path)
+}
+
+// Gives a part that is complete its name: that of no file, or of an empty one.
+fn name_new<'a>(
+    rt: &HostRuntime,
+    path: &'a str,
+    part: &Pair,
+    is_there: bool,
+) -> Result<(), Failure<'a>> {
+    if !is_there {
+        return finish_part(rt, path, part);
+    }
+    let real = real_path(rt, path)?;
+    match replace_empty(rt, part, real.as_str()) {
+        Ok(()) => Ok(()),
+        Err(_) => Err(unwritable(path)),
+    }
+}
+
+// Makes a new office under a name of its own, and then gives it its name. Of one that fails nothing is left.
 fn make_office<'a, D: Databases>(
     rt: &HostRuntime,
     databases: &D,
     path: &'a str,
     zone: &str,
-    was_blank: bool,
+    is_there: bool,
 ) -> Result<(), Failure<'a>> {
-    let connection = match databases.make(path) {
-        Ok(connection) => connection,
-        Err(fault) => return Err(Failure::File { path, fault }),
+    let part = begin_new_part(rt, databases, path)?;
+    let made = match fill_part(rt, databases, path, zone, &part) {
+        Ok(()) => name_new(rt, path, &part, is_there),
+        Err(failure) => Err(failure),
     };
-    if !was_blank && is_bare(&connection) {
-        return Err(Failure::Occupied { path });
-    }
-    match create_stored(rt.alloc(), connection, zone) {
-        Ok(()) => Ok(()),
-        Err(fault) => Err(Failure::Unmade { path, fault }),
+    match made {
+        Ok(()) => {
+            make_empty_log(rt, path);
+            Ok(())
+        }
+        Err(failure) => {
+            remove(rt, &part);
+            Err(failure)
+        }
     }
 }
 
-// The same, where no log stands alone. A file that was made is its owner's alone, and goes again where its tables could not be
-// made.
+// Makes a new office where there is no file, or an empty one, and no log alone.
 fn create_in<'a, D: Databases>(
     rt: &HostRuntime,
     databases: &D,
     path: &'a str,
     zone: &str,
 ) -> Result<(), Failure<'a>> {
+    check_name(path)?;
+    if let Err(fault) = check_regular(rt, path) {
+        return Err(Failure::File { path, fault });
+    }
     let log = log_of(rt, path)?;
     let length = length_of(rt, path);
-    if is_blank(length) && !is_blank(length_of(rt, log.as_str())) {
+    if !is_blank(length) {
+        return Err(why_occupied(databases, path));
+    }
+    if !is_blank(length_of(rt, log.as_str())) {
         return Err(Failure::LogAlone { path });
     }
-    let made = make_office(rt, databases, path, zone, is_blank(length));
-    if length.is_none() {
-        match &made {
-            Ok(()) => {
-                keep_private(rt, path);
-                keep_private(rt, log.as_str());
-            }
-            // (it was locked then, and had no tables: nobody else made an office in it meanwhile)
-            Err(
-                Failure::Unmade {
-                    fault: OpenFault::Store | OpenFault::Memory,
-                    ..
-                },
-            ) => {
-                let _gone = fs::remove_file(rt, path);
-                let _gone = fs::remove_file(rt, log.as_str());
-            }
-            Err(_) => {}
-        }
-    }
-    made
+    make_office(rt, databases, path, zone, length.is_some())
 }
 
 /// Makes the tables of a new office.

@@ -1,15 +1,17 @@
 //! The opening of an office's file, and what is told of it.
 use crate::escaped::Escaped;
-use crate::paths::{is_blank, length_of, log_of};
 use sqlite::Connection;
 use std::io::{IsTerminal, Write};
-use stored_files::{Databases, Failure, is_bare, is_office};
+use stored_files::{
+    Databases, Failure, Named, check_regular, is_bare, is_blank, is_office, length_of, log_of,
+};
 
 /// From how many bytes on a file takes a second or more to open.
 const LARGE: u64 = 16_000_000;
 
 // Says that a file had no log beside it.
 fn say_no_log<E: Write>(errors: &mut E, path: &str) {
+    let path = Named(path);
     let _said = write!(
         errors,
         "sunreg: {path}: it had no log beside it, {path}-wal: a backup needs none, and a file copied alone lacks what stood there\n"
@@ -18,6 +20,7 @@ fn say_no_log<E: Write>(errors: &mut E, path: &str) {
 
 // Says on a terminal that a large file and its log are opened, which reads them whole.
 fn say_opening<E: Write>(rt: &HostRuntime, errors: &mut E, path: &str, bytes: u64) {
+    let path = Named(path);
     if bytes >= LARGE && rt.stderr().is_terminal() {
         let megabytes = bytes / 1_000_000;
         let _said = write!(
@@ -45,6 +48,9 @@ pub(crate) fn open_telling<'a, D: Databases, E: Write>(
     is_new: bool,
     errors: &mut E,
 ) -> Result<Connection<D::Store>, Failure<'a>> {
+    if let Err(fault) = check_regular(rt, path) {
+        return Err(Failure::File { path, fault });
+    }
     let log = log_of(rt, path)?;
     let (length, log_length) = (length_of(rt, path), length_of(rt, log.as_str()));
     if is_blank(length) && !is_blank(log_length) {

@@ -1,7 +1,7 @@
 //! The exit status of each ending: 0 fine; 1 refused; 2 wrong words; 3 a failed file, stream or socket, or no memory.
 use command_io::ExitStatus;
 use std::test::Fail;
-use stored_files::{Ending, Failure, ending_of};
+use stored_files::{Ending, Failure, FileFault, ending_of};
 
 #[test]
 fn each_ending_has_its_status(rt: HostRuntime) -> Result<(), Fail> {
@@ -38,5 +38,19 @@ fn commands_that_print(rt: HostRuntime) {
         (ExitStatus::Failed, 3),
     ] {
         assert!(rt; ending_of(status).number() == number);
+    }
+}
+
+#[test]
+fn faults_have_numbers(rt: HostRuntime) {
+    let faults = [
+        FileFault::Missing,
+        FileFault::Busy,
+        FileFault::NoDatabase,
+        FileFault::Unreadable,
+        FileFault::Memory,
+    ];
+    for (number, fault) in (1..6).zip(faults) {
+        assert!(rt; fault.number() == number);
     }
 }

@@ -1,13 +1,13 @@
 //! HTTP on a port.
-ghost use Rattle.std.specs.Prelude.{◌≡◌, ℕ, false, List};
+ghost use Rattle.std.specs.Prelude.{◌≡◌, ◌⊎◌, ℕ, false, true, List};
 ghost use Rattle.http_request.specs.Hosts.{texts};
 ghost use Rattle.http_peers.specs.PeersAsk.{PeersAsk};
 
 use crate::energy_over::{EarlierFiles, place_among, reply_energy_over};
-use crate::kept_room::KeptRoom;
+use crate::kept_room::{KeptRoom, is_acknowledged, is_command};
 use crate::moments::{Now, even_milliseconds};
 use crate::peers::Peer;
-use crate::run_told::RunTold;
+use crate::run_told::{RunSystem, RunTold};
 use crate::site_over::reply_site_over;
 use carried_books::EarlierRegister;
 use energy_report::ReportForm;
@@ -54,6 +54,8 @@ pub struct HttpPort {
     room: KeptRoom,
     /// Whether a command was refused since there is no room to keep it, which was not said yet.
     is_full: bool,
+    /// Whether a file of the office is gone: then no command is acted on.
+    is_lost: bool,
 }
 
 // Whether the connection of a place has something that was not looked at, and needn't wait for what is held of replies.
@@ -148,6 +150,15 @@ fn is_done(connection: &Option<Peer>, time: u64) -> bool {
     }
 }
 
+// So many places; the others are shut.
+fn places_for(clients: usize) -> Peers {
+    let mut peers = Peers::new();
+    for place in clients..MOST_PEERS {
+        peers.shut(place);
+    }
+    peers
+}
+
 // A connection for each place, of which there is none yet.
 fn no_connections(alloc: Global) -> Result<Vec<Option<Peer>>, AllocError> {
     let mut connections = Vec::new(alloc);
@@ -158,11 +169,13 @@ fn no_connections(alloc: Global) -> Result<Vec<Option<Peer>>, AllocError> {
 }
 
 impl HttpPort {
-    /// A port that is listened on, whose listener is registered under [`PORT_TOKEN`]; nobody is connected.
+    /// A port that is listened on, whose listener is registered under [`PORT_TOKEN`]; nobody is connected. It accepts so many clients at
+    /// once, and 64 at most.
     pub fn new(
         alloc: Global,
         listener: TcpListener,
         room: KeptRoom,
+        clients: usize,
     ) -> Result<HttpPort, AllocError> {
         let router = router(alloc)?;
         let connections = no_connections(alloc)?;
@@ -171,12 +184,13 @@ impl HttpPort {
             listener,
             waiting: true,
             router,
-            peers: Peers::new(),
+            peers: places_for(clients),
             connections,
             share: TurnShare::whole(),
             first: 0,
             room,
             is_full: false,
+            is_lost: false,
         })
     }
 
@@ -204,6 +218,20 @@ impl HttpPort {
         ensures later { self.new.is_full ≡ false }
     {
         mem::replace(&mut self.is_full, false)
+    }
+
+    /// A file of the office is gone: from now on commands are answered by the fault 503, and not acted on.
+    pub fn lose_files(&mut self)
+        ensures { self.new.is_lost ≡ true }
+    {
+        self.is_lost = true;
+    }
+
+    /// Whether a file of the office was gone when a command was to be acknowledged, or earlier.
+    pub fn has_lost(&self) -> bool
+        ensures { result ≡ self.now.is_lost }
+    {
+        self.is_lost
     }
 
     /// Something may have come for a token.
@@ -542,6 +570,11 @@ impl HttpPort {
         }
     }
 
+    // Whether a command is not acted on: there is no room to keep it, or a file of the office is gone.
+    fn rejects(&self, request: &[u8]) -> bool {
+        self.room.lacks(request) || self.is_lost && is_command(request)
+    }
+
     // What comes of what a peer has asked, and the rows that are told after that. Who asks is tested before all else, and then
     // whether what is kept has room.
     #[tactic(auto, using(crate::proofs::PeersAsking::nobody_asks, crate::proofs::PeersAsking::both_ask))]
@@ -570,7 +603,7 @@ impl HttpPort {
             }
             Some(RunRoute::Meters { register }) => self.reply_meters(office, &register),
             None => {
-                if self.room.lacks(request) {
+                if self.rejects(request) {
                     return self.reply_status(StatusRoute::Rejected(Status::Unavailable), told);
                 }
                 match self.begin_all(request, office, rows) {
@@ -638,8 +671,25 @@ impl HttpPort {
         }
     }
 
+    // The reply to a request. In place of one that acknowledges a command it is the fault 503 where a file of the office is gone.
+    fn confirmed<R: RunSystem>(
+        &mut self,
+        rt: &R,
+        request: &[u8],
+        asked: PeerReply,
+        told: &RunTold<'_>,
+    ) -> PeerReply
+        ensures { (result ≡ asked) ⊎ (self.new.is_lost ≡ true) }
+    {
+        if !is_acknowledged(request, &asked) || rt.are_files_there() {
+            return asked;
+        }
+        self.lose_files();
+        self.reply_status(StatusRoute::Rejected(Status::Unavailable), told)
+    }
+
     // Replies to what a peer has asked.
-    fn answer<R: std::rt::Clock, B: Books>(
+    fn answer<R: RunSystem, B: Books>(
         &mut self,
         rt: &R,
         place: usize,
@@ -654,6 +704,7 @@ impl HttpPort {
         let begun = even_milliseconds(rt);
         let mut rows = None;
         let asked = self.reply(names, &peer.asked, office, told, now, &mut rows);
+        let asked = self.confirmed(rt, &peer.asked, asked, told);
         let took = even_milliseconds(rt).saturating_sub(begun);
         self.count(place, &peer.asked, &asked, took);
         self.stay_at(place, rows.is_some());
@@ -707,7 +758,7 @@ impl HttpPort {
     }
 
     // Hears a peer, and replies to what it has asked, or goes on with its reply.
-    fn go_on<R: std::rt::Clock, B: Books>(
+    fn go_on<R: RunSystem, B: Books>(
         &mut self,
         rt: &R,
         place: usize,
@@ -728,7 +779,7 @@ impl HttpPort {
 
     /// Goes on with the connection of a place, where something may have come.
     #[tactic(auto, using(crate::proofs::PeersAsking::nobody_asks, crate::proofs::PeersAsking::both_ask))]
-    pub fn attend<R: std::rt::Clock, B: Books>(
+    pub fn attend<R: RunSystem, B: Books>(
         &mut self,
         rt: &R,
         place: usize,

@@ -1,7 +1,7 @@
 //! How much of what is asked may still be kept.
 ghost use Rattle.std.specs.Prelude.{◌≡◌};
 ghost use Rattle.http_peers.specs.KeptRoom as kept;
-ghost use Rattle.http_peers.specs.KeptRoom.{Counts, IsCommand, Lacks};
+ghost use Rattle.http_peers.specs.KeptRoom.{Acknowledges, Counts, IsCommand, Lacks};
 
 use http_request::{HeadState, parse_head};
 use run_http::PeerReply;
@@ -12,8 +12,8 @@ pub struct KeptRoom {
     left: u64,
 }
 
-// Whether a request gives a command: by its head as the office reads it, which may come after empty lines.
-fn is_command(request: &[u8]) -> bool
+/// Whether a request gives a command: by its head as the office reads it, which may come after empty lines.
+pub(crate) fn is_command(request: &[u8]) -> bool
     ensures { IsCommand request.now result }
 {
     let head_state = parse_head(request);
@@ -31,6 +31,13 @@ fn has_acted(reply: &PeerReply) -> bool
         PeerReply::Replied(text) => text.starts_with(b"HTTP/1.1 200 "),
         PeerReply::Open | PeerReply::Failed => false,
     }
+}
+
+/// Whether a reply acknowledges a command: the client may rely on it that what it asked is recorded.
+pub(crate) fn is_acknowledged(request: &[u8], reply: &PeerReply) -> bool
+    ensures { Acknowledges request.now reply.now result }
+{
+    is_command(request) && has_acted(reply)
 }
 
 impl KeptRoom {

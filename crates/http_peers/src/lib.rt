@@ -15,5 +15,5 @@ pub use http_port::{HttpPort, PORT_TOKEN};
 pub use kept_room::KeptRoom;
 pub use moments::{Now, even_milliseconds};
 pub use outbox::{Outbox, Went, went_by};
-pub use run_told::RunTold;
+pub use run_told::{RunSystem, RunTold};
 pub use site_over::reply_site_over;

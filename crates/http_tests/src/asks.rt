@@ -1,41 +1,37 @@
-//! What peers are replied.
-use crate::office::opened;
-use http_request::Status;
-use run_http::{PeerReply, StatusRoute, ask, entries_come_after, reply_status, rows_before_stay};
+//! The files of the page.
+use run_http::{
+    RunRoute, StatusRoute, entries_come_after, reply_status, rows_before_stay, run_route,
+};
 use run_status::Counts;
 use std::alloc::{AllocError, Global};
 use web_page::PagePart;
 
-// What is replied to a route of a run before anything was counted.
-fn replied(alloc: Global, route: StatusRoute) -> Result<Vec<u8>, AllocError> {
+static TARGETS: [(&[u8], PagePart); 4] = [
+    (b"GET / HTTP/1.1\r\n\r\n", PagePart::Page),
+    (b"GET /page.css HTTP/1.1\r\n\r\n", PagePart::Style),
+    (b"GET /page.js HTTP/1.1\r\n\r\n", PagePart::Script),
+    (b"GET /icon.svg HTTP/1.1\r\n\r\n", PagePart::Icon),
+];
+
+#[test]
+fn the_page_has_four_targets(rt: HostRuntime) {
+    for (request, part) in &TARGETS {
+        let route = RunRoute::Own(StatusRoute::Page(*part));
+        assert!(rt; run_route(&[], request) == Some(route));
+    }
+}
+
+// The reply with the script of the page.
+fn script_reply(alloc: Global) -> Result<Vec<u8>, AllocError> {
     let mut text = Vec::new(alloc);
+    let route = StatusRoute::Page(PagePart::Script);
     reply_status(alloc, &mut text, route, &Counts::new(), &[], &[])?;
     Ok(text)
 }
 
-static REJECTION: &[u8] =
-    b"HTTP/1.1 405 Method Not Allowed\r\nContent-Type: application/json\r\nContent-Length: 13\r\nConnection: close\r\n\r\n{\"fault\":405}";
-
-#[test]
-fn a_rejection_is_a_fault(rt: HostRuntime) {
-    let route = StatusRoute::Rejected(Status::MethodNotAllowed);
-    let text = replied(rt.alloc(), route).expect(&rt, "no memory");
-    assert!(rt; text.as_slice() == REJECTION);
-}
-
-static HEAD: &[u8] =
-    b"HTTP/1.1 200 OK\r\nContent-Type: application/json\r\nContent-Length: 267\r\nConnection: close\r\n\r\n{\"devices\":[],";
-
-#[test]
-fn the_status_has_a_head(rt: HostRuntime) {
-    let text = replied(rt.alloc(), StatusRoute::Status).expect(&rt, "no memory");
-    assert!(rt; text.len() == 91 + 267);
-    assert!(rt; text.starts_with(HEAD));
-}
-
 #[test]
 fn a_part_of_the_page_has_headers_for_a_browser(rt: HostRuntime) {
-    let text = replied(rt.alloc(), StatusRoute::Page(PagePart::Script)).expect(&rt, "no memory");
+    let text = script_reply(rt.alloc()).expect(&rt, "no memory");
     let body = PagePart::Script.body();
     let size = body.len();
     let head = format!(in rt.alloc();
@@ -43,23 +39,6 @@ fn a_part_of_the_page_has_headers_for_a_browser(rt: HostRuntime) {
     ).expect(&rt, "no memory");
     assert!(rt; text.starts_with(head.as_bytes()));
     assert!(rt; text.get(head.len()..) == Some(body));
-}
-
-static REQUEST: &[u8] = b"GET /meters/m1 HTTP/1.1\r\nHost: a\r\n\r\n";
-
-// A request comes in pieces, and each time all that has come is asked.
-#[test]
-fn a_request_is_asked_once_it_is_whole(rt: HostRuntime) {
-    let mut office = opened(&rt, rt.alloc());
-    for count in [0, 1, 20, 30] {
-        let begun = REQUEST.get(..count).unwrap_or(REQUEST);
-        let asked = ask(rt.alloc(), begun, &mut office, 1000);
-        assert!(rt; matches!(asked, PeerReply::Open));
-    }
-    match ask(rt.alloc(), REQUEST, &mut office, 1000) {
-        PeerReply::Replied(reply) => assert!(rt; reply.starts_with(b"HTTP/1.1 404 ")),
-        _ => panic!(rt; "no reply"),
-    }
 }
 
 #[test]

@@ -1,7 +1,7 @@
 //! What a peer is replied who asks for the energy of a register, of which earlier files tell, too.
 use crate::cases::{reply, text_reply};
 use crate::office::{polled, unmetered};
-use crate::targets::route_of;
+use crate::run_questions::route_of;
 use carried_books::{EarlierDays, EarlierRegister, JoinedDays};
 use http_peers::{EarlierFiles, place_among, reply_energy_over};
 use interval_core::{Share, Zone};

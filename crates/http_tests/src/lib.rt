@@ -8,8 +8,6 @@ mod answers;
 #[cfg(test)]
 mod asks;
 #[cfg(test)]
-mod bodies;
-#[cfg(test)]
 mod book_failures;
 #[cfg(test)]
 mod cases;
@@ -24,13 +22,9 @@ mod entering;
 #[cfg(test)]
 mod faults;
 #[cfg(test)]
-mod heads;
-#[cfg(test)]
 mod held_readings;
 #[cfg(test)]
 mod hosts;
-#[cfg(test)]
-mod limits;
 #[cfg(test)]
 mod lines;
 #[cfg(test)]
@@ -56,8 +50,6 @@ mod report_forms;
 #[cfg(test)]
 mod reports;
 #[cfg(test)]
-mod requests;
-#[cfg(test)]
 mod rounds;
 #[cfg(test)]
 mod row_lines;
@@ -71,7 +63,5 @@ mod sockets;
 mod stops;
 #[cfg(test)]
 mod tables;
-#[cfg(test)]
-mod targets;
 #[cfg(test)]
 mod times;

@@ -1,4 +1,4 @@
-//! Each request and its reply: in pieces of one byte, cut off at each byte, and where each call of the link fails.
+//! Requests that are cut off at each byte, and whose link fails at each of its calls.
 use crate::cases::{Case, play, reply, serve, serve_over};
 use crate::office::polled;
 use crate::tables::{COMMANDS, QUESTIONS};
@@ -7,22 +7,6 @@ use office_core::Office;
 use office_http::HandleFault;
 use std::alloc::Global;
 use std::process::Abort;
-
-// Plays all requests in their order, in pieces of so many bytes.
-fn play_all(rt: &impl Abort, alloc: Global, cases: &[Case<'_>], piece: usize) {
-    let mut office = polled(rt, alloc);
-    for case in cases {
-        play(rt, alloc, &mut office, case, piece);
-    }
-}
-
-#[test]
-fn each_request_has_its_reply(rt: HostRuntime) {
-    for piece in [400, 1] {
-        play_all(&rt, rt.alloc(), &QUESTIONS, piece);
-        play_all(&rt, rt.alloc(), &COMMANDS, piece);
-    }
-}
 
 // Whatever lacks of a request, it is short, and nothing is given. Then the whole request is served.
 fn cut_off(rt: &impl Abort, alloc: Global, office: &mut Office<ListBooks>, case: &Case<'_>) {

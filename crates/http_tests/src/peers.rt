@@ -4,8 +4,8 @@ use crate::connections::{REPLY, REQUEST, Stepping, client_of, energy_of_ended};
 use crate::energy_over::Earlier;
 use crate::office::{metered, polled};
 use http_peers::{
-    EarlierFiles, HttpPort, KeptRoom, Now, Outbox, PORT_TOKEN, RunTold, Went, even_milliseconds,
-    went_by,
+    EarlierFiles, HttpPort, KeptRoom, Now, Outbox, PORT_TOKEN, RunSystem, RunTold, Went,
+    even_milliseconds, went_by,
 };
 use memory_books::ListBooks;
 use mio::{Events, Interest, Poll, Token};
@@ -19,9 +19,33 @@ use std::net::{TcpListener, TcpStream};
 use std::test::Fail;
 use std::time::Duration;
 
+// A clock, and whether the files of the office are still there.
+#[derive(Drop)]
+struct System {
+    clock: Stepping,
+    are_there: bool,
+}
+
+impl std::rt::Clock for System {
+    fn monotonic(&self) -> io::Result<Duration> {
+        self.clock.monotonic()
+    }
+
+    fn since_1970(&self) -> io::Result<Duration> {
+        self.clock.since_1970()
+    }
+}
+
+impl RunSystem for System {
+    fn are_files_there(&self) -> bool {
+        self.are_there
+    }
+}
+
 // A port, and what a run has beside it.
 #[derive(Drop)]
 struct Listening {
+    system: System,
     poll: Poll,
     events: Events<Global>,
     port: HttpPort,
@@ -45,9 +69,13 @@ impl Listening {
         room: KeptRoom,
     ) -> Result<Listening, AllocError> {
         Ok(Listening {
+            system: System {
+                clock: Stepping::of(7, 0),
+                are_there: true,
+            },
             poll,
             events: Events::with_capacity(alloc, 8)?,
-            port: HttpPort::new(alloc, listener, room)?,
+            port: HttpPort::new(alloc, listener, room, MOST_PEERS)?,
             monitor: RunMonitor::new(alloc, &[])?,
         })
     }
@@ -72,7 +100,7 @@ impl Listening {
             };
             let place = place_at(first, step);
             self.port
-                .attend(&Stepping::of(7, 0), place, &[], office, &told, now);
+                .attend(&self.system, place, &[], office, &told, now);
         }
         self.port.sweep(time);
     }
@@ -188,6 +216,35 @@ fn a_peer_is_replied_to(rt: HostRuntime) -> Result<(), Fail> {
         assert!(rt; got.as_slice() == reply, "room for {most}");
         assert!(rt; energy_of_ended(&mut office) == energy, "room for {most}");
     }
+    Ok(())
+}
+
+// What a client is replied that asks this, while a file of the office is gone.
+fn replied_without_files(
+    rt: &HostRuntime,
+    request: &[u8],
+    earlier: &Earlier,
+    office: &mut Office<ListBooks>,
+) -> Result<Vec<u8>, Fail> {
+    let listener = TcpListener::bind(rt, "127.0.0.1:0")?;
+    let client = client_of(rt, &listener, request)?;
+    let mut listening = Listening::open(rt, listener, KeptRoom::new(None, 0))?;
+    listening.system.are_there = false;
+    listening.turns(&earlier.files(), office)?;
+    if listening.port.has_lost() != (request == REQUEST) {
+        return Err(Fail::from("the files are looked at for another request"));
+    }
+    read_all(rt.alloc(), client)
+}
+
+#[test]
+fn a_command_over_lost_files_is_not_acknowledged(rt: HostRuntime) -> Result<(), Fail> {
+    let mut office = polled(&rt, rt.alloc());
+    let earlier = Earlier::of_main(&rt, rt.alloc());
+    let got = replied_without_files(&rt, REQUEST, &earlier, &mut office)?;
+    assert!(rt; got.as_slice() == NO_ROOM);
+    let got = replied_without_files(&rt, MONTHS, &earlier, &mut office)?;
+    assert!(rt; got.starts_with(b"HTTP/1.1 200 "));
     Ok(())
 }
 

@@ -27,7 +27,7 @@ fn fails_at_each_byte(rt: HostRuntime) {
 }
 
 #[test]
-fn is_interrupted(rt: HostRuntime) {
+fn a_list_is_written_after_an_interruption(rt: HostRuntime) {
     let list = list_of(&rt, rt.alloc(), TEXT);
     let mut output = Narrow::new(rt.alloc(), TEXT.len(), true);
     assert!(rt; write_list(rt.alloc(), &list, &mut output).is_ok());

@@ -34,7 +34,7 @@ fn full_bank(rt: &impl Abort, alloc: Global) -> Bank {
 }
 
 // Checks that an image has the words of the full models and no others.
-fn is_full(rt: &impl Abort, alloc: Global, found: &Image) {
+fn assert_full(rt: &impl Abort, alloc: Global, found: &Image) {
     let image = full_image(rt, alloc);
     for address in 39990..40240u16 {
         assert!(rt; found.word(address) == image.word(address), "{address}");
@@ -54,7 +54,7 @@ fn full_models_are_read(rt: HostRuntime) {
     let image = scan_over(rt.alloc(), &mut link, 1, &mut shown)
         .ok()
         .expect(&rt, "no scan");
-    is_full(&rt, rt.alloc(), &image);
+    assert_full(&rt, rt.alloc(), &image);
     // the mark, four heads, of which the last is asked for twice and then its ID alone, and three models
     assert!(rt; link.gives() == 10);
     assert!(rt; shown.0 == 3);
@@ -74,7 +74,7 @@ fn a_reply_that_fails_once_is_asked_for_again(rt: HostRuntime) {
     for trick in &ONCE {
         for frame in 1..8u64 {
             let found = scanned(&rt, rt.alloc(), &[(frame, *trick)]);
-            is_full(&rt, rt.alloc(), &found.ok().expect(&rt, "no scan"));
+            assert_full(&rt, rt.alloc(), &found.ok().expect(&rt, "no scan"));
         }
     }
 }

@@ -22,8 +22,6 @@ mod frames;
 #[cfg(test)]
 mod ids;
 #[cfg(test)]
-mod laws;
-#[cfg(test)]
 mod lengths;
 #[cfg(test)]
 mod memory_link;

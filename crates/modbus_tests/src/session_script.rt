@@ -50,7 +50,7 @@ fn bring(rt: &impl Abort, alloc: Global, session: &mut Session, event: &Event) -
     match event {
         Event::Start(asked) => start(rt, session, asked),
         Event::Refused { moment, fault } => refuse(rt, session, *moment, *fault),
-        Event::Ready { id, count } => is_ready(rt, session, *id, *count),
+        Event::Ready { id, count } => assert_ready(rt, session, *id, *count),
         Event::Piece { moment, bytes } => return feed(rt, alloc, session, *moment, bytes),
         Event::Tick { moment } => return tick(rt, alloc, session, *moment),
         Event::Close { moment, closing } => return close(rt, alloc, session, *moment, *closing),
@@ -93,7 +93,7 @@ pub fn refuse(rt: &impl Abort, session: &mut Session, moment: u64, fault: StartF
 }
 
 /// Looks at the next transaction identifier, and at how many polls may start.
-pub fn is_ready(rt: &impl Abort, session: &Session, id: u16, count: usize) {
+pub fn assert_ready(rt: &impl Abort, session: &Session, id: u16, count: usize) {
     let ready = session.ready();
     assert!(rt; ready.id == id && ready.count == count);
 }

@@ -1,6 +1,6 @@
 //! The reply that an answered poll lends, and a call that has told it.
 use crate::first_poll::first_poll;
-use crate::session_script::{GOOD, is_ready};
+use crate::session_script::{GOOD, assert_ready};
 
 static REGISTERS: [Option<u16>; 4] = [Some(0), Some(5200), Some(0), None];
 
@@ -21,5 +21,5 @@ fn a_call_that_told_is_under_way(rt: HostRuntime) {
     assert!(rt; !session.settling());
     assert!(rt; session.next(104, &GOOD).expect(&rt, "no turn").taken == 15);
     assert!(rt; session.settling());
-    is_ready(&rt, &session, 1, 2);
+    assert_ready(&rt, &session, 1, 2);
 }

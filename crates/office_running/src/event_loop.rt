@@ -4,8 +4,10 @@ ghost use Rattle.http_request.specs.Hosts.{texts};
 ghost use Rattle.office_running.specs.Runs.{Goes, ReadsClock, RunsOn, TakesTurns, TurnsFrom};
 
 use crate::clocks::{read_clock, read_time, time_from, to_next_second};
+use crate::descriptors::find_clients;
 use crate::device_polls::Polling;
 use crate::fault::RunFault;
+use crate::file_watch::{FileWatch, Watching};
 use crate::leftovers::{Left, print_left};
 use crate::outlet::Outlet;
 use crate::settings::{Settings, Site};
@@ -25,6 +27,7 @@ use std::alloc::{AllocError, Global};
 use std::io::{ErrorKind, Write};
 use std::net::{Net, SocketAddr};
 use std::os::fd::RawFd;
+use std::rt::Files;
 use std::time::Duration;
 
 /// The token of the first device.
@@ -56,6 +59,9 @@ struct Running {
     /// The lines of what happens, and what is said to people.
     lines: Outlet,
     sayings: Outlet,
+    files: FileWatch,
+    /// Since when a file of the office is gone, by the time of the run.
+    lost_at: Option<u64>,
     /// The time of this turn.
     time: u64,
     /// Whether it has a tick: a second has passed since the turn before, or the clock tells a later moment.
@@ -97,19 +103,20 @@ fn listen<R: Net>(rt: &R, registry: &Registry, addr: SocketAddr) -> Result<TcpLi
     }
 }
 
-// The port of a listener, with room to keep as much of what is asked as the settings leave.
+// The port of a listener, which accepts so many clients at once, with room to keep as much of what is asked as the settings leave.
 fn port_of(
     alloc: Global,
     listener: TcpListener,
     settings: &Settings<'_>,
+    clients: usize,
 ) -> Result<HttpPort, AllocError> {
     let room = KeptRoom::new(settings.most_kept, settings.kept);
-    HttpPort::new(alloc, listener, room)
+    HttpPort::new(alloc, listener, room, clients)
 }
 
 impl Running {
     // Opens the port. Each device rests until it is due.
-    fn open<R: Net>(
+    fn open<R: Net + Files>(
         rt: &R,
         alloc: Global,
         settings: &Settings<'_>,
@@ -121,16 +128,24 @@ impl Running {
             return Err(RunFault::Sockets);
         };
         let polling = Polling::new(alloc, sites, settings.every, time)?;
-        let voice = voice_of(alloc, sites, lacks, settings.verbose)?;
+        let mut voice = voice_of(alloc, sites, lacks, settings.verbose)?;
         let (output, errors) = descriptors_of(settings);
         let listener = listen(rt, poll.registry(), settings.listen)?;
+        let lines = Outlet::open(rt, alloc, output);
+        let sayings = Outlet::open(rt, alloc, errors);
+        let (clients, few) = find_clients(rt, alloc, sites.len())?;
+        if let Some(few) = few {
+            voice.say_few(few);
+        }
         Ok(Running {
             poll,
             polling,
-            port: port_of(alloc, listener, settings)?,
+            port: port_of(alloc, listener, settings, clients)?,
             voice,
-            lines: Outlet::open(rt, alloc, output),
-            sayings: Outlet::open(rt, alloc, errors),
+            lines,
+            sayings,
+            files: FileWatch::open(rt, alloc, settings.files)?,
+            lost_at: None,
             time,
             ticks: false,
         })
@@ -155,6 +170,30 @@ impl Running {
         }
     }
 
+    // Looks at the files of the office, and says which one is gone. From then on no command is acted on.
+    fn find_loss<R: Files>(&mut self, rt: &R) {
+        if let Some(lost) = self.files.look(rt) {
+            self.voice.say_lost(self.files.path(lost.index), lost.loss);
+            self.port.lose_files();
+        }
+        if self.port.has_lost() {
+            self.lost_at = Some(self.time);
+        }
+    }
+
+    // Looks whether the files of the office are still there. Where one is gone the run ends a second later, or two: clients that have
+    // just connected are answered meanwhile.
+    fn look_at_files<R: Files>(&mut self, rt: &R) {
+        match self.lost_at {
+            Some(time) => {
+                if time.saturating_add(1) < self.time {
+                    self.voice.stopped = true;
+                }
+            }
+            None => self.find_loss(rt),
+        }
+    }
+
     // What is to be done once a second, but for the office.
     fn begin_second<R: Net>(&mut self, rt: &R, now: Now) {
         self.port.sweep(now.time);
@@ -175,7 +214,7 @@ impl Running {
     }
 
     // Goes on with each connection, also with those that are new.
-    fn attend_peers<R: std::rt::Clock, B: Books>(
+    fn attend_peers<R: std::rt::Clock + Files, B: Books>(
         &mut self,
         rt: &R,
         names: &[&str],
@@ -187,6 +226,7 @@ impl Running {
     {
         self.port.accept(self.poll.registry(), now.time);
         let first = self.port.first();
+        let system = Watching::of(rt, !self.files.is_lost(rt));
         for step in 0..MOST_PEERS {
             let place = place_at(first, step);
             let told = RunTold {
@@ -194,13 +234,13 @@ impl Running {
                 lacks: &self.voice.lacks,
                 earlier: &*earlier,
             };
-            self.port.attend(rt, place, names, office, &told, now);
+            self.port.attend(&system, place, names, office, &told, now);
         }
     }
 
     // Goes on with the device of a place, and where something had come of it, with the peers that have asked meanwhile: they
     // wait for what one device brought, and not for all.
-    fn attend_device<R: std::rt::Clock, B: Books>(
+    fn attend_device<R: std::rt::Clock + Files, B: Books>(
         &mut self,
         rt: &R,
         place: usize,
@@ -219,7 +259,7 @@ impl Running {
     }
 
     // Goes on with each device.
-    fn attend_devices<R: std::rt::Clock, B: Books>(
+    fn attend_devices<R: std::rt::Clock + Files, B: Books>(
         &mut self,
         rt: &R,
         names: &[&str],
@@ -236,7 +276,7 @@ impl Running {
     }
 
     // Goes on with all.
-    fn go_on<R: Net + std::rt::Clock, B: Books>(
+    fn go_on<R: Net + std::rt::Clock + Files, B: Books>(
         &mut self,
         rt: &R,
         names: &[&str],
@@ -269,7 +309,7 @@ impl Running {
     }
 
     // Goes on with all, and ends the rounds where the time is up. It answers whether it is.
-    fn act<R: Net + std::rt::Clock, B: Books>(
+    fn act<R: Net + std::rt::Clock + Files, B: Books>(
         &mut self,
         rt: &R,
         names: &[&str],
@@ -338,7 +378,7 @@ impl Running {
     }
 
     // Prints what is to be told, and waits unless the time is up.
-    fn rest<R: std::rt::Clock, W: Write, E: Write>(
+    fn rest<R: std::rt::Clock + Files, W: Write, E: Write>(
         &mut self,
         rt: &R,
         time: &mut RunTime,
@@ -348,8 +388,9 @@ impl Running {
         errors: &mut E,
         is_over: bool,
     ) -> Result<(), RunFault> {
+        self.look_at_files(rt);
         self.print(now, output, errors)?;
-        if self.voice.stopped {
+        if self.voice.stopped || is_over && self.lost_at.is_some() {
             return Err(RunFault::Stopped);
         }
         if is_over {
@@ -371,7 +412,7 @@ impl Running {
     }
 
     // One turn of the loop. It answers whether the time is up.
-    fn turn<R: Net + std::rt::Clock, B: Books, W: Write, E: Write>(
+    fn turn<R: Net + std::rt::Clock + Files, B: Books, W: Write, E: Write>(
         &mut self,
         rt: &R,
         names: &[&str],
@@ -386,6 +427,7 @@ impl Running {
     ) -> Result<bool, RunFault>
         ensures { Goes (texts names.now) now.moment B.ledger office.old office.new }
     {
+        self.look_at_files(rt);
         let is_over = self.act(rt, names, earlier, events, office, now, end);
         self.rest(rt, time, events, now, output, errors, is_over)?;
         Ok(is_over)
@@ -419,7 +461,7 @@ impl Running {
     }
 
     // Turns until the time is up.
-    fn turns<R: Net + std::rt::Clock, B: Books, C: Clock, W: Write, E: Write>(
+    fn turns<R: Net + std::rt::Clock + Files, B: Books, C: Clock, W: Write, E: Write>(
         &mut self,
         rt: &R,
         names: &[&str],
@@ -466,7 +508,7 @@ fn end_of(settings: &Settings<'_>, now: u64) -> End {
 }
 
 // Opens the port of an open office, and tells what was left in its books, and that it listens.
-fn open<R: Net, W: Write>(
+fn open<R: Net + Files, W: Write>(
     rt: &R,
     alloc: Global,
     left: Option<Left>,
@@ -489,7 +531,7 @@ fn open<R: Net, W: Write>(
 }
 
 // The same from a moment on, and then turns until the time is up.
-fn run_from<R: Net + std::rt::Clock, B: Books, C: Clock, W: Write, E: Write>(
+fn run_from<R: Net + std::rt::Clock + Files, B: Books, C: Clock, W: Write, E: Write>(
     rt: &R,
     alloc: Global,
     left: Option<Left>,
@@ -534,7 +576,7 @@ fn run_from<R: Net + std::rt::Clock, B: Books, C: Clock, W: Write, E: Write>(
 
 /// Tells what was left in the books of an open office, polls its devices and answers HTTP, until the time is up. What the page asks first is
 /// asked once before: where books keep what look-ups answered, no device waits for that later.
-pub(crate) fn run_open<R: Net + std::rt::Clock, B: Books, C: Clock, W: Write, E: Write>(
+pub(crate) fn run_open<R: Net + std::rt::Clock + Files, B: Books, C: Clock, W: Write, E: Write>(
     rt: &R,
     alloc: Global,
     left: Option<Left>,

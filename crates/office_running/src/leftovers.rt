@@ -1,5 +1,5 @@
 //! What books tell before they are opened.
-ghost use Rattle.std.specs.Prelude.{IfSome};
+ghost use Rattle.std.specs.Prelude.{◌≡◌, false, nat_lt, IfSome};
 ghost use Rattle.office_core.specs.Leaving.{BooksStand};
 ghost use Rattle.office_rules.specs.History.{History};
 ghost use Rattle.office_program.specs.Texts.Passing.{Lasts};
@@ -51,17 +51,26 @@ pub(crate) fn print_left<W: Write>(left: Option<Left>, output: &mut W) -> Result
     }
 }
 
-/// Says why an office may not be opened: its books go further than the clock.
-pub(crate) fn say_unopened<C: Clock, E: Write>(left: Option<Left>, clock: &mut C, errors: &mut E) {
-    let Some(left) = left else {
-        return;
-    };
-    let now = clock.now();
-    let latest = left.latest;
-    if now < latest {
+/// Says why an office may not be opened, where its latest record is later than the clock: both timestamps, and what can be done. It
+/// returns whether that is so.
+pub fn say_ahead<E: Write>(latest: u64, now: u64, errors: &mut E) -> bool
+    ensures ahead { result ≡ nat_lt now latest }
+    ensures silent { result ≡ false → errors.new ≡ errors.old }
+{
+    let is_ahead = now < latest;
+    if is_ahead {
         let _said = writeln!(
             errors,
             "sunreg: the books go to {latest}, and the clock says {now}: where the clock is wrong, set it right; where the books have an entry that was made at a false moment, wait until the clock has passed it, or go on from a copy made before"
         );
     }
+    is_ahead
+}
+
+/// Says why an office may not be opened: its books go further than the clock.
+pub(crate) fn say_unopened<C: Clock, E: Write>(left: Option<Left>, clock: &mut C, errors: &mut E) {
+    let Some(left) = left else {
+        return;
+    };
+    let _is_ahead = say_ahead(left.latest, clock.now(), errors);
 }

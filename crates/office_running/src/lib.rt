@@ -2,10 +2,12 @@
 #![tactic(auto)]
 
 mod clocks;
+mod descriptors;
 mod device_polls;
 mod devices;
 mod event_loop;
 mod fault;
+mod file_watch;
 mod lacking;
 mod leftovers;
 mod office;
@@ -14,6 +16,7 @@ mod settings;
 mod voice;
 
 pub use fault::RunFault;
+pub use leftovers::say_ahead;
 pub use office::{Ran, run_office};
 pub use outlet::write_without_waiting;
 pub use settings::{Descriptors, Settings, Site};

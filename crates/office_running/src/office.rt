@@ -16,6 +16,7 @@ use socket_link::Clock;
 use std::alloc::Global;
 use std::io::Write;
 use std::net::Net;
+use std::rt::Files;
 
 /// The books that a run hands back, and how it ended.
 #[derive(Drop)]
@@ -29,7 +30,7 @@ pub struct Ran<B> {
 /// the port is open; then a line an event, as far as these can be written without waiting for a reader: others are dropped and counted. On errors it says once
 /// what a device lacks, and what each refusal and each held reading means. A clock that is set back is told once, and what comes
 /// then comes at the latest moment. All that the office is fed comes at moments of the clock, in seconds since 1970-01-01 UTC.
-pub fn run_office<R: Net + std::rt::Clock, B: Books, C: Clock, W: Write, E: Write>(
+pub fn run_office<R: Net + std::rt::Clock + Files, B: Books, C: Clock, W: Write, E: Write>(
     rt: &R,
     alloc: Global,
     mut books: B,

@@ -3,8 +3,7 @@ use mio::unix::SourceFd;
 use mio::{Events, Interest, Poll, Token};
 use run_status::LineQueue;
 use std::alloc::Global;
-use std::io;
-use std::io::Write;
+use std::io::{self, ErrorKind, Write};
 use std::net::Net;
 use std::os::fd::RawFd;
 use std::time::Duration;
@@ -120,14 +119,18 @@ impl Outlet {
         Ok(())
     }
 
-    /// Writes what waits, as far as that can be done now.
+    /// Writes what waits, as far as that can be done now. Where nobody reads it any more it waits, as in a pipe that is full.
     pub(crate) fn write<W: Write>(&mut self, output: &mut W) -> io::Result<()> {
         for _piece in 0..MOST_PIECES {
             let count = self.room();
             if count == 0 {
                 return Ok(());
             }
-            self.write_piece(count, output)?;
+            match self.write_piece(count, output) {
+                Ok(()) => {}
+                Err(error) if error.kind() == ErrorKind::BrokenPipe => return Ok(()),
+                Err(error) => return Err(error),
+            }
         }
         Ok(())
     }

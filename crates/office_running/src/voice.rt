@@ -1,8 +1,10 @@
 //! What is kept and told of what the office is fed.
+use crate::descriptors::FewClients;
 use crate::leftovers::Left;
 use office_events::{Answer, Event, Name, Note, Observer, Refusal};
 use office_rounds::Sum;
 use poll_core::Closing;
+use run_schedule::FileLoss;
 use run_status::{
     DeviceLack, Lack, RunMonitor, Told, ToldNumber, Topic, put, put_head, put_held, put_lack,
     put_lines, put_number, put_refusal, put_sum,
@@ -61,6 +63,16 @@ fn word_of(standing: Standing) -> &'static [u8] {
         Standing::Answers => b" answers\n",
         Standing::Silent => b" silent\n",
         Standing::Unreachable => b" unreachable\n",
+    }
+}
+
+// How a file of the office is lost, after its path.
+fn how_lost(loss: FileLoss) -> &'static [u8] {
+    match loss {
+        FileLoss::Missing => b"this file was removed or renamed while the office had it open",
+        FileLoss::Replaced =>
+            b"another file has taken the place of the one that the office has open",
+        FileLoss::Shortened => b"this file was cut short while the office had it open",
     }
 }
 
@@ -193,6 +205,40 @@ impl Voice {
                 b"sunreg: commands over HTTP are answered 503: no room is left to keep them; start again with a larger --most-kept, or with a new file\n",
             );
         }
+    }
+
+    /// Says that few clients are accepted at once.
+    pub(crate) fn say_few(&mut self, few: FewClients) {
+        let _done = put_number(
+            &mut self.said,
+            b"sunreg: few descriptors: HTTP is answered to ",
+            few.clients as u64,
+        );
+        let _done = put_number(
+            &mut self.said,
+            b" clients at once, since the devices come first; for 64 devices and 64 clients start it with ulimit -n ",
+            few.limit as u64,
+        );
+        let _done = put(&mut self.said, b"\n");
+    }
+
+    /// Says that a file of the office is gone. A byte of its path that would not stay in the line is written as `?`.
+    pub(crate) fn say_lost(&mut self, path: &str, loss: FileLoss) {
+        let _done = put(&mut self.said, b"sunreg: ");
+        for byte in path.as_bytes() {
+            let shown = if *byte < 32 || *byte == 127 {
+                b'?'
+            } else {
+                *byte
+            };
+            let _done = self.said.push(shown);
+        }
+        let _done = put(&mut self.said, b": ");
+        let _done = put(&mut self.said, how_lost(loss));
+        let _done = put(
+            &mut self.said,
+            b": what is recorded now would be lost, so commands are answered 503 and the run ends: move the file back, or restore a backup\n",
+        );
     }
 
     /// Tells how a device stands, where that was otherwise before.

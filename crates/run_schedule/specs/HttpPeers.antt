@@ -1,3 +1,4 @@
 pub mod Places
 pub mod TurnShares
 pub mod HeldReplies
+pub mod Clients

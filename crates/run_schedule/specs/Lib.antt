@@ -1,3 +1,4 @@
 pub mod Timing
 pub mod HttpPeers
 pub mod Periods
+pub mod FileMarks

@@ -1,12 +1,14 @@
 //! The places of the connections that are served at once.
 
 mod choice;
+mod clients;
 mod held_replies;
 mod peers;
 mod place;
 mod turn_share;
 
 pub use choice::place_for;
+pub use clients::{clients_for, needed_limit, wanted_descriptors};
 pub use held_replies::{little_is_held, may_reply};
 pub use peers::{Admission, MOST_PEERS, Peers};
 pub use place::Place;

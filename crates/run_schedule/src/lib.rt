@@ -1,13 +1,16 @@
-//! When devices are polled, which peers are attended, and in which file books are led: over moments, numbers and names alone.
+//! When devices are polled, which peers are attended, in which file books are led, and whether that is still there: over moments,
+//! numbers and names alone.
 #![tactic(auto)]
 
+mod file_marks;
 mod http_peers;
 mod periods;
 mod timing;
 
+pub use file_marks::{FileLoss, FileMark, file_loss};
 pub use http_peers::{
-    Admission, MOST_PEERS, Peers, TurnShare, little_is_held, may_reply, place_at, place_for,
-    replies_are_few, turns_go_round,
+    Admission, MOST_PEERS, Peers, TurnShare, clients_for, little_is_held, may_reply, needed_limit,
+    place_at, place_for, replies_are_few, turns_go_round, wanted_descriptors,
 };
 pub use periods::{
     LedPeriod, Plan, file_of_period, last_round, next_try, nothing_goes_back, period_end,

@@ -1,10 +1,12 @@
-//! Scripts, run over an office in memory, and over a stand-in for the devices.
+//! Scripts, run over an office in memory or in any store, and over a stand-in for the devices.
 #![tactic(auto)]
 
+mod any_books;
 mod bank;
 mod looping;
 mod replaying;
 
+pub use any_books::replay_books;
 pub use bank::{Setup, SetupParts, set_up};
 pub use looping::{Connects, Ends, Loopback, loop_text};
 pub use replaying::{Replayed, replay};

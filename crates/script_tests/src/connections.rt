@@ -16,7 +16,7 @@ const WRITE: &[u8] = &[0, 8, 0, 0, 0, 6, 1, 6, 0, 0, 0, 5];
 
 const FIVE: &[u8] = &[0, 7, 0, 0, 0, 5, 1, 3, 2, 0, 5];
 
-// A frame whose length is none.
+// A frame whose length is none: it garbles the stream.
 const GARBLED: &[u8] = &[0, 7, 0, 0, 0, 1, 1, 3];
 
 static AREA: [Area; 1] = [Area {
@@ -26,74 +26,73 @@ static AREA: [Area; 1] = [Area {
 }];
 
 fn bank_with_nine(rt: &impl Abort, alloc: Global) -> Bank {
-    let Ok(mut bank) = Bank::new(alloc, &AREA) else {
-        panic!(rt; "no bank");
-    };
+    let mut bank = Bank::new(alloc, &AREA).ok().expect(rt, "no bank");
     bank.set(Kind::Holding, 0, 9);
     bank
 }
 
-// A peer of the listener that has sent bytes, and sends no more if it is said so.
-fn peer_of(
-    rt: &HostRuntime,
-    listener: &TcpListener,
-    sent: &[u8],
-    ends: bool,
-) -> io::Result<TcpStream> {
-    let mut peer = TcpStream::connect(rt, listener.local_addr()?)?;
-    peer.write_all(sent)?;
-    if ends {
-        peer.shutdown(Shutdown::Write)?;
+/// What a peer sends, and what it is answered; none where it sends on.
+struct Peer {
+    sent: &'static [u8],
+    answer: Option<&'static [u8]>,
+}
+
+static PEERS: [Peer; 5] = [
+    Peer {
+        sent: READ,
+        answer: Some(NINE),
+    },
+    Peer {
+        sent: WRITE,
+        answer: Some(WRITE),
+    },
+    Peer {
+        sent: READ,
+        answer: Some(FIVE),
+    },
+    Peer {
+        sent: GARBLED,
+        answer: None,
+    },
+    Peer {
+        sent: READ,
+        answer: Some(FIVE),
+    },
+];
+
+// The stream of a peer that has sent its bytes.
+fn stream_of(rt: &HostRuntime, listener: &TcpListener, peer: &Peer) -> io::Result<TcpStream> {
+    let mut stream = TcpStream::connect(rt, listener.local_addr()?)?;
+    stream.write_all(peer.sent)?;
+    if peer.answer.is_some() {
+        stream.shutdown(Shutdown::Write)?;
     }
-    Ok(peer)
+    Ok(stream)
 }
 
-// Checks that an answer comes to a peer, and then the end.
-fn is_answered(
-    rt: &impl Abort,
-    alloc: Global,
-    peer: &mut TcpStream,
-    answer: &[u8],
-) -> io::Result<()> {
-    let mut got = Vec::new(alloc);
-    peer.read_to_end(&mut got)?;
-    assert_eq!(rt; got.as_slice(), answer);
-    Ok(())
+// Asserts that a peer gets its answer, and then the end.
+fn assert_answered(rt: &impl Abort, alloc: Global, stream: &mut TcpStream, peer: &Peer) {
+    if let Some(answer) = peer.answer {
+        let mut got = Vec::new(alloc);
+        assert!(rt; stream.read_to_end(&mut got).is_ok());
+        assert!(rt; got.as_slice() == answer);
+    }
 }
 
-// Three peers, each of which has sent a frame.
-fn three_peers(rt: &HostRuntime, listener: &TcpListener) -> io::Result<[TcpStream; 3]> {
-    let first = peer_of(rt, listener, READ, true)?;
-    let second = peer_of(rt, listener, WRITE, true)?;
-    let third = peer_of(rt, listener, READ, true)?;
-    Ok([first, second, third])
-}
-
+// Each connection is answered in turn, and a garbled one ends alone.
 #[test]
 fn each_connection_is_answered_in_turn(rt: HostRuntime) {
     let listener = TcpListener::bind(&rt, "127.0.0.1:0").expect(&rt, "no listener");
-    let [mut first, mut second, mut third] = three_peers(&rt, &listener).expect(&rt, "no peers");
+    let mut streams = Vec::new(rt.alloc());
+    for peer in &PEERS {
+        let stream = stream_of(&rt, &listener, peer).expect(&rt, "no peer");
+        streams.push(stream).expect(&rt, "no memory");
+    }
     let mut bank = bank_with_nine(&rt, rt.alloc());
-    assert!(rt; answer_all(&listener, 3, &mut bank, &[]).is_ok());
-    assert!(rt; is_answered(&rt, rt.alloc(), &mut first, NINE).is_ok());
-    assert!(rt; is_answered(&rt, rt.alloc(), &mut second, WRITE).is_ok());
-    assert!(rt; is_answered(&rt, rt.alloc(), &mut third, FIVE).is_ok());
-}
-
-// A peer whose frame garbles its stream, and one that reads.
-fn two_peers(rt: &HostRuntime, listener: &TcpListener) -> io::Result<[TcpStream; 2]> {
-    let first = peer_of(rt, listener, GARBLED, false)?;
-    let second = peer_of(rt, listener, READ, true)?;
-    Ok([first, second])
-}
-
-#[test]
-fn a_garbled_connection_ends_alone(rt: HostRuntime) {
-    let listener = TcpListener::bind(&rt, "127.0.0.1:0").expect(&rt, "no listener");
-    let [_first, mut second] = two_peers(&rt, &listener).expect(&rt, "no peers");
-    let mut bank = bank_with_nine(&rt, rt.alloc());
-    assert!(rt; answer_all(&listener, 2, &mut bank, &[]).is_ok());
-    assert!(rt; is_answered(&rt, rt.alloc(), &mut second, NINE).is_ok());
+    assert!(rt; answer_all(&listener, 5, &mut bank, &[]).is_ok());
+    for (stream, peer) in streams.iter_mut().zip(&PEERS) {
+        assert_answered(&rt, rt.alloc(), stream, peer);
+    }
 }
 
 #[test]

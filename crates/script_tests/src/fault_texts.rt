@@ -6,12 +6,12 @@ use std::alloc::Global;
 use std::fmt::Display;
 use std::process::Abort;
 
-// Each fault says its text, which has no full stop.
-fn tells<F: Display>(rt: &impl Abort, alloc: Global, texts: &[(F, &str)]) {
+// Asserts that each fault says its text, which has no full stop.
+fn assert_texts<F: Display>(rt: &impl Abort, alloc: Global, texts: &[(F, &str)]) {
     for (fault, text) in texts {
         let said = format!(in alloc; "{fault}").expect(rt, "no memory");
-        assert_eq!(rt; said.as_str(), *text);
-        assert!(rt; !text.ends_with('.'));
+        assert!(rt; said.as_str() == *text, "{text}");
+        assert!(rt; !text.ends_with('.'), "{text}");
     }
 }
 
@@ -53,31 +53,21 @@ const PARTS: [(ListFault, &str); 2] = [
 ];
 
 #[test]
-fn faults_of_inputs_say_their_texts(rt: HostRuntime) {
-    tells(&rt, rt.alloc(), &LINES);
-    tells(&rt, rt.alloc(), &INPUTS)
-}
-
-#[test]
-fn faults_of_devices_say_their_texts(rt: HostRuntime) {
-    tells(&rt, rt.alloc(), &DEVICES);
-    tells(&rt, rt.alloc(), &PARTS)
+fn faults_say_their_texts(rt: HostRuntime) {
+    assert_texts(&rt, rt.alloc(), &LINES);
+    assert_texts(&rt, rt.alloc(), &INPUTS);
+    assert_texts(&rt, rt.alloc(), &DEVICES);
+    assert_texts(&rt, rt.alloc(), &PARTS);
 }
 
 #[test]
 fn faults_of_words_say_their_texts(rt: HostRuntime) {
-    let wrong = WordsFault::Wrong(String::from_str(rt.alloc(), "error: x\n").expect(
-        &rt,
-        "no memory",
-    ));
-    let help = WordsFault::Help(String::from_str(rt.alloc(), "Usage: x\n").expect(
-        &rt,
-        "no memory",
-    ));
+    let wrong = String::from_str(rt.alloc(), "error: x\n").expect(&rt, "no memory");
+    let help = String::from_str(rt.alloc(), "Usage: x\n").expect(&rt, "no memory");
     let texts = [
-        (wrong, "error: x\n"),
-        (help, "Usage: x\n"),
+        (WordsFault::Wrong(wrong), "error: x\n"),
+        (WordsFault::Help(help), "Usage: x\n"),
         (WordsFault::Memory, "memory ran out"),
     ];
-    tells(&rt, rt.alloc(), &texts)
+    assert_texts(&rt, rt.alloc(), &texts)
 }

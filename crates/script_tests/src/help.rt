@@ -1,46 +1,36 @@
-//! Help, wherever it is asked for.
-use command_words::{WordsFault, command_of};
-use std::alloc::Global;
+//! Help and the version, wherever they are asked for.
+use crate::spelled_words::{assert_parts, assert_spelled, spelled};
+use command_words::program;
 
-static HELP: [&[&str]; 14] = [
-    &["--help"],
-    &["-h"],
-    &["help"],
-    &["help", "help"],
-    &["help", "replay"],
-    &["help", "stand-in"],
-    &["plan", "--help"],
-    &["run", "-h"],
-    &["--help", "serve"],
-    &["-h", "bogus"],
-    &["serve", "--port", "x", "--help"],
-    &["report", "--db", "x", "-h", "--bogus"],
-    &["help", "explain"],
-    &["completions", "-h"],
+static HELP: [(&str, &str); 14] = [
+    ("--help", "help: "),
+    ("-h", "help: "),
+    ("help", "help: "),
+    ("help|help", "help: "),
+    ("help|replay", "help: "),
+    ("help|stand-in", "help: "),
+    ("plan|--help", "help: "),
+    ("run|-h", "help: "),
+    ("--help|serve", "help: "),
+    ("-h|bogus", "help: "),
+    ("serve|--port|x|--help", "help: "),
+    ("report|--db|x|-h|--bogus", "help: "),
+    ("help|explain", "help: "),
+    ("completions|-h", "help: "),
 ];
-
-// The text of the help that the words ask for.
-fn help(alloc: Global, words: &[&str]) -> Option<String> {
-    match command_of(alloc, words) {
-        Err(WordsFault::Help(text)) => Some(text),
-        _ => None,
-    }
-}
 
 #[test]
 fn each_form_of_help_is_help(rt: HostRuntime) {
-    for words in &HELP {
-        assert!(rt; help(rt.alloc(), words).is_some(), "{words:?}");
-    }
+    assert_parts(&rt, rt.alloc(), &HELP);
 }
 
-static PROGRAM: &str = "\
-Polls SunSpec meters by Modbus TCP; keeps their energy by quarter hours and days
+const PROGRAM: &str = "\
+help: Polls SunSpec meters by Modbus TCP; keeps their energy by quarter hours and days
 
 Usage: sunreg [COMMAND]
 
 Commands:
-  replay       Runs a script from standard input over books in memory
+  replay       Runs a script over books in memory or in a file (the default)
   plan         Prints the reads that a point list from standard input needs
   chain        Lists the SunSpec models of an image from standard input
   scan         Lists the SunSpec models of a live device, which it only reads
@@ -50,6 +40,7 @@ Commands:
   round        Polls the whole plan of one device once
   report       Prints a register's energy by days, months or years
   backup       Makes one whole file of an office
+  recover      Makes a new file of what a damaged log still holds
   carry        Begins a new file where an office's meters stand
   audit        Checks an office's rows against one another; it only reads
   stand-in     Plays a Modbus device, with a bank from standard input
@@ -63,12 +54,11 @@ Options:
   -h, --help     Print help
   -V, --version  Print version
 
-Without a command it is replay. Help on a command, for example: sunreg help run
 Exit status: 0 fine, 1 refused, 2 wrong words, 3 a file, stream or socket failed
 ";
 
-static SERVE: &str = "\
-Answers HTTP on 127.0.0.1, one connection after the other
+const SERVE: &str = "\
+help: Answers HTTP on 127.0.0.1, one connection after the other
 
 Usage: sunreg serve [OPTIONS] --db <FILE> --port <N> --connections <N>
 
@@ -82,8 +72,8 @@ Options:
 Example: sunreg serve --db office.db --port 8080 --connections 100
 ";
 
-static EXPLAIN: &str = "\
-Tells what a printed number means, its cause, and what to do
+const EXPLAIN: &str = "\
+help: Tells what a printed number means, its cause, and what to do
 
 Usage: sunreg explain <WHAT> <NUMBER>
 
@@ -97,8 +87,8 @@ Options:
 Example: sunreg explain refused 12
 ";
 
-static RUN: &str = "\
-Polls devices on a schedule and answers HTTP, until it is ended
+const RUN: &str = "\
+help: Polls devices on a schedule and answers HTTP, until it is ended
 
 Usage: sunreg run [OPTIONS] --db <FILE> --listen <PORT> --every <SECONDS> --devices <LIST>
 
@@ -119,35 +109,41 @@ Example:
   sunreg run --db office.db --listen 8080 --every 60 --devices inv=192.0.2.7:502
 ";
 
-fn is_told(alloc: Global, words: &[&str], expected: &str) -> bool {
-    match help(alloc, words) {
-        Some(text) => text.as_str() == expected,
-        None => false,
-    }
-}
+/// Each line, and its help or the version.
+static TEXTS: [(&str, &str); 10] = [
+    ("--help", PROGRAM),
+    ("help", PROGRAM),
+    ("help|serve", SERVE),
+    ("serve|-h", SERVE),
+    ("run|--help", RUN),
+    ("help|explain", EXPLAIN),
+    ("--version", "Version"),
+    ("-V", "Version"),
+    ("--version|serve", "Version"),
+    ("-V|bogus", "Version"),
+];
 
 #[test]
 fn the_texts_of_help_stand(rt: HostRuntime) {
-    for (words, expected) in [(["--help"], PROGRAM), (["help"], PROGRAM)] {
-        assert!(rt; is_told(rt.alloc(), &words, expected));
-    }
-    for (words, expected) in [
-        (["help", "serve"], SERVE),
-        (["serve", "-h"], SERVE),
-        (["run", "--help"], RUN),
-        (["help", "explain"], EXPLAIN),
-    ] {
-        assert!(rt; is_told(rt.alloc(), &words, expected));
-    }
+    assert_spelled(&rt, rt.alloc(), &TEXTS);
 }
 
 #[test]
 fn help_fits_one_screen(rt: HostRuntime) {
-    let Some(text) = help(rt.alloc(), &["--help"]) else {
-        panic!(rt; "no help");
-    };
-    assert!(rt; text.as_str().lines().count() <= 30);
-    for line in text.as_str().lines() {
+    let text = spelled(&rt, rt.alloc(), "--help");
+    let help = text.as_str().strip_prefix("help: ").expect(&rt, "no help");
+    assert!(rt; help.lines().count() <= 30);
+    for line in help.lines() {
         assert!(rt; line.len() <= 80, "{line}");
     }
+}
+
+#[test]
+fn the_table_has_the_commands_in_the_order_of_help(rt: HostRuntime) {
+    let program = program();
+    assert!(rt; program.name == "sunreg");
+    assert!(rt; program.commands.len() == 9 && program.later.len() == 9);
+    let (first, last) = (program.commands.first(), program.later.last());
+    assert!(rt; first.expect(&rt, "a command").name == "replay");
+    assert!(rt; last.expect(&rt, "a command").name == "completions");
 }

@@ -1,36 +1,25 @@
-//! Tests of scripts: streams that fail and inputs of megabytes, what a line spells, what is printed, stand-ins for devices, and the
-//! words of the program. What a script and its output can show is a case in the data of `script_cases`.
+//! Tests of scripts: streams that fail and inputs of megabytes, what no script prints, stand-ins for devices, and the words of the
+//! program. What a script and its output can show is a case in the data of `script_cases`.
 #![tactic(auto)]
 
 #[cfg(test)]
 mod answers;
 #[cfg(test)]
-mod bank;
-#[cfg(test)]
-#[cfg(test)]
-mod commands;
-#[cfg(test)]
 mod connections;
 #[cfg(test)]
-mod device_words;
-#[cfg(test)]
 mod fault_texts;
-#[cfg(test)]
-mod happenings;
 #[cfg(test)]
 mod help;
 #[cfg(test)]
 mod inputs;
 #[cfg(test)]
-mod line_words;
-#[cfg(test)]
 mod lines;
 #[cfg(test)]
 mod loops;
 #[cfg(test)]
-mod number_words;
-#[cfg(test)]
 mod numbers;
+#[cfg(test)]
+mod option_values;
 #[cfg(test)]
 mod printing;
 #[cfg(test)]
@@ -44,8 +33,8 @@ mod scans;
 #[cfg(test)]
 mod set_ups;
 #[cfg(test)]
-mod streams;
+mod spelled_words;
 #[cfg(test)]
-mod version;
+mod streams;
 #[cfg(test)]
 mod wrong_words;

@@ -1,5 +1,7 @@
-//! Lines that have no form, as they can't stand in a script: it skips empty ones, and drops a carriage return.
-use script_lines::{LineFault, ScriptLine};
+//! Lines that no script has, since it skips empty ones and drops a carriage return, and lines of the greatest length.
+use script_lines::{BankLine, LineFault, ScriptLine};
+use std::alloc::Global;
+use std::process::Abort;
 
 static BAD: [&[u8]; 4] = [b"", b" ", b"1903 tick\r", b"# a comment"];
 
@@ -9,10 +11,31 @@ fn reads_no_other_lines(rt: HostRuntime) {
         let read = ScriptLine::read(rt.alloc(), text);
         assert!(rt; matches!(&read, Err(LineFault::Bad)), "{text:?}");
     }
-}
-
-#[test]
-fn faults_have_their_numbers(rt: HostRuntime) {
     assert!(rt; LineFault::Bad.number() == 1);
     assert!(rt; LineFault::Memory.number() == 2);
+    assert!(rt; BankLine::read(b"").is_none());
+    assert!(rt; BankLine::read(b"area coil 0 1\r").is_none());
+}
+
+// A line with a list of so many bytes of 0.
+fn zeros_listed(rt: &impl Abort, alloc: Global, count: usize) -> Vec<u8> {
+    let mut text = b"1900 list inv ".to_vec(alloc).expect(rt, "no memory");
+    text.resize(14 + 2 * count.min(70_000), b'0')
+        .expect(rt, "no memory");
+    text
+}
+
+static ZEROS: [u8; 65_536] = [0; 65_536];
+
+#[test]
+fn pieces_have_at_most_65536_bytes(rt: HostRuntime) {
+    let most = zeros_listed(&rt, rt.alloc(), 65_536);
+    match ScriptLine::read(rt.alloc(), &most) {
+        Ok(ScriptLine::List { list, .. }) => {
+            assert!(rt; list.text.as_slice() == ZEROS.as_slice());
+        }
+        _ => panic!(rt; "no list"),
+    }
+    let past = zeros_listed(&rt, rt.alloc(), 65_537);
+    assert!(rt; ScriptLine::read(rt.alloc(), &past).is_err());
 }

@@ -57,9 +57,9 @@ fn a_writer_that_fails_ends_the_run(rt: HostRuntime) {
         let mut kept = Kept::new(rt.alloc(), room.saturating_add(1), 1);
         let ended = loop_text(rt.alloc(), zone(&rt), &mut input, &mut loopback, &mut kept);
         assert!(rt; kept.got.len() == *room);
-        let whole = kept.is_whole(&rt, PRINTED);
+        let whole = kept.assert_written(&rt, PRINTED);
         assert!(rt; ended == *status, "{room}");
-        assert_eq!(rt; whole, *status == ExitStatus::Refused, "{room}");
+        assert!(rt; whole == (*status == ExitStatus::Refused), "{room}");
     }
 }
 

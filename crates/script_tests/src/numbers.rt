@@ -1,124 +1,31 @@
-//! What printed numbers mean: each number that the enums have, and no empty sentence.
-use energy_core::Cause;
-use office_events::{Refusal, StoreCause};
-use point_list::RowFault;
-use poll_core::{LostCause, Malformation};
-use printed_numbers::{Kind, Meaning, kind_named, kinds, meaning_of};
-use sun_chain::ChainFault;
+//! What printed numbers mean: each number that is printed has a meaning, and no sentence of a meaning is empty.
+use printed_numbers::{Kind, kind_named, kinds, meaning_of};
+use std::process::Abort;
 
-static REFUSALS: [Refusal; 17] = [
-    Refusal::NotFound,
-    Refusal::Exists,
-    Refusal::ClockBack,
-    Refusal::BadScale,
-    Refusal::NegativeStep,
-    Refusal::NotLater,
-    Refusal::SpanTooLong,
-    Refusal::TotalFull,
-    Refusal::Ended,
-    Refusal::Busy,
-    Refusal::Reused,
-    Refusal::Limit,
-    Refusal::Store(StoreCause::Refused),
-    Refusal::Memory,
-    Refusal::Stopped,
-    Refusal::NotVoidable,
-    Refusal::NotPlausible(Cause::TooFast),
+// Each kind whose numbers are those of an enum, from 1 on, and the greatest of them.
+static NUMBERS: [(Kind, u32); 6] = [
+    (Kind::Refused, 17),
+    (Kind::Held, 8),
+    (Kind::Lost, 4),
+    (Kind::Malformed, 5),
+    (Kind::RowFault, 12),
+    (Kind::ChainFault, 4),
 ];
-
-static CAUSES: [Cause; 8] = [
-    Cause::NotAccumulated,
-    Cause::ScaleChanged,
-    Cause::NotLater,
-    Cause::SpanTooLong,
-    Cause::GapTooLong,
-    Cause::TooFast,
-    Cause::TotalFull,
-    Cause::NotBelowRange,
-];
-
-static LOSSES: [LostCause; 4] = [
-    LostCause::Gone,
-    LostCause::Garbled,
-    LostCause::Failed,
-    LostCause::Restart,
-];
-
-static MALFORMATIONS: [Malformation; 5] = [
-    Malformation::WrongFunction,
-    Malformation::WrongLength,
-    Malformation::WrongByteCount,
-    Malformation::WrongEcho,
-    Malformation::WrongUnit,
-];
-
-static ROW_FAULTS: [RowFault; 12] = [
-    RowFault::Csv,
-    RowFault::Header,
-    RowFault::Name,
-    RowFault::DoubleName,
-    RowFault::Function,
-    RowFault::Area,
-    RowFault::Address,
-    RowFault::Type,
-    RowFault::Scale,
-    RowFault::NoSuchScale,
-    RowFault::GroupTooWide,
-    RowFault::TooMany,
-];
-
-static CHAIN_FAULTS: [ChainFault; 4] = [
-    ChainFault::NoMark,
-    ChainFault::Unreadable(40_070),
-    ChainFault::PastEnd,
-    ChainFault::TooMany,
-];
-
-// Whether there is a meaning, which is of the number.
-fn means(kind: Kind, number: u8) -> bool {
-    match meaning_of(kind, u32::from(number)) {
-        Some(meaning) => meaning.kind == kind && meaning.number == u32::from(number),
-        None => false,
-    }
-}
 
 #[test]
-fn each_number_of_the_office_has_a_meaning(rt: HostRuntime) {
-    for refusal in &REFUSALS {
-        assert!(rt; means(Kind::Refused, refusal.number()));
-    }
-    for cause in &CAUSES {
-        assert!(rt; means(Kind::Held, cause.number()));
-    }
-}
-
-#[test]
-fn each_number_of_a_poll_has_a_meaning(rt: HostRuntime) {
-    for cause in &LOSSES {
-        assert!(rt; means(Kind::Lost, cause.number()));
-    }
-    for malformation in &MALFORMATIONS {
-        assert!(rt; means(Kind::Malformed, malformation.number()));
+fn each_number_has_a_meaning(rt: HostRuntime) {
+    for (kind, greatest) in &NUMBERS {
+        for number in 1..=*greatest {
+            let meaning = meaning_of(*kind, number).expect(&rt, "no meaning");
+            assert!(rt; meaning.kind == *kind && meaning.number == number);
+        }
     }
 }
 
-#[test]
-fn each_number_of_a_list_and_a_chain_has_a_meaning(rt: HostRuntime) {
-    for fault in &ROW_FAULTS {
-        assert!(rt; means(Kind::RowFault, fault.number()));
-    }
-    for fault in &CHAIN_FAULTS {
-        assert!(rt; means(Kind::ChainFault, fault.number()));
-    }
-}
-
-// Whether a sentence is one that can stand in another, before a full stop.
-fn is_sentence(text: &str) -> bool {
-    !text.is_empty() && !text.ends_with('.') && !text.ends_with(' ')
-}
-
-fn is_told(meaning: &Meaning) -> bool {
-    is_sentence(meaning.means) && is_sentence(meaning.cause) && is_sentence(meaning.remedy)
+// Asserts that a sentence can stand in another, before a full stop.
+fn assert_sentence(rt: &impl Abort, text: &str) {
+    assert!(rt; !text.is_empty() && !text.ends_with('.'), "{text}");
+    assert!(rt; !text.ends_with(' '), "{text}");
 }
 
 #[test]
@@ -127,7 +34,9 @@ fn no_sentence_is_empty(rt: HostRuntime) {
     for kind in kinds() {
         for number in 0..=600u32 {
             if let Some(meaning) = meaning_of(*kind, number) {
-                assert!(rt; is_told(meaning), "{meaning:?}");
+                assert_sentence(&rt, meaning.means);
+                assert_sentence(&rt, meaning.cause);
+                assert_sentence(&rt, meaning.remedy);
                 count = count.saturating_add(1);
             }
         }
@@ -138,8 +47,8 @@ fn no_sentence_is_empty(rt: HostRuntime) {
 #[test]
 fn each_kind_is_named(rt: HostRuntime) {
     for kind in kinds() {
-        let named = kind_named(kind.word());
-        assert!(rt; matches!(named, Some(found) if found.word() == kind.word()));
+        let found = kind_named(kind.word()).expect(&rt, "no kind");
+        assert!(rt; found.word() == kind.word());
     }
     assert!(rt; kind_named("fault") == Some(Kind::RowFault));
     assert!(rt; kind_named("cause").is_none());

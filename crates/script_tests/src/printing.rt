@@ -78,17 +78,6 @@ static CASES: [(Task, &str, &str, ExitStatus); 5] = [
     (Task::Plan, "", "row 1 fault 2\n", ExitStatus::Refused),
 ];
 
-#[test]
-fn chains_and_plans_are_printed(rt: HostRuntime) {
-    for (task, text, output, status) in &CASES {
-        let mut input = text.as_bytes();
-        let mut printed = Vec::new(rt.alloc());
-        let ended = task.carry_out(rt.alloc(), &mut input, &mut printed);
-        assert!(rt; ended == *status, "{text}");
-        assert!(rt; printed.as_slice() == output.as_bytes(), "{text}");
-    }
-}
-
 // A read that fails or is interrupted ends the run, and none comes after it.
 #[test]
 fn each_failing_read_ends_it(rt: HostRuntime) {
@@ -114,7 +103,7 @@ fn each_failing_write_ends_it(rt: HostRuntime) {
             let mut input = text.as_bytes();
             let mut kept = Kept::new(rt.alloc(), failing, 8192);
             let ended = task.carry_out(rt.alloc(), &mut input, &mut kept);
-            whole = kept.is_whole(&rt, output);
+            whole = kept.assert_written(&rt, output);
             let wanted = if whole { *status } else { ExitStatus::Failed };
             assert!(rt; ended == wanted);
         }
@@ -138,14 +127,14 @@ static PLANS: [(&str, &str); 4] = [
 #[test]
 fn each_failing_write_of_a_list_is_told(rt: HostRuntime) {
     for (text, output) in &PLANS {
-        let Ok(list) = read_list(rt.alloc(), text.as_bytes()) else {
-            panic!(rt; "no list");
-        };
+        let list = read_list(rt.alloc(), text.as_bytes())
+            .ok()
+            .expect(&rt, "no list");
         for failing in 1..60 {
             let mut kept = Kept::new(rt.alloc(), failing, 8192);
             let ended = print_plan(rt.alloc(), &list, &mut kept);
-            let whole = kept.is_whole(&rt, output);
-            assert_eq!(rt; ended == ExitStatus::Fine, whole);
+            let whole = kept.assert_written(&rt, output);
+            assert!(rt; (ended == ExitStatus::Fine) == whole);
         }
     }
 }

@@ -83,42 +83,55 @@ fn chain(rt: &impl Abort, alloc: Global) -> Vec<u8> {
     output
 }
 
-#[test]
-fn a_scan_prints_the_chain(rt: HostRuntime) {
-    let (end, printed) = scanned(&rt, rt.alloc(), ScanForm::Chain, None);
-    assert!(rt; end == Ok(ExitStatus::Fine));
-    assert!(rt; printed.starts_with(b"base 40000\nmodel 40002 103 50\n"));
-    assert!(rt; printed.as_slice() == chain(&rt, rt.alloc()).as_slice());
-}
-
-#[test]
-fn a_scan_prints_the_list(rt: HostRuntime) {
-    let (end, printed) = scanned(&rt, rt.alloc(), ScanForm::List, None);
-    assert!(rt; end == Ok(ExitStatus::Fine));
-    let begin = b"name,function,area,address,type,scale\nm1.A,3,0,40004,uint16,m1.A_SF\n";
-    assert!(rt; printed.starts_with(begin));
-}
-
 const SITE: Site<'static> = Site {
     device: "inv",
     unit: 1,
     timeout: 5,
 };
 
-// The first line, what begins the second, and the lines after it.
-const BEGIN: &[u8] = b"1 device inv 1 5 1\n2 list inv 6e616d652c";
+/// A form, and what the text in it begins and ends with.
+struct Case {
+    form: ScanForm<'static>,
+    begin: &'static str,
+    end: &'static str,
+}
 
-const END: &[u8] = b"0a\n\
-    # An install line needs the greatest power that can flow, in W, in place of CEILING, and no # in front.\n\
-    3 register inv-wh1 inv 3 40026 @40028\n\
-    # 4 install inv-wh1 inv-wh1 5000 0 CEILING\n";
+static CASES: [Case; 3] = [
+    Case {
+        form: ScanForm::Chain,
+        begin: "base 40000\nmodel 40002 103 50\n",
+        end: "",
+    },
+    Case {
+        form: ScanForm::List,
+        begin: "name,function,area,address,type,scale\nm1.A,3,0,40004,uint16,m1.A_SF\n",
+        end: "",
+    },
+    Case {
+        form: ScanForm::Setup(SITE),
+        begin: "1 device inv 1 5 1\n2 list inv 6e616d652c",
+        end: "0a\n\
+            # An install line needs the greatest power that can flow, in W, in place of CEILING, \
+            and no # in front.\n\
+            3 register inv-wh1 inv 3 40026 @40028\n\
+            # 4 install inv-wh1 inv-wh1 5000 0 CEILING\n",
+    },
+];
 
 #[test]
-fn a_scan_prints_the_lines_that_set_a_device_up(rt: HostRuntime) {
-    let (end, printed) = scanned(&rt, rt.alloc(), ScanForm::Setup(SITE), None);
-    assert!(rt; end == Ok(ExitStatus::Fine));
-    assert!(rt; printed.starts_with(BEGIN));
-    assert!(rt; printed.ends_with(END));
+fn a_scan_is_printed_in_each_form(rt: HostRuntime) {
+    for case in &CASES {
+        let (end, printed) = scanned(&rt, rt.alloc(), case.form, None);
+        assert!(rt; end == Ok(ExitStatus::Fine), "{}", case.begin);
+        assert!(rt;
+            printed.starts_with(case.begin.as_bytes()),
+            "{}",
+            case.begin
+        );
+        assert!(rt; printed.ends_with(case.end.as_bytes()), "{}", case.end);
+    }
+    let (_, printed) = scanned(&rt, rt.alloc(), ScanForm::Chain, None);
+    assert!(rt; printed.as_slice() == chain(&rt, rt.alloc()).as_slice());
 }
 
 // The first give, the first take, and a give of the last request.

@@ -60,12 +60,13 @@ impl Kept {
         }
     }
 
-    /// Whether no call failed; then all of the text was written, and else a part of it, and no call came after.
-    pub(crate) fn is_whole(&self, rt: &impl Abort, output: &str) -> bool {
+    /// Asserts that a prefix of the text was written, all of it unless a call failed, and that no call followed a failed one.
+    /// Returns whether none failed.
+    pub(crate) fn assert_written(&self, rt: &impl Abort, output: &str) -> bool {
         let whole = self.calls < self.failing;
         assert!(rt; self.calls <= self.failing);
         assert!(rt; output.as_bytes().starts_with(&self.got));
-        assert_eq!(rt; self.got.as_slice() == output.as_bytes(), whole);
+        assert!(rt; (self.got.as_slice() == output.as_bytes()) == whole);
         whole
     }
 }

@@ -1,4 +1,4 @@
-//! Databases that are no books are handed back.
+//! Databases that are no books are handed back; none is made or opened inside a transaction.
 use crate::stores::Stores;
 use crate::tried::{Tried, in_memory};
 use office_store::SqlBooks;
@@ -29,11 +29,15 @@ fn making<S: Alter + Drop>(
 /// What is done to a database before books are made of it in a zone, or opened, and the number of the fault.
 type Step = (&'static str, Option<&'static str>, u8);
 
-static STEPS: [Step; 6] = [
+static STEPS: [Step; 10] = [
     ("", None, 1),
     ("", Some("x"), 2),
+    ("BEGIN", Some("UTC0"), 1),
+    ("COMMIT", None, 1),
     ("", Some("UTC0"), 0),
     ("", Some("UTC0"), 1),
+    ("BEGIN", None, 1),
+    ("COMMIT", None, 0),
     ("UPDATE meta SET zone = 'x'", None, 2),
     ("UPDATE meta SET version = 9", None, 1),
 ];

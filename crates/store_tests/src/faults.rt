@@ -48,3 +48,15 @@ fn faults_say_their_texts(rt: HostRuntime) {
     tells(&rt, rt.alloc(), &FILES);
     tells(&rt, rt.alloc(), &ROWS)
 }
+
+#[test]
+fn faults_of_files_have_numbers(rt: HostRuntime) {
+    for (fault, number) in [
+        (OpenFault::NotOurs, 1),
+        (OpenFault::Zone, 2),
+        (OpenFault::Store, 3),
+        (OpenFault::Memory, 4),
+    ] {
+        assert!(rt; fault.number() == number);
+    }
+}

@@ -1,9 +1,8 @@
 //! Readings that were held, handed on.
-use crate::lookups::name;
 use crate::new_books::ready;
 use crate::stores::Stores;
+use crate::tables::strict;
 use crate::tried::{Tried, in_memory};
-use crate::two_meters::two_meters;
 use energy_core::Cause;
 use office_books::{RowSink, Span};
 use office_events::{HeldReading, Name};
@@ -15,8 +14,12 @@ use store_tables::RowFault;
 
 /// Two readings of m1, the later one with an earlier moment, and one of m0 between them.
 const HOLDS: &str =
-    "INSERT INTO polls VALUES (1, 'inv', 1, 1898, 0, 3, 40094, 3), (2, 'inv', 1, 1999, 1, 3, 40094, 3);
+    "DELETE FROM holds; INSERT INTO installations VALUES (2, 'm0', 'main', 20000, 1, 2000, 0, 0, 0);
 INSERT INTO holds VALUES (3, 'm1', 2, 1500, 4294967295, -32768, 1), (1, 'm1', 1, 1900, 0, 32767, 8), (2, 'm0', 2, 2000, 7, 0, 6)";
+
+fn name(rt: &impl Abort, text: &[u8]) -> Name {
+    Name::new(text).expect(rt, "no name")
+}
 
 /// Poll, moment, counter, scale factor and cause of a reading.
 type Shown = (u64, u64, u32, i16, Cause);
@@ -38,9 +41,9 @@ impl RowSink<HeldReading> for Taken {
     }
 }
 
-/// Books with the two meters and these readings.
+/// Books with these readings.
 fn held<D: Stores>(rt: &impl Abort, alloc: Global, stores: &D) -> Connection<D::Store> {
-    let mut conn = two_meters(rt, alloc, stores);
+    let mut conn = strict(rt, alloc, stores);
     conn.execute_batch(HOLDS).expect(rt, "no batch");
     conn
 }
@@ -135,13 +138,10 @@ static PARTS: [Part; 5] = [
     },
 ];
 
-fn held_readings_are_handed_on<D: Stores>(rt: &impl Abort, alloc: Global, stores: &D) {
+/// All of them, and those of each span.
+pub(crate) fn they_are_handed_on<D: Stores>(rt: &impl Abort, alloc: Global, stores: &D) {
     let mut conn = held(rt, alloc, stores);
     assert!(rt; hands_on(rt, alloc, &mut conn, Span::All, PARTS[0].wanted) == Ok(true));
-}
-
-fn held_readings_of_a_span_are_handed_on<D: Stores>(rt: &impl Abort, alloc: Global, stores: &D) {
-    let mut conn = held(rt, alloc, stores);
     for part in &PARTS {
         let span = Span::Between {
             from: part.from,
@@ -149,12 +149,6 @@ fn held_readings_of_a_span_are_handed_on<D: Stores>(rt: &impl Abort, alloc: Glob
         };
         assert!(rt; hands_on(rt, alloc, &mut conn, span, part.wanted) == Ok(true));
     }
-}
-
-/// All of these hold.
-pub(crate) fn all_hold<D: Stores>(rt: &impl Abort, alloc: Global, stores: &D) {
-    held_readings_are_handed_on(rt, alloc, stores);
-    held_readings_of_a_span_are_handed_on(rt, alloc, stores)
 }
 
 #[test]

@@ -4,76 +4,32 @@
 #![tactic(auto)]
 
 #[cfg(test)]
-mod bookings;
-#[cfg(test)]
 mod columns;
 #[cfg(test)]
 mod damage;
 #[cfg(test)]
 mod damaged_columns;
 #[cfg(test)]
-mod damaged_rows;
-#[cfg(test)]
 mod databases;
-#[cfg(test)]
-mod device_rows;
-#[cfg(test)]
-mod facts;
 #[cfg(test)]
 mod faults;
 #[cfg(test)]
 mod held_readings;
 #[cfg(test)]
-mod interval_rows;
-#[cfg(test)]
 mod joins;
-#[cfg(test)]
-mod latest;
-#[cfg(test)]
-mod lookups;
 #[cfg(test)]
 mod made;
 #[cfg(test)]
-mod meter_lookups;
-#[cfg(test)]
-mod meter_rows;
-#[cfg(test)]
 mod new_books;
-#[cfg(test)]
-mod new_files;
-#[cfg(test)]
-mod one_meter;
-#[cfg(test)]
-mod opened_files;
-#[cfg(test)]
-mod player;
-#[cfg(test)]
-mod point_lists;
-#[cfg(test)]
-mod poll_rows;
-#[cfg(test)]
-mod printed;
 #[cfg(test)]
 mod questions;
 #[cfg(test)]
-mod requests;
-#[cfg(test)]
-mod scripts;
-#[cfg(test)]
-mod seals;
-#[cfg(test)]
-mod shares;
+mod refused_facts;
 #[cfg(test)]
 mod stops;
 #[cfg(test)]
 mod stores;
 #[cfg(test)]
-mod stories;
-#[cfg(test)]
 mod tables;
 #[cfg(test)]
 mod tried;
-#[cfg(test)]
-mod two_meters;
-#[cfg(test)]
-mod voids;

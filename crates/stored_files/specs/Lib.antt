@@ -5,3 +5,5 @@ pub mod Files
 pub mod Backups
 pub mod Carries
 pub mod Joins
+pub mod Logs
+pub mod Recoveries

@@ -4,4 +4,4 @@ mod faults;
 mod whole;
 
 pub use faults::CopyFault;
-pub use whole::{whole_file, whole_files};
+pub use whole::{recovered_file, whole_file, whole_files};

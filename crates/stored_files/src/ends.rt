@@ -2,6 +2,8 @@
 
 mod ending;
 mod failure;
+mod named;
 
 pub use ending::{Ending, ending_of, say};
 pub use failure::Failure;
+pub use named::Named;

@@ -7,17 +7,24 @@ mod carries;
 mod ends;
 mod files;
 mod joins;
+mod logs;
 mod new_office;
+mod recoveries;
 mod seals;
 
 pub use audits::{
     AuditFault, audit_stored, hold_to_earlier, meters_stored, write_audit, write_joins,
 };
-pub use backups::{CopyFault, whole_file, whole_files};
+pub use backups::{CopyFault, recovered_file, whole_file, whole_files};
 pub use carries::{CarryEnd, carry_stored, told_zone};
-pub use ends::{Ending, Failure, ending_of, say};
-pub use files::{Databases, FileConnection, FileFault, is_bare, is_office, make_file, open_file};
+pub use ends::{Ending, Failure, Named, ending_of, say};
+pub use files::{
+    Databases, FileConnection, FileFault, LogHeader, check_beside, check_regular, is_bare,
+    is_blank, is_office, length_of, log_of, make_file, mend_beside, open_file, real_path,
+};
 pub use joins::{JoinFault, JoinedOffice, join_stored};
+pub use logs::LogFault;
 pub use new_office::create_stored;
+pub use recoveries::{latest_stored, write_recovered};
 pub use seals::{check_stored_seal, seal_stored, write_checked, write_seal};
 pub use table_seals::Joining;

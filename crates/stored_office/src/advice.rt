@@ -5,5 +5,6 @@ mod lacking;
 mod printed_lines;
 mod remarks;
 
+pub use ends::may_be_ahead;
 pub use lacking::say_lacks;
 pub use printed_lines::say_remarks;

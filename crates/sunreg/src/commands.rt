@@ -5,17 +5,20 @@ use crate::entering::enter;
 use crate::explain::explain;
 use crate::offices::{OWN_HOST, over_office, run};
 use crate::period_runs::{PeriodWords, run_by_periods};
+use crate::replays::{replay_file, replay_memory};
 use crate::reports::report;
 use crate::run_words::settings_of;
 use crate::scans::{Target, scan};
 use crate::surroundings::Surroundings;
 use command_io::{Buffered, ExitStatus};
 use command_words::CommandLine;
-use file_commands::{OfficeFiles, audit, audit_several, backup, carry, create, report_files};
+use file_commands::{
+    OfficeFiles, audit, audit_several, backup, carry, create, recover, report_files,
+};
 use interval_core::Zone;
 use mb_device::answer_all;
 use office_program::NamedFiles;
-use script_run::{Loopback, SetupParts, loop_text, replay, set_up};
+use script_run::{Loopback, SetupParts, loop_text, set_up};
 use std::io;
 use std::io::Write;
 use std::net::TcpListener;
@@ -37,7 +40,8 @@ fn carry_out_over<D: OfficeFiles + NamedFiles>(
     line: &CommandLine<'_>,
 ) -> ExitCode {
     let ending = match line {
-        CommandLine::Replay { zone } => run_script(rt, *zone),
+        CommandLine::Replay { zone } => replay_memory(rt, *zone),
+        CommandLine::ReplayFile { db } => replay_file(rt, files, *db),
         CommandLine::Loop { zone } => run_loop(rt, *zone),
         CommandLine::Plan => print_plan(rt),
         CommandLine::Chain => print_chain(rt),
@@ -135,6 +139,7 @@ fn carry_out_over<D: OfficeFiles + NamedFiles>(
             only_read,
         } => enter(rt, files, *db, *caller, *only_read),
         CommandLine::Backup { db, to } => backup(rt, *db, *to),
+        CommandLine::Recover { db, to } => recover(rt, files, *db, *to),
         CommandLine::Carry { from, to, until } => carry(rt, files, *from, *to, *until),
         CommandLine::Audit { dbs, seal } => match dbs.as_slice() {
             [db] => audit(rt, files, *db, *seal),
@@ -144,15 +149,6 @@ fn carry_out_over<D: OfficeFiles + NamedFiles>(
         CommandLine::Completions => completions(rt),
     };
     ended(rt, &ending)
-}
-
-fn run_script<'a>(rt: &HostRuntime, zone: &'a str) -> Ending<'a> {
-    let Ok(read) = Zone::read(zone) else {
-        return Ending::NoZone(zone);
-    };
-    let mut input = rt.stdin();
-    let run = replay(rt.alloc(), read, &mut input, io::writer(rt));
-    ending_of(run.status)
 }
 
 fn run_loop<'a>(rt: &HostRuntime, zone: &'a str) -> Ending<'a> {

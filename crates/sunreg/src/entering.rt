@@ -8,20 +8,23 @@ use office_events::{Device, Register};
 use office_program::{MOST_FILE, NamedFiles, Shown};
 use std::alloc::{AllocError, Global};
 use std::fmt::Display;
-use std::fs::File;
+use std::fs::{self, File};
 use std::io::{self, ErrorKind, Read, Write};
 use std::str::from_utf8;
-use stored_files::{Databases, Ending, Failure, ending_of};
+use stored_files::{Databases, Ending, Failure, Named, ending_of};
 use stored_office::{Task, ending_of_done};
 
 // Says why a file, or the counter of a register, that a line names isn't read.
 fn say_unread<D: Display>(rt: &HostRuntime, name: &str, why: &D) {
     let mut errors = Escaped::new(rt.stderr());
-    let _said = write!(errors, "sunreg: {name}: {why}\n");
+    let _said = write!(errors, "sunreg: {}: {why}\n", Named(name));
 }
 
-// What a file has, where it isn't longer than one may be.
+// What a regular file has, where it isn't longer than one may be. (The opening of a pipe would wait.)
 fn read_within(rt: &HostRuntime, alloc: Global, name: &str) -> io::Result<Vec<u8>> {
+    if !fs::metadata(rt, name)?.is_file() {
+        return Err(io::Error::from(ErrorKind::InvalidInput));
+    }
     let mut file = File::open(rt, name)?;
     let mut whole = Vec::new(alloc);
     let mut piece = [0u8; 4096];
@@ -55,6 +58,10 @@ impl NamedFiles for Surroundings<'_> {
                 ErrorKind::OutOfMemory => Err(AllocError),
                 ErrorKind::NotFound => {
                     say_unread(self.rt, name, &"there is no such file");
+                    Ok(None)
+                }
+                ErrorKind::InvalidInput => {
+                    say_unread(self.rt, name, &"it is no regular file");
                     Ok(None)
                 }
                 _ => {

@@ -15,6 +15,7 @@ mod offices;
 mod onward_clock;
 mod period_files;
 mod period_runs;
+mod replays;
 mod reports;
 mod run_words;
 mod scans;

@@ -8,13 +8,13 @@ use crate::run_words::sites_of;
 use command_words::Device;
 use file_commands::{Escaped, OfficeFiles, but_last, earlier_registers, last_of, open_in};
 use office_program::NamedFiles;
-use office_running::{Settings, Site};
+use office_running::{Settings, Site, say_ahead};
 use socket_link::{Clock, SystemClock};
 use sqlite::types::ValueRef;
 use sqlite::{Alter, Connection};
-use std::io::{self, Printer, Write};
-use stored_files::{Databases, Ending, Failure};
-use stored_office::{Done, Task, carry_out_stored, ending_of_done, say_remarks};
+use std::io::{self, ErrorKind, Printer, Write};
+use stored_files::{Databases, Ending, Failure, latest_stored, log_of};
+use stored_office::{Done, Task, carry_out_stored, ending_of_done, may_be_ahead, say_remarks};
 
 /// The host on which HTTP is answered.
 pub(crate) const OWN_HOST: &str = "127.0.0.1";
@@ -60,14 +60,37 @@ fn over_connection<'a, D: Databases + NamedFiles, C: Clock>(
         &mut errors,
     );
     match (output.flush(), done) {
+        // (what a run prints to nobody is dropped)
+        (Err(error), Ok(Done::Ran(end))) if error.kind() == ErrorKind::BrokenPipe => {
+            Ok(Done::Ran(end))
+        }
         (Err(_), _) => Err(Failure::Streams),
         (Ok(()), Ok(done)) => {
+            if may_be_ahead(done) && is_said_ahead(rt, files, path, clock) {
+                return Ok(done);
+            }
             if let (Task::Round { device, .. }, Done::Polled(end)) = (task, done) {
                 say_remarks(rt.alloc(), device, end, output.kept(), &mut errors);
             }
             Ok(done)
         }
         (Ok(()), Err(fault)) => Err(Failure::Unopened { path, fault }),
+    }
+}
+
+// Says, where the books in the file at a path go further than the clock, up to when, and what can be done; it answers whether they do.
+fn is_said_ahead<D: Databases, C: Clock>(
+    rt: &HostRuntime,
+    files: &D,
+    path: &str,
+    clock: &mut C,
+) -> bool {
+    let Ok(connection) = files.open(path) else {
+        return false;
+    };
+    match latest_stored(rt.alloc(), connection) {
+        Ok(latest) => say_ahead(latest, clock.now(), &mut rt.stderr()),
+        Err(_) => false,
     }
 }
 
@@ -112,8 +135,8 @@ fn run_over<'a, D: Databases + NamedFiles>(
     run_opened(rt, files, path, connection, sites, settings, &mut clock)
 }
 
-/// Runs over a connection to the database at a path, by a clock. What it keeps of requests is counted once, before its books are
-/// opened.
+/// Runs over a connection to the database at a path, by a clock, and looks at its file and its log. What it keeps of requests is
+/// counted once, before its books are opened.
 pub(crate) fn run_opened<'a, D: Databases + NamedFiles, C: Clock>(
     rt: &HostRuntime,
     files: &D,
@@ -124,8 +147,13 @@ pub(crate) fn run_opened<'a, D: Databases + NamedFiles, C: Clock>(
     clock: &mut C,
 ) -> Result<Done, Failure<'a>> {
     let mut connection = connection;
-    let mut settings = *settings;
-    settings.kept = kept_in(&mut connection);
+    let log = log_of(rt, path)?;
+    let paths = [path, log.as_str()];
+    let settings = Settings {
+        kept: kept_in(&mut connection),
+        files: &paths,
+        ..*settings
+    };
     let task = Task::Run {
         settings: &settings,
         sites,

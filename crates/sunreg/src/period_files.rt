@@ -1,12 +1,12 @@
 //! The files of a run that begins a new one each month or year, by their names.
 use energy_report::Period;
-use file_commands::{is_blank, length_of, log_of, part_name};
+use file_commands::part_name;
 use run_schedule::{LedPeriod, file_of_period, period_of_file};
 use std::fs::{self, File};
 use std::io::{self, ErrorKind};
 use std::os::unix::fs::MetadataExt;
 use std::str::from_utf8;
-use stored_files::{Failure, FileFault};
+use stored_files::{Failure, FileFault, is_blank, length_of, log_of};
 
 /// How many files are taken away in a row that a kill left empty.
 const TRIES: u32 = 8;

@@ -25,7 +25,7 @@ use std::io::{self, Write};
 use std::process::ExitCode;
 use std::thread::sleep;
 use std::time::{Duration, Instant};
-use stored_files::{CopyFault, Databases, Ending, Failure, FileFault, told_zone};
+use stored_files::{CopyFault, Databases, Ending, Failure, FileFault, Named, told_zone};
 use stored_office::ending_of_done;
 
 /// How often a file is tried that another process has open, and one looked for that another may be making; and how many milliseconds
@@ -67,14 +67,19 @@ fn say(rt: &HostRuntime, lines: &[u8]) {
 }
 
 fn say_carried(rt: &HostRuntime, from: &str, to: &str, count: u64) {
-    if let Ok(line) = format!(in rt.alloc(); "sunreg: {from}: carried {count} meters into {to}\n") {
+    if let Ok(line) = format!(in rt.alloc();
+        "sunreg: {}: carried {count} meters into {}\n",
+        Named(from),
+        Named(to)
+    ) {
         say(rt, line.as_bytes());
     }
 }
 
 fn say_later(rt: &HostRuntime, path: &str) {
     if let Ok(line) = format!(in rt.alloc();
-        "sunreg: {path}: its period is later than the clock says: books go on in it\n"
+        "sunreg: {}: its period is later than the clock says: books go on in it\n",
+        Named(path)
     ) {
         say(rt, line.as_bytes());
     }
@@ -82,7 +87,8 @@ fn say_later(rt: &HostRuntime, path: &str) {
 
 fn say_behind(rt: &HostRuntime, path: &str) {
     if let Ok(line) = format!(in rt.alloc();
-        "sunreg: {path}: the clock stands before its last entry, so it is not carried yet: books go on in it until the next hour\n"
+        "sunreg: {}: the clock stands before its last entry, so it is not carried yet: books go on in it until the next hour\n",
+        Named(path)
     ) {
         say(rt, line.as_bytes());
     }
@@ -90,7 +96,8 @@ fn say_behind(rt: &HostRuntime, path: &str) {
 
 fn say_alone(rt: &HostRuntime, path: &str) {
     if let Ok(line) = format!(in rt.alloc();
-        "sunreg: {path}: energy is told of this file alone\n"
+        "sunreg: {}: energy is told of this file alone\n",
+        Named(path)
     ) {
         say(rt, line.as_bytes());
     }
@@ -100,7 +107,7 @@ fn say_alone(rt: &HostRuntime, path: &str) {
 fn say_not_carried(rt: &HostRuntime, from: &str, why: &NotCarried<'_>, comes: &str) {
     let mut lines = Vec::new(rt.alloc());
     let _written = write_why(&mut lines, why);
-    let _written = write!(lines, "sunreg: {from}: {comes}\n");
+    let _written = write!(lines, "sunreg: {}: {comes}\n", Named(from));
     say(rt, lines.as_slice());
 }
 

@@ -37,6 +37,7 @@ pub(crate) fn settings_of<'n>(
             None => None,
         },
         earlier: &[],
+        files: &[],
         verbose,
         descriptors: Some(Descriptors {
             output: STANDARD_OUTPUT,

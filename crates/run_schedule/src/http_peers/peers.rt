@@ -62,6 +62,14 @@ impl Peers {
         self.places[place] = Place::Free;
     }
 
+    /// No connection gets this place: it counts as that of one that has asked and has no end.
+    pub fn shut(&mut self, place: usize)
+        requires { place < 64 }
+        ensures { self.new.places ≡ slice_set self.old.places place (Place.Asked (2 ^ 64 - 1)) }
+    {
+        self.places[place] = Place::Asked(u64::MAX);
+    }
+
     /// Whether the connection of a place has lasted too long.
     pub fn is_over(&self, place: usize, now: u64) -> bool
         requires { place < 64 }

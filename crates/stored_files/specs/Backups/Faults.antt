@@ -5,12 +5,13 @@ use Rattle.sqlite.specs.declared.error.Error.TheVariants.{SqliteFailure}
 use Rattle.stored_files.specs.declared.files.faults.FileFault.{FileFault}
 use Rattle.stored_files.specs.declared.files.faults.FileFault.TheVariants as file
 use Rattle.stored_files.specs.declared.backups.faults.CopyFault.{CopyFault}
-use Rattle.stored_files.specs.declared.backups.faults.CopyFault.TheVariants.{Torn, Unwritable, Memory}
+use Rattle.stored_files.specs.declared.backups.faults.CopyFault.TheVariants.{Changing, Torn, Unwritable, Memory}
 
 -- what the fault of the opening of a copy means
 abbrev pub copy_fault_of : FileFault → CopyFault
 copy_fault_of file.NoDatabase = Torn
 copy_fault_of file.Memory = Memory
+copy_fault_of (file.Log fault) = Changing
 copy_fault_of _ = Unwritable
 
 -- what an error of the moving of its log means

@@ -4,7 +4,7 @@ use Rattle.sqlite.specs.declared.error.ErrorCode.TheVariants.{DatabaseBusy, NotA
 use Rattle.sqlite.specs.declared.error.Error.{Error}
 use Rattle.sqlite.specs.declared.error.Error.TheVariants.{SqliteFailure}
 use Rattle.stored_files.specs.declared.files.faults.FileFault.{FileFault}
-use Rattle.stored_files.specs.declared.files.faults.FileFault.TheVariants.{Missing, Busy, NoDatabase, Unreadable, Memory}
+use Rattle.stored_files.specs.declared.files.faults.FileFault.TheVariants.{Missing, Busy, NoDatabase, Unreadable, Irregular, Log, Memory}
 
 abbrev pub file_fault_number : FileFault → ℕ
 file_fault_number Missing = 1
@@ -12,6 +12,8 @@ file_fault_number Busy = 2
 file_fault_number NoDatabase = 3
 file_fault_number Unreadable = 4
 file_fault_number Memory = 5
+file_fault_number Irregular = 6
+file_fault_number (Log fault) = 7
 
 -- what an error of the opening of a database means
 abbrev pub fault_of : Error → FileFault

@@ -14,6 +14,8 @@ pub enum CopyFault {
     Exists,
     /// There is a copy that is under way, or was cut off.
     Unfinished,
+    /// The name belongs to another file.
+    Reserved,
     /// The copy can't be written.
     Unwritable,
     /// The log was moved into the file while it was copied, at each try.
@@ -33,6 +35,8 @@ impl Display for CopyFault {
                 "there is a file of this name already, or one with -wal behind it: give another name",
             CopyFault::Unfinished =>
                 "a backup to it runs, or was cut off: then remove the file with .part behind this name",
+            CopyFault::Reserved =>
+                "names that end in -wal, -journal, -shm or .part belong to other files: give another name",
             CopyFault::Unwritable =>
                 "it can't be written: look at its folder's rights and the disk's room",
             CopyFault::Changing =>
@@ -45,14 +49,18 @@ impl Display for CopyFault {
     }
 }
 
-/// What the fault of the opening of a copy means.
+/// What the fault of the opening of a copy means. The log of the file that was copied was checked before, so a commit came meanwhile
+/// where that of the copy is damaged.
 pub(crate) fn copy_fault_of(fault: FileFault) -> CopyFault
     ensures { result ≡ copy_fault_of fault }
 {
     match fault {
         FileFault::NoDatabase => CopyFault::Torn,
         FileFault::Memory => CopyFault::Memory,
-        FileFault::Missing | FileFault::Busy | FileFault::Unreadable => CopyFault::Unwritable,
+        FileFault::Log(_) => CopyFault::Changing,
+        FileFault::Missing | FileFault::Busy | FileFault::Unreadable | FileFault::Irregular => {
+            CopyFault::Unwritable
+        }
     }
 }
 

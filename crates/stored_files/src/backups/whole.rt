@@ -10,7 +10,7 @@ ghost use Rattle.stored_files.specs.BooksFound.{HasPast};
 ghost use Rattle.stored_files.specs.Backups.Whole.{HasPastIn, HasPastAlone};
 
 use crate::backups::faults::{CopyFault, close_fault_of, copy_fault_of};
-use crate::files::make_file;
+use crate::files::{check_beside, connect};
 use sqlite::{Connection, FileFrom, FileStore, Files, Start};
 use sqlite_disk::Disk;
 use store_files::layout_of;
@@ -47,8 +47,24 @@ pub fn whole_files<D: Disk + Drop>(
     }
 }
 
-/// The same of the files at a path, which held what `S` says: what is found is what they held. They must be no other
-/// program's, since its writes would not be seen.
+/// The same of the files at a path, which held what `S` says, also where their log has lost commits: what is found is what recovery takes
+/// of them. They must be no other program's, since its writes would not be seen.
+pub fn recovered_file<S: Start>(
+    rt: &HostRuntime,
+    path: &str,
+    start: S,
+) -> Result<Files<FileFrom<S>>, CopyFault>
+    ensures { (past : History) → HasPastIn (image_at S.Start) past
+        → IfOk result (λ files. AreClean ⟦<FileFrom<S> as Disk>⟧ files.log files.db
+        → HasPastAlone ⟦<FileFrom<S> as Disk>⟧ files past) }
+{
+    match connect(rt, path, start) {
+        Ok(connection) => whole_files(connection),
+        Err(fault) => Err(copy_fault_of(fault)),
+    }
+}
+
+/// The same where the log has lost nothing.
 pub fn whole_file<S: Start>(
     rt: &HostRuntime,
     path: &str,
@@ -58,8 +74,8 @@ pub fn whole_file<S: Start>(
         → IfOk result (λ files. AreClean ⟦<FileFrom<S> as Disk>⟧ files.log files.db
         → HasPastAlone ⟦<FileFrom<S> as Disk>⟧ files past) }
 {
-    match make_file(rt, path, start) {
-        Ok(connection) => whole_files(connection),
+    match check_beside(rt, path) {
+        Ok(()) => recovered_file(rt, path, start),
         Err(fault) => Err(copy_fault_of(fault)),
     }
 }

@@ -3,6 +3,7 @@ ghost use Rattle.std.specs.Prelude.{◌≡◌, ◌⊎◌};
 ghost use Rattle.stored_files.specs.Ends.Endings.{IsTold, ending_number, ending_of};
 
 use crate::ends::failure::Failure;
+use crate::ends::named::Named;
 use command_io::ExitStatus;
 use std::io::Write;
 
@@ -76,11 +77,13 @@ pub fn say<W: Write>(ending: &Ending<'_>, errors: &mut W)
         Ending::Backward => errors.write_all(b"error: '--till <DAY>' is before '--from <DAY>'\n"),
         Ending::NoSeal(file) => write!(
             errors,
-            "error: invalid value '{file}' for '--against <SEAL>': no seal, as sunreg audit --seal prints it\n"
+            "error: invalid value '{}' for '--against <SEAL>': no seal, as sunreg audit --seal prints it\n",
+            Named(*file)
         ),
         Ending::Twice(file) => write!(
             errors,
-            "error: invalid value '{file}' for '--db <FILE>': it stands twice\n"
+            "error: invalid value '{}' for '--db <FILE>': it stands twice\n",
+            Named(*file)
         ),
         Ending::Failed(failure) => write!(errors, "failed\nsunreg: {failure}\n"),
     };

@@ -1,6 +1,7 @@
 //! Why a command failed.
 use crate::audits::AuditFault;
 use crate::backups::CopyFault;
+use crate::ends::named::Named;
 use crate::files::FileFault;
 use device_scan::ScanFault;
 use office_store::OpenFault;
@@ -48,6 +49,10 @@ pub enum Failure<'a> {
     },
     /// A file is missing or empty, and its log isn't.
     LogAlone {
+        path: &'a str,
+    },
+    /// The log of a file has lost nothing, so there is nothing to recover.
+    Undamaged {
         path: &'a str,
     },
     /// There is no backup.
@@ -105,29 +110,64 @@ impl<'a> Display for Failure<'a> {
             ),
             Failure::Loopback => write!(f, "127.0.0.1 can't be listened on"),
             Failure::Listening => write!(f, "no more connections can be accepted"),
-            Failure::File { path, fault } => write!(f, "{path}: {fault}"),
+            Failure::File {
+                path,
+                fault: FileFault::Log(fault),
+            } => {
+                let path = Named(*path);
+                write!(
+                    f,
+                    "{path}: its log {path}-wal {fault}, so commits would be lost, and nothing was changed: restore a backup, or run sunreg recover --db {path} --to NEW"
+                )
+            }
+            Failure::File { path, fault } => {
+                let path = Named(*path);
+                write!(f, "{path}: {fault}")
+            }
             Failure::Unmade { path, fault } => {
+                let path = Named(*path);
                 write!(f, "{path}: ")?;
                 f.write_str(why_unmade(*fault))
             }
-            Failure::Occupied { path } => write!(
-                f,
-                "{path}: it isn't empty, though it has no tables: an office's may stand in its log: give a new file"
-            ),
-            Failure::Bare { path } => write!(
-                f,
-                "{path}: it has no tables: an office's may stand in the log that belongs to it, {path}-wal: give both, or a backup"
-            ),
-            Failure::LogAlone { path } => write!(
-                f,
-                "{path}: it is missing or empty, and its log {path}-wal is not: give the file that belongs to it, or remove the log"
-            ),
-            Failure::Uncopied { path, fault } => write!(f, "{path}: {fault}"),
+            Failure::Occupied { path } => {
+                let path = Named(*path);
+                write!(
+                    f,
+                    "{path}: it isn't empty, though it has no tables: an office's may stand in its log: give a new file"
+                )
+            }
+            Failure::Bare { path } => {
+                let path = Named(*path);
+                write!(
+                    f,
+                    "{path}: it has no tables: an office's may stand in the log that belongs to it, {path}-wal: give both, or a backup"
+                )
+            }
+            Failure::LogAlone { path } => {
+                let path = Named(*path);
+                write!(
+                    f,
+                    "{path}: it is missing or empty, and its log {path}-wal is not: give the file that belongs to it, or remove the log"
+                )
+            }
+            Failure::Undamaged { path } => {
+                let path = Named(*path);
+                write!(
+                    f,
+                    "{path}: its log isn't damaged: sunreg backup copies it whole"
+                )
+            }
+            Failure::Uncopied { path, fault } => {
+                let path = Named(*path);
+                write!(f, "{path}: {fault}")
+            }
             Failure::Unopened { path, fault } => {
+                let path = Named(*path);
                 write!(f, "{path}: ")?;
                 f.write_str(why_unopened(*fault))
             }
             Failure::Unaudited { path, fault } => {
+                let path = Named(*path);
                 write!(f, "{path}: ")?;
                 f.write_str(why_unaudited(*fault))
             }

@@ -2,6 +2,7 @@
 ghost use Rattle.std.specs.Prelude.{◌≡◌};
 ghost use Rattle.stored_files.specs.Files.Faults.{file_fault_number, fault_of};
 
+use crate::logs::LogFault;
 use sqlite::{Error, ErrorCode};
 use std::fmt;
 use std::fmt::{Display, Formatter};
@@ -17,6 +18,10 @@ pub enum FileFault {
     NoDatabase,
     /// The system refuses to open it, or to read or write it.
     Unreadable,
+    /// It is a folder, a pipe or a device.
+    Irregular,
+    /// The log beside it has lost commits.
+    Log(LogFault),
     Memory,
 }
 
@@ -31,6 +36,8 @@ impl FileFault {
             FileFault::NoDatabase => 3,
             FileFault::Unreadable => 4,
             FileFault::Memory => 5,
+            FileFault::Irregular => 6,
+            FileFault::Log(_) => 7,
         }
     }
 }
@@ -45,6 +52,9 @@ impl Display for FileFault {
                 "it is no SQLite database, or a damaged one: give the office's file, or its copy",
             FileFault::Unreadable =>
                 "it can't be opened, read or written: look at its rights, its folder's, and the disk's room",
+            FileFault::Irregular => "it is no regular file: give the office's file",
+            FileFault::Log(_) =>
+                "the log beside it is damaged: restore a backup, or run sunreg recover",
             FileFault::Memory => "memory ran out",
         })
     }

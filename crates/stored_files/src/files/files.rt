@@ -7,6 +7,7 @@ ghost use Rattle.sqlite.specs.Start.{FindsIn};
 ghost use Rattle.sqlite.specs.Files.{file_state, IsOpened};
 ghost use Rattle.stored_files.specs.Files.Blank.{HasNoSumsIfBlank};
 
+use crate::files::beside::check_beside;
 use crate::files::faults::{FileFault, fault_of};
 use sqlite::{Alter, Connection, FileFrom, FileStore, Start};
 use std::fs;
@@ -26,8 +27,9 @@ pub trait Databases {
     fn open(&self, path: &str) -> Result<Connection<Self::Store>, FileFault>;
 }
 
-/// Opens the database in a file, or makes an empty one where there is no such file.
-pub fn make_file<S: Start>(
+/// Connects to the database in a file, or makes an empty one where there is no such file. Whatever its log has lost is lost:
+/// [`make_file`] checks the log before.
+pub fn connect<S: Start>(
     rt: &HostRuntime,
     path: &str,
     start: S,
@@ -43,6 +45,30 @@ pub fn make_file<S: Start>(
     match Connection::open_from(rt, path, false, start) {
         Ok(connection) => Ok(connection),
         Err((error, _)) => Err(fault_of(error)),
+    }
+}
+
+/// Opens the database in a file, or makes an empty one where there is no such file. A file whose log has lost commits is refused, and
+/// neither is changed.
+pub fn make_file<S: Start>(
+    rt: &HostRuntime,
+    path: &str,
+    start: S,
+) -> Result<FileConnection<S>, FileFault>
+    ensures fresh { IfOk result IsNew }
+    ensures opened { IfOk result (λ c. HasCleanDisk (file_state c) → IsOpened c) }
+    ensures found { IfOk result
+        (λ c. HasCleanDisk (file_state c) → FindsIn (image_at S.Start) (file_state c)) }
+    ensures plain { IfOk result (HasNoSumsIfBlank (image_at S.Start)) }
+    ensures there { IfErr result (λ fault. fault ≢ FileFault.Missing) }
+    ensures memory { path.now ≡ codes ":memory:" → result ≡ Err FileFault.Unreadable }
+{
+    if path == ":memory:" {
+        return Err(FileFault::Unreadable);
+    }
+    match check_beside(rt, path) {
+        Ok(()) => connect(rt, path, start),
+        Err(fault) => Err(fault),
     }
 }
 

@@ -1,11 +1,15 @@
--- After which ends of a round more is said.
+-- After which ends of a task more is said.
 use Rattle.std.specs.Prelude.{Bool, true, false, Result, Ok, Err}
 use Rattle.command_io.specs.declared.status.ExitStatus.{ExitStatus}
 use Rattle.command_io.specs.declared.status.ExitStatus.TheVariants as status
 use Rattle.office_program.specs.declared.port_round.PollEnd.{PollEnd}
 use Rattle.office_program.specs.declared.port_round.PollEnd.TheVariants.{Polled, Unopened, Unconnected}
+use Rattle.office_program.specs.declared.http_port.ServeEnd.{ServeEnd}
+use Rattle.office_program.specs.declared.http_port.ServeEnd.TheVariants as serving
 use Rattle.office_rounds.specs.declared.fault.RoundFault.{RoundFault}
 use Rattle.office_rounds.specs.declared.fault.RoundFault.TheVariants.{Refused}
+use Rattle.stored_office.specs.declared.tasks.tasks.Done.{Done}
+use Rattle.stored_office.specs.declared.tasks.tasks.Done.TheVariants as task
 
 abbrev pub is_finished : Result (Unit {0}) RoundFault → Bool
 is_finished (Ok x) = true
@@ -21,3 +25,23 @@ abbrev pub is_told : PollEnd → Bool
 is_told (Polled done) = is_finished done
 is_told (Unopened why) = is_refusal why
 is_told Unconnected = false
+
+-- What serves, enters lines or polls a device opens the office before, which may refuse that.
+abbrev pub is_refused_serving : ServeEnd → Bool
+is_refused_serving serving.Served = false
+is_refused_serving (serving.Unopened why) = is_refusal why
+is_refused_serving serving.NoPort = false
+is_refused_serving serving.Broken = false
+
+abbrev pub is_refused_polling : PollEnd → Bool
+is_refused_polling (Polled done) = false
+is_refused_polling (Unopened why) = is_refusal why
+is_refused_polling Unconnected = false
+
+abbrev pub may_be_ahead : Done → Bool
+may_be_ahead (task.Reported status) = false
+may_be_ahead (task.Served end) = is_refused_serving end
+may_be_ahead (task.Entered status) = is_refusal status
+may_be_ahead (task.Checked status) = false
+may_be_ahead (task.Polled end) = is_refused_polling end
+may_be_ahead (task.Ran end) = false

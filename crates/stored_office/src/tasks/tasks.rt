@@ -24,6 +24,7 @@ use sqlite::{Alter, Connection};
 use std::alloc::Global;
 use std::io::Write;
 use std::net::Net;
+use std::rt::Files;
 
 /// What is done over the books of an office.
 #[derive(Clone, Copy)]
@@ -84,7 +85,14 @@ pub enum Done {
 }
 
 /// Carries a task out over books. Files that a text names are read by `files`, and so are counters.
-fn carry_out<R: Net + std::rt::Clock, B: Books, F: NamedFiles, C: Clock, W: Write, E: Write>(
+fn carry_out<
+    R: Net + std::rt::Clock + Files,
+    B: Books,
+    F: NamedFiles,
+    C: Clock,
+    W: Write,
+    E: Write,
+>(
     rt: &R,
     alloc: Global,
     books: B,
@@ -172,7 +180,7 @@ fn carry_out<R: Net + std::rt::Clock, B: Books, F: NamedFiles, C: Clock, W: Writ
 /// Finds the books of a database, and carries a task out over them. Where there are no books, nothing is printed. Files that
 /// a text names are read by `files`, and so are counters.
 pub fn carry_out_stored<
-    R: Net + std::rt::Clock,
+    R: Net + std::rt::Clock + Files,
     S: Alter + Drop,
     F: NamedFiles,
     C: Clock,

@@ -1,0 +1,141 @@
+//! What can be read of an office whose log is damaged, as an office of its own.
+use crate::backups::told_of;
+use crate::copies::{Pair, copy_settled, pair_at, remove};
+use crate::escaped::Escaped;
+use crate::files::{OfficeFiles, Opening};
+use crate::parts::{begin_part_again, finish_part, make_empty_log};
+use sqlite::{Connection, Unknown};
+use std::io::{self, Write};
+use stored_files::{
+    AuditFault, CopyFault, Databases, Ending, Failure, FileFault, LogHeader, audit_stored,
+    check_beside, latest_stored, mend_beside, meters_stored, recovered_file, write_audit,
+    write_recovered,
+};
+
+// Refuses a file whose log has lost nothing.
+fn check_damaged<'a>(rt: &HostRuntime, db: &'a str) -> Result<(), Failure<'a>> {
+    match check_beside(rt, db) {
+        Ok(()) => Err(Failure::Undamaged { path: db }),
+        Err(FileFault::Log(_)) => Ok(()),
+        Err(fault) => Err(Failure::File { path: db, fault }),
+    }
+}
+
+// Says that nothing of a log could be read.
+fn say_lost(rt: &HostRuntime, db: &str) {
+    let mut errors = Escaped::new(rt.stderr());
+    let _said = write!(
+        errors,
+        "sunreg: {db}: the header of its log {db}-wal can't be mended, so all commits in the log are lost\n"
+    );
+}
+
+// Mends the header of a copied log, and moves what recovery takes of the log into the copy.
+fn recover_copy<'a>(
+    rt: &HostRuntime,
+    db: &'a str,
+    to: &'a str,
+    part: &Pair,
+) -> Result<(), Failure<'a>> {
+    match mend_beside(rt, part.file.as_str()) {
+        Ok(LogHeader::Sound | LogHeader::Mended) => {}
+        Ok(LogHeader::Lost) => say_lost(rt, db),
+        Err(FileFault::Memory) => return Err(Failure::Memory),
+        Err(_) => return Err(told_of(db, to, CopyFault::Unwritable)),
+    }
+    match recovered_file(rt, part.file.as_str(), Unknown) {
+        Ok(_files) => Ok(()),
+        Err(fault) => Err(told_of(db, to, fault)),
+    }
+}
+
+// Copies a file and its log into a part, and recovers them there.
+fn fill_part<'a>(
+    rt: &HostRuntime,
+    db: &'a str,
+    to: &'a str,
+    part: &Pair,
+) -> Result<(), Failure<'a>> {
+    let source = match pair_at(rt, db) {
+        Ok(source) => source,
+        Err(fault) => return Err(Failure::File { path: db, fault }),
+    };
+    remove(rt, part);
+    match copy_settled(rt, &source, part) {
+        Ok(true) => recover_copy(rt, db, to, part),
+        Ok(false) => Err(told_of(db, to, CopyFault::Changing)),
+        Err(_) => Err(told_of(db, to, CopyFault::Unwritable)),
+    }
+}
+
+// Audits what was recovered, and prints what it has, or how it differs from a lawful office.
+fn report_over<D: Databases>(
+    rt: &HostRuntime,
+    mut connection: Connection<D::Store>,
+    file: &str,
+) -> Result<bool, AuditFault> {
+    let alloc = rt.alloc();
+    let findings = audit_stored(alloc, &mut connection)?;
+    let mut output = io::writer(rt);
+    if !write_audit(alloc, &findings, &mut output)? {
+        return Ok(false);
+    }
+    let meters = meters_stored(alloc, &mut connection, file)?;
+    let latest = latest_stored(alloc, connection)?;
+    write_recovered(alloc, latest, meters.as_slice(), &mut output)?;
+    Ok(true)
+}
+
+// Reports what was recovered, and gives it its name where it is an office whose rows are lawful.
+fn finish<'a, D: OfficeFiles>(
+    rt: &HostRuntime,
+    files: &D,
+    to: &'a str,
+    part: &Pair,
+) -> Result<bool, Failure<'a>> {
+    let copies = files.opened(Opening::Copied);
+    let connection = match copies.open(part.file.as_str()) {
+        Ok(connection) => connection,
+        Err(fault) => return Err(Failure::File { path: to, fault }),
+    };
+    match report_over::<D>(rt, connection, to) {
+        Ok(true) => {}
+        Ok(false) => return Ok(false),
+        Err(AuditFault::Output) => return Err(Failure::Streams),
+        Err(fault) => return Err(Failure::Unaudited { path: to, fault }),
+    }
+    finish_part(rt, to, part)?;
+    make_empty_log(rt, to);
+    Ok(true)
+}
+
+/// Writes what recovery takes of a file with a damaged log into a new file, and prints what that has. The damaged file stays as it is.
+pub fn recover<'a, D: OfficeFiles>(
+    rt: &HostRuntime,
+    files: &D,
+    db: &'a str,
+    to: &'a str,
+) -> Ending<'a> {
+    if let Err(failure) = check_damaged(rt, db) {
+        return Ending::Failed(failure);
+    }
+    let part = match begin_part_again(rt, files, to) {
+        Ok(part) => part,
+        Err(failure) => return Ending::Failed(failure),
+    };
+    let recovered = match fill_part(rt, db, to, &part) {
+        Ok(()) => finish(rt, files, to, &part),
+        Err(failure) => Err(failure),
+    };
+    match recovered {
+        Ok(true) => Ending::Fine,
+        Ok(false) => {
+            remove(rt, &part);
+            Ending::Refused
+        }
+        Err(failure) => {
+            remove(rt, &part);
+            Ending::Failed(failure)
+        }
+    }
+}

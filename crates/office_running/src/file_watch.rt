@@ -1,0 +1,156 @@
+//! The files that the office has open, and whether their paths still lead to them.
+use http_peers::RunSystem;
+use run_schedule::{FileLoss, FileMark, file_loss};
+use std::alloc::{AllocError, Global};
+use std::fs;
+use std::io::{self, ErrorKind};
+use std::os::unix::fs::MetadataExt;
+use std::rt::Files;
+use std::time::Duration;
+
+/// A file that the office has open, as the last look found it.
+#[derive(Drop)]
+struct WatchedFile {
+    path: String,
+    mark: FileMark,
+}
+
+/// The files that the office has open.
+#[derive(Drop)]
+pub(crate) struct FileWatch {
+    files: Vec<WatchedFile>,
+}
+
+/// A file that is lost: its index, and how.
+#[derive(Clone, Copy)]
+pub(crate) struct LostFile {
+    pub(crate) index: usize,
+    pub(crate) loss: FileLoss,
+}
+
+// What a path leads to: `None` where there is no file, and an error where the system can't tell.
+fn mark_at<R: Files>(rt: &R, path: &str) -> io::Result<Option<FileMark>> {
+    match fs::metadata(rt, path) {
+        Ok(found) => Ok(Some(FileMark {
+            device: found.dev(),
+            inode: found.ino(),
+            size: found.len(),
+        })),
+        Err(error) => match error.kind() {
+            ErrorKind::NotFound | ErrorKind::NotADirectory => Ok(None),
+            ErrorKind::StaleNetworkFileHandle => Ok(None),
+            _ => Err(error),
+        },
+    }
+}
+
+// The mark of a file that is open. One that is not at its path differs from all that may be found there later.
+fn first_mark<R: Files>(rt: &R, path: &str) -> FileMark {
+    match mark_at(rt, path) {
+        Ok(Some(mark)) => mark,
+        Ok(None) | Err(_) => FileMark {
+            device: 0,
+            inode: 0,
+            size: 0,
+        },
+    }
+}
+
+impl WatchedFile {
+    fn open<R: Files>(rt: &R, alloc: Global, path: &str) -> Result<WatchedFile, AllocError> {
+        Ok(WatchedFile {
+            path: String::from_str(alloc, path)?,
+            mark: first_mark(rt, path),
+        })
+    }
+
+    // How the file at the path differs now; nothing where the system can't tell.
+    fn loss<R: Files>(&self, rt: &R) -> Option<FileLoss> {
+        match mark_at(rt, self.path.as_str()) {
+            Ok(found) => file_loss(self.mark, found),
+            Err(_) => None,
+        }
+    }
+
+    // The same, and the mark of a file that is still there is kept.
+    fn look<R: Files>(&mut self, rt: &R) -> Option<FileLoss> {
+        let found = match mark_at(rt, self.path.as_str()) {
+            Ok(found) => found,
+            Err(_) => return None,
+        };
+        let loss = file_loss(self.mark, found);
+        if let (None, Some(mark)) = (loss, found) {
+            self.mark = mark;
+        }
+        loss
+    }
+}
+
+impl FileWatch {
+    /// Takes the marks of the files at some paths, which the office has open.
+    pub(crate) fn open<R: Files>(
+        rt: &R,
+        alloc: Global,
+        paths: &[&str],
+    ) -> Result<FileWatch, AllocError> {
+        let mut files = Vec::new(alloc);
+        for path in paths {
+            files.push(WatchedFile::open(rt, alloc, *path)?)?;
+        }
+        Ok(FileWatch { files })
+    }
+
+    /// Looks at each file, and returns the first that is lost.
+    pub(crate) fn look<R: Files>(&mut self, rt: &R) -> Option<LostFile> {
+        for index in 0..self.files.len() {
+            if index < self.files.len() {
+                if let Some(loss) = self.files[index].look(rt) {
+                    return Some(LostFile { index, loss });
+                }
+            }
+        }
+        None
+    }
+
+    /// The path of a file.
+    pub(crate) fn path(&self, index: usize) -> &str {
+        match self.files.get(index) {
+            Some(file) => file.path.as_str(),
+            None => "",
+        }
+    }
+
+    /// Whether a file is lost.
+    pub(crate) fn is_lost<R: Files>(&self, rt: &R) -> bool {
+        self.files.iter().any(|file| file.loss(rt).is_some())
+    }
+}
+
+/// The system, and whether the files of an office were there at the last look.
+#[derive(Drop)]
+pub(crate) struct Watching<'r, R: std::rt::Clock> {
+    rt: &'r R,
+    are_there: bool,
+}
+
+impl<'r, R: std::rt::Clock> Watching<'r, R> {
+    pub(crate) fn of(rt: &'r R, are_there: bool) -> Watching<'r, R> {
+        Watching { rt, are_there }
+    }
+}
+
+impl<R: std::rt::Clock> std::rt::Clock for Watching<'_, R> {
+    fn monotonic(&self) -> io::Result<Duration> {
+        self.rt.monotonic()
+    }
+
+    fn since_1970(&self) -> io::Result<Duration> {
+        self.rt.since_1970()
+    }
+}
+
+impl<R: std::rt::Clock> RunSystem for Watching<'_, R> {
+    fn are_files_there(&self) -> bool {
+        self.are_there
+    }
+}

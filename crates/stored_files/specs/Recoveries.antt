@@ -1,0 +1,44 @@
+-- What is reported of an office that was recovered.
+use Rattle.std.specs.Prelude.{◌≡◌, ℕ, true, false, List, [], ◌∷◌, ◌++◌, if◌then◌else◌, codes, decimal, string_bytes}
+use Rattle.sqlite.specs.Store.{Ghosts}
+use Rattle.sqlite.specs.Held.{Held, state}
+use Rattle.sqlite.specs.State.{HasCleanDisk}
+use Rattle.office_events.specs.declared.facts.Fact.{Fact}
+use Rattle.office_rules.specs.Facts.{latest_in}
+use Rattle.office_store.specs.declared.books.SqlBooks.{SqlBooks}
+use Rattle.table_seals.specs.declared.filed.FiledMeter.{FiledMeter}
+use Rattle.stored_files.specs.BooksFound.{ledger_beneath}
+
+module _ {S : Type 0} (g : Ghosts S) where
+  -- This is the latest timestamp of the facts that the books hold, if their store gave back what was written to it.
+  pub record IsLatestIn (books : SqlBooks S g) (latest : ℕ) : Type 0 where
+    pub asked : SqlBooks S g
+    pub clean : (ledger_beneath g asked).is_clean → (ledger_beneath g books).is_clean
+    pub is_latest : (facts : List Fact) → (ledger_beneath g books).holds facts
+        → (ledger_beneath g asked).is_clean → latest ≡ latest_in facts
+
+  -- The same of these facts, which the database's file has.
+  pub record HasLatest (old : Held S) (facts : List Fact) (latest : ℕ) : Type 0 where
+    pub asked : SqlBooks S g
+    pub clean : (ledger_beneath g asked).is_clean → HasCleanDisk (state g old)
+    pub is_latest : (ledger_beneath g asked).is_clean → latest ≡ latest_in facts
+
+-- a line with the last entry of a meter
+abbrev pub with_last_entry : List ℕ → List ℕ → ℕ → List ℕ
+with_last_entry text meter at =
+    text ++ meter ++ codes " last entry " ++ decimal at ++ codes ", later ones may be lost\n"
+
+-- such a line for a meter that was open
+abbrev pub with_open_meter : List ℕ → FiledMeter → List ℕ
+with_open_meter text meter =
+    if meter.standing.is_ended then text
+    else with_last_entry text (string_bytes meter.meter) meter.standing.last.at
+
+abbrev pub with_open_meters : List ℕ → List FiledMeter → List ℕ
+with_open_meters text [] = text
+with_open_meters text (meter ∷ meters) = with_open_meters (with_open_meter text meter) meters
+
+-- the latest timestamp, and a line for each meter that was open
+abbrev pub with_recovered : List ℕ → ℕ → List FiledMeter → List ℕ
+with_recovered text latest meters =
+    with_open_meters (text ++ codes "latest " ++ decimal latest ++ codes "\n") meters

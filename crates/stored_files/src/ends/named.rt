@@ -1,0 +1,21 @@
+//! Names of files in messages.
+use std::fmt;
+use std::fmt::{Display, Formatter};
+
+/// A name that is written in one line, whatever it has: a line feed is written as `\x0a`.
+#[derive(Clone, Copy, Debug)]
+pub struct Named<'a>(pub &'a str);
+
+impl<'a> Display for Named<'a> {
+    fn fmt<W: fmt::Write>(&self, f: &mut Formatter<W>) -> fmt::Result {
+        let mut is_first = true;
+        for part in self.0.split('\n') {
+            if !is_first {
+                f.write_str("\\x0a")?;
+            }
+            f.write_str(part)?;
+            is_first = false;
+        }
+        Ok(())
+    }
+}

@@ -1,0 +1,128 @@
+//! The log beside a database file, looked at before anything opens the two. Nothing is written.
+ghost use Rattle.std.specs.Prelude.{◌≢◌, IfErr};
+ghost use Rattle.sqlite_wal.specs.PageSize.{Names, size_in_file};
+
+use crate::files::faults::FileFault;
+use crate::files::paths::log_of;
+use crate::logs::{LogFault, check_emptied, check_log, is_shut};
+use sqlite_wal::PageSize;
+use std::fs::{self, File};
+use std::io::{self, ErrorKind, Read};
+
+/// The most bytes of a log that are read: many times as long as the writer lets a log grow.
+const MOST_LOG: u64 = 1_073_741_824;
+
+/// The length of a database file's header.
+const HEADER: u64 = 100;
+
+/// Where it has the size of its pages (SQLite's file format, section 1.3.2).
+const PAGE_SIZE: usize = 16;
+
+// Why a file can't be read.
+fn read_fault(error: io::Error) -> FileFault
+    ensures { result ≢ FileFault.Missing }
+{
+    match error.kind() {
+        ErrorKind::OutOfMemory => FileFault::Memory,
+        _ => FileFault::Unreadable,
+    }
+}
+
+/// Refuses what is there and is no regular file: a reading of it might wait, or never end.
+pub fn check_regular(rt: &HostRuntime, path: &str) -> Result<(), FileFault>
+    ensures { IfErr result (λ fault. fault ≢ FileFault.Missing) }
+{
+    match fs::metadata(rt, path) {
+        Ok(found) if found.is_file() => Ok(()),
+        Ok(_) => Err(FileFault::Irregular),
+        Err(error) if error.kind() == ErrorKind::NotFound => Ok(()),
+        Err(_) => Err(FileFault::Unreadable),
+    }
+}
+
+// The first bytes of a file, up to so many; none where it is missing.
+fn read_up_to(rt: &HostRuntime, path: &str, most: u64) -> Result<Vec<u8>, FileFault>
+    ensures { IfErr result (λ fault. fault ≢ FileFault.Missing) }
+{
+    check_regular(rt, path)?;
+    let mut bytes = Vec::new(rt.alloc());
+    match File::open(rt, path) {
+        Ok(file) => match file.take(most).read_to_end(&mut bytes) {
+            Ok(_) => Ok(bytes),
+            Err(error) => Err(read_fault(error)),
+        },
+        Err(error) if error.kind() == ErrorKind::NotFound => Ok(bytes),
+        Err(_) => Err(FileFault::Unreadable),
+    }
+}
+
+/// The bytes of a log; none where it is missing.
+pub(crate) fn read_log(rt: &HostRuntime, path: &str) -> Result<Vec<u8>, FileFault>
+    ensures { IfErr result (λ fault. fault ≢ FileFault.Missing) }
+{
+    read_up_to(rt, path, MOST_LOG)
+}
+
+/// The header of a database file, as far as the file has it.
+pub(crate) fn read_front(rt: &HostRuntime, path: &str) -> Result<Vec<u8>, FileFault>
+    ensures { IfErr result (λ fault. fault ≢ FileFault.Missing) }
+{
+    read_up_to(rt, path, HEADER)
+}
+
+/// The page size that the header of a database file names.
+pub(crate) fn page_size_in(db: &[u8]) -> Option<PageSize>
+    ensures { Names result (size_in_file db.now) }
+{
+    if db.len() < PAGE_SIZE + 2 {
+        return PageSize::new(0);
+    }
+    let named = db[PAGE_SIZE] as usize * 256 + db[PAGE_SIZE + 1] as usize;
+    PageSize::new(if named == 1 { 65536 } else { named })
+}
+
+// Checks the log of a database file with pages of this size.
+fn check_log_for(rt: &HostRuntime, path: &str, log: &[u8], size: PageSize) -> Result<(), FileFault>
+    ensures { IfErr result (λ fault. fault ≢ FileFault.Missing) }
+{
+    let checked = if is_shut(log) {
+        let db = read_up_to(rt, path, u64::MAX)?;
+        check_emptied(rt.alloc(), log, &db, size)
+    } else {
+        check_log(rt.alloc(), log, size)
+    };
+    match checked {
+        Ok(()) => Ok(()),
+        Err(LogFault::Memory) => Err(FileFault::Memory),
+        Err(fault) => Err(FileFault::Log(fault)),
+    }
+}
+
+// Checks the log of the file at a path. A file without a page size is no database, which its opening tells.
+fn check_once(rt: &HostRuntime, path: &str) -> Result<(), FileFault>
+    ensures { IfErr result (λ fault. fault ≢ FileFault.Missing) }
+{
+    let Ok(log_path) = log_of(rt, path) else {
+        return Err(FileFault::Memory);
+    };
+    let log = read_log(rt, log_path.as_str())?;
+    let head = read_front(rt, path)?;
+    match page_size_in(&head) {
+        Some(size) => check_log_for(rt, path, &log, size),
+        None => Ok(()),
+    }
+}
+
+/// Checks that no commit would be lost by an opening of the file at a path with the log beside it. Another process may write to
+/// both meanwhile: so a log is damaged only where a second look finds the same damage, since what was written before is there then.
+pub fn check_beside(rt: &HostRuntime, path: &str) -> Result<(), FileFault>
+    ensures { IfErr result (λ fault. fault ≢ FileFault.Missing) }
+{
+    match check_once(rt, path) {
+        Err(FileFault::Log(fault)) => match check_once(rt, path) {
+            Err(FileFault::Log(again)) if again != fault => Err(FileFault::Busy),
+            checked => checked,
+        },
+        checked => checked,
+    }
+}

@@ -1,0 +1,59 @@
+//! The mending of a log's header in a copy.
+use crate::files::beside::{page_size_in, read_front, read_log};
+use crate::files::faults::FileFault;
+use crate::files::paths::log_of;
+use crate::logs::{FRAME_HEADER_LEN, HEADER_LEN, is_header, mended_header};
+use std::fs::OpenOptions;
+use std::io::{self, Write};
+
+/// The header of a log after its mending.
+#[derive(Clone, Copy, Debug, PartialEq, Eq)]
+pub enum LogHeader {
+    /// It was no other.
+    Sound,
+    /// One byte of it was changed, and is as it was again.
+    Mended,
+    /// More of it was changed, so nothing of the log can be read.
+    Lost,
+}
+
+// The header of a log that has room for frames.
+fn header_of(log: &[u8]) -> Option<[u8; 32]> {
+    if log.len() < HEADER_LEN + FRAME_HEADER_LEN {
+        return None;
+    }
+    let mut head = [0u8; 32];
+    for at in 0..HEADER_LEN {
+        head[at] = log[at];
+    }
+    Some(head)
+}
+
+// Writes a header over that of a log.
+fn write_header(rt: &HostRuntime, path: &str, header: &[u8; 32]) -> io::Result<()> {
+    let mut log = OpenOptions::new().write(true).open(rt, path)?;
+    log.write_all(header)?;
+    log.sync_all()
+}
+
+/// Mends the header of the log beside the file at a path, where one byte of it was changed. Both must be copies.
+pub fn mend_beside(rt: &HostRuntime, path: &str) -> Result<LogHeader, FileFault> {
+    let Ok(log_path) = log_of(rt, path) else {
+        return Err(FileFault::Memory);
+    };
+    let log = read_log(rt, log_path.as_str())?;
+    let db = read_front(rt, path)?;
+    let (Some(found), Some(size)) = (header_of(&log), page_size_in(&db)) else {
+        return Ok(LogHeader::Sound);
+    };
+    if is_header(&found, size.bytes()) {
+        return Ok(LogHeader::Sound);
+    }
+    match mended_header(&found, size) {
+        Some(header) => match write_header(rt, log_path.as_str(), &header) {
+            Ok(()) => Ok(LogHeader::Mended),
+            Err(_) => Err(FileFault::Unreadable),
+        },
+        None => Ok(LogHeader::Lost),
+    }
+}

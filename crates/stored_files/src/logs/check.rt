@@ -1,0 +1,145 @@
+//! Whether a log has lost commits that were on the disk.
+ghost use Rattle.std.specs.Prelude.{◌≡◌, ◌⊎◌, ◌+◌, ◌*◌, ◌<◌, ◌≤◌, ◌↔◌, ℕ, length, Err, IsNone, IfSome, IfOk, IfErr, OnOk, IsTrue};
+ghost use Rattle.sqlite_disk.specs.Memory.{memory_bytes, memory_is_usable};
+ghost use Rattle.sqlite_wal.specs.Format.{count_page, page_number};
+ghost use Rattle.sqlite_wal.specs.PageSize.{bytes_of};
+ghost use Rattle.sqlite_wal.specs.Recovery.{AreFramesOf, frame, frame_at};
+ghost use Rattle.stored_files.specs.Logs.Damage.{IsCutOff, IsOpen, IsSound};
+ghost use Rattle.stored_files.specs.Logs.Faults.{IsCause, IsUnread, fault_of};
+
+use crate::logs::format::{
+    FRAME_HEADER_LEN, HEADER_LEN, begins, frame_in, frame_offset, get_be32, header_in, is_header,
+};
+use sqlite_disk::{Disk, Memory};
+use sqlite_wal::{Error, PageSize, probe_frames};
+use std::alloc::Global;
+use std::fmt::{self, Display, Formatter};
+use std::io;
+
+/// Where a log's header has its salt, and where a frame has the first byte of its own: its gate.
+const SALT: usize = 16;
+
+const GATE: usize = 8;
+
+/// The page number of a frame that counts what the frames up to the commit lack.
+const COUNT_PAGE: u32 = 0xff00_0000;
+
+/// Why a log is refused.
+#[derive(Clone, Copy, Debug, PartialEq, Eq)]
+pub enum LogFault {
+    /// Its header is damaged, or another page size's.
+    Header,
+    /// A commit lacks bytes that its count names, and more was written behind it.
+    Count,
+    /// Recovery would end at this offset, before a transaction that was complete.
+    Commits { at: u64 },
+    Memory,
+}
+
+// What is wrong, after the log's name.
+impl Display for LogFault {
+    fn fmt<W: fmt::Write>(&self, f: &mut Formatter<W>) -> fmt::Result {
+        match self {
+            LogFault::Header => write!(f, "has a damaged header"),
+            LogFault::Count => write!(f, "is damaged"),
+            LogFault::Commits { at } => write!(f, "is damaged at byte {at}"),
+            LogFault::Memory => write!(f, "can't be checked: memory ran out"),
+        }
+    }
+}
+
+// Whether the transaction behind the frames that recovery takes was complete when the one at frame `i` began.
+fn was_complete(log: &[u8], page_size: usize, taken: usize, i: usize) -> bool
+    requires behind { taken < i }
+    requires size { page_size ≤ 65536 }
+    requires within { frame_at page_size (i + 1) ≤ length log.now }
+    ensures { IsTrue result
+        ↔ (IsOpen page_size log.now taken ⊎ (page_number (frame page_size log.now i) ≡ count_page)) }
+{
+    let gate = frame_offset(page_size, taken) + GATE;
+    log[gate] == log[SALT] || get_be32(frame_in(log, page_size, i), 0) == COUNT_PAGE
+}
+
+fn is_cut_off(log: &[u8], page_size: usize, taken: usize, i: usize) -> bool
+    requires behind { taken < i }
+    requires size { page_size ≤ 65536 }
+    requires within { frame_at page_size (i + 1) ≤ length log.now }
+    ensures { IsTrue result ↔ IsCutOff page_size log.now taken i }
+{
+    begins(log, page_size, i) && was_complete(log, page_size, taken, i)
+}
+
+// The first transaction that recovery would drop although the one before it was complete.
+fn find_cut_off(log: &[u8], page_size: usize, taken: usize) -> Option<usize>
+    requires room { 32 ≤ length log.now }
+    requires size { page_size ≤ 65536 }
+    requires few { taken ≤ length log.now }
+    ensures found { IfSome result (IsCutOff page_size log.now taken) }
+    ensures none { IsNone result → (i : ℕ) → ¬ IsCutOff page_size log.now taken i }
+{
+    let frames = (log.len() - HEADER_LEN) / (FRAME_HEADER_LEN + page_size);
+    for i in taken + 1..frames {
+        if is_cut_off(log, page_size, taken, i) {
+            return Some(i);
+        }
+    }
+    None
+}
+
+// A file in memory with these bytes.
+fn file_of(alloc: Global, bytes: &[u8]) -> io::Result<Memory>
+    ensures usable { IfOk result (λ file. IsTrue (memory_is_usable file)) }
+    ensures bytes { IfOk result (λ file. memory_bytes file ≡ bytes.now) }
+{
+    let mut file = Memory::new(alloc);
+    file.write_at(0, bytes)?;
+    Ok(file)
+}
+
+// What it means that the frames of a log can't be told.
+fn fault_of(error: Error) -> LogFault
+    ensures { result ≡ fault_of error }
+{
+    match error {
+        Error::Corrupt => LogFault::Count,
+        _ => LogFault::Memory,
+    }
+}
+
+/// The page of each frame that recovery takes of a log.
+pub(crate) fn taken_frames(alloc: Global, log: &[u8], size: PageSize) -> Result<Vec<u32>, LogFault>
+    ensures taken { IfOk result (λ pages. AreFramesOf (bytes_of size) log.now pages.items) }
+    ensures cause { IfErr result (IsUnread (bytes_of size) log.now) }
+{
+    let Ok(mut file) = file_of(alloc, log) else {
+        return Err(LogFault::Memory);
+    };
+    match probe_frames(alloc, &mut file, size) {
+        Ok(pages) => Ok(pages),
+        Err(error) => Err(fault_of(error)),
+    }
+}
+
+/// Checks that recovery takes all transactions of a log that were complete, as a crash leaves it.
+/// It can't tell a damaged transaction from a torn one where no later one shows that it was complete.
+pub(crate) fn check_log(alloc: Global, log: &[u8], size: PageSize) -> Result<(), LogFault>
+    ensures sound { OnOk result (IsSound (bytes_of size) log.now) }
+    ensures cause { IfErr result (IsCause (bytes_of size) log.now) }
+{
+    if log.len() < HEADER_LEN + FRAME_HEADER_LEN {
+        return Ok(());
+    }
+    if !is_header(header_in(log), size.bytes()) {
+        return Err(LogFault::Header);
+    }
+    let taken = match taken_frames(alloc, log, size) {
+        Ok(pages) => pages.len(),
+        Err(fault) => return Err(fault),
+    };
+    match find_cut_off(log, size.bytes(), taken) {
+        Some(_) => Err(LogFault::Commits {
+            at: frame_offset(size.bytes(), taken) as u64,
+        }),
+        None => Ok(()),
+    }
+}

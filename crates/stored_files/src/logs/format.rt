@@ -1,0 +1,132 @@
+//! The bytes of a log: SQLite's file format, section 4.
+ghost use Rattle.std.specs.Prelude.{◌≡◌, ◌≢◌, ◌+◌, ◌*◌, ◌-◌, ◌^◌, ◌<◌, ◌≤◌, ◌↔◌, length, IsTrue};
+ghost use Rattle.sqlite_wal.specs.Format.{be32, commit_size, content, stored_sum, IsSigned, IsHeader, IsFrame};
+ghost use Rattle.sqlite_wal.specs.Recovery.{frame, frame_at, header};
+ghost use Rattle.stored_files.specs.Logs.Damage.{Begins};
+
+use sqlite_wal::checksum_of;
+
+/// The length of the log's header.
+pub(crate) const HEADER_LEN: usize = 32;
+
+/// The length of a frame's header.
+pub(crate) const FRAME_HEADER_LEN: usize = 24;
+
+/// The format's only version.
+const VERSION: u32 = 3007000;
+
+/// A four-byte number, highest byte first.
+pub(crate) fn get_be32(bytes: &[u8], at: usize) -> u32
+    requires { at + 4 ≤ length bytes.now }
+    ensures { result ≡ be32 bytes.now at }
+{
+    bytes[at] as u32 * 0x100_0000
+        + bytes[at + 1] as u32 * 0x1_0000
+        + bytes[at + 2] as u32 * 0x100
+        + bytes[at + 3] as u32
+}
+
+fn get_sum(bytes: &[u8], at: usize) -> (u32, u32)
+    requires { at + 8 ≤ length bytes.now }
+    ensures { result ≡ stored_sum bytes.now at }
+{
+    (get_be32(bytes, at), get_be32(bytes, at + 4))
+}
+
+/// Whether a log's first 32 bytes have the magic number and their checksum.
+pub(crate) fn is_signed(head: &[u8]) -> bool
+    requires { length head.now ≡ 32 }
+    ensures { IsTrue result ↔ IsSigned head.now }
+{
+    if head[0] != 0x37 || head[1] != 0x7f || head[2] != 0x06 {
+        return false;
+    }
+    if head[3] != 0x82 && head[3] != 0x83 {
+        return false;
+    }
+    checksum_of(head[3] == 0x83, (0, 0), &head[..24]) == get_sum(head, 24)
+}
+
+/// Whether they are the header of a log for pages of this size.
+pub(crate) fn is_header(head: &[u8], page_size: usize) -> bool
+    requires { length head.now ≡ 32 }
+    ensures { IsTrue result ↔ IsHeader page_size head.now }
+{
+    is_signed(head) && get_be32(head, 4) == VERSION && get_be32(head, 8) as usize == page_size
+}
+
+/// The first 32 bytes.
+pub(crate) fn header_in(log: &[u8]) -> &[u8]
+    requires { 32 ≤ length log.now }
+    ensures header { result.now ≡ header log.now }
+    ensures len { length result.now ≡ 32 }
+{
+    &log[..HEADER_LEN]
+}
+
+/// The offset of frame `i`, from 0.
+pub(crate) fn frame_offset(page_size: usize, i: usize) -> usize
+    requires size { page_size ≤ 65536 }
+    requires fits { frame_at page_size i < 2 ^ 64 }
+    ensures { result ≡ frame_at page_size i }
+{
+    HEADER_LEN + i * (FRAME_HEADER_LEN + page_size)
+}
+
+/// Whether a frame passes SQLite's test, under this header and after this checksum.
+fn is_frame(head: &[u8], before: (u32, u32), frame: &[u8]) -> bool
+    requires head { length head.now ≡ 32 }
+    requires frame { 24 ≤ length frame.now }
+    ensures { IsTrue result ↔ IsFrame head.now before frame.now }
+{
+    if frame[8..16] != head[16..24] || get_be32(frame, 0) == 0 {
+        return false;
+    }
+    let big = head[3] == 0x83;
+    let front = checksum_of(big, before, &frame[..8]);
+    checksum_of(big, front, &frame[24..]) == get_sum(frame, 16)
+}
+
+/// Frame `i`, from 0, with its header.
+pub(crate) fn frame_in(log: &[u8], page_size: usize, i: usize) -> &[u8]
+    requires size { page_size ≤ 65536 }
+    requires within { frame_at page_size (i + 1) ≤ length log.now }
+    ensures frame { result.now ≡ frame page_size log.now i }
+    ensures len { length result.now ≡ 24 + page_size }
+{
+    let at = frame_offset(page_size, i);
+    &log[at..at + FRAME_HEADER_LEN + page_size]
+}
+
+/// Whether frame `i` begins a transaction behind another.
+pub(crate) fn begins(log: &[u8], page_size: usize, i: usize) -> bool
+    requires first { 0 < i }
+    requires size { page_size ≤ 65536 }
+    requires within { frame_at page_size (i + 1) ≤ length log.now }
+    ensures { IsTrue result ↔ Begins page_size log.now i }
+{
+    let before = frame_in(log, page_size, i - 1);
+    if get_be32(before, 4) == 0 {
+        return false;
+    }
+    let now = frame_in(log, page_size, i);
+    is_frame(header_in(log), get_sum(before, 16), now)
+}
+
+/// The page that frame `i` has.
+pub(crate) fn content_in(log: &[u8], page_size: usize, i: usize) -> &[u8]
+    requires size { page_size ≤ 65536 }
+    requires within { frame_at page_size (i + 1) ≤ length log.now }
+    ensures { result.now ≡ content (frame page_size log.now i) }
+{
+    &frame_in(log, page_size, i)[FRAME_HEADER_LEN..]
+}
+
+/// How many pages the database has behind frame `i`, or 0 where the frame doesn't commit.
+pub(crate) fn commit_size_in(log: &[u8], page_size: usize, i: usize) -> usize
+    requires size { page_size ≤ 65536 }
+    requires within { frame_at page_size (i + 1) ≤ length log.now }
+    ensures { result ≡ commit_size (frame page_size log.now i) }
+{
+    get_be32(frame_in(log, page_size, i), 4) as usize
+}

@@ -1,0 +1,128 @@
+//! What is reported of an office that was recovered.
+ghost use Rattle.std.specs.Prelude.{◌≡◌, ◌++◌, ℕ, List, [], OnOk, IfOk, codes, decimal, string_bytes};
+ghost use Rattle.std.specs.Io.KnownBytes.{Appends};
+ghost use Rattle.office_events.specs.declared.facts.Fact.{Fact};
+ghost use Rattle.office_store.specs.Database.{HasFile};
+ghost use Rattle.stored_files.specs.Recoveries.{HasLatest, IsLatestIn, with_last_entry, with_open_meter, with_open_meters, with_recovered};
+
+use crate::audits::AuditFault;
+use itoa::Buffer;
+use office_books::Books;
+use office_store::{OpenFault, SqlBooks};
+use sqlite::{Alter, Connection};
+use std::alloc::{AllocError, Global};
+use std::io::Write;
+use sun_points::Sink;
+use table_seals::FiledMeter;
+
+// Why an office was not opened, as an audit says it.
+fn opening_fault(fault: OpenFault) -> AuditFault {
+    match fault {
+        OpenFault::NotOurs => AuditFault::NotOurs,
+        OpenFault::Zone => AuditFault::NoText,
+        OpenFault::Store => AuditFault::Store,
+        OpenFault::Memory => AuditFault::Memory,
+    }
+}
+
+// The latest timestamp that books have.
+fn latest_in_books<S: Alter + Drop>(books: SqlBooks<S>) -> Result<u64, AuditFault>
+    ensures { IfOk result (IsLatestIn S.Store books) }
+{
+    let mut books = books;
+    match books.latest() {
+        Ok(latest) => Ok(latest),
+        Err(_) => Err(AuditFault::Store),
+    }
+}
+
+/// The latest timestamp that is recorded in a database, in seconds since 1970-01-01 UTC.
+pub fn latest_stored<S: Alter + Drop>(
+    alloc: Global,
+    connection: Connection<S>,
+) -> Result<u64, AuditFault>
+    ensures { (zone : List ℕ) (facts : List Fact) → HasFile S.Store zone connection facts
+        → IfOk result (HasLatest S.Store connection facts) }
+{
+    match SqlBooks::open(alloc, connection) {
+        Ok(books) => latest_in_books(books),
+        Err(unopened) => Err(opening_fault(unopened.fault)),
+    }
+}
+
+fn put(text: &mut Vec<u8>, bytes: &[u8]) -> Result<(), AllocError>
+    ensures { OnOk result (text.new.items ≡ text.old.items ++ bytes.now) }
+{
+    text.extend_from_slice(bytes)
+}
+
+fn put_number(text: &mut Vec<u8>, number: u64) -> Result<(), AllocError>
+    ensures { OnOk result (text.new.items ≡ text.old.items ++ decimal number) }
+{
+    let mut buffer = Buffer::new();
+    put(text, buffer.format(number).as_bytes())
+}
+
+// Adds a line with the last entry of a meter.
+fn put_last_entry(text: &mut Vec<u8>, meter: &str, at: u64) -> Result<(), AllocError>
+    ensures { OnOk result (text.new.items ≡ with_last_entry text.old.items meter.now at) }
+{
+    put(text, meter.as_bytes())?;
+    put(text, b" last entry ")?;
+    put_number(text, at)?;
+    put(text, b", later ones may be lost\n")
+}
+
+// Adds such a line for a meter that was open.
+fn put_open_meter(text: &mut Vec<u8>, meter: &FiledMeter<'_>) -> Result<(), AllocError>
+    ensures { OnOk result (text.new.items ≡ with_open_meter text.old.items meter.now) }
+{
+    if meter.standing.is_ended {
+        Ok(())
+    } else {
+        put_last_entry(text, meter.meter.as_str(), meter.standing.last.at)
+    }
+}
+
+fn put_open_meters(text: &mut Vec<u8>, meters: &[FiledMeter<'_>]) -> Result<(), AllocError>
+    ensures { OnOk result (text.new.items ≡ with_open_meters text.old.items meters.now) }
+{
+    for meter in meters {
+        put_open_meter(text, meter)?;
+    }
+    Ok(())
+}
+
+// Adds what a recovered office has up to when, and which of its meters may lack entries.
+fn put_recovered(
+    text: &mut Vec<u8>,
+    latest: u64,
+    meters: &[FiledMeter<'_>],
+) -> Result<(), AllocError>
+    ensures { OnOk result (text.new.items ≡ with_recovered text.old.items latest meters.now) }
+{
+    put(text, b"latest ")?;
+    put_number(text, latest)?;
+    put(text, b"\n")?;
+    put_open_meters(text, meters)
+}
+
+/// Writes up to when a recovered office goes, and which of its meters may lack later entries.
+pub fn write_recovered<W: Write>(
+    alloc: Global,
+    latest: u64,
+    meters: &[FiledMeter<'_>],
+    output: &mut W,
+) -> Result<(), AuditFault>
+    ensures { OnOk result (Appends (W.contents output.old) (W.contents output.new)
+        (with_recovered [] latest meters.now)) }
+{
+    let mut text = Vec::new(alloc);
+    if put_recovered(&mut text, latest, meters).is_err() {
+        return Err(AuditFault::Memory);
+    }
+    match output.take_text(text.as_slice()) {
+        Ok(()) => Ok(()),
+        Err(_) => Err(AuditFault::Output),
+    }
+}

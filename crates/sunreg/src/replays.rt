@@ -1,0 +1,42 @@
+//! Scripts over books in memory, or over the books in an office's file.
+use file_commands::open_in;
+use interval_core::Zone;
+use kept_books::KeptBooks;
+use office_store::SqlBooks;
+use script_run::{replay, replay_books};
+use std::io;
+use stored_files::{Databases, Ending, Failure, ending_of};
+
+/// Runs the script of standard input over books in memory, whose days are those of a zone.
+pub(crate) fn replay_memory<'a>(rt: &HostRuntime, zone: &'a str) -> Ending<'a> {
+    let Ok(read) = Zone::read(zone) else {
+        return Ending::NoZone(zone);
+    };
+    let mut input = rt.stdin();
+    let run = replay(rt.alloc(), read, &mut input, io::writer(rt));
+    ending_of(run.status)
+}
+
+/// Runs the script of standard input over the office in the database at a path.
+pub(crate) fn replay_file<'a, D: Databases>(
+    rt: &HostRuntime,
+    files: &D,
+    path: &'a str,
+) -> Ending<'a> {
+    let connection = match open_in(rt, files, path) {
+        Ok(connection) => connection,
+        Err(failure) => return Ending::Failed(failure),
+    };
+    let books = match SqlBooks::open(rt.alloc(), connection) {
+        Ok(opened) => KeptBooks::new(rt.alloc(), opened),
+        Err(unopened) => {
+            return Ending::Failed(Failure::Unopened {
+                path,
+                fault: unopened.fault,
+            });
+        }
+    };
+    let mut input = rt.stdin();
+    let run = replay_books(rt.alloc(), books, &mut input, io::writer(rt));
+    ending_of(run.status)
+}

@@ -1,0 +1,144 @@
+#!/bin/sh
+# Installs the tools that the tests need and that this machine lacks: `tests/install-tools.sh [NAME..]`. Without a
+# name it installs the tools of the checks that the gate runs; `--long` adds those of the long checks.
+# `--lacking NAME..` prints the tools that are missing, and installs nothing.
+#
+# This script is the only place that names Debian packages. It installs by apt-get, without a question, where it is
+# run as root (not with PEERS_INSTALL=no), says which tools are still missing, and always exits with 0: a check whose
+# tool is missing is reported as skipped. Other scripts source this file for `has`, `lacking` and `install`; they set
+# `here` to the folder tests/ and `room` to a scratch folder.
+
+# python_of_pymodbus: the Python that has pymodbus: apt's is that of /usr/bin
+python_of_pymodbus() {
+    for it in python3 /usr/bin/python3; do
+        "$it" -B "$here/peers/pymodbus_peer.py" version > "$room/said" 2>&1 && echo "$it" && break
+    done
+}
+
+# python_of_prometheus: the Python that has the parser of Prometheus's text
+python_of_prometheus() {
+    for it in python3 /usr/bin/python3; do
+        "$it" -B -c 'import prometheus_client.parser' > "$room/said" 2>&1 && echo "$it" && break
+    done
+}
+
+# postgres_folder: where apt puts PostgreSQL's own programs
+postgres_folder() {
+    for it in /usr/lib/postgresql/*/bin; do
+        [ -x "$it/initdb" ] && echo "$it" && break
+    done
+}
+
+# library_of_faketime: the library that sets a process's clock
+library_of_faketime() {
+    for it in /usr/lib/*/faketime/libfaketime.so.1 /usr/lib/faketime/libfaketime.so.1; do
+        [ -e "$it" ] && echo "$it" && break
+    done
+}
+
+# browser: the program that the tests of the page drive, as tests/browser.py looks for it
+browser() {
+    for it in ${CHROMIUM:-} chromium chromium-browser google-chrome; do
+        command -v "$it" && break
+    done
+}
+
+# flags WORD: what the compiler needs for libmodbus
+flags() {
+    pkg-config "$1" libmodbus 2> "$room/flags" || { [ "$1" = --libs ] && echo -lmodbus || echo -I/usr/include/modbus; }
+}
+
+# has NAME: whether a tool is here
+has() {
+    case $1 in
+        libmodbus) printf '#include <modbus.h>\n' | cc -E $(flags --cflags) - > "$room/said" 2>&1 ;;
+        pymodbus) [ -n "$(python_of_pymodbus)" ] ;;
+        prometheus) [ -n "$(python_of_prometheus)" ] ;;
+        postgresql) [ -n "$(postgres_folder)" ] ;;
+        prometheus-server) command -v prometheus > "$room/said" ;;
+        faketime) [ -n "$(library_of_faketime)" ] ;;
+        chromium) [ -n "$(browser)" ] ;;
+        tzdata) [ -e /usr/share/zoneinfo/Europe/Zurich ] ;;
+        root) [ "$(id -u)" = 0 ] ;;
+        *) command -v "$1" > "$room/said" ;;
+    esac
+}
+
+# lacking NAME..: the tools that are missing
+lacking() {
+    for it in "$@"; do
+        has "$it" || echo "$it"
+    done
+}
+
+# packages NAME..: the Debian packages of these tools
+packages() {
+    for it in "$@"; do
+        case $it in
+            cc) echo gcc libc6-dev ;;
+            libmodbus) echo libmodbus-dev pkg-config ;;
+            pymodbus) echo python3-pymodbus python3-serial-asyncio ;;
+            prometheus) echo python3-prometheus-client ;;
+            promtool | prometheus-server) echo prometheus ;;
+            nginx) echo nginx-light ;;
+            chromium) echo chromium fonts-dejavu-core ;;
+            systemd-analyze) echo systemd ;;
+            man) echo man-db ;;
+            setpriv) echo util-linux ;;
+            rt | root) ;;
+            *) echo "$it" ;;
+        esac
+    done
+}
+
+# apt WORDS..: apt-get without a question, which waits for another one to end; what it prints is in $room/apt
+apt() {
+    DEBIAN_FRONTEND=noninteractive timeout 600 \
+        apt-get -q -o Acquire::Retries=1 -o DPkg::Lock::Timeout=120 "$@" > "$room/apt" 2>&1 < /dev/null
+}
+
+# installed NAME..: installs the missing ones of these tools where it can, and sets `lacks` to those that are still missing
+installed() {
+    lacks=$(lacking "$@")
+    if [ -n "$lacks" ] && [ "$(id -u)" = 0 ] && [ "${PEERS_INSTALL:-yes}" != no ] && has apt-get; then
+        echo "$0: installs" $lacks
+        apt update
+        for it in $(packages $lacks); do
+            apt install -y --no-install-recommends "$it"
+        done
+        lacks=$(lacking "$@")
+    fi
+}
+
+# install NAME..: the same for a script that needs these tools: it names the missing ones, and ends the script where nothing can be tried
+install() {
+    installed "$@"
+    for it in $lacks; do
+        case $it in
+            python3 | curl | sqlite3) echo "$0: $it is not here, and nothing can be tried without it" >&2; exit 2 ;;
+            *) echo "$0: $it is not here: not tried" ;;
+        esac
+    done
+}
+
+# Below: what this file does where it is run, and not sourced.
+case ${0##*/} in
+    install-tools.sh) ;;
+    *) return 0 ;;
+esac
+here=$(dirname "$(readlink -f "$0")")
+room=$(mktemp -d) || exit 0
+trap 'rm -rf "$room"' EXIT
+of_gate='python3 curl sqlite3 faketime chromium tzdata setpriv man groff'
+of_long='cc libmodbus pymodbus mbpoll prometheus openssl nginx promtool systemd-analyze postgresql clickhouse-server clickhouse-client'
+case ${1:-} in
+    --lacking)
+        shift
+        lacking "$@"
+        exit 0 ;;
+    --long) set -- $of_gate $of_long ;;
+    '') set -- $of_gate ;;
+esac
+installed "$@"
+[ -z "$lacks" ] || echo "$0: not here:" $lacks
+exit 0
