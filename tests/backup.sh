@@ -87,7 +87,7 @@ run create --db office.db --zone UTC0
 same 'create' "$status $(cat out err)" '0 '
 cp office.db alone.db
 run report --db alone.db --register main
-refused 'a new file without its log' "alone.db: it has no tables: an office's may stand in the log that belongs to it, alone.db-wal: give both, or a backup"
+same 'a new file without its log' "$status $(cat out)$(cat err)" "1 refused 1$(no_log alone.db)"
 serve office.db 2
 same 'a device' "$(put /devices 1 '{"name":"inv","unit":1,"timeout":60,"window":1}')" 200
 list='name,function,area,address,type,scale
@@ -104,7 +104,7 @@ refused 'create over a file that is not empty' "bare.db: it isn't empty, though 
 run report --db bare.db --register main
 refused 'a file without tables' "bare.db: it has no tables: an office's may stand in the log that belongs to it, bare.db-wal: give both, or a backup"
 run create --db alone.db --zone UTC0
-refused 'create over a file copied alone' "alone.db: it isn't empty, though it has no tables: an office's may stand in its log: give a new file"
+refused 'create over a file copied alone' 'alone.db: it has tables already: give another file, or leave out create'
 serve office.db 9
 same 'one more' "$(put /devices 3 '{"name":"two","unit":1,"timeout":60,"window":1}')" 200
 kill -9 "$child"

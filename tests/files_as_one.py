@@ -1,9 +1,10 @@
-"""Reports and statements over several files of one office: files_as_one.py PROGRAM; tests/files_as_one.sh calls it.
+"""Reports and statements over several files of one office: files_as_one.py PROGRAM [--short]; tests/files_as_one.sh calls it.
 
 A site has a meter whose counter turns over, is reset, is corrected by hand and has a reading voided, and that is exchanged for another.
 One file gets all of it. Three files get it in parts, the second and the third of them begun by `sunreg carry`: the first carry falls into
 a quarter hour, the second on the begin of one. What the program prints of the three is what it prints of the one, byte for byte, and their
 statement is what Python computes of the entries. Of a second, small site it is held to numbers that were reckoned by hand.
+With --short all days are asked for in each form, and every other range in one form, a different one for each.
 """
 import datetime
 import itertools
@@ -226,9 +227,18 @@ def over(files, *words):
     return run("report", *[word for db in files for word in ("--db", db)], "--register", "main", *words)
 
 
+def in_forms(ranges, *choices):
+    """Returns ranges of days with a form each, of all forms that these choices make."""
+    forms = list(itertools.product(*choices))
+    if not SHORT:
+        return list(itertools.product(ranges, forms))
+    first, *others = ranges
+    return [(first, form) for form in forms] + [(it, forms[at % len(forms)]) for at, it in enumerate(others)]
+
+
 def hold_reports(whole, parts, ranges):
     """Holds each form of the report over the parts to that of the whole."""
-    for (first, till), period, unit, form in itertools.product(ranges, ("day", "month", "year"), ("mwh", "kwh"), ("text", "csv", "json")):
+    for (first, till), (period, unit, form) in in_forms(ranges, ("day", "month", "year"), ("mwh", "kwh"), ("text", "csv", "json")):
         words = ["--by", period, "--unit", unit, "--format", form]
         words += ["--from", first] if first else []
         words += ["--till", till] if till else []
@@ -239,7 +249,7 @@ def hold_reports(whole, parts, ranges):
 
 def hold_statements(whole, parts, ranges, meters, held):
     """Holds each form of the statement over the parts to that of the whole, and its text to what is computed."""
-    for (first, till), unit, form in itertools.product(ranges, ("mwh", "kwh"), ("text", "csv", "json")):
+    for (first, till), (unit, form) in in_forms(ranges, ("mwh", "kwh"), ("text", "csv", "json")):
         words = ["--statement", "--unit", unit, "--format", form]
         words += ["--from", first] if first else []
         words += ["--till", till] if till else []
@@ -374,6 +384,6 @@ def main():
     sys.exit(1 if counts["failed"] else 0)
 
 
-PROGRAM = sys.argv[1]
+PROGRAM, SHORT = sys.argv[1], "--short" in sys.argv
 if __name__ == "__main__":
     main()

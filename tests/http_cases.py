@@ -2,7 +2,8 @@
 
 The lines of a script are entered with `enter`; a `connect`, `start` and `bytes` become a `round` at a device of this process. The clock of
 each process is set to the moment of the line or the request. Not tried here: a case with a poll that gets no answer, since the next
-process ends it as lost; and /status and /metrics of a run, which counts what it does at a device.
+process ends it as lost; one with a line that the office rejects, which `round` has no place for; and /status and /metrics of a run,
+which counts what it does at a device.
 """
 import glob
 import os
@@ -203,7 +204,10 @@ def blocks_of(text):
 
 def differs(path, folder):
     """Where the replies of a case differ from those that are expected; nothing, where they don't."""
-    wanted = [it.removesuffix(b"\n") for it in re.split(rb"(?<=\n)(?=HTTP/1\.1 |no reply\n)", path.with_suffix(".out").read_bytes())]
+    text = path.with_suffix(".out").read_bytes()
+    if b"\nrejected: " in text:
+        raise NotTried("a line of its script that the office rejects")
+    wanted = [it.removesuffix(b"\n") for it in re.split(rb"(?<=\n)(?=HTTP/1\.1 |no reply\n)", text)]
     office = Office(folder)
     for command, given in blocks_of(path.read_text()):
         if command == "script":

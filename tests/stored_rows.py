@@ -160,7 +160,10 @@ LATEST = [
     ("polls VALUES (3, 'pv', 0, 2002, 7, 4, 8, 125); INSERT INTO outcomes VALUES (3, 2002, 5, 4)", 2002),
     ("replies VALUES ('desk', 8, x'6162', 'exchange', 2003)", 2003),
     ("installations VALUES (1, 'm1', 'main', 20000, 0, 1000, 5000, 0, 0); INSERT INTO holds VALUES (1, 'm1', 1, 2004, 0, 0, 1)", 2004),
-    ("voids VALUES ('m1', 1, 2005)", 2005),
+    (
+        "installations VALUES (1, 'm1', 'main', 20000, 0, 1000, 5000, 0, 0); INSERT INTO voids VALUES ('m1', 2, 2005); "
+        "INSERT INTO entries VALUES ('m1', 1, 1, 1000, 5000, 0, 0, 0), ('m1', 2, 2, 1900, 5200, 0, 0, 0)", 2005,
+    ),
 ]
 # Spans of the two devices, and whether a response has a reading of the register there: its function, its counter and its scale.
 SPANS = [

@@ -49,6 +49,13 @@ def run(*words, text=""):
     return done.returncode, done.stdout, "\n".join(said)
 
 
+def copy_file(db, to):
+    """Copies a file alone, over whatever has the name: a log of another file there would be taken for its own."""
+    for it in (to, to + "-wal", to + "-shm"):
+        pathlib.Path(it).unlink(missing_ok=True)
+    shutil.copy(db, to)
+
+
 def execute(db, text):
     with contextlib.closing(sqlite3.connect(db)) as connection:
         connection.executescript(text)
@@ -61,8 +68,6 @@ def rows_of(db, query):
 
 def create(db, zone="UTC0"):
     """Makes a new file: a copy of the one that `create` makes for the zone."""
-    for it in (db, db + "-wal", db + "-shm"):
-        pathlib.Path(it).unlink(missing_ok=True)
     if zone not in MADE:
         made = f"made{len(MADE)}.db"
         done = run("create", "--db", made, "--zone", zone)
@@ -70,7 +75,7 @@ def create(db, zone="UTC0"):
         # (sqlite3 moves the log into the file)
         execute(made, "PRAGMA wal_checkpoint(TRUNCATE)")
         MADE[zone] = made
-    shutil.copy(MADE[zone], db)
+    copy_file(MADE[zone], db)
 
 
 def replay(db, *lines):
@@ -203,9 +208,9 @@ def check_opened_files():
 
 
 def joins(*dbs):
-    """Returns what an audit of several files says of how they join, and its status."""
+    """Returns what an audit of several files says of how they join, and its status; each file alone is fine."""
     status, printed, said = run("audit", *(it for db in dbs for it in ("--db", db)))
-    return status, [it for it in printed.splitlines() if not it.startswith("fine: ")], said
+    return status, [it for it in printed.splitlines() if not it.startswith(("file ", "fine: "))], said
 
 
 def check_joins():
@@ -266,14 +271,15 @@ def check_files():
     same("it has no log", os.path.exists("copy.db-wal"), False)
     for words, wanted in data.REPORTS[:1]:
         same("it is reported alike", run("report", "--db", "copy.db", *words), wanted)
-    shutil.copy("copy.db", "new.db")
-    shutil.copy("copy.db", "old.db")
+    copy_file("copy.db", "new.db")
+    copy_file("copy.db", "old.db")
     same("one file is joined", joins("old.db", "new.db"), data.TWICE)
-    same("it is not reported after itself", run("report", "--db", "old.db", "--db", "new.db", "--register", "main")[:2], (3, ""))
-    same("nor stated", run("report", "--db", "old.db", "--db", "new.db", "--register", "main", "--statement")[:2], (3, ""))
+    same("it is not reported after itself", run("report", "--db", "old.db", "--db", "new.db", "--register", "main")[:2], (1, ""))
+    same("nor stated", run("report", "--db", "old.db", "--db", "new.db", "--register", "main", "--statement")[:2], (1, ""))
     create("bare.db")
-    same("nor before one that has no register", run("report", "--db", "old.db", "--db", "bare.db", "--register", "main", "--statement")[:2], (3, ""))
-    pathlib.Path("next.db").unlink(missing_ok=True)
+    same("nor before one that has no register", run("report", "--db", "old.db", "--db", "bare.db", "--register", "main", "--statement")[:2], (1, ""))
+    for it in ("next.db", "next.db-wal"):
+        pathlib.Path(it).unlink(missing_ok=True)
     same("it is carried", run("carry", "--from", "day.db", "--to", "next.db")[0], 0)
     same("it goes on", replay("next.db", *data.LATER), ["ok", "ok"])
     for dbs, words, wanted in data.STATED:
@@ -291,7 +297,7 @@ def check_files():
     pathlib.Path("text.db").write_text("no database")
     for db in ("text.db", "/"):
         same(f"no copy of {db}", (run("backup", "--db", db, "--to", "none.db")[0], os.path.exists("none.db")), (3, False))
-    for db in ("/", ":memory:", "/none/office.db"):
+    for db in ("/", "/none/office.db"):
         same(f"no office in {db}", run("create", "--db", db, "--zone", "UTC0")[:2], (3, ""))
 
 
@@ -319,7 +325,7 @@ def check_earlier_files():
     with running("day.db", "next.db") as child:
         same("the site of both", json.loads(get(child, "/site")[1])["registers"], data.NEXT_SITE)
         same("the months of both", get(child, "/registers/main/months"), (200, data.NEXT_MONTHS))
-    shutil.copy("day.db", "again.db")
+    copy_file("day.db", "again.db")
     played("bare.db", "3700 device inv 1 5 1\n")
     for what, db in (("a meter that doesn't go on", "again.db"), ("a file without the register", "bare.db")):
         words = ["--db", "day.db", "--db", db, "--listen", str(PORT), "--every", "60", "--devices", "inv=127.0.0.1:1"]
