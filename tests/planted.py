@@ -55,7 +55,7 @@ BREAKS = [
     Break("backup", "backup", breaking("backup", BACKUP)),
     Break("carry", "carry", breaking("carry", CARRY)),
     Break("help_text", "words", breaking("help", printing("s/which it only reads/which it reads/"))),
-    Break("report_digit", "report", breaking("report", printing("s/1\\(  *\\)\\([0-9]*\\)7$/1\\1\\28/"))),
+    Break("report_digit", "report", breaking("report", printing("s/^\\([12][0-9-]*  *.*[0-9]\\)3$/\\14/"))),
 ]
 
 

@@ -27,6 +27,7 @@ import threading
 import time
 
 METERS = 32  # as many as a device may have
+TIMEOUT = 1  # of the device, in seconds
 APART = 125  # so many registers from one counter to the next: each is a read of its own
 TURN = 1 << 32
 OPENINGS = [TURN - 60, *(100_000_000 * number for number in range(2, METERS + 1))]  # (the first one turns over)
@@ -144,7 +145,7 @@ class Office:
         """Makes the file, with a device, its list and its meters."""
         holds("create", self.run("create", "--zone", "UTC0").status == 0)
         rows = "".join(f"p{at},3,0,{APART * at},acc32,\n" for at in range(METERS))
-        asked = [("/devices", json.dumps({"name": "inv", "unit": 1, "timeout": 1, "window": 16}))]
+        asked = [("/devices", json.dumps({"name": "inv", "unit": 1, "timeout": TIMEOUT, "window": 16}))]
         asked += [("/devices/inv/list", f"name,function,area,address,type,scale\n{rows}")]
         for at, raw in enumerate(OPENINGS):
             register = {"name": f"r{at}", "device": "inv", "function": 3, "address": APART * at, "fixed": 0}
@@ -240,8 +241,10 @@ class Soak:
             more = f"{ended.status} {ended.printed[-200:]} {ended.said} {bank[-200:]}"
             holds("a round's status", is_told and (ended.status == 0 or "trick" in bank or self.relay.ends_behind), more)
         self.drops += self.relay.ends_behind == len(self.relay.given)
-        went_well = not (ended.was_stopped or "trick" in bank or self.relay.ends_behind)
-        only_dropped = bool(self.relay.ends_behind) and not (ended.was_stopped or "trick" in bank)
+        # (a round that took as long as the device's timeout may have had late replies, on a busy machine)
+        is_in_time = time.monotonic() - begun < TIMEOUT
+        went_well = is_in_time and not (ended.was_stopped or "trick" in bank or self.relay.ends_behind)
+        only_dropped = is_in_time and bool(self.relay.ends_behind) and not (ended.was_stopped or "trick" in bank)
         self.rounds.append(Round(first, frames_in(bytes(self.relay.given)), self.lacking, went_well, only_dropped))
         return ended.was_stopped
 
