@@ -55,7 +55,7 @@ BREAKS = [
     Break("backup", "backup", breaking("backup", BACKUP)),
     Break("carry", "carry", breaking("carry", CARRY)),
     Break("help_text", "words", breaking("help", printing("s/which it only reads/which it reads/"))),
-    Break("report_digit", "report", breaking("report", printing("s/^\\([12][0-9-]*  *.*[0-9]\\)3$/\\14/"))),
+    Break("report_digit", "report", breaking("report", printing("s/^\\([12][0-9-]*  *[0-9]*  *\\)[1-8]/\\19/"))),
 ]
 
 
