@@ -145,8 +145,8 @@ class Torn:
         self.kinds[f"{kind}, refused"] += 1
         ran = self.refused(what, file, log, verdict)
         whole = self.cut_behind(file, verdict.log, verdict.end)
-        if not whole.get("meters"):
-            soak.holds(f"{what}: no office is recovered of no commits", ran is not None and ran.returncode == 3)
+        if not whole["tables"]:
+            soak.holds(f"{what}: no office is recovered of no tables", ran is not None and ran.returncode == 3)
             return
         soak.holds(f"{what}: recover ends well", ran is not None and ran.returncode == 0, f"{ran and ran.stderr.decode()!r:.200}")
         rows = rows_of(f"{self.copy}/new.db")
