@@ -152,6 +152,8 @@ wait "$round" 2> /dev/null
 kill -CONT "$child"
 # (sqlite3 moves the log, and removes it)
 same 'a poll waits behind the stop' "$(sqlite3 office.db 'SELECT (SELECT count(*) FROM polls) - (SELECT count(*) FROM outcomes)')" 1
+# (a reading of the second of the one before would be held)
+sleep 1.1
 run round --db office.db --device inv --port "$device"
 is 'a round behind the stop' 0 'ok
 started 3 1 1 00000000000601039c9e0002
