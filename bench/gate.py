@@ -60,7 +60,7 @@ checks that run, so of a gate.
 ## By crate
 
 {machine}, {wall} minutes by the clock from the first process to the last. Processor seconds of each part, which a processor that others share counts up to twice,
-and the most memory that one process of it held, in GB. A blank was not measured. The number of edits stands in brackets; their seconds hold the crate's proof, with
+and the most memory that one process of it held, in GB. A blank was not measured. The number of edits is in brackets; their seconds hold the crate's proof, with
 which they begin.
 
 {table}
