@@ -209,6 +209,7 @@ impl Running {
         if self.ticks {
             self.polling
                 .feed(DeviceEvent::Tick, office, &mut self.voice, now);
+            self.port.forget_replies();
             self.begin_second(rt, now);
         }
     }
@@ -253,7 +254,11 @@ impl Running {
         ensures { Goes (texts names.now) now.moment B.ledger office.old office.new }
     {
         let has_fed = self.polling.attend(place, office, &mut self.voice, now);
-        if has_fed && self.look(events, 0).is_ok() {
+        if !has_fed {
+            return;
+        }
+        self.port.forget_replies();
+        if self.look(events, 0).is_ok() {
             self.attend_peers(rt, names, earlier, office, now);
         }
     }
