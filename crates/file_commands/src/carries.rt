@@ -95,7 +95,8 @@ fn carry_whole<'a, D: Databases>(
 }
 
 /// Carries the meters of a database, that of the file at a path, into a new file, as they stand at its end, and answers how many they are.
-/// A carry that fails leaves nothing. What an interrupted carry left is removed before: no other process has the old file open.
+/// A carry that fails leaves no part; the new file has its name where only the sync of the folder failed. What an interrupted carry
+/// left is removed before: no other process has the old file open.
 pub fn carry_open<'a, D: Databases>(
     rt: &HostRuntime,
     databases: &D,

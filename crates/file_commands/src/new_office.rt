@@ -70,7 +70,8 @@ fn name_new<'a>(
     }
 }
 
-// Creates an office as a part, and then gives it its name. Where that fails, the part is removed.
+// Creates an office as a part, and then gives it its name. Where that fails, the part is removed; the office has its name where only
+// the sync of the folder failed.
 fn make_office<'a, D: Databases>(
     rt: &HostRuntime,
     databases: &D,

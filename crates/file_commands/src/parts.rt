@@ -192,7 +192,8 @@ fn claim_name(rt: &HostRuntime, part: &str, to: &str) -> io::Result<()> {
     }
 }
 
-// Gives a file a free name, in one step where the file system has links, and syncs the folder.
+// Gives a file a free name, in one step where the file system has links, and syncs the folder. Where only the old name can't be
+// removed, or the folder can't be synced, the file has the name and this fails.
 fn link_name(rt: &HostRuntime, part: &str, to: &str) -> io::Result<()> {
     match fs::hard_link(rt, part, to) {
         Ok(()) => {}
@@ -216,7 +217,8 @@ fn name_part(rt: &HostRuntime, to: &str, pair: &Pair) -> io::Result<()> {
     link_name(rt, pair.file.as_str(), to)
 }
 
-/// Gives a complete part, whose log was merged into its file, its name. Fails where the name is taken.
+/// Gives a complete part, whose log was merged into its file, its name. Fails where the name is taken; `link_name` may fail although
+/// the file has its name.
 pub(crate) fn finish_part<'a>(
     rt: &HostRuntime,
     to: &'a str,
