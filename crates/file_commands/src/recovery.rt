@@ -1,4 +1,4 @@
-//! What can be read of an office whose log is damaged, as an office of its own.
+//! Recovers what can be read of an office with a damaged log, into a new file.
 use crate::backups::told_of;
 use crate::copies::{Pair, copy_settled, pair_at, remove};
 use crate::escaped::Escaped;
@@ -12,7 +12,7 @@ use stored_files::{
     write_recovered,
 };
 
-// Refuses a file whose log has lost nothing.
+// Rejects a file whose log has lost nothing.
 fn check_damaged<'a>(rt: &HostRuntime, db: &'a str) -> Result<(), Failure<'a>> {
     match check_beside(rt, db) {
         Ok(()) => Err(Failure::Undamaged { path: db }),
@@ -21,7 +21,7 @@ fn check_damaged<'a>(rt: &HostRuntime, db: &'a str) -> Result<(), Failure<'a>> {
     }
 }
 
-// Says that nothing of a log could be read.
+// Reports that all commits in a log are lost.
 fn say_lost(rt: &HostRuntime, db: &str) {
     let mut errors = Escaped::new(rt.stderr());
     let _said = write!(
@@ -30,7 +30,7 @@ fn say_lost(rt: &HostRuntime, db: &str) {
     );
 }
 
-// Mends the header of a copied log, and moves what recovery takes of the log into the copy.
+// Mends the header of a copied log, and merges the commits that recovery takes into the copy.
 fn recover_copy<'a>(
     rt: &HostRuntime,
     db: &'a str,
@@ -68,7 +68,7 @@ fn fill_part<'a>(
     }
 }
 
-// Audits what was recovered, and prints what it has, or how it differs from a lawful office.
+// Audits the recovered office. Prints what it has and returns true, or prints how it differs from a lawful office and returns false.
 fn report_over<D: Databases>(
     rt: &HostRuntime,
     mut connection: Connection<D::Store>,
@@ -86,7 +86,7 @@ fn report_over<D: Databases>(
     Ok(true)
 }
 
-// Reports what was recovered, and gives it its name where it is an office whose rows are lawful.
+// Reports what was recovered, and gives the part its name where the audit found no difference.
 fn finish<'a, D: OfficeFiles>(
     rt: &HostRuntime,
     files: &D,
@@ -109,7 +109,8 @@ fn finish<'a, D: OfficeFiles>(
     Ok(true)
 }
 
-/// Writes what recovery takes of a file with a damaged log into a new file, and prints what that has. The damaged file stays as it is.
+/// Writes the commits that recovery takes from a file with a damaged log into a new file, and prints what the new file has. The damaged
+/// file and its log are only read.
 pub fn recover<'a, D: OfficeFiles>(
     rt: &HostRuntime,
     files: &D,

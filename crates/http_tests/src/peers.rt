@@ -223,7 +223,7 @@ fn a_peer_is_replied_to(rt: HostRuntime) -> Result<(), Fail> {
     Ok(())
 }
 
-// What a client is replied that asks this, while a file of the office is gone.
+// The reply to this request while a file of the office is gone.
 fn replied_without_files(
     rt: &HostRuntime,
     request: &[u8],

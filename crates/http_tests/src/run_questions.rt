@@ -1,4 +1,4 @@
-//! The replies of a run whose books fail, and entries from a place that no target spells.
+//! The replies of a run whose store fails, and entries from an index that no target spells.
 use crate::cases::{reply, text_reply};
 use crate::office::polled;
 use failing_books::FailingBooks;
@@ -18,7 +18,7 @@ pub(crate) fn route_of(alloc: Global, target: &str) -> Result<Option<RunRoute>, 
     Ok(run_route(&[], request.as_bytes()))
 }
 
-// Puts what is replied to one of these targets at a moment.
+// Appends the reply to one of these targets at a timestamp.
 fn put_reply<B: Books>(
     alloc: Global,
     text: &mut Vec<u8>,
