@@ -107,11 +107,21 @@ pub(crate) fn copy_settled(rt: &HostRuntime, source: &Pair, copy: &Pair) -> io::
     Ok(false)
 }
 
+// Whether the log of a copy has all its commits. Fails where that can't be told.
+fn is_sound(rt: &HostRuntime, copy: &Pair) -> io::Result<bool> {
+    match check_beside(rt, copy.file.as_str()) {
+        Ok(()) => Ok(true),
+        Err(FileFault::Log(_) | FileFault::Busy) => Ok(false),
+        Err(FileFault::Memory) => Err(io::Error::from(ErrorKind::OutOfMemory)),
+        Err(_) => Err(io::Error::from(ErrorKind::InvalidData)),
+    }
+}
+
 /// Like [`copy_settled`], but copies again where the copied log has lost commits: an office may have written while its frames were
 /// read, and the copy may have later frames without earlier ones.
 pub(crate) fn copy_sound(rt: &HostRuntime, source: &Pair, copy: &Pair) -> io::Result<bool> {
     for _ in 0..TRIES {
-        if copy_settled(rt, source, copy)? && check_beside(rt, copy.file.as_str()).is_ok() {
+        if copy_settled(rt, source, copy)? && is_sound(rt, copy)? {
             return Ok(true);
         }
         remove(rt, copy);

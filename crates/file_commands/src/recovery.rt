@@ -7,16 +7,20 @@ use crate::parts::{begin_part_again, finish_part, make_empty_log};
 use sqlite::{Connection, Unknown};
 use std::io::{self, Write};
 use stored_files::{
-    AuditFault, CopyFault, Databases, Ending, Failure, FileFault, LogHeader, audit_stored,
+    AuditFault, CopyFault, Databases, Ending, Failure, FileFault, LogHeader, Named, audit_stored,
     check_beside, latest_stored, mend_beside, meters_stored, recovered_file, write_audit,
     write_recovered,
 };
 
-// Rejects a file whose log has lost nothing.
-fn check_damaged<'a>(rt: &HostRuntime, db: &'a str) -> Result<(), Failure<'a>> {
+// A file and its log, which has lost commits. Rejects a log that has lost nothing.
+fn damaged_pair<'a>(rt: &HostRuntime, db: &'a str) -> Result<Pair, Failure<'a>> {
+    let pair = match pair_at(rt, db) {
+        Ok(pair) => pair,
+        Err(fault) => return Err(Failure::File { path: db, fault }),
+    };
     match check_beside(rt, db) {
         Ok(()) => Err(Failure::Undamaged { path: db }),
-        Err(FileFault::Log(_)) => Ok(()),
+        Err(FileFault::Log(_)) => Ok(pair),
         Err(fault) => Err(Failure::File { path: db, fault }),
     }
 }
@@ -24,6 +28,7 @@ fn check_damaged<'a>(rt: &HostRuntime, db: &'a str) -> Result<(), Failure<'a>> {
 // Reports that all commits in a log are lost.
 fn say_lost(rt: &HostRuntime, db: &str) {
     let mut errors = Escaped::new(rt.stderr());
+    let db = Named(db);
     let _said = write!(
         errors,
         "sunreg: {db}: the header of its log {db}-wal can't be mended, so all commits in the log are lost\n"
@@ -52,16 +57,13 @@ fn recover_copy<'a>(
 // Copies a file and its log into a part, and recovers them there.
 fn fill_part<'a>(
     rt: &HostRuntime,
+    source: &Pair,
     db: &'a str,
     to: &'a str,
     part: &Pair,
 ) -> Result<(), Failure<'a>> {
-    let source = match pair_at(rt, db) {
-        Ok(source) => source,
-        Err(fault) => return Err(Failure::File { path: db, fault }),
-    };
     remove(rt, part);
-    match copy_settled(rt, &source, part) {
+    match copy_settled(rt, source, part) {
         Ok(true) => recover_copy(rt, db, to, part),
         Ok(false) => Err(told_of(db, to, CopyFault::Changing)),
         Err(_) => Err(told_of(db, to, CopyFault::Unwritable)),
@@ -117,14 +119,15 @@ pub fn recover<'a, D: OfficeFiles>(
     db: &'a str,
     to: &'a str,
 ) -> Ending<'a> {
-    if let Err(failure) = check_damaged(rt, db) {
-        return Ending::Failed(failure);
-    }
+    let source = match damaged_pair(rt, db) {
+        Ok(source) => source,
+        Err(failure) => return Ending::Failed(failure),
+    };
     let part = match begin_part_again(rt, files, to) {
         Ok(part) => part,
         Err(failure) => return Ending::Failed(failure),
     };
-    let recovered = match fill_part(rt, db, to, &part) {
+    let recovered = match fill_part(rt, &source, db, to, &part) {
         Ok(()) => finish(rt, files, to, &part),
         Err(failure) => Err(failure),
     };

@@ -57,7 +57,7 @@ pub struct HttpPort {
     repeats: Repeats,
     /// Whether a command was refused since there is no room to keep it, which was not said yet.
     is_full: bool,
-    /// Whether a file of the office is gone: then no command is acted on.
+    /// Whether a file of the office is gone: then no command is carried out.
     is_lost: bool,
 }
 
@@ -153,7 +153,7 @@ fn is_done(connection: &Option<Peer>, time: u64) -> bool {
     }
 }
 
-// So many places; the others are shut.
+// Opens this many slots, and shuts the others.
 fn places_for(clients: usize) -> Peers {
     let mut peers = Peers::new();
     for place in clients..MOST_PEERS {
@@ -172,8 +172,8 @@ fn no_connections(alloc: Global) -> Result<Vec<Option<Peer>>, AllocError> {
 }
 
 impl HttpPort {
-    /// A port that is listened on, whose listener is registered under [`PORT_TOKEN`]; nobody is connected. It accepts so many clients at
-    /// once, and 64 at most.
+    /// A port that is listened on, whose listener is registered under [`PORT_TOKEN`]; nobody is connected. It accepts this many clients
+    /// at once, and 64 at most.
     pub fn new(
         alloc: Global,
         listener: TcpListener,
@@ -737,7 +737,7 @@ impl HttpPort {
         }
     }
 
-    // The reply to a request. In place of one that acknowledges a command it is the fault 503 where a file of the office is gone.
+    // The reply to a request. Where a file of the office is gone, the fault 503 replaces a reply that acknowledges a command.
     fn confirmed<R: RunSystem>(
         &mut self,
         rt: &R,

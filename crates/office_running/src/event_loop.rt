@@ -175,6 +175,8 @@ impl Running {
         if let Some(lost) = self.files.look(rt) {
             self.voice.say_lost(self.files.path(lost.index), lost.loss);
             self.port.lose_files();
+        } else if self.port.has_lost() {
+            self.voice.say_gone();
         }
         if self.port.has_lost() {
             self.lost_at = Some(self.time);
@@ -227,7 +229,7 @@ impl Running {
     {
         self.port.accept(self.poll.registry(), now.time);
         let first = self.port.first();
-        let system = Watching::of(rt, !self.files.is_lost(rt));
+        let system = Watching::of(rt, &self.files);
         for step in 0..MOST_PEERS {
             let place = place_at(first, step);
             let told = RunTold {

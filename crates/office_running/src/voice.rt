@@ -241,6 +241,14 @@ impl Voice {
         );
     }
 
+    /// Reports that a file of the office was gone when a command was to be acknowledged, and is there again.
+    pub(crate) fn say_gone(&mut self) {
+        let _done = put(
+            &mut self.said,
+            b"sunreg: a file of the office was gone when a command was to be acknowledged, so the run ends: start it again once the files are in their places\n",
+        );
+    }
+
     /// Tells how a device stands, where that was otherwise before.
     pub(crate) fn tell_standing(
         &mut self,
