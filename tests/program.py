@@ -49,7 +49,7 @@ CHECKS = [
     Check("backup", "backup.sh", 47, 240, "curl sqlite3"),
     Check("carry", "carry.sh", 71, 600, "curl sqlite3"),
     Check("sqlite3", "sqlite3.sh", 41, 120, "curl sqlite3"),
-    Check("http_cases", "http_cases.sh PROGRAM", 43, 180, "faketime"),
+    Check("http_cases", "http_cases.sh PROGRAM", 46, 180, "faketime"),
     Check("replay_stores", "replay_stores.sh PROGRAM", 309, 600, ""),
     Check("stores", "stores.sh PROGRAM", 296, 180, "sqlite3"),
     Check("bad_day_files", "bad_day_files.sh PROGRAM", 127, 300, "faketime"),

@@ -296,7 +296,8 @@ impl HttpPort {
         }
     }
 
-    // Whether there is a place for one more connection: a free one, or that of one which has not asked for a second.
+    // Whether there is a place for one more connection: a free one, or one whose connection was replied to, or has asked nothing for a
+    // second.
     fn has_room(&self, time: u64) -> bool {
         let Some(place) = place_for(&self.peers.places) else {
             return false;
