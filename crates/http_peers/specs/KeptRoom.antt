@@ -1,5 +1,5 @@
 -- How many bytes of requests may still be kept.
-use Rattle.std.specs.Prelude.{◌≡◌, ◌==◌, ◌&&◌, ◌-◌, if◌then◌else◌, List, ℕ, Bool, false, Option, Some, None, length, nat_lt, codes}
+use Rattle.std.specs.Prelude.{◌≡◌, ◌==◌, ◌&&◌, ◌||◌, ◌-◌, if◌then◌else◌, List, ℕ, Bool, false, Option, Some, None, length, nat_lt, codes}
 use Rattle.std.specs.List.{starts_with}
 use Rattle.std.specs.Str.{bytes_eq}
 use Rattle.httparse.specs.Spans.{span_bytes}
@@ -38,6 +38,12 @@ pub record Lacks (left : ℕ) (bytes : List ℕ) (result : Bool) : Type 0 where
   pub is_command : Bool
   pub finds : IsCommand bytes is_command
   pub is : result ≡ (is_command && nat_lt left (length bytes))
+
+-- A command is rejected that is longer than what is left, and each one once a file of the office is gone.
+pub record Rejects (left : ℕ) (is_lost : Bool) (bytes : List ℕ) (result : Bool) : Type 0 where
+  pub is_command : Bool
+  pub finds : IsCommand bytes is_command
+  pub is : result ≡ (is_command && (nat_lt left (length bytes) || is_lost))
 
 -- A command that acted takes as many bytes as it has, and nothing else takes any.
 pub record Counts (left later : ℕ) (bytes : List ℕ) (reply : PeerReply) : Type 0 where

@@ -580,11 +580,6 @@ impl HttpPort {
         }
     }
 
-    // Whether a command is not acted on: there is no room to keep it, or a file of the office is gone.
-    fn rejects(&self, request: &[u8]) -> bool {
-        self.room.lacks(request) || self.is_lost && is_command(request)
-    }
-
     // What comes of what a peer has asked, and the rows that are told after that. Who asks is tested before all else, and then
     // whether what is kept has room.
     #[tactic(auto, using(crate::proofs::PeersAsking::nobody_asks, crate::proofs::PeersAsking::both_ask))]
@@ -613,7 +608,7 @@ impl HttpPort {
             }
             Some(RunRoute::Meters { register }) => self.reply_meters(office, &register),
             None => {
-                if self.rejects(request) {
+                if self.room.rejects(request, self.is_lost) {
                     return self.reply_status(StatusRoute::Rejected(Status::Unavailable), told);
                 }
                 match self.begin_all(request, office, rows) {

@@ -1,7 +1,7 @@
 //! How much of what is asked may still be kept.
 ghost use Rattle.std.specs.Prelude.{◌≡◌};
 ghost use Rattle.http_peers.specs.KeptRoom as kept;
-ghost use Rattle.http_peers.specs.KeptRoom.{Acknowledges, Counts, IsCommand, Lacks};
+ghost use Rattle.http_peers.specs.KeptRoom.{Acknowledges, Counts, IsCommand, Lacks, Rejects};
 
 use http_request::{HeadState, parse_head};
 use run_http::PeerReply;
@@ -57,6 +57,14 @@ impl KeptRoom {
         ensures { Lacks self.now.left request.now result }
     {
         is_command(request) && request.len() as u64 > self.left
+    }
+
+    /// Whether a request gives a command that is rejected: one that is longer than what is left, or any while a file of the office
+    /// is gone.
+    pub fn rejects(&self, request: &[u8], is_lost: bool) -> bool
+        ensures { Rejects self.now.left is_lost request.now result }
+    {
+        is_command(request) && (request.len() as u64 > self.left || is_lost)
     }
 
     /// Counts a command that acted, whole: its head isn't kept, and one that is asked again isn't kept twice, so less is kept than is counted.
