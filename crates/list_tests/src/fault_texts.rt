@@ -77,8 +77,9 @@ const WRITES: [(WriteListFault, &str); 2] = [
 ];
 
 #[test]
-fn lists(rt: HostRuntime) {
+fn faults_say_their_texts(rt: HostRuntime) {
     tells(&rt, rt.alloc(), &IMAGES);
+    tells(&rt, rt.alloc(), &SCANS);
     tells(&rt, rt.alloc(), &CHAINS);
     tells(&rt, rt.alloc(), &ROWS);
     tells(&rt, rt.alloc(), &WRITES)
@@ -105,11 +106,6 @@ fn faulty(rt: &impl Abort, alloc: Global, count: usize) -> FaultyRows {
 }
 
 #[test]
-fn scans(rt: HostRuntime) {
-    tells(&rt, rt.alloc(), &SCANS)
-}
-
-#[test]
 fn lists_tell_their_first_row(rt: HostRuntime) {
     let lists = [
         (
@@ -127,4 +123,20 @@ fn lists_tell_their_first_row(rt: HostRuntime) {
         (ListFault::Memory, "memory ran out"),
     ];
     tells(&rt, rt.alloc(), &lists)
+}
+
+// The numbers that no golden case shows.
+#[test]
+fn faults_have_numbers(rt: HostRuntime) {
+    assert!(rt; ImageFault::PastEnd.number() == 1);
+    assert!(rt; ImageFault::Memory.number() == 2);
+    assert!(rt; ChainFault::Memory.number() == 5);
+    assert!(rt; WriteListFault::Write.number() == 1);
+    assert!(rt; WriteListFault::Memory.number() == 2);
+    assert!(rt; ListFault::Memory.number() == Some(13));
+    let faults = faulty(&rt, rt.alloc(), 2);
+    assert!(rt; faults.rows() == FAULTY.as_slice());
+    assert!(rt; ListFault::Faults(faults).number().is_none());
+    let kept = faulty(&rt, rt.alloc(), 1).into_rows();
+    assert!(rt; kept.as_slice() == &FAULTY[..1]);
 }
