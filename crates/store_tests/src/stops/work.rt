@@ -45,12 +45,12 @@ pub(crate) fn carry_out<S: Alter + Drop>(mut conn: Connection<S>, work: Work) ->
 /// A file is there, or there is none and it can be made.
 fn is_made<S: Alter>(rt: &impl Abort, conn: &mut Connection<S>, is_done: bool) {
     if !is_done && number(rt, conn, "SELECT count(*) FROM sqlite_schema") == 0 {
-        assert_eq!(rt; fault(open(conn)), 1);
-        assert_eq!(rt; fault(create(conn, "UTC0")), 0);
+        assert!(rt; fault(open(conn)) == 1);
+        assert!(rt; fault(create(conn, "UTC0")) == 0);
     }
-    assert_eq!(rt; fault(open(conn)), 0);
+    assert!(rt; fault(open(conn)) == 0);
     let marked = "SELECT count(*) FROM meta WHERE id = 1 AND version = 3 AND zone = 'UTC0'";
-    assert_eq!(rt; number(rt, conn, marked), 1);
+    assert!(rt; number(rt, conn, marked) == 1);
 }
 
 /// The old file is there, or the new one, with every row, and opens.
@@ -58,7 +58,7 @@ fn is_brought<S: Alter>(rt: &impl Abort, conn: &mut Connection<S>, is_done: bool
     let is_old = !is_done && number(rt, conn, "SELECT version FROM meta") == 1;
     shows(rt, conn, &ROWS);
     shows(rt, conn, if is_old { &OLD } else { &NEW });
-    assert_eq!(rt; fault(open(conn)), 0);
+    assert!(rt; fault(open(conn)) == 0);
     shows(rt, conn, &ROWS);
     shows(rt, conn, &NEW)
 }
