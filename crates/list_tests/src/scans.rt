@@ -50,7 +50,7 @@ struct Scanned {
 }
 
 // Scans a bank under tricks.
-fn scanned(alloc: Global, bank: Bank, tricks: &[(u64, Trick)]) -> Scanned {
+fn scan_bank(alloc: Global, bank: Bank, tricks: &[(u64, Trick)]) -> Scanned {
     let mut link = StandInLink::new(bank, tricks);
     let mut shown = Shown(0);
     let found = scan_over(alloc, &mut link, 1, &mut shown);
@@ -67,12 +67,12 @@ fn scanned_full(
     alloc: Global,
     tricks: &[(u64, Trick)],
 ) -> Result<Image, ScanFault> {
-    scanned(alloc, full_bank(rt, alloc), tricks).found
+    scan_bank(alloc, full_bank(rt, alloc), tricks).found
 }
 
 // Scans a bank, which takes so many requests.
 fn image_after(rt: &impl Abort, alloc: Global, bank: Bank, requests: u64) -> Image {
-    let scanned = scanned(alloc, bank, &[]);
+    let scanned = scan_bank(alloc, bank, &[]);
     assert!(rt; scanned.requests == requests, "{requests}");
     scanned.found.ok().expect(rt, "no scan")
 }
@@ -80,7 +80,7 @@ fn image_after(rt: &impl Abort, alloc: Global, bank: Bank, requests: u64) -> Ima
 // The mark, four heads, of which the last is asked for twice and then its ID alone, and three models take ten requests.
 #[test]
 fn full_models_are_read(rt: HostRuntime) {
-    let scanned = scanned(rt.alloc(), full_bank(&rt, rt.alloc()), &[]);
+    let scanned = scan_bank(rt.alloc(), full_bank(&rt, rt.alloc()), &[]);
     assert!(rt; scanned.requests == 10);
     assert!(rt; scanned.models == 3);
     assert_full(&rt, rt.alloc(), &scanned.found.ok().expect(&rt, "no scan"));
@@ -188,7 +188,7 @@ fn many_models(rt: &impl Abort, alloc: Global, count: u16) -> Image {
     }
     let end = 50002u16.saturating_add(count.saturating_mul(2));
     bank.set(Kind::Holding, end, 0xFFFF);
-    scanned(alloc, bank, &[]).found.ok().expect(rt, "no scan")
+    scan_bank(alloc, bank, &[]).found.ok().expect(rt, "no scan")
 }
 
 #[test]
