@@ -752,7 +752,8 @@ def see_parts(origin):
         with open(f"{HERE}/../web/{name}", "rb") as file:
             same(f"{path}: as in web/", (code, body == file.read()), (200, True))
         same(f"{path}: its type", headers["Content-Type"], kind)
-        holds(f"{path}: its policy", (headers["Content-Security-Policy"] or "").startswith("default-src 'self'"), str(headers))
+        same(f"{path}: its policy", headers["Content-Security-Policy"], "default-src 'self'; frame-ancestors 'none'")
+        same(f"{path}: for no other site", headers["Cross-Origin-Resource-Policy"], "same-origin")
         same(f"{path}: no other type", headers["X-Content-Type-Options"], "nosniff")
         same(f"{path}: asked anew", headers["Cache-Control"], "no-cache")
     same("no other file", fetched(f"{origin}/page.html")[0], 404)

@@ -229,12 +229,15 @@ def handler(office):
             code, kind, text = office.reply(self.path)
             body = text.encode()
             self.send_response(code)
+            self.send_header("X-Content-Type-Options", "nosniff")
+            self.send_header("Cross-Origin-Resource-Policy", "same-origin")
+            if self.path not in PARTS:
+                self.send_header("Cache-Control", "no-store")
             self.send_header("Content-Type", kind)
             self.send_header("Content-Length", str(len(body)))
             self.send_header("Connection", "close")
             if self.path in PARTS:
-                self.send_header("Content-Security-Policy", "default-src 'self'")
-                self.send_header("X-Content-Type-Options", "nosniff")
+                self.send_header("Content-Security-Policy", "default-src 'self'; frame-ancestors 'none'")
                 self.send_header("Cache-Control", "no-cache")
             self.end_headers()
             self.wfile.write(body)

@@ -323,6 +323,24 @@ def ask_beside_a_crowd():
     for stream in crowd:
         stream.close()
 
+    # As many that have requested months, read nothing and stay: who was replied to makes room.
+    crowd = [socket.create_connection(("127.0.0.1", PORT)) for _ in range(300)]
+    for stream in crowd:
+        stream.sendall(b"GET /registers/rg0/months HTTP/1.1\r\n\r\n")
+    begun = time.time()
+    same("behind 300 peers that read nothing", ask("/meters/none")[0], 404)
+    wait = time.time() - begun
+    print(f"a reply behind 300 peers that read nothing: {wait * 1000:.0f} ms")
+    holds("a request waits less than a second", wait < 1, wait)
+    # (the first of them was replied to, and its reply is whole)
+    crowd[0].settimeout(30)
+    reply = b""
+    while more := crowd[0].recv(65536):
+        reply += more
+    holds("the reply of who made room is whole", re.search(rb"\nend \d+\n$", reply), reply)
+    for stream in crowd:
+        stream.close()
+
 
 # An empty office.
 made = subprocess.run([PROGRAM, "create", "--db", f"{ROOM}/office.db", "--zone", "UTC0"], capture_output=True)
@@ -476,6 +494,27 @@ same("what is no day", ask("/registers/rlib/days/2026-02-29/2026-03-01"), (400, 
 same("months of what is no register", ask("/registers/none/months"), (404, '{"refused":1}'))
 same("months by another method", ask("/registers/rlib/months", 906, "{}")[0], 405)
 
+# Months that are asked for again tell what was booked since: energy only rises, and what a meter shows is asked of the office each time.
+def months_energy(register):
+    return sum(int(line.split()[2]) for line in ask(f"/registers/{register}/months")[1].splitlines()[:-1])
+
+
+def total_of(meter):
+    return int(json.loads(ask(f"/meters/{meter}")[1])["total"])
+
+
+told_energy, behind = [], []
+while len(told_energy) < 400 and len(set(told_energy)) < 4:
+    between = [months_energy("rg0"), total_of("mg0"), months_energy("rg0")]
+    told_energy.append(between[0])
+    behind += [between] * (between != sorted(between))
+    time.sleep(0.02)
+holds("readings come while months are asked for", len(set(told_energy)) == 4, told_energy)
+same("and each is in the next months", behind, [])
+same("months of a meter without readings", [months_energy("rmute") for _ in range(2)], [0, 0])
+same("a reading by hand", ask("/registers/rmute/manual", 908, json.dumps({"raw": 5003, "rolls": 0}))[0], 200)
+same("is in the next months", [months_energy("rmute") for _ in range(2)], [3000, 3000])
+
 # The meters at a register. A reading may come between two requests.
 status, text = ask("/registers/rlib/meters")
 line = re.fullmatch(r"mlib (\d+) (\d+) 5007 0 7000 open\nend 1\n", text)
@@ -494,8 +533,9 @@ for path, kind, name in [
 ]:
     with open(f"{HERE}/../web/{name}", "rb") as file, urllib.request.urlopen(f"http://127.0.0.1:{PORT}{path}", timeout=30) as reply:
         holds(f"{path}: its bytes", reply.read() == file.read())
-        headers = ["Content-Type", "Content-Security-Policy", "X-Content-Type-Options", "Cache-Control"]
-        same(f"{path}: its headers", [reply.headers[it] for it in headers], [kind, "default-src 'self'", "nosniff", "no-cache"])
+        headers = ["Content-Type", "Content-Security-Policy", "X-Content-Type-Options", "Cross-Origin-Resource-Policy"]
+        same(f"{path}: its headers", [reply.headers[it] for it in headers], [kind, "default-src 'self'; frame-ancestors 'none'", "nosniff", "same-origin"])
+        same(f"{path}: how long it is kept", reply.headers.get_all("Cache-Control"), ["no-cache"])
 same("no page by another method", ask("/", 903, "{}")[0], 405)
 
 # A meter that goes back is held, and that is told.

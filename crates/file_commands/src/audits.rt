@@ -13,7 +13,7 @@ use stored_files::{
     write_joins, write_seal,
 };
 
-/// The most bytes of a seal. One of 4,096 meters, each with a thousand voids, has fewer.
+/// The most bytes of a seal. A seal of 4,096 meters, each with a thousand voids, has fewer.
 const MOST_SEAL: u64 = 300_000_000;
 
 /// What each seal begins with.
@@ -74,7 +74,7 @@ fn audit_in<'a, D: Databases>(
     }
 }
 
-// The length of a seal's file, which must be a regular file; none where it is longer than any seal.
+// The length of a seal's file, which must be regular; `None` where the file is longer than any seal.
 fn seal_length(rt: &HostRuntime, file: &str) -> io::Result<Option<u64>> {
     let found = fs::metadata(rt, file)?;
     if !found.is_file() {
@@ -88,7 +88,7 @@ fn seal_length(rt: &HostRuntime, file: &str) -> io::Result<Option<u64>> {
     })
 }
 
-// What a seal's file has; none where that is no seal, as its first bytes or its length show.
+// The bytes of a seal's file; `None` where its first bytes or its length show that it is no seal.
 fn seal_in(rt: &HostRuntime, file: &str) -> io::Result<Option<Vec<u8>>> {
     let Some(length) = seal_length(rt, file)? else {
         return Ok(None);

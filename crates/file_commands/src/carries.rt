@@ -62,7 +62,7 @@ fn carry_into_part<'a, D: Databases>(
     }
 }
 
-// Moves the log of the new file into it, and gives it its name.
+// Merges the log of the new file into it, and gives the file its name.
 fn finish<'a>(rt: &HostRuntime, to: &'a str, part: &Pair) -> Result<(), Failure<'a>> {
     match make_whole(rt, part.file.as_str()) {
         Ok(()) => {}
@@ -95,7 +95,8 @@ fn carry_whole<'a, D: Databases>(
 }
 
 /// Carries the meters of a database, that of the file at a path, into a new file, as they stand at its end, and answers how many they are.
-/// Of a carry that fails nothing is left. One that was cut off is made again: the old file is this process's alone.
+/// A carry that fails leaves no part; the new file has its name where only the sync of the folder failed. What an interrupted carry
+/// left is removed before: no other process has the old file open.
 pub fn carry_open<'a, D: Databases>(
     rt: &HostRuntime,
     databases: &D,

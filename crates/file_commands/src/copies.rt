@@ -29,8 +29,8 @@ pub(crate) fn remove(rt: &HostRuntime, pair: &Pair) {
     let _gone = fs::remove_file(rt, pair.log.as_str());
 }
 
-/// The file of a path, where it lies, and its log. With a journal of another program's it isn't whole. The log may have lost commits:
-/// [`sound_pair_at`] refuses that.
+/// The real path of a file, and that of its log. Fails where another program left a journal beside the file, which is then incomplete.
+/// The log may have lost commits: [`sound_pair_at`] rejects that.
 pub(crate) fn pair_at(rt: &HostRuntime, path: &str) -> Result<Pair, FileFault> {
     match fs::exists(rt, path) {
         Ok(true) => {}
@@ -50,13 +50,13 @@ pub(crate) fn pair_at(rt: &HostRuntime, path: &str) -> Result<Pair, FileFault> {
     }
 }
 
-/// The same, where the log has lost no commits.
+/// Like [`pair_at`], but fails where the log has lost commits.
 pub(crate) fn sound_pair_at(rt: &HostRuntime, path: &str) -> Result<Pair, FileFault> {
     check_beside(rt, path)?;
     pair_at(rt, path)
 }
 
-// The header of a log, as far as it goes: nothing where there is none.
+// The first bytes of a log, up to the length of its header; none where there is no log.
 fn header_of(rt: &HostRuntime, log: &str) -> io::Result<Vec<u8>> {
     let mut header = Vec::new(rt.alloc());
     match File::open(rt, log) {
@@ -82,8 +82,8 @@ fn copy_file(rt: &HostRuntime, from: &str, to: &str) -> io::Result<()> {
     copy.sync_all()
 }
 
-// Copies a file and then its log, and answers whether no log was moved into the file meanwhile: so the two belong together.
-// What an office writes meanwhile into its log is there to the end of some commit.
+// Copies a file and then its log. Returns whether the log's header is the same after as before: then no checkpoint ran meanwhile, and
+// the two copies belong together. The copied log has what an office wrote meanwhile, up to the end of some commit.
 fn copy_pair(rt: &HostRuntime, source: &Pair, part: &Pair) -> io::Result<bool> {
     let before = header_of(rt, source.log.as_str())?;
     copy_file(rt, source.file.as_str(), part.file.as_str())?;
@@ -96,8 +96,7 @@ fn copy_pair(rt: &HostRuntime, source: &Pair, part: &Pair) -> io::Result<bool> {
     Ok(before.as_slice() == after.as_slice())
 }
 
-/// Copies a file and its log, again where the log was moved into the file meanwhile. It answers whether the two that are left belong
-/// together.
+/// Copies a file and its log, and copies both again where a checkpoint ran meanwhile. Returns whether the copies belong together.
 pub(crate) fn copy_settled(rt: &HostRuntime, source: &Pair, copy: &Pair) -> io::Result<bool> {
     for _ in 0..TRIES {
         if copy_pair(rt, source, copy)? {
@@ -108,10 +107,21 @@ pub(crate) fn copy_settled(rt: &HostRuntime, source: &Pair, copy: &Pair) -> io::
     Ok(false)
 }
 
-/// The same until no commit came between the reading of its frames, of which the copy then has some and lacks some before.
+// Whether the log of a copy has all its commits. Fails where that can't be told.
+fn is_sound(rt: &HostRuntime, copy: &Pair) -> io::Result<bool> {
+    match check_beside(rt, copy.file.as_str()) {
+        Ok(()) => Ok(true),
+        Err(FileFault::Log(_) | FileFault::Busy) => Ok(false),
+        Err(FileFault::Memory) => Err(io::Error::from(ErrorKind::OutOfMemory)),
+        Err(_) => Err(io::Error::from(ErrorKind::InvalidData)),
+    }
+}
+
+/// Like [`copy_settled`], but copies again where the copied log has lost commits: an office may have written while its frames were
+/// read, and the copy may have later frames without earlier ones.
 pub(crate) fn copy_sound(rt: &HostRuntime, source: &Pair, copy: &Pair) -> io::Result<bool> {
     for _ in 0..TRIES {
-        if copy_settled(rt, source, copy)? && check_beside(rt, copy.file.as_str()).is_ok() {
+        if copy_settled(rt, source, copy)? && is_sound(rt, copy)? {
             return Ok(true);
         }
         remove(rt, copy);
@@ -119,7 +129,7 @@ pub(crate) fn copy_sound(rt: &HostRuntime, source: &Pair, copy: &Pair) -> io::Re
     Ok(false)
 }
 
-/// Moves the log of an office's file into it, which then holds the office alone. Both must be this process's alone.
+/// Merges the log of an office's file into the file, which then holds the office without it. No other process may have them open.
 pub(crate) fn make_whole(rt: &HostRuntime, file: &str) -> Result<(), CopyFault> {
     match whole_file(rt, file, Unknown) {
         Ok(_files) => Ok(()),

@@ -1,4 +1,4 @@
-//! The making of an office in a file.
+//! Creates an office in a file.
 use crate::copies::{Pair, make_whole, remove};
 use crate::parts::{
     begin_new_part, check_name, finish_part, make_empty_log, rename_over, unwritable,
@@ -11,7 +11,7 @@ use stored_files::{
     length_of, log_of, real_path,
 };
 
-// Why no office is made in a file that isn't empty.
+// Why no office can be created in a file that isn't empty.
 fn why_occupied<'a, D: Databases>(databases: &D, path: &'a str) -> Failure<'a> {
     match databases.make(path) {
         Ok(connection) if is_bare(&connection) => Failure::Occupied { path },
@@ -23,7 +23,7 @@ fn why_occupied<'a, D: Databases>(databases: &D, path: &'a str) -> Failure<'a> {
     }
 }
 
-// Makes the tables of a new office in a part, and moves its log into it.
+// Creates the tables of a new office in a part, and merges the part's log into its file.
 fn fill_part<'a, D: Databases>(
     rt: &HostRuntime,
     databases: &D,
@@ -45,7 +45,7 @@ fn fill_part<'a, D: Databases>(
     }
 }
 
-// Gives a part the name of an empty file, whose rights it gets.
+// Replaces an empty file by a part, which gets that file's permissions.
 fn replace_empty(rt: &HostRuntime, part: &Pair, path: &str) -> io::Result<()> {
     let rights = fs::metadata(rt, path)?.permissions();
     fs::set_permissions(rt, part.file.as_str(), rights)?;
@@ -53,7 +53,7 @@ fn replace_empty(rt: &HostRuntime, part: &Pair, path: &str) -> io::Result<()> {
     rename_over(rt, part.file.as_str(), path)
 }
 
-// Gives a part that is complete its name: that of no file, or of an empty one.
+// Gives a complete part its name, which is free or an empty file's.
 fn name_new<'a>(
     rt: &HostRuntime,
     path: &'a str,
@@ -70,7 +70,8 @@ fn name_new<'a>(
     }
 }
 
-// Makes a new office under a name of its own, and then gives it its name. Of one that fails nothing is left.
+// Creates an office as a part, and then gives it its name. Where that fails, the part is removed; the office has its name where only
+// the sync of the folder failed.
 fn make_office<'a, D: Databases>(
     rt: &HostRuntime,
     databases: &D,
@@ -95,7 +96,7 @@ fn make_office<'a, D: Databases>(
     }
 }
 
-// Makes a new office where there is no file, or an empty one, and no log alone.
+// Creates an office where there is no file, or an empty one, and no log with bytes.
 fn create_in<'a, D: Databases>(
     rt: &HostRuntime,
     databases: &D,
@@ -117,7 +118,7 @@ fn create_in<'a, D: Databases>(
     make_office(rt, databases, path, zone, length.is_some())
 }
 
-/// Makes the tables of a new office.
+/// Creates an office whose days are those of a zone.
 pub fn create<'a, D: Databases>(
     rt: &HostRuntime,
     databases: &D,

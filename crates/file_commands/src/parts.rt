@@ -1,4 +1,4 @@
-//! Files that are made under a name of their own until they are complete.
+//! Files that are written as NAME.part, and renamed to NAME once they are complete.
 use crate::copies::{Pair, remove};
 use std::alloc::AllocError;
 use std::fs::{self, File, OpenOptions};
@@ -6,10 +6,10 @@ use std::io::{self, ErrorKind};
 use std::os::unix::fs::OpenOptionsExt;
 use stored_files::{CopyFault, Databases, Failure, FileFault, real_path};
 
-/// Ends of names that belong to other files: the log, and what other programs put beside a database, and a file that is not complete.
+/// Suffixes of names that belong to other files: the log, what other programs put beside a database, and an incomplete file.
 const RESERVED: [&'static str; 4] = ["-wal", "-journal", "-shm", ".part"];
 
-/// Whether there is anything of this name.
+/// Whether anything has this name. A name that the system can't look up counts as taken.
 pub fn is_there(rt: &HostRuntime, path: &str) -> bool {
     match fs::symlink_metadata(rt, path) {
         Ok(_) => true,
@@ -22,12 +22,12 @@ pub fn part_name(rt: &HostRuntime, to: &str) -> Result<String, AllocError> {
     format!(in rt.alloc(); "{to}.part")
 }
 
-// Whether a name is one that belongs to another file.
+// Whether a name has a reserved suffix.
 fn is_reserved(path: &str) -> bool {
     RESERVED.iter().any(|end| path.ends_with(*end))
 }
 
-/// Refuses a name for a new office that belongs to another file.
+/// Rejects a reserved name for a new office.
 pub(crate) fn check_name(to: &str) -> Result<(), Failure<'_>> {
     if is_reserved(to) {
         return Err(Failure::Uncopied {
@@ -38,7 +38,7 @@ pub(crate) fn check_name(to: &str) -> Result<(), Failure<'_>> {
     Ok(())
 }
 
-// The names of a new file and its log until it is complete.
+// The names of an incomplete file and its log.
 fn pair_for<'a>(rt: &HostRuntime, to: &str) -> Result<Pair, Failure<'a>> {
     match (part_name(rt, to), format!(in rt.alloc(); "{to}.part-wal")) {
         (Ok(file), Ok(log)) => Ok(Pair { file, log }),
@@ -46,7 +46,7 @@ fn pair_for<'a>(rt: &HostRuntime, to: &str) -> Result<Pair, Failure<'a>> {
     }
 }
 
-// Refuses a name that is taken, or whose log is.
+// Rejects a name that is reserved or taken, or whose log exists.
 fn check_free<'a>(rt: &HostRuntime, to: &'a str) -> Result<(), Failure<'a>> {
     check_name(to)?;
     let Ok(log) = format!(in rt.alloc(); "{to}-wal") else {
@@ -61,7 +61,7 @@ fn check_free<'a>(rt: &HostRuntime, to: &'a str) -> Result<(), Failure<'a>> {
     Ok(())
 }
 
-/// The names of a new file and its log until it is complete, where neither these nor the new names are taken.
+/// The names of an incomplete file and its log. Fails where any of these names, or of the final ones, is taken.
 pub(crate) fn part_of<'a>(rt: &HostRuntime, to: &'a str) -> Result<Pair, Failure<'a>> {
     check_free(rt, to)?;
     let part = pair_for(rt, to)?;
@@ -74,7 +74,7 @@ pub(crate) fn part_of<'a>(rt: &HostRuntime, to: &'a str) -> Result<Pair, Failure
     Ok(part)
 }
 
-// Makes an empty file that is its owner's alone.
+// Creates an empty file that only its owner can read and write.
 fn make_empty(rt: &HostRuntime, path: &str) -> io::Result<()> {
     drop(
         OpenOptions::new()
@@ -86,7 +86,7 @@ fn make_empty(rt: &HostRuntime, path: &str) -> io::Result<()> {
     Ok(())
 }
 
-/// The fault of a new file that can't be written.
+/// The failure of a new file that can't be written.
 pub(crate) fn unwritable(to: &str) -> Failure<'_> {
     Failure::Uncopied {
         path: to,
@@ -94,7 +94,7 @@ pub(crate) fn unwritable(to: &str) -> Failure<'_> {
     }
 }
 
-// Makes the file of a part.
+// Creates the part's file.
 fn begin<'a>(rt: &HostRuntime, to: &'a str, part: Pair) -> Result<Pair, Failure<'a>> {
     match make_empty(rt, part.file.as_str()) {
         Ok(()) => Ok(part),
@@ -102,13 +102,13 @@ fn begin<'a>(rt: &HostRuntime, to: &'a str, part: Pair) -> Result<Pair, Failure<
     }
 }
 
-/// Begins a new file, where neither its name nor those that it needs are taken.
+/// Begins a new file. Fails where its name, or a name that it needs, is taken.
 pub(crate) fn begin_part<'a>(rt: &HostRuntime, to: &'a str) -> Result<Pair, Failure<'a>> {
     let part = part_of(rt, to)?;
     begin(rt, to, part)
 }
 
-// Whether a part may be removed: what is left of one is a regular file, or only a log.
+// Whether a part may be removed: it is a regular file, or only its log exists.
 fn is_left_over(rt: &HostRuntime, part: &Pair) -> bool {
     match fs::symlink_metadata(rt, part.file.as_str()) {
         Ok(found) => found.is_file(),
@@ -116,7 +116,7 @@ fn is_left_over(rt: &HostRuntime, part: &Pair) -> bool {
     }
 }
 
-// Removes a part whose making was cut off. It answers whether it is gone: another process may be making it.
+// Removes the part that an interrupted command left. Returns false where the part isn't a regular file, or another process has it open.
 fn clear_left_over<D: Databases>(rt: &HostRuntime, databases: &D, part: &Pair) -> bool {
     if !is_left_over(rt, part) {
         return false;
@@ -128,7 +128,7 @@ fn clear_left_over<D: Databases>(rt: &HostRuntime, databases: &D, part: &Pair) -
     true
 }
 
-// Makes the file of a part, also where the making of it was cut off: what that left is removed.
+// Creates the part's file, and removes before what an interrupted command left.
 fn begin_again<'a, D: Databases>(
     rt: &HostRuntime,
     databases: &D,
@@ -145,7 +145,7 @@ fn begin_again<'a, D: Databases>(
     begin(rt, to, part)
 }
 
-/// Begins a new file, also where the making of it was cut off: what that left is removed, and the file is made again.
+/// Begins a new file, and removes before what an interrupted command left.
 pub(crate) fn begin_part_again<'a, D: Databases>(
     rt: &HostRuntime,
     databases: &D,
@@ -156,7 +156,7 @@ pub(crate) fn begin_part_again<'a, D: Databases>(
     begin_again(rt, databases, to, part)
 }
 
-/// The same where the new name may be that of an empty file with an empty log.
+/// Like [`begin_part_again`], but the new name may belong to an empty file with an empty log.
 pub(crate) fn begin_new_part<'a, D: Databases>(
     rt: &HostRuntime,
     databases: &D,
@@ -167,20 +167,20 @@ pub(crate) fn begin_new_part<'a, D: Databases>(
     begin_again(rt, databases, to, part)
 }
 
-// Brings the names in a file's folder to the disk.
+// Syncs the folder of a file, so that its names are on the disk.
 fn sync_folder(rt: &HostRuntime, path: &str) -> io::Result<()> {
     let mut folder = fs::canonicalize(rt, path)?;
     folder.pop();
     File::open(rt, folder.as_str())?.sync_all()
 }
 
-/// Renames a file to one that may be written over, and brings that to the disk.
+/// Renames a file over another, which may be replaced, and syncs their folder.
 pub(crate) fn rename_over(rt: &HostRuntime, part: &str, to: &str) -> io::Result<()> {
     fs::rename(rt, part, to)?;
     sync_folder(rt, to)
 }
 
-// Gives a file a name that nothing has, or leaves nothing of that name.
+// Gives a file a free name, without links. Where that fails, nothing has the name.
 fn claim_name(rt: &HostRuntime, part: &str, to: &str) -> io::Result<()> {
     drop(File::create_new(rt, to)?);
     match rename_over(rt, part, to) {
@@ -192,7 +192,8 @@ fn claim_name(rt: &HostRuntime, part: &str, to: &str) -> io::Result<()> {
     }
 }
 
-// Gives a file a name that nothing has, in one step where the system has links, and brings that to the disk.
+// Gives a file a free name, in one step where the file system has links, and syncs the folder. Where only the old name can't be
+// removed, or the folder can't be synced, the file has the name and this fails.
 fn link_name(rt: &HostRuntime, part: &str, to: &str) -> io::Result<()> {
     match fs::hard_link(rt, part, to) {
         Ok(()) => {}
@@ -203,20 +204,21 @@ fn link_name(rt: &HostRuntime, part: &str, to: &str) -> io::Result<()> {
     sync_folder(rt, to)
 }
 
-/// Makes an empty log beside a new file, so that none is missed where the file is opened first. Without one nothing is lost.
+/// Creates an empty log beside a new file, so that a log that is missing later is noticed. Where that fails, nothing is lost.
 pub(crate) fn make_empty_log(rt: &HostRuntime, to: &str) {
     if let Ok(log) = format!(in rt.alloc(); "{to}-wal") {
         let _made = make_empty(rt, log.as_str());
     }
 }
 
-// Removes the log of a part, which was moved into the file, and gives the file its name.
+// Removes a part's log, which was merged into its file, and gives the file its name.
 fn name_part(rt: &HostRuntime, to: &str, pair: &Pair) -> io::Result<()> {
     fs::remove_file(rt, pair.log.as_str())?;
     link_name(rt, pair.file.as_str(), to)
 }
 
-/// Gives a complete part, whose log was moved into it, its name, which nothing has.
+/// Gives a complete part, whose log was merged into its file, its name. Fails where the name is taken; `link_name` may fail although
+/// the file has its name.
 pub(crate) fn finish_part<'a>(
     rt: &HostRuntime,
     to: &'a str,

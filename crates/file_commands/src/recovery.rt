@@ -1,4 +1,4 @@
-//! What can be read of an office whose log is damaged, as an office of its own.
+//! Recovers what can be read of an office with a damaged log, into a new file.
 use crate::backups::told_of;
 use crate::copies::{Pair, copy_settled, pair_at, remove};
 use crate::escaped::Escaped;
@@ -7,30 +7,35 @@ use crate::parts::{begin_part_again, finish_part, make_empty_log};
 use sqlite::{Connection, Unknown};
 use std::io::{self, Write};
 use stored_files::{
-    AuditFault, CopyFault, Databases, Ending, Failure, FileFault, LogHeader, audit_stored,
+    AuditFault, CopyFault, Databases, Ending, Failure, FileFault, LogHeader, Named, audit_stored,
     check_beside, latest_stored, mend_beside, meters_stored, recovered_file, write_audit,
     write_recovered,
 };
 
-// Refuses a file whose log has lost nothing.
-fn check_damaged<'a>(rt: &HostRuntime, db: &'a str) -> Result<(), Failure<'a>> {
+// A file and its log, which has lost commits. Rejects a log that has lost nothing.
+fn damaged_pair<'a>(rt: &HostRuntime, db: &'a str) -> Result<Pair, Failure<'a>> {
+    let pair = match pair_at(rt, db) {
+        Ok(pair) => pair,
+        Err(fault) => return Err(Failure::File { path: db, fault }),
+    };
     match check_beside(rt, db) {
         Ok(()) => Err(Failure::Undamaged { path: db }),
-        Err(FileFault::Log(_)) => Ok(()),
+        Err(FileFault::Log(_)) => Ok(pair),
         Err(fault) => Err(Failure::File { path: db, fault }),
     }
 }
 
-// Says that nothing of a log could be read.
+// Reports that all commits in a log are lost.
 fn say_lost(rt: &HostRuntime, db: &str) {
     let mut errors = Escaped::new(rt.stderr());
+    let db = Named(db);
     let _said = write!(
         errors,
         "sunreg: {db}: the header of its log {db}-wal can't be mended, so all commits in the log are lost\n"
     );
 }
 
-// Mends the header of a copied log, and moves what recovery takes of the log into the copy.
+// Mends the header of a copied log, and merges the commits that recovery takes into the copy.
 fn recover_copy<'a>(
     rt: &HostRuntime,
     db: &'a str,
@@ -52,23 +57,20 @@ fn recover_copy<'a>(
 // Copies a file and its log into a part, and recovers them there.
 fn fill_part<'a>(
     rt: &HostRuntime,
+    source: &Pair,
     db: &'a str,
     to: &'a str,
     part: &Pair,
 ) -> Result<(), Failure<'a>> {
-    let source = match pair_at(rt, db) {
-        Ok(source) => source,
-        Err(fault) => return Err(Failure::File { path: db, fault }),
-    };
     remove(rt, part);
-    match copy_settled(rt, &source, part) {
+    match copy_settled(rt, source, part) {
         Ok(true) => recover_copy(rt, db, to, part),
         Ok(false) => Err(told_of(db, to, CopyFault::Changing)),
         Err(_) => Err(told_of(db, to, CopyFault::Unwritable)),
     }
 }
 
-// Audits what was recovered, and prints what it has, or how it differs from a lawful office.
+// Audits the recovered office. Prints what it has and returns true, or prints how it differs from a lawful office and returns false.
 fn report_over<D: Databases>(
     rt: &HostRuntime,
     mut connection: Connection<D::Store>,
@@ -86,7 +88,7 @@ fn report_over<D: Databases>(
     Ok(true)
 }
 
-// Reports what was recovered, and gives it its name where it is an office whose rows are lawful.
+// Reports what was recovered, and gives the part its name where the audit found no difference.
 fn finish<'a, D: OfficeFiles>(
     rt: &HostRuntime,
     files: &D,
@@ -109,21 +111,23 @@ fn finish<'a, D: OfficeFiles>(
     Ok(true)
 }
 
-/// Writes what recovery takes of a file with a damaged log into a new file, and prints what that has. The damaged file stays as it is.
+/// Writes the commits that recovery takes from a file with a damaged log into a new file, and prints what the new file has. The damaged
+/// file and its log are only read.
 pub fn recover<'a, D: OfficeFiles>(
     rt: &HostRuntime,
     files: &D,
     db: &'a str,
     to: &'a str,
 ) -> Ending<'a> {
-    if let Err(failure) = check_damaged(rt, db) {
-        return Ending::Failed(failure);
-    }
+    let source = match damaged_pair(rt, db) {
+        Ok(source) => source,
+        Err(failure) => return Ending::Failed(failure),
+    };
     let part = match begin_part_again(rt, files, to) {
         Ok(part) => part,
         Err(failure) => return Ending::Failed(failure),
     };
-    let recovered = match fill_part(rt, db, to, &part) {
+    let recovered = match fill_part(rt, &source, db, to, &part) {
         Ok(()) => finish(rt, files, to, &part),
         Err(failure) => Err(failure),
     };

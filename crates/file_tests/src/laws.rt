@@ -1,4 +1,4 @@
-//! What is proved of files that are told of as one, and of the days of a range, by examples.
+//! Theorems about the energy of several files and the days of a range, by examples.
 use carried_books::{
     both_files_state_the_joined_meter, both_files_tell_the_joined_days, one_file_states_its_meters,
     one_file_tells_its_days,
@@ -51,7 +51,7 @@ fn office(rt: &impl Abort, alloc: Global) -> Office<ListBooks> {
     office
 }
 
-/// How many days there are from one to before another.
+/// The number of days from one day up to, and without, another.
 fn days_between(rt: &impl Abort, alloc: Global, from: &str, till: &str) -> u32 {
     let range = DayRange {
         from: read_day(from),

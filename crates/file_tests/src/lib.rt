@@ -1,4 +1,4 @@
-//! Tests of what ends commands over files: each end has its exit status, and says why; and of what is said after a round.
+//! Tests of the exit status and message of each end of a command over files, and of what is reported after a round.
 #![tactic(auto)]
 
 #[cfg(test)]

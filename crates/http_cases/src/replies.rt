@@ -5,8 +5,8 @@ use memory_books::ListBooks;
 use office_core::Office;
 use office_http::handle_named;
 use run_http::{
-    PeerReply, RunRoute, ask, reply_energy, reply_entries, reply_intervals, reply_meters,
-    reply_metrics, reply_status, reply_voids, run_route,
+    PeerReply, RunRoute, ask, for_browsers, reply_energy, reply_entries, reply_intervals,
+    reply_meters, reply_metrics, reply_status, reply_voids, run_route,
 };
 use run_status::Counts;
 use std::alloc::{AllocError, Global};
@@ -36,7 +36,7 @@ pub(crate) fn serve(
     }
 }
 
-/// Appends the reply of `run` to the bytes that a client has sent: its own reply, or that of its office.
+/// Appends the reply of `run` to the bytes that a client has sent, as browsers get it: its own reply, or that of its office.
 pub(crate) fn run(
     alloc: Global,
     office: &mut Office<ListBooks>,
@@ -44,13 +44,16 @@ pub(crate) fn run(
     request: &[u8],
     printed: &mut Vec<u8>,
 ) -> Result<(), AllocError> {
+    let mut reply = Vec::new(alloc);
     match run_route(&NAMES, request) {
-        Some(route) => reply_of_run(alloc, office, at, &route, printed),
+        Some(route) => reply_of_run(alloc, office, at, &route, &mut reply)?,
         None => match ask(alloc, request, office, at) {
-            PeerReply::Replied(reply) => printed.extend_from_slice(&reply),
-            PeerReply::Open | PeerReply::Failed => printed.extend_from_slice(NO_REPLY),
+            PeerReply::Replied(replied) => reply = replied,
+            PeerReply::Open | PeerReply::Failed => return printed.extend_from_slice(NO_REPLY),
         },
     }
+    let told = for_browsers(alloc, &NAMES, request, &reply)?;
+    printed.extend_from_slice(&told)
 }
 
 // Appends the reply of a run's own route, of a run that has counted nothing and has no earlier files.

@@ -45,7 +45,7 @@ pub record Counts (left later : ℕ) (bytes : List ℕ) (reply : PeerReply) : Ty
   pub finds : IsCommand bytes is_command
   pub is : later ≡ if is_command && has_acted reply then left - length bytes else left
 
--- Of all replies, those to commands that acted acknowledge something.
+-- A reply acknowledges something exactly where the request is a command and the reply's status is 200.
 pub record Acknowledges (bytes : List ℕ) (reply : PeerReply) (result : Bool) : Type 0 where
   pub is_command : Bool
   pub finds : IsCommand bytes is_command

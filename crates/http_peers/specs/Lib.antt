@@ -3,3 +3,4 @@ pub mod SiteOver
 pub mod KeptRoom
 pub mod Outbox
 pub mod PeersAsk
+pub mod Repeats

@@ -7,6 +7,7 @@ use crate::energy_over::{EarlierFiles, place_among, reply_energy_over};
 use crate::kept_room::{KeptRoom, is_acknowledged, is_command};
 use crate::moments::{Now, even_milliseconds};
 use crate::peers::Peer;
+use crate::repeats::Repeats;
 use crate::run_told::{RunSystem, RunTold};
 use crate::site_over::reply_site_over;
 use carried_books::EarlierRegister;
@@ -20,9 +21,10 @@ use office_books::{Books, Span};
 use office_core::Office;
 use office_events::{Name, Refusal};
 use run_http::{
-    PeerReply, RowsLeft, RunRoute, StatusRoute, all_rows_asked, are_many, ask, begin_all_intervals,
-    begin_intervals, end_rows, has_more, may_void, reply_energy, reply_entries, reply_intervals,
-    reply_meters, reply_metrics, reply_status, reply_voids, run_route, tell_rows,
+    PeerReply, RowsLeft, RunRoute, StatusRoute, all_rows_asked, are_many, ask, asks_energy,
+    begin_all_intervals, begin_intervals, end_rows, for_browsers, has_more, may_void, reply_energy,
+    reply_entries, reply_intervals, reply_meters, reply_metrics, reply_status, reply_voids,
+    run_route, tell_rows,
 };
 use run_schedule::{MOST_PEERS, PEER_SECONDS, Peers, TurnShare, may_reply, place_at, place_for};
 use std::alloc::{AllocError, Global};
@@ -52,9 +54,10 @@ pub struct HttpPort {
     /// The place that is attended first.
     first: usize,
     room: KeptRoom,
+    repeats: Repeats,
     /// Whether a command was refused since there is no room to keep it, which was not said yet.
     is_full: bool,
-    /// Whether a file of the office is gone: then no command is acted on.
+    /// Whether a file of the office is gone: then no command is carried out.
     is_lost: bool,
 }
 
@@ -150,7 +153,7 @@ fn is_done(connection: &Option<Peer>, time: u64) -> bool {
     }
 }
 
-// So many places; the others are shut.
+// Opens this many slots, and shuts the others.
 fn places_for(clients: usize) -> Peers {
     let mut peers = Peers::new();
     for place in clients..MOST_PEERS {
@@ -169,8 +172,8 @@ fn no_connections(alloc: Global) -> Result<Vec<Option<Peer>>, AllocError> {
 }
 
 impl HttpPort {
-    /// A port that is listened on, whose listener is registered under [`PORT_TOKEN`]; nobody is connected. It accepts so many clients at
-    /// once, and 64 at most.
+    /// A port that is listened on, whose listener is registered under [`PORT_TOKEN`]; nobody is connected. It accepts this many clients
+    /// at once, and 64 at most.
     pub fn new(
         alloc: Global,
         listener: TcpListener,
@@ -189,6 +192,7 @@ impl HttpPort {
             share: TurnShare::whole(),
             first: 0,
             room,
+            repeats: Repeats::new(),
             is_full: false,
             is_lost: false,
         })
@@ -218,6 +222,11 @@ impl HttpPort {
         ensures later { self.new.is_full ≡ false }
     {
         mem::replace(&mut self.is_full, false)
+    }
+
+    /// The office may have recorded something: no reply is given again.
+    pub fn forget_replies(&mut self) {
+        self.repeats.forget();
     }
 
     /// A file of the office is gone: from now on commands are answered by the fault 503, and not acted on.
@@ -614,6 +623,51 @@ impl HttpPort {
         }
     }
 
+    // The same, or the reply that was given to the same request before, where nothing was recorded since.
+    #[tactic(auto, using(crate::proofs::PeersAsking::nobody_asks))]
+    fn reply_again<B: Books>(
+        &mut self,
+        names: &[&str],
+        request: &[u8],
+        office: &mut Office<B>,
+        told: &RunTold<'_>,
+        now: Now,
+        rows: &mut Option<RowsLeft>,
+    ) -> PeerReply
+        ensures { PeersAsk (texts names.now) now.moment B.ledger office.old office.new }
+    {
+        if let Some(reply) = self.repeats.again(self.alloc, request) {
+            return PeerReply::Replied(reply);
+        }
+        let asked = self.reply(names, request, office, told, now, rows);
+        self.keep_reply(names, request, &asked);
+        asked
+    }
+
+    // Keeps a reply with energy, and none past a command, which may have changed it.
+    fn keep_reply(&mut self, names: &[&str], request: &[u8], asked: &PeerReply) {
+        if is_command(request) {
+            self.repeats.forget();
+        }
+        if let PeerReply::Replied(reply) = asked {
+            if asks_energy(names, request) {
+                self.repeats.keep(self.alloc, request, reply);
+            }
+        }
+    }
+
+    // A reply as browsers get it.
+    fn told(&self, names: &[&str], request: &[u8], asked: PeerReply) -> PeerReply {
+        match asked {
+            PeerReply::Replied(reply) => match for_browsers(self.alloc, names, request, &reply) {
+                Ok(told) => PeerReply::Replied(told),
+                Err(_) => PeerReply::Failed,
+            },
+            PeerReply::Open => PeerReply::Open,
+            PeerReply::Failed => PeerReply::Failed,
+        }
+    }
+
     // Whether the connection of a place is attended now.
     fn has_turn(&self, place: usize) -> bool {
         match self.connections.get(place) {
@@ -638,10 +692,22 @@ impl HttpPort {
         if peer.is_over() {
             self.end(place);
         } else if place < MOST_PEERS && place < self.connections.len() {
-            if peer.has_reply() {
-                self.peers.ask(place);
-            }
+            self.note(place, &peer);
             self.connections[place] = Some(peer);
+        }
+    }
+
+    // Takes note whether a peer waits for its reply, or was replied to.
+    fn note(&mut self, place: usize, peer: &Peer)
+        requires { place < 64 }
+    {
+        match peer.lingers {
+            Some(until) => self.peers.linger(place, until),
+            None => {
+                if peer.has_reply() {
+                    self.peers.ask(place);
+                }
+            }
         }
     }
 
@@ -671,7 +737,7 @@ impl HttpPort {
         }
     }
 
-    // The reply to a request. In place of one that acknowledges a command it is the fault 503 where a file of the office is gone.
+    // The reply to a request. Where a file of the office is gone, the fault 503 replaces a reply that acknowledges a command.
     fn confirmed<R: RunSystem>(
         &mut self,
         rt: &R,
@@ -703,11 +769,12 @@ impl HttpPort {
     {
         let begun = even_milliseconds(rt);
         let mut rows = None;
-        let asked = self.reply(names, &peer.asked, office, told, now, &mut rows);
+        let asked = self.reply_again(names, &peer.asked, office, told, now, &mut rows);
         let asked = self.confirmed(rt, &peer.asked, asked, told);
         let took = even_milliseconds(rt).saturating_sub(begun);
         self.count(place, &peer.asked, &asked, took);
         self.stay_at(place, rows.is_some());
+        let asked = self.told(names, &peer.asked, asked);
         peer.take(asked, rows);
     }
 

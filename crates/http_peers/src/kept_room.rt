@@ -12,7 +12,7 @@ pub struct KeptRoom {
     left: u64,
 }
 
-/// Whether a request gives a command: by its head as the office reads it, which may come after empty lines.
+/// Whether a request is a command (POST). The head is parsed as the office parses it, so empty lines may come before it.
 pub(crate) fn is_command(request: &[u8]) -> bool
     ensures { IsCommand request.now result }
 {
@@ -33,7 +33,7 @@ fn has_acted(reply: &PeerReply) -> bool
     }
 }
 
-/// Whether a reply acknowledges a command: the client may rely on it that what it asked is recorded.
+/// Whether a reply acknowledges a command: then the client may rely on the command's record.
 pub(crate) fn is_acknowledged(request: &[u8], reply: &PeerReply) -> bool
     ensures { Acknowledges request.now reply.now result }
 {

@@ -7,6 +7,7 @@ mod kept_room;
 mod moments;
 mod outbox;
 mod peers;
+mod repeats;
 mod run_told;
 mod site_over;
 

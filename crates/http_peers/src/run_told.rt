@@ -1,4 +1,4 @@
-//! What peers are told that the office isn't asked for, and what a run asks of the system while it replies.
+//! What a run's replies contain that doesn't come from the office, and what a run asks the system while it replies.
 use crate::energy_over::EarlierFiles;
 use run_status::{DeviceLack, RunMonitor};
 
@@ -11,8 +11,8 @@ pub struct RunTold<'a> {
     pub earlier: &'a EarlierFiles<'a>,
 }
 
-/// The time that passes, and whether the files of the office are still there.
+/// The clock, and whether the files of the office are still there.
 pub trait RunSystem: std::rt::Clock {
-    /// Whether the paths of the office's files lead to the files that it has open.
+    /// Whether the paths of the office's files lead to the files that it has open, as the last look found.
     fn are_files_there(&self) -> bool;
 }

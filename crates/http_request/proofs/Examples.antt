@@ -3,6 +3,7 @@ use Rattle.std.proofs.Common.{◌≡◌, ℕ, List, [], ◌∷◌, map, true, fa
 use Rattle.std.specs.Prelude.{codes}
 use Rattle.http_request.specs.HeadTests.{Start}
 use Rattle.http_request.specs.Hosts.{is_known, may_ask}
+use Rattle.http_request.specs.Sites.{is_cross_site}
 
 -- ---- Which hosts may ask (RFC 9110, section 7.2). This machine's own, by name or by number, in any case:
 
@@ -80,3 +81,27 @@ with_an_empty_one = refl
 -- two are one too many, whatever they name (RFC 9112, section 3.2)
 with_two : may_ask [] (head_with (codes "localhost" ∷ codes "localhost" ∷ [])) ≡ false
 with_two = refl
+
+-- ---- Which requests a page of another site has sent (W3C, Fetch Metadata Request Headers, section 2.3)
+
+abbrev from_site : List (List ℕ) → Start
+from_site values = record {
+  method = codes "GET";
+  target = codes "/site";
+  headers = map (λ value. (codes "Sec-Fetch-Site", value)) values;
+}
+
+of_another_site : is_cross_site (from_site (codes "cross-site" ∷ [])) ≡ true
+of_another_site = refl
+
+said_twice : is_cross_site (from_site (codes "none" ∷ codes "none" ∷ [])) ≡ true
+said_twice = refl
+
+of_this_site : is_cross_site (from_site (codes "same-origin" ∷ [])) ≡ false
+of_this_site = refl
+
+in_other_case : is_cross_site (from_site (codes "Cross-Site" ∷ [])) ≡ false
+in_other_case = refl
+
+of_no_browser : is_cross_site (from_site []) ≡ false
+of_no_browser = refl

@@ -8,6 +8,7 @@ mod numbers;
 mod post;
 mod reading;
 mod routing;
+mod sites;
 mod status;
 mod whole;
 
@@ -19,7 +20,8 @@ pub use hosts::may_ask;
 pub use numbers::{digits, number};
 pub use post::{MOST_BODY, Posted, post_headers};
 pub use reading::{Inbox, TakeFault, read_head};
-pub use routing::{Found, Route, router};
+pub use routing::{Found, Route, has_query, router};
+pub use sites::is_cross_site;
 pub use status::Status;
 pub use whole::{
     MOST_ROOM, a_command_tells_its_size, a_look_finds_the_request, ask_in, body_in, is_whole,

@@ -4,4 +4,4 @@ mod routes;
 mod targets;
 
 pub use routes::{Route, router};
-pub use targets::{Found, route_of};
+pub use targets::{Found, has_query, route_of};

@@ -8,6 +8,7 @@ ghost use Rattle.http_request.specs.Status.Statuses.{number_of_status, reason_of
 pub enum Status {
     Fine,
     BadRequest,
+    Forbidden,
     NotFound,
     MethodNotAllowed,
     Conflict,
@@ -27,6 +28,7 @@ impl Status {
         match self {
             Status::Fine => 200,
             Status::BadRequest => 400,
+            Status::Forbidden => 403,
             Status::NotFound => 404,
             Status::MethodNotAllowed => 405,
             Status::Conflict => 409,
@@ -46,6 +48,7 @@ impl Status {
         match self {
             Status::Fine => b"OK",
             Status::BadRequest => b"Bad Request",
+            Status::Forbidden => b"Forbidden",
             Status::NotFound => b"Not Found",
             Status::MethodNotAllowed => b"Method Not Allowed",
             Status::Conflict => b"Conflict",

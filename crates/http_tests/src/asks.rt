@@ -35,7 +35,7 @@ fn a_part_of_the_page_has_headers_for_a_browser(rt: HostRuntime) {
     let body = PagePart::Script.body();
     let size = body.len();
     let head = format!(in rt.alloc();
-        "HTTP/1.1 200 OK\r\nContent-Type: text/javascript; charset=utf-8\r\nContent-Length: {size}\r\nConnection: close\r\nContent-Security-Policy: default-src 'self'\r\nX-Content-Type-Options: nosniff\r\nCache-Control: no-cache\r\n\r\n"
+        "HTTP/1.1 200 OK\r\nContent-Type: text/javascript; charset=utf-8\r\nContent-Length: {size}\r\nConnection: close\r\nContent-Security-Policy: default-src 'self'; frame-ancestors 'none'\r\nCache-Control: no-cache\r\n\r\n"
     ).expect(&rt, "no memory");
     assert!(rt; text.starts_with(head.as_bytes()));
     assert!(rt; text.get(head.len()..) == Some(body));

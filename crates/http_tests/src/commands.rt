@@ -1,4 +1,4 @@
-//! The commands of bodies that ask for lists.
+//! The commands that bodies with lists parse to.
 use http_answer::{CommandFault, command_in};
 use http_request::Route;
 use office_events::{Command, Name};

@@ -24,7 +24,7 @@ struct Client {
 pub(crate) const REQUEST: &[u8] =
     b"POST /registers/main/exchange HTTP/1.1\r\nContent-Length: 68\r\nOffice-Caller: desk\r\nOffice-Request: 7\r\n\r\n{\"ceiling\":100000,\"last\":5300,\"meter\":\"m2\",\"raw\":0,\"rolls\":0,\"sf\":0}";
 
-pub(crate) const REPLY: &[u8] =
+const REPLY: &[u8] =
     b"HTTP/1.1 200 OK\r\nContent-Type: application/json\r\nContent-Length: 19\r\nConnection: close\r\n\r\n{\"done\":\"exchange\"}";
 
 // Clients ask one after the other: the second repeats the first, and the third asks for another last value under the same number.

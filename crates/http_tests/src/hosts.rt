@@ -1,4 +1,4 @@
-//! Clients that are turned away over a link that fails, and requests that are complete with their bodies.
+//! Clients that are rejected over a link that fails, and requests that are complete with their bodies.
 use http_request::{is_whole, router};
 use mb_wire::MemoryLink;
 use office_http::{HandleFault, turn_away};

@@ -1,6 +1,5 @@
 //! Peers of a run, over sockets that don't wait.
-use crate::cases::text_reply;
-use crate::connections::{REPLY, REQUEST, Stepping, client_of, energy_of_ended, read_all};
+use crate::connections::{REQUEST, Stepping, client_of, energy_of_ended, read_all};
 use crate::energy_over::Earlier;
 use crate::office::{metered, polled};
 use crate::stores::{InMemory, Stores};
@@ -163,21 +162,25 @@ fn replied<B: Books>(
 
 static MONTHS: &[u8] = b"GET /registers/main/months HTTP/1.1\r\n\r\n";
 
+static MONTHS_OF_BOTH: &[u8] =
+    b"HTTP/1.1 200 OK\r\nX-Content-Type-Options: nosniff\r\nCross-Origin-Resource-Policy: same-origin\r\nCache-Control: no-store\r\nContent-Type: text/plain\r\nContent-Length: 44\r\nConnection: close\r\n\r\n1970-01    3                   200012\nend 1\n";
+
 // The quarter hour from 900 is in both, and counted once.
 fn assert_months<D: Stores>(rt: &HostRuntime, test: &impl Abort, stores: &D, earlier: &Earlier) {
     let mut office = polled(test, rt.alloc(), stores);
     let room = KeptRoom::new(None, 0);
     let got = replied(rt, test, room, MONTHS, earlier, &mut office, false);
-    let lines = "1970-01    3                   200012\nend 1\n";
-    let want = text_reply(test, rt.alloc(), lines);
-    assert!(test; got.as_slice() == want.as_bytes());
+    assert!(test; got.as_slice() == MONTHS_OF_BOTH);
 }
 
 static AFTER_LINES: &[u8] =
     b"\r\n\r\nPOST /registers/main/exchange HTTP/1.1\r\nContent-Length: 68\r\nOffice-Caller: desk\r\nOffice-Request: 7\r\n\r\n{\"ceiling\":100000,\"last\":5300,\"meter\":\"m2\",\"raw\":0,\"rolls\":0,\"sf\":0}";
 
+static EXCHANGED: &[u8] =
+    b"HTTP/1.1 200 OK\r\nX-Content-Type-Options: nosniff\r\nCross-Origin-Resource-Policy: same-origin\r\nCache-Control: no-store\r\nContent-Type: application/json\r\nContent-Length: 19\r\nConnection: close\r\n\r\n{\"done\":\"exchange\"}";
+
 static NO_ROOM: &[u8] =
-    b"HTTP/1.1 503 Service Unavailable\r\nContent-Type: application/json\r\nContent-Length: 13\r\nConnection: close\r\n\r\n{\"fault\":503}";
+    b"HTTP/1.1 503 Service Unavailable\r\nX-Content-Type-Options: nosniff\r\nCross-Origin-Resource-Policy: same-origin\r\nCache-Control: no-store\r\nContent-Type: application/json\r\nContent-Length: 13\r\nConnection: close\r\n\r\n{\"fault\":503}";
 
 /// How many bytes may be kept and how many are, the request, whether it is told that nothing more is kept, the reply, and the energy
 /// of the meter where the request ended it.
@@ -191,7 +194,7 @@ fn assert_kept<D: Stores>(rt: &HostRuntime, test: &impl Abort, stores: &D, earli
             0,
             REQUEST,
             false,
-            REPLY,
+            EXCHANGED,
             Some(300_000),
         ),
         // a command has no room; empty lines before it don't hide it from the count of kept bytes

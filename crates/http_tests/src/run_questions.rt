@@ -1,4 +1,4 @@
-//! The replies of a run whose books fail, and entries from a place that no target spells.
+//! The replies of a run whose store fails, and entries from an index that no target spells.
 use crate::cases::{reply, text_reply};
 use crate::office::polled;
 use crate::stores::Stores;

@@ -4,18 +4,18 @@ use run_schedule::{MOST_PEERS, clients_for, needed_limit, wanted_descriptors};
 use std::alloc::{AllocError, Global};
 use std::net::Net;
 
-/// The devices for which a limit of descriptors is recommended at least.
+/// The recommended limit of descriptors is enough for at least this many devices.
 const MOST_DEVICES: usize = 64;
 
-/// How many clients a run accepts at once, since it may open few descriptors.
+/// The number of clients that a run accepts at once where it may open few descriptors.
 #[derive(Clone, Copy)]
 pub(crate) struct FewClients {
     pub(crate) clients: usize,
-    /// The limit by which it would accept as many as there are places.
+    /// The limit of descriptors with which it would accept a client in each slot.
     pub(crate) limit: usize,
 }
 
-// Counts the descriptors that the process may still open, up to so many: they are opened, and closed again.
+// Counts the descriptors that the process may still open, up to `most`: it opens them, and closes them again.
 fn count_descriptors<R: Net>(rt: &R, alloc: Global, most: usize) -> Result<usize, AllocError> {
     let mut opened = Vec::new(alloc);
     for _descriptor in 0..most {
@@ -27,8 +27,8 @@ fn count_descriptors<R: Net>(rt: &R, alloc: Global, most: usize) -> Result<usize
     Ok(opened.len())
 }
 
-/// Returns how many clients a run accepts at once that has so many devices, and whether these are fewer than there are places. What a
-/// run has open beside devices and clients is to be open already.
+/// Returns how many clients a run with this number of devices accepts at once, and the recommended limit where that leaves slots empty.
+/// Call it when everything but devices and clients is open.
 pub(crate) fn find_clients<R: Net>(
     rt: &R,
     alloc: Global,

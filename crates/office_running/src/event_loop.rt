@@ -175,6 +175,8 @@ impl Running {
         if let Some(lost) = self.files.look(rt) {
             self.voice.say_lost(self.files.path(lost.index), lost.loss);
             self.port.lose_files();
+        } else if self.port.has_lost() {
+            self.voice.say_gone();
         }
         if self.port.has_lost() {
             self.lost_at = Some(self.time);
@@ -209,6 +211,7 @@ impl Running {
         if self.ticks {
             self.polling
                 .feed(DeviceEvent::Tick, office, &mut self.voice, now);
+            self.port.forget_replies();
             self.begin_second(rt, now);
         }
     }
@@ -226,7 +229,7 @@ impl Running {
     {
         self.port.accept(self.poll.registry(), now.time);
         let first = self.port.first();
-        let system = Watching::of(rt, !self.files.is_lost(rt));
+        let system = Watching::of(rt, &self.files);
         for step in 0..MOST_PEERS {
             let place = place_at(first, step);
             let told = RunTold {
@@ -253,7 +256,11 @@ impl Running {
         ensures { Goes (texts names.now) now.moment B.ledger office.old office.new }
     {
         let has_fed = self.polling.attend(place, office, &mut self.voice, now);
-        if has_fed && self.look(events, 0).is_ok() {
+        if !has_fed {
+            return;
+        }
+        self.port.forget_replies();
+        if self.look(events, 0).is_ok() {
             self.attend_peers(rt, names, earlier, office, now);
         }
     }

@@ -8,7 +8,7 @@ use std::os::unix::fs::MetadataExt;
 use std::rt::Files;
 use std::time::Duration;
 
-/// A file that the office has open, as the last look found it.
+/// A file that the office has open, with its mark at the last look.
 #[derive(Drop)]
 struct WatchedFile {
     path: String,
@@ -28,7 +28,7 @@ pub(crate) struct LostFile {
     pub(crate) loss: FileLoss,
 }
 
-// What a path leads to: `None` where there is no file, and an error where the system can't tell.
+// The mark of the file at a path: `None` where there is no file, and an error where the system can't look.
 fn mark_at<R: Files>(rt: &R, path: &str) -> io::Result<Option<FileMark>> {
     match fs::metadata(rt, path) {
         Ok(found) => Ok(Some(FileMark {
@@ -44,7 +44,7 @@ fn mark_at<R: Files>(rt: &R, path: &str) -> io::Result<Option<FileMark>> {
     }
 }
 
-// The mark of a file that is open. One that is not at its path differs from all that may be found there later.
+// The mark of an open file. Where the path doesn't lead to a file now, the mark differs from that of each file found there later.
 fn first_mark<R: Files>(rt: &R, path: &str) -> FileMark {
     match mark_at(rt, path) {
         Ok(Some(mark)) => mark,
@@ -64,7 +64,7 @@ impl WatchedFile {
         })
     }
 
-    // How the file at the path differs now; nothing where the system can't tell.
+    // How the file at the path differs now; `None` where it doesn't, or where the system can't look.
     fn loss<R: Files>(&self, rt: &R) -> Option<FileLoss> {
         match mark_at(rt, self.path.as_str()) {
             Ok(found) => file_loss(self.mark, found),
@@ -72,7 +72,7 @@ impl WatchedFile {
         }
     }
 
-    // The same, and the mark of a file that is still there is kept.
+    // Like `loss`, and keeps the new mark of a file that is still there.
     fn look<R: Files>(&mut self, rt: &R) -> Option<FileLoss> {
         let found = match mark_at(rt, self.path.as_str()) {
             Ok(found) => found,
@@ -87,7 +87,7 @@ impl WatchedFile {
 }
 
 impl FileWatch {
-    /// Takes the marks of the files at some paths, which the office has open.
+    /// Marks the files at these paths, which the office has open.
     pub(crate) fn open<R: Files>(
         rt: &R,
         alloc: Global,
@@ -126,20 +126,20 @@ impl FileWatch {
     }
 }
 
-/// The system, and whether the files of an office were there at the last look.
+/// The system, and the files of an office, which are looked at when a command is to be acknowledged.
 #[derive(Drop)]
-pub(crate) struct Watching<'r, R: std::rt::Clock> {
+pub(crate) struct Watching<'r, R: std::rt::Clock + Files> {
     rt: &'r R,
-    are_there: bool,
+    files: &'r FileWatch,
 }
 
-impl<'r, R: std::rt::Clock> Watching<'r, R> {
-    pub(crate) fn of(rt: &'r R, are_there: bool) -> Watching<'r, R> {
-        Watching { rt, are_there }
+impl<'r, R: std::rt::Clock + Files> Watching<'r, R> {
+    pub(crate) fn of(rt: &'r R, files: &'r FileWatch) -> Watching<'r, R> {
+        Watching { rt, files }
     }
 }
 
-impl<R: std::rt::Clock> std::rt::Clock for Watching<'_, R> {
+impl<R: std::rt::Clock + Files> std::rt::Clock for Watching<'_, R> {
     fn monotonic(&self) -> io::Result<Duration> {
         self.rt.monotonic()
     }
@@ -149,8 +149,8 @@ impl<R: std::rt::Clock> std::rt::Clock for Watching<'_, R> {
     }
 }
 
-impl<R: std::rt::Clock> RunSystem for Watching<'_, R> {
+impl<R: std::rt::Clock + Files> RunSystem for Watching<'_, R> {
     fn are_files_there(&self) -> bool {
-        self.are_there
+        !self.files.is_lost(self.rt)
     }
 }

@@ -51,8 +51,8 @@ pub(crate) fn print_left<W: Write>(left: Option<Left>, output: &mut W) -> Result
     }
 }
 
-/// Says why an office may not be opened, where its latest record is later than the clock: both timestamps, and what can be done. It
-/// returns whether that is so.
+/// Reports that an office may not be opened since its latest record is later than the clock: both timestamps, and what can be done.
+/// Returns whether the record is later; if not, it reports nothing.
 pub fn say_ahead<E: Write>(latest: u64, now: u64, errors: &mut E) -> bool
     ensures ahead { result ≡ nat_lt now latest }
     ensures silent { result ≡ false → errors.new ≡ errors.old }
@@ -67,7 +67,7 @@ pub fn say_ahead<E: Write>(latest: u64, now: u64, errors: &mut E) -> bool
     is_ahead
 }
 
-/// Says why an office may not be opened: its books go further than the clock.
+/// Reports that an office may not be opened since its latest record is later than the clock.
 pub(crate) fn say_unopened<C: Clock, E: Write>(left: Option<Left>, clock: &mut C, errors: &mut E) {
     let Some(left) = left else {
         return;

@@ -119,7 +119,8 @@ impl Outlet {
         Ok(())
     }
 
-    /// Writes what waits, as far as that can be done now. Where nobody reads it any more it waits, as in a pipe that is full.
+    /// Writes the queued lines as far as the reader takes them now. Where the reader has ended, the lines stay queued, as with a full
+    /// pipe.
     pub(crate) fn write<W: Write>(&mut self, output: &mut W) -> io::Result<()> {
         for _piece in 0..MOST_PIECES {
             let count = self.room();

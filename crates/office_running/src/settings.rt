@@ -37,7 +37,7 @@ pub struct Settings<'n> {
     pub most_kept: Option<u64>,
     /// What earlier files of the office tell of its registers, over which energy is told, too; none where it isn't.
     pub earlier: &'n [EarlierRegister],
-    /// The paths of the files that the books have open, which are looked at as long as the process runs.
+    /// The paths of the files that the store has open. The run looks at them until it ends.
     pub files: &'n [&'n str],
     /// Whether each poll has a line.
     pub verbose: bool,

@@ -66,7 +66,7 @@ fn word_of(standing: Standing) -> &'static [u8] {
     }
 }
 
-// How a file of the office is lost, after its path.
+// How a file of the office was lost. The text follows the file's path.
 fn how_lost(loss: FileLoss) -> &'static [u8] {
     match loss {
         FileLoss::Missing => b"this file was removed or renamed while the office had it open",
@@ -207,7 +207,7 @@ impl Voice {
         }
     }
 
-    /// Says that few clients are accepted at once.
+    /// Reports that few clients are accepted at once.
     pub(crate) fn say_few(&mut self, few: FewClients) {
         let _done = put_number(
             &mut self.said,
@@ -222,7 +222,7 @@ impl Voice {
         let _done = put(&mut self.said, b"\n");
     }
 
-    /// Says that a file of the office is gone. A byte of its path that would not stay in the line is written as `?`.
+    /// Reports that a file of the office is gone. A control byte of its path is written as `?`, so that the report is one line.
     pub(crate) fn say_lost(&mut self, path: &str, loss: FileLoss) {
         let _done = put(&mut self.said, b"sunreg: ");
         for byte in path.as_bytes() {
@@ -238,6 +238,14 @@ impl Voice {
         let _done = put(
             &mut self.said,
             b": what is recorded now would be lost, so commands are answered 503 and the run ends: move the file back, or restore a backup\n",
+        );
+    }
+
+    /// Reports that a file of the office was gone when a command was to be acknowledged, and is there again.
+    pub(crate) fn say_gone(&mut self) {
+        let _done = put(
+            &mut self.said,
+            b"sunreg: a file of the office was gone when a command was to be acknowledged, so the run ends: start it again once the files are in their places\n",
         );
     }
 

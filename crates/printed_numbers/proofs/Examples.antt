@@ -94,6 +94,18 @@ http_fault_405 = refl
 no_http_fault_422 : has_number HttpFault 422 ≡ false
 no_http_fault_422 = refl
 
+http_fault_403 : has_number HttpFault 403 ≡ true
+http_fault_403 = refl
+
+no_http_fault_402 : has_number HttpFault 402 ≡ false
+no_http_fault_402 = refl
+
+http_fault_503 : has_number HttpFault 503 ≡ true
+http_fault_503 = refl
+
+no_http_fault_504 : has_number HttpFault 504 ≡ false
+no_http_fault_504 = refl
+
 http_fault_431 : has_number HttpFault 431 ≡ true
 http_fault_431 = refl
 

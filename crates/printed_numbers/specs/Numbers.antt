@@ -15,8 +15,8 @@ is_exception_code number = is_from 1 6 number || number == 8 || is_from 10 11 nu
 -- the statuses that a reply has with a fault in its body
 abbrev pub is_fault_status : ℕ → Bool
 is_fault_status number =
-    number == 400 || is_from 404 405 number || number == 411 || number == 413 || number == 421
-    || number == 431
+    number == 400 || is_from 403 405 number || number == 411 || number == 413 || number == 421
+    || number == 431 || number == 503
 
 abbrev pub has_number : Kind → ℕ → Bool
 has_number Refused number = is_from 1 17 number

@@ -1,13 +1,16 @@
--- Worked examples of the meters at a register: their lines, the targets that ask for them, and refusals.
+-- Worked examples of the meters at a register: their lines, the targets that ask for them, and refusals; of targets that go on; and
+-- of what browsers are told.
 use Rattle.std.proofs.Common.{◌≡◌, ℕ, List, [], ◌∷◌, Option, Some, None, Err, true, false, refl}
 use Rattle.std.specs.Prelude.{pos, negsuc, codes}
 use Rattle.std.specs.Fmt.{digits}
-use Rattle.http_request.specs.declared.status.Status.TheVariants.{MethodNotAllowed}
+use Rattle.http_request.specs.declared.status.Status.TheVariants.{BadRequest, MethodNotAllowed}
 use Rattle.office_events.specs.declared.questions.Installation.{Installation}
 use Rattle.office_events.specs.declared.refusals.Refusal.TheVariants as refusal
+use Rattle.run_http.specs.Browsers.{with_headers}
 use Rattle.run_http.specs.MeterReplies.{with_rows_reply}
+use Rattle.run_http.specs.MeterTargets.{meter_target}
 use Rattle.run_http.specs.RegisterTargets.{IsRegisterTarget}
-use Rattle.run_http.specs.StatusRoute.{IsRouteNamed}
+use Rattle.run_http.specs.StatusRoute.{IsRouteNamed, IsTarget, is_link_to_page}
 use Rattle.run_http.specs.Texts.RegisterLines.{meters_text}
 use Rattle.run_http.specs.declared.route.RunRoute.{RunRoute}
 use Rattle.run_http.specs.declared.route.RunRoute.TheVariants.{Own, Meters}
@@ -91,6 +94,27 @@ one_byte_more = refl
 no_register : IsRegisterTarget (codes "/registers/meters") None
 no_register = refl
 
+-- ---- targets that go on, or have a question mark
+
+past_the_last_day : IsRegisterTarget (codes "/registers/main/days/2026-01-01/2026-01-02/") None
+past_the_last_day = refl
+
+past_the_last_moment : meter_target (codes "/meters/m1/intervals/900/1800/") ≡ None
+past_the_last_moment = refl
+
+past_a_place : meter_target (codes "/meters/m1/entries/0/1") ≡ None
+past_a_place = refl
+
+-- a last part that is nothing is malformed, and doesn't go on
+no_place : meter_target (codes "/meters/m1/entries/") ≡ Some (Own (Rejected BadRequest))
+no_place = refl
+
+a_question_mark : IsTarget (codes "/meters/m1/entries/0?") None
+a_question_mark = refl
+
+a_question_mark_in_a_name : IsTarget (codes "/registers/ma?in/meters") None
+a_question_mark_in_a_name = refl
+
 -- ---- methods
 
 by_get : IsRouteNamed (codes "GET") (codes "/registers/main/meters") (asks (codes "main"))
@@ -110,3 +134,20 @@ a_stopped_office_refuses : with_rows_reply meters_text (Err refusal.Stopped) []
     ≡ codes "HTTP/1.1 503 Service Unavailable\r\nContent-Type: application/json\r\nContent-Length: 14\r\nConnection: close\r\n\r\n{\"refused\":15}"
 unfolding digits
 a_stopped_office_refuses = refl
+
+-- ---- browsers
+
+after_the_first_line : with_headers (codes "A: b\r\n") (codes "HTTP/1.1 200 OK\r\nC: d\r\n\r\n\n") ≡ codes "HTTP/1.1 200 OK\r\nA: b\r\nC: d\r\n\r\n\n"
+after_the_first_line = refl
+
+cut_off_before_its_end : with_headers (codes "A: b\r\n") (codes "HTTP/1.1 20") ≡ codes "HTTP/1.1 20"
+cut_off_before_its_end = refl
+
+a_link : is_link_to_page (codes "GET") (codes "/") ≡ true
+a_link = refl
+
+a_post : is_link_to_page (codes "POST") (codes "/") ≡ false
+a_post = refl
+
+a_part_of_the_page : is_link_to_page (codes "GET") (codes "/page.js") ≡ false
+a_part_of_the_page = refl

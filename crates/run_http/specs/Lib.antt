@@ -1,5 +1,6 @@
 pub mod Copies
 pub mod StatusRoute
+pub mod Browsers
 pub mod MeterTargets
 pub mod Answer
 pub mod SiteReply

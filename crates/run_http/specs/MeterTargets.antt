@@ -1,6 +1,6 @@
 -- What a target asks of the rows of a meter: `/meters/NAME/intervals/FROM/TILL` the quarter hours that start at FROM or later,
 -- and before TILL, `/meters/NAME/entries/PLACE` the entries from PLACE on, and `/meters/NAME/voids` those that voids name.
-use Rattle.std.specs.Prelude.{ℕ, ◌+◌, ◌==◌, List, length, take, drop, position, bytes_eq, if◌then◌else◌, Option, Some, None, codes}
+use Rattle.std.specs.Prelude.{ℕ, ◌+◌, ◌==◌, List, length, take, drop, position, bytes_eq, is_some, if◌then◌else◌, Option, Some, None, codes}
 use Rattle.http_request.specs.Values.{digits_in}
 use Rattle.http_request.specs.declared.status.Status.TheVariants.{BadRequest}
 use Rattle.office_events.specs.Names.{named}
@@ -33,10 +33,14 @@ abbrev pub intervals_asked : (name : List ℕ) → Option Span → RunRoute
 intervals_asked name None = Own (Rejected BadRequest)
 intervals_asked name (Some span) = Intervals (named name) span
 
+-- a target that goes on after its last part has no route
+abbrev pub intervals_till : (name from till : List ℕ) → Option RunRoute
+intervals_till name from till =
+    if is_some (slash_in till) then None else Some (intervals_asked name (span_of from till))
+
 abbrev pub intervals_cut : (name text : List ℕ) → Option ℕ → Option RunRoute
 intervals_cut name text None = None
-intervals_cut name text (Some at) =
-    Some (intervals_asked name (span_of (take at text) (drop (at + 1) text)))
+intervals_cut name text (Some at) = intervals_till name (take at text) (drop (at + 1) text)
 
 abbrev pub intervals_in : (name text : List ℕ) → Option RunRoute
 intervals_in name text = intervals_cut name text (slash_in text)
@@ -46,11 +50,15 @@ abbrev pub entries_asked : (name : List ℕ) → (place : Option ℕ) → RunRou
 entries_asked name None = Own (Rejected BadRequest)
 entries_asked name (Some place) = Entries (named name) place
 
+abbrev pub entries_at : (name place : List ℕ) → Option RunRoute
+entries_at name place =
+    if is_some (slash_in place) then None else Some (entries_asked name (digits_in place))
+
 -- what follows the name and a slash
 abbrev pub rows_asked : (name : List ℕ) → (intervals entries : Option (List ℕ))
     → Option RunRoute
 rows_asked name None None = None
-rows_asked name None (Some text) = Some (entries_asked name (digits_in text))
+rows_asked name None (Some text) = entries_at name text
 rows_asked name (Some text) entries = intervals_in name text
 
 abbrev pub rows_in : (name text : List ℕ) → Option RunRoute

@@ -1,6 +1,6 @@
 -- What a target asks of a register: `/registers/NAME/days/FROM/TILL` its energy on the days from FROM on, and before TILL,
 -- `/registers/NAME/months` that of all days by months, and `/registers/NAME/meters` which meters are and were there.
-use Rattle.std.specs.Prelude.{◌≡◌, ◌⊎◌, ℕ, ◌+◌, Bool, true, false, List, take, drop, bytes_eq, Option, Some, None, codes}
+use Rattle.std.specs.Prelude.{◌≡◌, ◌⊎◌, ℕ, ◌+◌, Bool, true, false, List, take, drop, bytes_eq, is_some, Option, Some, None, codes}
 use Rattle.jiff_core.specs.declared.civil.date.Date.{Date}
 use Rattle.energy_report.specs.Days.{IsReadAs, Spells}
 use Rattle.interval_core.specs.Ranges.{all_days, is_backward}
@@ -50,12 +50,19 @@ days_asked name (Some range) = Energy (named name) (lines_of range period.Day)
 abbrev pub months_asked : (name : List ℕ) → RunRoute
 months_asked name = Energy (named name) (lines_of all_days period.Month)
 
+-- a target that goes on after its last part has no route
+abbrev pub IsDaysUnless : (goes_on : Bool) → (name from till : List ℕ) → Option RunRoute → Type 0
+IsDaysUnless true name from till route = route ≡ None
+IsDaysUnless false name from till route =
+    (range : Option DayRange) × IsRangeOf from till range × (route ≡ Some (days_asked name range))
+
+abbrev pub IsDaysTill : (name from till : List ℕ) → Option RunRoute → Type 0
+IsDaysTill name from till route = IsDaysUnless (is_some (slash_in till)) name from till route
+
 -- what follows the word for days: one day, a slash and another
 abbrev pub IsDaysCut : (name text : List ℕ) → (at : Option ℕ) → Option RunRoute → Type 0
 IsDaysCut name text None route = route ≡ None
-IsDaysCut name text (Some at) route =
-    (range : Option DayRange) × IsRangeOf (take at text) (drop (at + 1) text) range
-    × (route ≡ Some (days_asked name range))
+IsDaysCut name text (Some at) route = IsDaysTill name (take at text) (drop (at + 1) text) route
 
 abbrev pub IsDaysIn : (name text : List ℕ) → Option RunRoute → Type 0
 IsDaysIn name text route = IsDaysCut name text (slash_in text) route

@@ -1,16 +1,18 @@
 -- The routes of a run itself, and the replies to those that ask nothing of the office: one by what was counted, the page,
 -- and faults.
-use Rattle.std.specs.Prelude.{◌≡◌, ℕ, Bool, true, false, if◌then◌else◌, Option, Some, None, List, [], ◌++◌, length, codes, decimal}
+use Rattle.std.specs.Prelude.{◌≡◌, ℕ, Bool, true, false, not, ◌&&◌, if◌then◌else◌, Option, Some, None, List, [], ◌++◌, length, codes, decimal}
 use Rattle.std.specs.Option.{option_map}
 use Rattle.std.specs.Str.{bytes_eq}
 use Rattle.httparse.specs.Spans.{span_bytes}
 use Rattle.http_request.specs.Head.Heads.{Looks}
 use Rattle.http_request.specs.Hosts.{may_ask_in}
+use Rattle.http_request.specs.Routing.Targets.{has_query}
+use Rattle.http_request.specs.Sites.{is_cross_site_in}
 use Rattle.http_request.specs.Status.Statuses.{number_of_status, reason_of_status}
 use Rattle.http_request.specs.declared.head.head.HeadState.{HeadState}
 use Rattle.http_request.specs.declared.head.head.HeadState.TheVariants.{Open, TooLarge, NoHead, Whole}
 use Rattle.http_request.specs.declared.status.Status.{Status as HttpStatus}
-use Rattle.http_request.specs.declared.status.Status.TheVariants.{Fine, MethodNotAllowed, Misdirected}
+use Rattle.http_request.specs.declared.status.Status.TheVariants.{Fine, Forbidden, MethodNotAllowed, Misdirected}
 use Rattle.http_answer.specs.Sending.Bodies.{fault_text}
 use Rattle.run_http.specs.MeterTargets.{meter_target}
 use Rattle.run_http.specs.RegisterTargets.{IsRegisterTarget}
@@ -19,7 +21,7 @@ use Rattle.run_status.specs.declared.advice.lacks.DeviceLack.{DeviceLack}
 use Rattle.run_status.specs.declared.status.counts.Counts.{Counts}
 use Rattle.run_status.specs.declared.status.status.DeviceState.{DeviceState}
 use Rattle.run_http.specs.declared.route.RunRoute.{RunRoute}
-use Rattle.run_http.specs.declared.route.RunRoute.TheVariants.{Own, Metrics, Site}
+use Rattle.run_http.specs.declared.route.RunRoute.TheVariants.{Own, Metrics, Site, Intervals, Entries, Voids, Energy, Meters}
 use Rattle.run_http.specs.declared.route.StatusRoute.{StatusRoute}
 use Rattle.run_http.specs.declared.route.StatusRoute.TheVariants.{Status, Page, Rejected}
 use Rattle.web_page.specs.Parts.{body_of, content_type_of, part_of}
@@ -46,8 +48,16 @@ abbrev pub IsElse : (target : List ℕ) → Option RunRoute → Option RunRoute 
 IsElse target None route = IsRegisterTarget target route
 IsElse target (Some plain) route = route ≡ Some plain
 
+abbrev pub IsWholeTarget : (target : List ℕ) → Option RunRoute → Type 0
+IsWholeTarget target route = IsElse target (plain_target target) route
+
+-- a target with a question mark has no route
+abbrev pub IsTargetUnless : (has_query : Bool) → (target : List ℕ) → Option RunRoute → Type 0
+IsTargetUnless true target route = route ≡ None
+IsTargetUnless false target route = IsWholeTarget target route
+
 abbrev pub IsTarget : (target : List ℕ) → Option RunRoute → Type 0
-IsTarget target route = IsElse target (plain_target target) route
+IsTarget target route = IsTargetUnless (has_query target) target route
 
 -- each is asked by GET alone
 abbrev pub route_by : (method : List ℕ) → Option RunRoute → Option RunRoute
@@ -67,9 +77,32 @@ IsRouteIn bytes NoHead route = route ≡ None
 IsRouteIn bytes (Whole at) route =
     IsRouteNamed (span_bytes bytes at.method) (span_bytes bytes at.target) route
 
+-- A page of another site may link to the page, and ask for nothing else.
+abbrev pub is_link_to_page : (method target : List ℕ) → Bool
+is_link_to_page method target = bytes_eq method (codes "GET") && bytes_eq target (codes "/")
+
+abbrev pub asks_for_page : List ℕ → HeadState → Bool
+asks_for_page bytes Open = false
+asks_for_page bytes TooLarge = false
+asks_for_page bytes NoHead = false
+asks_for_page bytes (Whole at) =
+    is_link_to_page (span_bytes bytes at.method) (span_bytes bytes at.target)
+
+abbrev pub is_forbidden : List ℕ → HeadState → Bool
+is_forbidden bytes head_state =
+    is_cross_site_in bytes head_state && not (asks_for_page bytes head_state)
+
+abbrev pub IsPermittedUnless : (forbidden : Bool) → List ℕ → HeadState → Option RunRoute → Type 0
+IsPermittedUnless true bytes head_state route = route ≡ Some (Own (Rejected Forbidden))
+IsPermittedUnless false bytes head_state route = IsRouteIn bytes head_state route
+
+abbrev pub IsPermitted : List ℕ → HeadState → Option RunRoute → Type 0
+IsPermitted bytes head_state route =
+    IsPermittedUnless (is_forbidden bytes head_state) bytes head_state route
+
 -- Who asks is tested before that, by the names that were given.
 abbrev pub IsRunRoute : (may : Bool) → List ℕ → HeadState → Option RunRoute → Type 0
-IsRunRoute true bytes head_state route = IsRouteIn bytes head_state route
+IsRunRoute true bytes head_state route = IsPermitted bytes head_state route
 IsRunRoute false bytes head_state route = route ≡ Some (Own (Rejected Misdirected))
 
 -- a look at the bytes finds a head that asks for it
@@ -77,6 +110,23 @@ pub record IsFor (names : List (List ℕ)) (bytes : List ℕ) (route : Option Ru
   pub head_state : HeadState
   pub looks : Looks bytes head_state
   pub asks : IsRunRoute (may_ask_in names bytes head_state) bytes head_state route
+
+-- it is that of the energy of a register
+abbrev pub is_energy : Option RunRoute → Bool
+is_energy None = false
+is_energy (Some (Own own)) = false
+is_energy (Some Metrics) = false
+is_energy (Some Site) = false
+is_energy (Some (Intervals meter span)) = false
+is_energy (Some (Entries meter from)) = false
+is_energy (Some (Voids meter)) = false
+is_energy (Some (Energy register form)) = true
+is_energy (Some (Meters register)) = false
+
+pub record AsksEnergy (names : List (List ℕ)) (bytes : List ℕ) (result : Bool) : Type 0 where
+  pub route : Option RunRoute
+  pub for : IsFor names bytes route
+  pub is : result ≡ is_energy route
 
 -- the status and the headers of each reply, whose body has so many bytes
 abbrev pub with_start_of : HttpStatus → (kind : List ℕ) → (size : ℕ) → List ℕ → List ℕ
@@ -93,12 +143,11 @@ abbrev pub with_reply : HttpStatus → (kind body : List ℕ) → List ℕ → L
 with_reply status kind body text =
     with_start status kind body text ++ codes "\r\n\r\n" ++ body
 
--- Of a part of the page a browser is told to load nothing from elsewhere, to take it for no other type, and to show none
--- that it has kept before it has asked again.
+-- Of a part of the page a browser is told to load nothing from elsewhere, to show it in no frame, and to show none that it
+-- has kept before it has asked again.
 abbrev pub with_page_headers : List ℕ → List ℕ
 with_page_headers text =
-    text ++ codes "\r\nContent-Security-Policy: default-src 'self'"
-    ++ codes "\r\nX-Content-Type-Options: nosniff"
+    text ++ codes "\r\nContent-Security-Policy: default-src 'self'; frame-ancestors 'none'"
     ++ codes "\r\nCache-Control: no-cache"
 
 abbrev pub with_page_reply : PagePart → List ℕ → List ℕ

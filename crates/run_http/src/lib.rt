@@ -3,6 +3,7 @@
 #![tactic(auto)]
 
 mod answer;
+mod browsers;
 mod kept_rows;
 mod laws;
 mod meter_replies;
@@ -21,6 +22,7 @@ mod texts;
 mod voids;
 
 pub use answer::{PeerReply, ask};
+pub use browsers::for_browsers;
 pub use laws::{entries_come_after, rows_before_stay};
 pub use meter_replies::{MOST_ENTRIES, reply_entries, reply_intervals};
 pub use metrics::reply_metrics;
@@ -31,7 +33,7 @@ pub use pieces::{
 };
 pub use register_meters::reply_meters;
 pub use register_replies::{put_energy_reply, reply_energy};
-pub use route::{RunRoute, StatusRoute, reply_status, run_route};
+pub use route::{RunRoute, StatusRoute, asks_energy, reply_status, run_route};
 pub use site::put_site_reply;
 pub use texts::{SiteLine, put_entries, put_metrics, put_register_meters, put_site};
 pub use voids::reply_voids;

@@ -43,12 +43,22 @@ fn intervals_asked(name: &[u8], span: Option<Span>) -> RunRoute
     }
 }
 
+// The quarter hours from one moment till another, which ends the target.
+fn intervals_till(name: &[u8], from: &[u8], till: &[u8]) -> Option<RunRoute>
+    ensures { result ≡ targets.intervals_till name.now from.now till.now }
+{
+    if slash_in(till).is_some() {
+        return None;
+    }
+    Some(intervals_asked(name, span_of(from, till)))
+}
+
 // What asks for quarter hours, by what follows their word.
 fn intervals_in(name: &[u8], text: &[u8]) -> Option<RunRoute>
     ensures { result ≡ targets.intervals_in name.now text.now }
 {
     let at = slash_in(text)?;
-    Some(intervals_asked(name, span_of(&text[..at], &text[at + 1..])))
+    intervals_till(name, &text[..at], &text[at + 1..])
 }
 
 // The entries from a place on, where it is one.
@@ -64,6 +74,16 @@ fn entries_asked(name: &[u8], place: Option<u64>) -> RunRoute
     }
 }
 
+// The entries from a place on, which ends the target.
+fn entries_at(name: &[u8], place: &[u8]) -> Option<RunRoute>
+    ensures { result ≡ targets.entries_at name.now place.now }
+{
+    if slash_in(place).is_some() {
+        return None;
+    }
+    Some(entries_asked(name, digits(place)))
+}
+
 // What asks for rows of a meter, by what follows its name.
 fn rows_in(name: &[u8], text: &[u8]) -> Option<RunRoute>
     ensures { result ≡ targets.rows_in name.now text.now }
@@ -76,7 +96,7 @@ fn rows_in(name: &[u8], text: &[u8]) -> Option<RunRoute>
     match after(b"intervals/", text) {
         Some(text) => intervals_in(name, text),
         None => match after(b"entries/", text) {
-            Some(text) => Some(entries_asked(name, digits(text))),
+            Some(text) => entries_at(name, text),
             None => None,
         },
     }

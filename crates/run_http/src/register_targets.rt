@@ -77,15 +77,22 @@ fn months_asked(name: &[u8]) -> RunRoute
     }
 }
 
+// The days from one until another, which ends the target.
+fn days_till(name: &[u8], from: &[u8], till: &[u8]) -> Option<RunRoute>
+    ensures { targets.IsDaysTill name.now from.now till.now result }
+{
+    if slash_in(till).is_some() {
+        return None;
+    }
+    Some(days_asked(name, range_of(from, till)))
+}
+
 // What asks for days, by what follows their word.
 fn days_in(name: &[u8], text: &[u8]) -> Option<RunRoute>
     ensures { targets.IsDaysIn name.now text.now result }
 {
     match slash_in(text) {
-        Some(at) => {
-            let range = range_of(&text[..at], &text[at + 1..]);
-            Some(days_asked(name, range))
-        }
+        Some(at) => days_till(name, &text[..at], &text[at + 1..]),
         None => None,
     }
 }

@@ -9,7 +9,7 @@ ghost use Rattle.run_http.specs.StatusRoute as texts;
 use crate::meter_targets::meter_target;
 use crate::register_targets::register_target;
 use energy_report::ReportForm;
-use http_request::{HeadState, Status, may_ask, parse_head};
+use http_request::{HeadState, Status, has_query, is_cross_site, may_ask, parse_head};
 use office_books::Span;
 use office_events::Name;
 use run_status::{Counts, DeviceLack, DeviceState, put, put_number, put_status, put_word};
@@ -23,7 +23,7 @@ pub enum StatusRoute {
     Status,
     /// A part of the page.
     Page(PagePart),
-    /// A fault: who may not ask, another method than GET, or a target with a part that is malformed.
+    /// A fault: who may not ask, a page of another site, another method than GET, or a target with a part that is malformed.
     Rejected(Status),
 }
 
@@ -87,13 +87,24 @@ fn plain_target(target: &[u8]) -> Option<RunRoute>
     }
 }
 
-// The route of a target.
-fn target_named(target: &[u8]) -> Option<RunRoute>
-    ensures { texts.IsTarget target.now result }
+// The route of a target without a question mark.
+fn whole_target(target: &[u8]) -> Option<RunRoute>
+    ensures { texts.IsWholeTarget target.now result }
 {
     match plain_target(target) {
         None => register_target(target),
         Some(route) => Some(route),
+    }
+}
+
+// The route of a target.
+fn target_named(target: &[u8]) -> Option<RunRoute>
+    ensures { texts.IsTarget target.now result }
+{
+    if has_query(target) {
+        None
+    } else {
+        whole_target(target)
     }
 }
 
@@ -124,16 +135,64 @@ fn route_in(request: &[u8], head_state: &HeadState) -> Option<RunRoute>
     }
 }
 
+// Whether a method and a target are those of a link to the page.
+fn is_link_to_page(method: &[u8], target: &[u8]) -> bool
+    ensures { result ≡ texts.is_link_to_page method.now target.now }
+{
+    method == b"GET".as_slice() && target == b"/".as_slice()
+}
+
+// Whether a head asks for the page itself.
+fn asks_for_page(request: &[u8], head_state: &HeadState) -> bool
+    requires { Looks request.now head_state.now }
+    ensures { result ≡ texts.asks_for_page request.now head_state.now }
+{
+    match head_state {
+        HeadState::Whole(head) => is_link_to_page(head.method.of(request), head.target.of(request)),
+        HeadState::Open | HeadState::TooLarge | HeadState::NoHead => false,
+    }
+}
+
+// Whether a page of another site asks for more than the page itself, to which it may link.
+fn is_forbidden(request: &[u8], head_state: &HeadState) -> bool
+    requires { Looks request.now head_state.now }
+    ensures { result ≡ texts.is_forbidden request.now head_state.now }
+{
+    is_cross_site(request, head_state) && !asks_for_page(request, head_state)
+}
+
+// The route of who may ask, or a rejection of a page of another site.
+fn permitted_route(request: &[u8], head_state: &HeadState) -> Option<RunRoute>
+    requires { Looks request.now head_state.now }
+    ensures { texts.IsPermitted request.now head_state.now result }
+{
+    if is_forbidden(request, head_state) {
+        Some(RunRoute::Own(StatusRoute::Rejected(Status::Forbidden)))
+    } else {
+        route_in(request, head_state)
+    }
+}
+
 /// Which of the run's routes a request asks for, once its head is whole and within its limits, or why it is rejected: who
-/// asks may not, by these names. None is one of the office's.
+/// asks may not, by these names, or is a page of another site. None is one of the office's.
 pub fn run_route(names: &[&str], request: &[u8]) -> Option<RunRoute>
     ensures { texts.IsFor (hosts.texts names.now) request.now result }
 {
     let head_state = parse_head(request);
     if may_ask(names, request, &head_state) {
-        route_in(request, &head_state)
+        permitted_route(request, &head_state)
     } else {
         Some(RunRoute::Own(StatusRoute::Rejected(Status::Misdirected)))
+    }
+}
+
+/// Whether a request asks for the energy of a register, where these names may ask.
+pub fn asks_energy(names: &[&str], request: &[u8]) -> bool
+    ensures { texts.AsksEnergy (hosts.texts names.now) request.now result }
+{
+    match run_route(names, request) {
+        Some(RunRoute::Energy { .. }) => true,
+        _ => false,
     }
 }
 
@@ -180,8 +239,10 @@ pub(crate) fn put_reply(
 fn put_page_headers(text: &mut Vec<u8>) -> Result<(), AllocError>
     ensures { OnOk result (text.new.items ≡ texts.with_page_headers text.old.items) }
 {
-    put(text, b"\r\nContent-Security-Policy: default-src 'self'")?;
-    put(text, b"\r\nX-Content-Type-Options: nosniff")?;
+    put(
+        text,
+        b"\r\nContent-Security-Policy: default-src 'self'; frame-ancestors 'none'",
+    )?;
     put(text, b"\r\nCache-Control: no-cache")
 }
 

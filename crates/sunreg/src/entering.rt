@@ -20,7 +20,7 @@ fn say_unread<D: Display>(rt: &HostRuntime, name: &str, why: &D) {
     let _said = write!(errors, "sunreg: {}: {why}\n", Named(name));
 }
 
-// What a regular file has, where it isn't longer than one may be. (The opening of a pipe would wait.)
+// The bytes of a regular file, and at most one piece more than a file may have. (Opening a pipe would wait.)
 fn read_within(rt: &HostRuntime, alloc: Global, name: &str) -> io::Result<Vec<u8>> {
     if !fs::metadata(rt, name)?.is_file() {
         return Err(io::Error::from(ErrorKind::InvalidInput));

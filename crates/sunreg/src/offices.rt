@@ -60,7 +60,7 @@ fn over_connection<'a, D: Databases + NamedFiles, C: Clock>(
         &mut errors,
     );
     match (output.flush(), done) {
-        // (what a run prints to nobody is dropped)
+        // (what a run prints after its reader has ended is dropped)
         (Err(error), Ok(Done::Ran(end))) if error.kind() == ErrorKind::BrokenPipe => {
             Ok(Done::Ran(end))
         }
@@ -78,7 +78,7 @@ fn over_connection<'a, D: Databases + NamedFiles, C: Clock>(
     }
 }
 
-// Says, where the books in the file at a path go further than the clock, up to when, and what can be done; it answers whether they do.
+// Where the latest record in the file at a path is later than the clock, reports both and what can be done. Returns whether it is later.
 fn is_said_ahead<D: Databases, C: Clock>(
     rt: &HostRuntime,
     files: &D,
@@ -135,8 +135,8 @@ fn run_over<'a, D: Databases + NamedFiles>(
     run_opened(rt, files, path, connection, sites, settings, &mut clock)
 }
 
-/// Runs over a connection to the database at a path, by a clock, and looks at its file and its log. What it keeps of requests is
-/// counted once, before its books are opened.
+/// Runs over a connection to the database at a path, by a clock, and watches the file and its log. The bytes of kept requests are
+/// counted once, before the store is opened.
 pub(crate) fn run_opened<'a, D: Databases + NamedFiles, C: Clock>(
     rt: &HostRuntime,
     files: &D,

@@ -1,11 +1,12 @@
 -- The statuses of replies (RFC 9110, section 15; RFC 6585, section 5).
 use Rattle.std.specs.Prelude.{ℕ, List, codes}
 use Rattle.http_request.specs.declared.status.Status.{Status}
-use Rattle.http_request.specs.declared.status.Status.TheVariants.{Fine, BadRequest, NotFound, MethodNotAllowed, Conflict, LengthRequired, ContentTooLarge, Misdirected, Unprocessable, FieldsTooLarge, Unavailable}
+use Rattle.http_request.specs.declared.status.Status.TheVariants.{Fine, BadRequest, Forbidden, NotFound, MethodNotAllowed, Conflict, LengthRequired, ContentTooLarge, Misdirected, Unprocessable, FieldsTooLarge, Unavailable}
 
 abbrev pub number_of_status : Status → ℕ
 number_of_status Fine = 200
 number_of_status BadRequest = 400
+number_of_status Forbidden = 403
 number_of_status NotFound = 404
 number_of_status MethodNotAllowed = 405
 number_of_status Conflict = 409
@@ -19,6 +20,7 @@ number_of_status Unavailable = 503
 abbrev pub reason_of_status : Status → List ℕ
 reason_of_status Fine = codes "OK"
 reason_of_status BadRequest = codes "Bad Request"
+reason_of_status Forbidden = codes "Forbidden"
 reason_of_status NotFound = codes "Not Found"
 reason_of_status MethodNotAllowed = codes "Method Not Allowed"
 reason_of_status Conflict = codes "Conflict"

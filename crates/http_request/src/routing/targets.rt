@@ -44,7 +44,8 @@ fn found_at<'v>(router: &Router<Route>, target: &'v str) -> Option<Found<'v>>
     }
 }
 
-fn has_query(target: &[u8]) -> bool
+/// Whether a target has a question mark. No route has one.
+pub fn has_query(target: &[u8]) -> bool
     ensures { result ≡ has_query target.now }
 {
     target.iter().any(|byte| *byte == b'?')

@@ -13,6 +13,14 @@ static BAD_REQUEST: Meaning = Meaning {
     remedy: "compare the request with the table in docs/HTTP.md",
 };
 
+static OTHER_SITE: Meaning = Meaning {
+    kind: Kind::HttpFault,
+    number: 403,
+    means: "a page of another site had a browser ask",
+    cause: "a link or a form of another site, or a page that tries to read this one's data",
+    remedy: "open the page of the office itself, and ask from there",
+};
+
 static NO_ROUTE: Meaning = Meaning {
     kind: Kind::HttpFault,
     number: 404,
@@ -61,18 +69,28 @@ static HEAD_TOO_LARGE: Meaning = Meaning {
     remedy: "send fewer headers",
 };
 
+static TAKES_NO_COMMAND: Meaning = Meaning {
+    kind: Kind::HttpFault,
+    number: 503,
+    means: "no command is carried out: there is no room to keep it, or a file of the office is gone",
+    cause: "--most-kept is reached, or somebody moved or removed a file under a run",
+    remedy: "read what the run said on standard error, and start it again with a larger --most-kept, or with its files in place",
+};
+
 /// What is wrong with a request by HTTP; its number is the reply's status.
 pub fn http_fault(number: u32) -> Option<&'static Meaning>
     ensures { Answers HttpFault number result }
 {
     match number {
         400 => Some(&BAD_REQUEST),
+        403 => Some(&OTHER_SITE),
         404 => Some(&NO_ROUTE),
         405 => Some(&OTHER_METHOD),
         411 => Some(&NO_LENGTH),
         413 => Some(&BODY_TOO_LARGE),
         421 => Some(&OTHER_HOST),
         431 => Some(&HEAD_TOO_LARGE),
+        503 => Some(&TAKES_NO_COMMAND),
         _ => None,
     }
 }

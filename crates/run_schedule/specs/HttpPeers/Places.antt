@@ -24,25 +24,25 @@ silent_until Free = None
 silent_until (Silent until) = Some until
 silent_until (Asked until) = None
 
--- the connection of a place may last so long, and has not asked
+-- the connection of a place may last so long, and nothing is due to it
 abbrev pub IsSilentAt : List Place → (place until : ℕ) → Type 0
 IsSilentAt places place until = slice_get places place ≡ Some (Silent until)
 
--- the one that ends first of a connection that has not asked, by its place and its end, and that of the next place
+-- the one that ends first of a connection to which nothing is due, by its place and its end, and that of the next place
 abbrev pub older : Option (ℕ × ℕ) → ℕ → Place → Option (ℕ × ℕ)
 older best i Free = best
 older best i (Asked until) = best
 older None i (Silent until) = Some (i, until)
 older (Some best) i (Silent until) = if nat_lt until best.1 then Some (i, until) else Some best
 
--- it ends first, of those that have not asked; or all have
+-- it ends first, of those to which nothing is due; or all wait
 abbrev pub IsOldest : List Place → Option ℕ → Type 0
 IsOldest places None = (place until : ℕ) → IsSilentAt places place until → ⊥
 IsOldest places (Some place) =
     (until : ℕ) × IsSilentAt places place until
     × ((other later : ℕ) → IsSilentAt places other later → until ≤ later)
 
--- the first free place, or where none is free that of the oldest connection that has not asked
+-- the first free place, or where none is free that of the oldest connection to which nothing is due
 abbrev pub IsChosenAfter : (free : Option ℕ) → List Place → Option ℕ → Type 0
 IsChosenAfter (Some place) places chosen = chosen ≡ Some place
 IsChosenAfter None places chosen = IsOldest places chosen

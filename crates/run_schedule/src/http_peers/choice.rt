@@ -6,7 +6,7 @@ ghost use Rattle.run_schedule.specs.HttpPeers.Places.{IsChosen, IsOldest};
 
 use crate::http_peers::place::Place;
 
-// The older one of a connection that has not asked, by its place and its end, and that of the next place.
+// The older one of a connection to which nothing is due, by its place and its end, and that of the next place.
 fn older(best: Option<(usize, u64)>, i: usize, place: Place) -> Option<(usize, u64)>
     ensures { result ≡ specs.older best i place }
 {
@@ -24,7 +24,7 @@ fn older(best: Option<(usize, u64)>, i: usize, place: Place) -> Option<(usize, u
     }
 }
 
-// The oldest connection that has not asked, by its place and its end: the one that ends first.
+// The oldest connection to which nothing is due, by its place and its end: the one that ends first.
 fn oldest_silent(places: &[Place]) -> Option<(usize, u64)>
     ensures { IsOldest places.now (option_map (λ best. best.0) result) }
 {
@@ -41,8 +41,8 @@ fn first_free(places: &[Place]) -> Option<usize>
     places.iter().position(|place| place.is_free())
 }
 
-/// The place for a new connection: the first free one; where none is free, that of the oldest connection that has not asked
-/// yet; none where all have asked.
+/// The place for a new connection: the first free one; where none is free, that of the connection that ends first of those to
+/// which nothing is due; none where all wait for a reply.
 pub fn place_for(places: &[Place]) -> Option<usize>
     ensures { IsChosen places.now result }
 {

@@ -9,7 +9,7 @@ pub const MOST_PEERS: usize = 64;
 #[derive(Clone, Copy, Debug, PartialEq, Eq)]
 pub struct Admission {
     pub place: usize,
-    /// Whether a connection had the place that had not asked yet, and is to be dropped.
+    /// Whether a connection had the place to which nothing was due, and is to be dropped.
     pub drops: bool,
 }
 
@@ -33,7 +33,7 @@ impl Peers {
         }
     }
 
-    /// Gives a new connection a place, where one is free or its connection has not asked yet. It may last for so many seconds.
+    /// Gives a new connection a place, where one is free or nothing is due to its connection. It may last for so many seconds.
     pub fn admit(&mut self, now: u64, seconds: u64) -> Option<Admission>
         ensures { Admits (min (now + seconds) (2 ^ 64 - 1)) self.old.places self.new.places result }
     {
@@ -52,6 +52,14 @@ impl Peers {
         ensures { self.new.places ≡ places.asked_at place self.old.places }
     {
         self.places[place] = self.places[place].asked();
+    }
+
+    /// The connection of a place was replied to: from now on it makes room for a new one, and may last until this moment.
+    pub fn linger(&mut self, place: usize, until: u64)
+        requires { place < 64 }
+        ensures { self.new.places ≡ slice_set self.old.places place (Place.Silent until) }
+    {
+        self.places[place] = Place::Silent(until);
     }
 
     /// The connection of a place has ended.

@@ -5,9 +5,9 @@
 pub enum Place {
     /// No connection has it.
     Free,
-    /// Its connection has not asked yet, and may last until this moment.
+    /// Nothing is due to its connection, which has not asked yet or was replied to; it may last until this moment.
     Silent(u64),
-    /// Its connection has asked, and may last until this moment.
+    /// Its connection has asked and waits for its reply; it may last until this moment.
     Asked(u64),
 }
 
@@ -48,7 +48,7 @@ impl Place {
         }
     }
 
-    /// Until when a connection may last that has not asked.
+    /// Until when a connection may last to which nothing is due.
     pub fn silent_until(self) -> Option<u64>
         ensures { result ≡ places.silent_until self }
     {

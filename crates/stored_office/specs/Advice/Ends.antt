@@ -1,4 +1,4 @@
--- After which ends of a task more is said.
+-- The ends of a task after which more is reported.
 use Rattle.std.specs.Prelude.{Bool, true, false, Result, Ok, Err}
 use Rattle.command_io.specs.declared.status.ExitStatus.{ExitStatus}
 use Rattle.command_io.specs.declared.status.ExitStatus.TheVariants as status
@@ -26,7 +26,7 @@ is_told (Polled done) = is_finished done
 is_told (Unopened why) = is_refusal why
 is_told Unconnected = false
 
--- What serves, enters lines or polls a device opens the office before, which may refuse that.
+-- A task that serves, enters lines or polls a device first opens the office, which may refuse that.
 abbrev pub is_refused_serving : ServeEnd → Bool
 is_refused_serving serving.Served = false
 is_refused_serving (serving.Unopened why) = is_refusal why

@@ -1,4 +1,4 @@
-//! After which ends of a task more is said.
+//! The ends of a task after which more is reported.
 ghost use Rattle.std.specs.Prelude.{◌≡◌};
 ghost use Rattle.stored_office.specs.Advice.Ends as ends;
 
@@ -34,7 +34,7 @@ fn is_refusal(status: ExitStatus) -> bool
     }
 }
 
-// Whether the office was refused its opening, of which HTTP was to be answered.
+// Whether the opening of an office that was to answer HTTP was refused.
 fn is_refused_serving(end: ServeEnd) -> bool
     ensures { result ≡ ends.is_refused_serving end }
 {
@@ -46,7 +46,7 @@ fn is_refused_serving(end: ServeEnd) -> bool
     }
 }
 
-// The same of an office that was to poll a device.
+// Whether the opening of an office that was to poll a device was refused.
 fn is_refused_polling(end: PollEnd) -> bool
     ensures { result ≡ ends.is_refused_polling end }
 {
@@ -57,8 +57,8 @@ fn is_refused_polling(end: PollEnd) -> bool
     }
 }
 
-/// Whether the office may have been refused its opening since its latest record is later than the clock. A task that is refused then prints
-/// the number of the refusal alone; a run says itself what that means.
+/// Whether the opening of the office may have been refused since its latest record is later than the clock. Such a task prints only the
+/// number of the refusal; a run itself reports what the number means.
 pub fn may_be_ahead(done: Done) -> bool
     ensures { result ≡ ends.may_be_ahead done }
 {

@@ -1,0 +1,18 @@
+-- A reply that is given again: to the same bytes alone, and as it was.
+use Rattle.std.specs.Prelude.{◌≡◌, ℕ, true, List, Option, Some, None}
+use Rattle.std.specs.Str.{bytes_eq}
+use Rattle.http_peers.specs.declared.repeats.Replied.{Replied}
+
+-- it keeps this reply to this request
+pub record IsOf (request reply : List ℕ) (it : Replied) : Type 0 where
+  pub request_is : it.request.items ≡ request
+  pub reply_is : it.reply.items ≡ reply
+
+-- the request is the one that was replied to, and the reply the one that it got
+pub record IsSame (it : Replied) (request reply : List ℕ) : Type 0 where
+  pub same : bytes_eq it.request.items request ≡ true
+  pub reply_is : reply ≡ it.reply.items
+
+abbrev pub WasReplied : Option Replied → (request reply : List ℕ) → Type 0
+WasReplied None request reply = ⊥
+WasReplied (Some it) request reply = IsSame it request reply

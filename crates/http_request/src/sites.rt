@@ -1,0 +1,31 @@
+//! Whether a page of another site asks.
+ghost use Rattle.std.specs.Prelude.{◌≡◌};
+ghost use Rattle.http_request.specs.Head.Heads.{IsPlaced, Looks};
+ghost use Rattle.http_request.specs.HeadTests.{start_at};
+ghost use Rattle.http_request.specs.Sites as sites;
+
+use crate::head::{Given, Head, HeadState, header_value};
+
+// Whether a head says that it comes of a page of another site.
+fn says_cross_site(bytes: &[u8], head: &Head) -> bool
+    requires placed { IsPlaced bytes.now head.now }
+    ensures { result ≡ sites.is_cross_site (start_at bytes.now head.now) }
+{
+    match header_value(bytes, &head.headers[..head.count], b"sec-fetch-site") {
+        Given::Never => false,
+        Given::Once(value) => value == b"cross-site".as_slice(),
+        Given::Often => true,
+    }
+}
+
+/// Whether a page of another site had a browser send what was read, by `Sec-Fetch-Site` (W3C, Fetch Metadata Request Headers,
+/// section 2.3).
+pub fn is_cross_site(bytes: &[u8], head_state: &HeadState) -> bool
+    requires { Looks bytes.now head_state.now }
+    ensures { result ≡ sites.is_cross_site_in bytes.now head_state.now }
+{
+    match head_state {
+        HeadState::Whole(head) => says_cross_site(bytes, head),
+        HeadState::Open | HeadState::TooLarge | HeadState::NoHead => false,
+    }
+}
