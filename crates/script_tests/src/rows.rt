@@ -5,7 +5,7 @@ use script_text::{Line, write_day, write_end, write_interval};
 /// A day, how many quarter hours it has, and its energy in mWh.
 static DAYS: [(i16, i8, i8, u32, u128); 2] = [(33, 12, 9, 1, 7), (-1, 1, 1, 1000, u128::MAX)];
 
-static WRITTEN: &[u8] = b"\
+static WRITTEN: &str = "\
     18446744073709551615 18446744073709551615\n\
     end 18446744073709551615\n\
     0033-12-09   1                        7\n\
@@ -29,7 +29,7 @@ fn the_greatest_numbers_and_days_of_any_year_are_written(rt: HostRuntime) {
         };
         assert!(rt; write_day(&total, &mut told).is_ok());
     }
-    assert!(rt; told.as_slice() == WRITTEN);
+    assert!(rt; told.as_slice() == WRITTEN.as_bytes());
 }
 
 #[test]
