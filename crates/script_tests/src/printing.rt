@@ -2,7 +2,7 @@
 use crate::streams::{Kept, Slow};
 use command_io::ExitStatus;
 use std::alloc::Global;
-use std::io::{ErrorKind, Read, Write};
+use std::io::ErrorKind;
 use sunspec_text::{chain_text, plan_text};
 
 // What an input is given to.
@@ -13,12 +13,7 @@ enum Task {
 }
 
 impl Task {
-    fn carry_out<R: Read, W: Write>(
-        self,
-        alloc: Global,
-        input: &mut R,
-        output: &mut W,
-    ) -> ExitStatus {
+    fn carry_out(self, alloc: Global, input: &mut Slow<'_>, output: &mut Kept) -> ExitStatus {
         match self {
             Task::Chain => chain_text(alloc, input, output),
             Task::Plan => plan_text(alloc, input, output),
@@ -102,10 +97,10 @@ fn each_failing_read_ends_it(rt: HostRuntime) {
         for kind in [ErrorKind::Interrupted, ErrorKind::BrokenPipe] {
             for failing in 1..text.len() + 2 {
                 let mut slow = Slow::of(text.as_bytes(), failing, kind);
-                let mut printed = Vec::new(rt.alloc());
-                let ended = task.carry_out(rt.alloc(), &mut slow, &mut printed);
+                let mut kept = Kept::whole(rt.alloc());
+                let ended = task.carry_out(rt.alloc(), &mut slow, &mut kept);
                 assert!(rt; ended == ExitStatus::Failed);
-                assert!(rt; printed.is_empty());
+                assert!(rt; kept.got.is_empty());
                 assert!(rt; slow.calls == failing);
             }
         }
@@ -117,9 +112,9 @@ fn each_failing_write_ends_it(rt: HostRuntime) {
     for (task, text, output, status) in &CASES {
         let mut whole = false;
         for failing in 1..200 {
-            let mut input = text.as_bytes();
+            let mut slow = Slow::whole(text.as_bytes());
             let mut kept = Kept::new(rt.alloc(), failing, 8192);
-            let ended = task.carry_out(rt.alloc(), &mut input, &mut kept);
+            let ended = task.carry_out(rt.alloc(), &mut slow, &mut kept);
             whole = kept.assert_written(&rt, output);
             let wanted = if whole { *status } else { ExitStatus::Failed };
             assert!(rt; ended == wanted);
