@@ -35,8 +35,8 @@ fn serve_again<B: Books>(
     served
 }
 
-// Serves each request so, and returns how often the books failed.
-fn failures<B: Books>(rt: &impl Abort, alloc: Global, books: B, cases: &[Case<'_>]) -> u64 {
+// Asserts the reply of each request that is served so. Returns how often the books failed.
+fn assert_replies<B: Books>(rt: &impl Abort, alloc: Global, books: B, cases: &[Case<'_>]) -> u64 {
     let mut office = opened_again(rt, alloc, books);
     for case in cases {
         let served = serve_again(rt, alloc, &mut office, case);
@@ -46,10 +46,10 @@ fn failures<B: Books>(rt: &impl Abort, alloc: Global, books: B, cases: &[Case<'_
 }
 
 // Each call of the books fails in turn, until there are no more.
-fn fail_each<D: Stores>(rt: &impl Abort, alloc: Global, stores: &D, cases: &[Case<'_>]) {
+fn assert_each_failure<D: Stores>(rt: &impl Abort, alloc: Global, stores: &D, cases: &[Case<'_>]) {
     for failing in 1..1000 {
         let books = polled(rt, alloc, stores).into_books();
-        if failures(rt, alloc, stores.failing(books, failing), cases) == 0 {
+        if assert_replies(rt, alloc, stores.failing(books, failing), cases) == 0 {
             assert!(rt; failing as usize > cases.len(), "{failing} calls");
             return;
         }
@@ -59,8 +59,8 @@ fn fail_each<D: Stores>(rt: &impl Abort, alloc: Global, stores: &D, cases: &[Cas
 
 /// Each call of the books may fail.
 pub(crate) fn assert_all<D: Stores>(rt: &impl Abort, alloc: Global, stores: &D) {
-    fail_each(rt, alloc, stores, &QUESTIONS);
-    fail_each(rt, alloc, stores, &COMMANDS)
+    assert_each_failure(rt, alloc, stores, &QUESTIONS);
+    assert_each_failure(rt, alloc, stores, &COMMANDS)
 }
 
 #[test]

@@ -109,7 +109,9 @@ fn streams_of(
     for client in clients {
         let mut stream = client_of(rt, listener, client.bytes).expect(test, "no client");
         if client.ends {
-            assert!(test; stream.shutdown(Shutdown::Write).is_ok());
+            stream
+                .shutdown(Shutdown::Write)
+                .expect(test, "not shut down");
         }
         streams.push(stream).expect(test, "no memory");
     }
@@ -119,7 +121,7 @@ fn streams_of(
 /// Reads a stream to its end.
 pub(crate) fn read_all(test: &impl Abort, alloc: Global, stream: &mut TcpStream) -> Vec<u8> {
     let mut got = Vec::new(alloc);
-    assert!(test; stream.read_to_end(&mut got).is_ok());
+    let _count = stream.read_to_end(&mut got).expect(test, "not read");
     got
 }
 

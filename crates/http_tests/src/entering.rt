@@ -232,7 +232,7 @@ static COUNTERS: [Row; 6] = [
 ];
 
 // The rows come one after the other over the same books, which held nothing.
-fn enter_all<B: Books>(rt: &impl Abort, alloc: Global, mut books: B, rows: &[Row]) {
+fn assert_rows<B: Books>(rt: &impl Abort, alloc: Global, mut books: B, rows: &[Row]) {
     for (place, (text, files, moment, end, printed)) in rows.iter().enumerate() {
         let (done, shown) = enter(alloc, books, files, text, *moment);
         assert!(rt; done.end == *end, "row {place}");
@@ -243,9 +243,9 @@ fn enter_all<B: Books>(rt: &impl Abort, alloc: Global, mut books: B, rows: &[Row
 
 /// Inputs are entered.
 pub(crate) fn assert_entered<D: Stores>(rt: &impl Abort, alloc: Global, stores: &D) {
-    enter_all(rt, alloc, stores.blank(rt, alloc), &ONCE);
-    enter_all(rt, alloc, stores.blank(rt, alloc), &BY_HAND);
-    enter_all(rt, alloc, stores.blank(rt, alloc), &COUNTERS)
+    assert_rows(rt, alloc, stores.blank(rt, alloc), &ONCE);
+    assert_rows(rt, alloc, stores.blank(rt, alloc), &BY_HAND);
+    assert_rows(rt, alloc, stores.blank(rt, alloc), &COUNTERS)
 }
 
 // Where a call of the books fails, nothing is known of the line, and it isn't asked.
@@ -282,7 +282,13 @@ static LOOKS: [(&[u8], &[u8]); 3] = [
 ];
 
 // Asserts what a look at a text prints. Returns the books.
-fn looked<B: Books>(rt: &impl Abort, alloc: Global, books: B, text: &[u8], printed: &[u8]) -> B {
+fn assert_look<B: Books>(
+    rt: &impl Abort,
+    alloc: Global,
+    books: B,
+    text: &[u8],
+    printed: &[u8],
+) -> B {
     let (done, shown) = check(alloc, books, &LIST, text);
     assert!(rt; shown.as_slice() == printed);
     done.books
@@ -297,7 +303,7 @@ pub(crate) fn assert_looks<D: Stores>(rt: &impl Abort, alloc: Global, stores: &D
     assert!(rt; shown.as_slice() == b"ok\nok\nok\nok\n".as_slice());
     let mut books = done.books;
     for (text, printed) in &LOOKS {
-        books = looked(rt, alloc, books, text, printed);
+        books = assert_look(rt, alloc, books, text, printed);
     }
 }
 

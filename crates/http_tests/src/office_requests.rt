@@ -11,7 +11,12 @@ use std::alloc::Global;
 use std::process::Abort;
 
 // A request that ends early is short, wherever it ends, and nothing is written. Then the whole request is served.
-fn cut_off<B: Books>(rt: &impl Abort, alloc: Global, office: &mut Office<B>, case: &Case<'_>) {
+fn assert_cut_off<B: Books>(
+    rt: &impl Abort,
+    alloc: Global,
+    office: &mut Office<B>,
+    case: &Case<'_>,
+) {
     for end in 0..case.request.len() {
         let cut = case.request.get(..end).unwrap_or(case.request);
         let served = serve(rt, alloc, office, case.at, cut);
@@ -52,7 +57,12 @@ fn assert_failure(rt: &impl Abort, fault: HandleFault, served: &Served, call: u6
 }
 
 // Each call of the link fails in turn, until there are no more. A command that was carried out gets its kept answer.
-fn fail_each<B: Books>(rt: &impl Abort, alloc: Global, office: &mut Office<B>, case: &Case<'_>) {
+fn assert_each_failure<B: Books>(
+    rt: &impl Abort,
+    alloc: Global,
+    office: &mut Office<B>,
+    case: &Case<'_>,
+) {
     let want = reply(rt, alloc, case.status, case.body);
     for call in 1..100 {
         let served = serve_over(rt, alloc, office, case.at, case.request, 20, Some(call));
@@ -68,24 +78,21 @@ fn fail_each<B: Books>(rt: &impl Abort, alloc: Global, office: &mut Office<B>, c
     panic!(rt; "it fails each time")
 }
 
-fn fail_all<D: Stores>(rt: &impl Abort, alloc: Global, stores: &D, cases: &[Case<'_>]) {
-    let mut office = polled(rt, alloc, stores);
-    for case in cases {
-        fail_each(rt, alloc, &mut office, case);
-    }
-}
-
 /// Each call of the link may fail.
 pub(crate) fn assert_failures<D: Stores>(rt: &impl Abort, alloc: Global, stores: &D) {
-    fail_all(rt, alloc, stores, &QUESTIONS);
-    fail_all(rt, alloc, stores, &COMMANDS)
+    for cases in [QUESTIONS.as_slice(), COMMANDS.as_slice()] {
+        let mut office = polled(rt, alloc, stores);
+        for case in cases {
+            assert_each_failure(rt, alloc, &mut office, case);
+        }
+    }
 }
 
 /// A request may end at each of its bytes.
 pub(crate) fn assert_ends<D: Stores>(rt: &impl Abort, alloc: Global, stores: &D) {
     let mut office = polled(rt, alloc, stores);
     for case in [&QUESTIONS[0], &QUESTIONS[15]] {
-        cut_off(rt, alloc, &mut office, case);
+        assert_cut_off(rt, alloc, &mut office, case);
     }
 }
 

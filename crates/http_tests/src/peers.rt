@@ -298,13 +298,14 @@ fn is_taken(stream: TcpStream, outbox: &mut Outbox) -> bool {
     outbox.write_all(&stream) == Went::On && outbox.is_written()
 }
 
-// What comes of a connection on which an outbox was written.
-fn written(rt: &HostRuntime, test: &impl Abort, outbox: &mut Outbox) -> Vec<u8> {
+// Asserts the bytes that come of a connection on which an outbox is written.
+fn assert_written(rt: &HostRuntime, test: &impl Abort, outbox: &mut Outbox, bytes: &[u8]) {
     let listener = TcpListener::bind(rt, "127.0.0.1:0").expect(test, "no listener");
     let client = client_of(rt, &listener, b"").expect(test, "no client");
     assert!(test; is_taken(client, outbox));
     let (mut stream, _) = listener.accept().expect(test, "no stream");
-    read_all(test, rt.alloc(), &mut stream)
+    let got = read_all(test, rt.alloc(), &mut stream);
+    assert!(test; got.as_slice() == bytes);
 }
 
 #[test]
@@ -313,7 +314,7 @@ fn what_is_put_is_written_once(rt: HostRuntime) {
     let mut outbox = Outbox::of(one);
     outbox.put(b"two").expect(&rt, "no memory");
     assert!(rt; outbox.len() == 6 && !outbox.is_written());
-    assert!(rt; written(&rt, &rt, &mut outbox).as_slice() == b"onetwo".as_slice());
+    assert_written(&rt, &rt, &mut outbox, b"onetwo");
     assert!(rt; !outbox.is_empty());
 }
 
@@ -322,7 +323,7 @@ fn what_was_written_makes_room(rt: HostRuntime) {
     let mut outbox = Outbox::empty(rt.alloc());
     assert!(rt; outbox.is_empty() && outbox.is_written());
     outbox.put(b"one").expect(&rt, "no memory");
-    assert!(rt; written(&rt, &rt, &mut outbox).as_slice() == b"one".as_slice());
+    assert_written(&rt, &rt, &mut outbox, b"one");
     outbox.put(b"more").expect(&rt, "no memory");
     assert!(rt; outbox.len() == 4);
 }

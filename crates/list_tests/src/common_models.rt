@@ -1,5 +1,5 @@
 //! What devices say of themselves.
-use crate::given::{Line, chain_of, image_of, put, same};
+use crate::given::{Line, assert_same, chain_of, image_of, put};
 use std::alloc::Global;
 use std::io::{self, Write};
 use std::process::Abort;
@@ -101,6 +101,6 @@ static SAYINGS: [(&[Line], u16, &str); 4] = [
 fn a_device_says_what_it_is(rt: HostRuntime) {
     for (lines, length, want) in &SAYINGS {
         let image = device(&rt, rt.alloc(), lines, *length);
-        same(&rt, said(&rt, rt.alloc(), &image).as_slice(), want);
+        assert_same(&rt, said(&rt, rt.alloc(), &image).as_slice(), want);
     }
 }

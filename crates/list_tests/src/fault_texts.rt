@@ -1,5 +1,5 @@
 //! Faults of images, chains and point lists.
-use crate::texts::tells;
+use crate::texts::assert_texts;
 use device_scan::ScanFault;
 use point_list::{FaultyRow, FaultyRows, ListFault, RowFault, WriteListFault};
 use std::alloc::Global;
@@ -78,11 +78,11 @@ const WRITES: [(WriteListFault, &str); 2] = [
 
 #[test]
 fn faults_say_their_texts(rt: HostRuntime) {
-    tells(&rt, rt.alloc(), &IMAGES);
-    tells(&rt, rt.alloc(), &SCANS);
-    tells(&rt, rt.alloc(), &CHAINS);
-    tells(&rt, rt.alloc(), &ROWS);
-    tells(&rt, rt.alloc(), &WRITES)
+    assert_texts(&rt, rt.alloc(), &IMAGES);
+    assert_texts(&rt, rt.alloc(), &SCANS);
+    assert_texts(&rt, rt.alloc(), &CHAINS);
+    assert_texts(&rt, rt.alloc(), &ROWS);
+    assert_texts(&rt, rt.alloc(), &WRITES)
 }
 
 const FAULTY: [FaultyRow; 2] = [
@@ -122,7 +122,7 @@ fn lists_tell_their_first_row(rt: HostRuntime) {
         ),
         (ListFault::Memory, "memory ran out"),
     ];
-    tells(&rt, rt.alloc(), &lists)
+    assert_texts(&rt, rt.alloc(), &lists)
 }
 
 // The numbers that no golden case shows.

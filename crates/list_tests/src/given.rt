@@ -5,7 +5,7 @@ use std::alloc::Global;
 use std::process::Abort;
 use sun_chain::{Chain, Image, walk};
 
-pub fn same(rt: &impl Abort, found: &[u8], want: &str) {
+pub fn assert_same(rt: &impl Abort, found: &[u8], want: &str) {
     assert!(rt; found == want.as_bytes(), "{want}");
 }
 

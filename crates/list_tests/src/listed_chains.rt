@@ -1,7 +1,7 @@
 //! Lists of chains of models.
 
 use crate::full_models::full_image;
-use crate::given::{Line, chain_of, image_of, put, same, written};
+use crate::given::{Line, assert_same, chain_of, image_of, put, written};
 use point_list::{FaultyRow, ListFault, PointList, RowFault, from_chain};
 use std::alloc::Global;
 use std::process::Abort;
@@ -86,7 +86,7 @@ fn list_in(rt: &impl Abort, alloc: Global, image: &Image) -> PointList {
 // Asserts the text of the list of an image's chain.
 fn assert_listed(rt: &impl Abort, alloc: Global, image: &Image, text: &str) {
     let list = list_in(rt, alloc, image);
-    same(rt, written(rt, alloc, &list).as_slice(), text);
+    assert_same(rt, written(rt, alloc, &list).as_slice(), text);
 }
 
 #[test]
@@ -304,7 +304,7 @@ fn ends_of(rt: &impl Abort, alloc: Global, image: &Image) -> Vec<u8> {
 #[test]
 fn many_points(rt: HostRuntime) {
     let image = meters(&rt, rt.alloc(), 7, &[]);
-    same(
+    assert_same(
         &rt,
         ends_of(&rt, rt.alloc(), &image).as_slice(),
         "m1.Am7.Evt",

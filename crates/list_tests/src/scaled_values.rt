@@ -1,6 +1,6 @@
 //! Scaled values: the texts come from decimal arithmetic in another language.
 
-use crate::given::same;
+use crate::given::assert_same;
 use std::alloc::Global;
 use std::process::Abort;
 use sun_points::{Scale, write_scaled};
@@ -104,7 +104,7 @@ fn assert_scaled(rt: &impl Abort, alloc: Global, values: &[i64], exponent: i16, 
     for value in values {
         write_at(rt, *value, exponent, &mut line);
     }
-    same(rt, line.as_slice(), want);
+    assert_same(rt, line.as_slice(), want);
 }
 
 #[test]

@@ -71,7 +71,7 @@ fn scanned_full(
 }
 
 // Scans a bank, which takes so many requests.
-fn image_after(rt: &impl Abort, alloc: Global, bank: Bank, requests: u64) -> Image {
+fn assert_image(rt: &impl Abort, alloc: Global, bank: Bank, requests: u64) -> Image {
     let scanned = scan_bank(alloc, bank, &[]);
     assert!(rt; scanned.requests == requests, "{requests}");
     scanned.found.ok().expect(rt, "no scan")
@@ -154,7 +154,7 @@ static TO_THE_LAST: [(u16, u16); 5] = [
 #[test]
 fn a_chain_may_end_at_the_last_address(rt: HostRuntime) {
     let bank = upper_bank(&rt, rt.alloc(), &TO_THE_LAST);
-    let image = image_after(&rt, rt.alloc(), bank, 5);
+    let image = assert_image(&rt, rt.alloc(), bank, 5);
     assert!(rt; image.word(50004).is_none());
     let chain = walk(rt.alloc(), &image).ok().expect(&rt, "no chain");
     assert!(rt; chain.end() == 65535);
@@ -173,7 +173,7 @@ static LONG: [(u16, u16); 6] = [
 // 40000 twice, 50000, two heads, 125 registers and one more take seven requests.
 #[test]
 fn a_long_model_takes_several_reads(rt: HostRuntime) {
-    let image = image_after(&rt, rt.alloc(), upper_bank(&rt, rt.alloc(), &LONG), 7);
+    let image = assert_image(&rt, rt.alloc(), upper_bank(&rt, rt.alloc(), &LONG), 7);
     assert!(rt; image.word(50128) == Some(0));
     assert!(rt; image.word(50129) == Some(7));
 }

@@ -41,7 +41,7 @@ const WHOLE: &str = "\
     started 1 1 2 00ff\n";
 
 // Each write fails in turn, of at most so many bytes, until none does. Returns how many writes there are.
-fn failing_writes(
+fn assert_failing_writes(
     rt: &impl Abort,
     alloc: Global,
     notes: &[Note],
@@ -107,10 +107,10 @@ static CASES: [Case; 5] = [
 #[test]
 fn each_failing_write_is_told(rt: HostRuntime) {
     let notes = notes(&rt);
-    let count = failing_writes(&rt, rt.alloc(), &notes, b"\x00\xff", 2, WHOLE);
+    let count = assert_failing_writes(&rt, rt.alloc(), &notes, b"\x00\xff", 2, WHOLE);
     assert!(rt; count < 79);
     for case in &CASES {
-        let count = failing_writes(&rt, rt.alloc(), &[], case.frames, 50, case.line);
+        let count = assert_failing_writes(&rt, rt.alloc(), &[], case.frames, 50, case.line);
         assert!(rt; count == case.calls, "{count}");
     }
 }
