@@ -1,6 +1,6 @@
 //! Crashes while a file is made, and while a file of version 1 is brought to version 3.
 use crate::stops::files::{NEVER, STOPS, Stop, Stopping};
-use crate::stops::work::{Work, carry_out, prepare, stands};
+use crate::stops::work::{Work, assert_stands, carry_out, prepare};
 use crate::stores::Stores;
 use crate::tried::{Tried, in_memory};
 use std::alloc::Global;
@@ -33,7 +33,7 @@ fn worked<D: Stores>(
 }
 
 /// Whether the work was done where the machine crashed. Afterwards there is the old file or the new one.
-fn stopped<D: Stores>(
+fn assert_crash<D: Stores>(
     rt: &impl Abort,
     alloc: Global,
     stores: &D,
@@ -44,12 +44,12 @@ fn stopped<D: Stores>(
     let (fault, files) = worked(rt, alloc, stores, given, work, stop);
     assert!(rt; fault == 0 || fault == 3, "{work:?} {stop:?} {fault}");
     let conn = stores.restart(rt, alloc, files, stop.is_lost);
-    stands(rt, conn, work, fault == 0);
+    assert_stands(rt, conn, work, fault == 0);
     fault == 0
 }
 
 /// The machine crashes at each call of a file, until it comes to none.
-fn stop_each<D: Stores>(
+fn assert_each_crash<D: Stores>(
     rt: &impl Abort,
     alloc: Global,
     stores: &D,
@@ -64,7 +64,7 @@ fn stop_each<D: Stores>(
             calls,
             is_lost,
         };
-        if stopped(rt, alloc, stores, &given, work, stop) {
+        if assert_crash(rt, alloc, stores, &given, work, stop) {
             assert!(rt; calls > 5, "{calls} calls");
             return;
         }
@@ -76,7 +76,7 @@ fn stop_each<D: Stores>(
 pub(crate) fn assert_all<D: Stores>(rt: &impl Abort, alloc: Global, stores: &D) {
     for work in [Work::Making, Work::Bringing] {
         for (file, is_lost) in &STOPS {
-            stop_each(rt, alloc, stores, work, *file, *is_lost);
+            assert_each_crash(rt, alloc, stores, work, *file, *is_lost);
         }
     }
 }

@@ -2,7 +2,7 @@
 use crate::stops::asked::Asked;
 use crate::stops::files::{Stop, Stopping};
 use crate::stops::offices::play;
-use crate::stops::standing::stands;
+use crate::stops::standing::assert_stands;
 use crate::stores::Stores;
 use crate::tried::{Tried, in_memory};
 use std::alloc::Global;
@@ -26,7 +26,7 @@ fn played<D: Stores>(
 }
 
 /// How many steps were acknowledged where the machine crashed. These stand afterwards, or one more.
-fn stopped<D: Stores>(
+fn assert_crash<D: Stores>(
     rt: &impl Abort,
     alloc: Global,
     stores: &D,
@@ -35,13 +35,13 @@ fn stopped<D: Stores>(
 ) -> usize {
     let (steps, files) = played(rt, alloc, stores, asked, stop);
     let connection = stores.restart(rt, alloc, files, stop.is_lost);
-    stands(rt, alloc, connection, asked, steps);
+    assert_stands(rt, alloc, connection, asked, steps);
     steps
 }
 
 /// The machine crashes at each call of a file, until it comes to none, so that all steps are acknowledged. For each crash, how
 /// many were.
-fn stop_each<D: Stores>(
+fn assert_each_crash<D: Stores>(
     rt: &impl Abort,
     alloc: Global,
     stores: &D,
@@ -56,7 +56,7 @@ fn stop_each<D: Stores>(
             calls,
             is_lost,
         };
-        let steps = stopped(rt, alloc, stores, asked, stop);
+        let steps = assert_crash(rt, alloc, stores, asked, stop);
         if steps == 8 {
             return stops;
         }
@@ -82,9 +82,9 @@ fn each_came_up(stops: &[usize]) -> bool {
 /// Crashes at calls of each file, whether or not what was not synced is lost.
 pub(crate) fn assert_all<D: Stores>(rt: &impl Abort, alloc: Global, stores: &D, asked: Asked) {
     for is_lost in [true, false] {
-        let of_log = stop_each(rt, alloc, stores, asked, Stopping::Log, is_lost);
+        let of_log = assert_each_crash(rt, alloc, stores, asked, Stopping::Log, is_lost);
         assert!(rt; of_log.len() > 30 && each_came_up(&of_log));
-        let of_database = stop_each(rt, alloc, stores, asked, Stopping::Database, is_lost);
+        let of_database = assert_each_crash(rt, alloc, stores, asked, Stopping::Database, is_lost);
         assert!(rt; of_database.len() > 5);
     }
 }
