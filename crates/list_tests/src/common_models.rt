@@ -1,12 +1,12 @@
 //! What devices say of themselves.
-use crate::given::{Line, chain_of, image_of, put, same};
+use crate::given::{Line, assert_same, chain_of, image_of, put};
 use std::alloc::Global;
 use std::io::{self, Write};
 use std::process::Abort;
 use sun_chain::{Common, Image};
 
 // A model 1 at 2, with two letters in each of four texts, and the device address 3.
-static LINES: [Line; 7] = [
+const LINES: [Line; 7] = [
     Line {
         address: 0,
         words: &[0x5375, 0x6E53, 1],
@@ -37,9 +37,25 @@ static LINES: [Line; 7] = [
     },
 ];
 
+// A model 1 at 2 whose points are absent.
+const ABSENT: [Line; 3] = [
+    Line {
+        address: 0,
+        words: &[0x5375, 0x6E53, 1],
+    },
+    Line {
+        address: 4,
+        words: &[0; 64],
+    },
+    Line {
+        address: 68,
+        words: &[0xFFFF],
+    },
+];
+
 // The device with a model 1 of this length, whose end follows.
-fn device(rt: &impl Abort, alloc: Global, length: u16) -> Image {
-    let mut image = image_of(rt, alloc, &LINES);
+fn device(rt: &impl Abort, alloc: Global, lines: &[Line], length: u16) -> Image {
+    let mut image = image_of(rt, alloc, lines);
     put(rt, &mut image, 3, &[length]);
     put(rt, &mut image, length.saturating_add(4), &[0xFFFF]);
     image
@@ -59,7 +75,10 @@ fn print_common(common: &Common<'_>, output: &mut Vec<u8>) -> io::Result<()> {
         text.write(output)?;
         output.write_all(b"/")?;
     }
-    write!(output, "{}", common.device_address.unwrap_or(0))
+    match common.device_address {
+        Some(address) => write!(output, "{address}"),
+        None => write!(output, "none"),
+    }
 }
 
 fn said(rt: &impl Abort, alloc: Global, image: &Image) -> Vec<u8> {
@@ -70,17 +89,18 @@ fn said(rt: &impl Abort, alloc: Global, image: &Image) -> Vec<u8> {
     output
 }
 
-// The length of model 1, and what the device says: one register more is for padding.
-static SAYINGS: [(u16, &str); 3] = [
-    (66, "16 AB/16 CD/8 EF/8 GH/0 /3"),
-    (65, "16 AB/16 CD/8 EF/8 GH/0 /3"),
-    (64, "16 AB/16 CD/8 EF/8 GH/0 /0"),
+// The lines of a device, the length of its model 1, and what the device says: one register more is for padding.
+static SAYINGS: [(&[Line], u16, &str); 4] = [
+    (&LINES, 66, "16 AB/16 CD/8 EF/8 GH/0 /3"),
+    (&LINES, 65, "16 AB/16 CD/8 EF/8 GH/0 /3"),
+    (&LINES, 64, "16 AB/16 CD/8 EF/8 GH/0 /none"),
+    (&ABSENT, 65, "0 /0 /0 /0 /0 /none"),
 ];
 
 #[test]
 fn a_device_says_what_it_is(rt: HostRuntime) {
-    for (length, want) in &SAYINGS {
-        let image = device(&rt, rt.alloc(), *length);
-        same(&rt, said(&rt, rt.alloc(), &image).as_slice(), want);
+    for (lines, length, want) in &SAYINGS {
+        let image = device(&rt, rt.alloc(), lines, *length);
+        assert_same(&rt, said(&rt, rt.alloc(), &image).as_slice(), want);
     }
 }

@@ -12,14 +12,10 @@ static COUNTS: [(u16, u16, u32); 3] = [
 static POWERS: [(u16, i16); 3] = [(0xFFFD, -3), (2, 2), (0x8000, 0)];
 
 #[test]
-fn the_high_word_comes_first(rt: HostRuntime) {
+fn the_high_word_comes_first_and_powers_have_a_sign(rt: HostRuntime) {
     for (high, low, count) in &COUNTS {
         assert!(rt; acc32(*high, *low) == *count, "{high} {low}");
     }
-}
-
-#[test]
-fn powers_have_a_sign(rt: HostRuntime) {
     for (word, power) in &POWERS {
         assert!(rt; sunssf(*word) == *power, "{word}");
     }

@@ -26,24 +26,39 @@ fn cut_value(rt: &impl Abort, alloc: Global, room: usize, fails: bool) -> bool {
 #[test]
 fn a_scaled_value_is_cut(rt: HostRuntime) {
     for room in 0..8usize {
-        assert!(rt; cut_value(&rt, rt.alloc(), room, true), "fails at {room}");
-        assert!(rt;
-            cut_value(&rt, rt.alloc(), room, false),
-            "takes nothing at {room}"
-        );
+        for fails in [true, false] {
+            assert!(rt; cut_value(&rt, rt.alloc(), room, fails), "{room} {fails}");
+        }
     }
 }
 
-static POINTS: [(Point<'static>, &str); 4] = [
+// Points at a tenth.
+static POINTS: [(Point<'static>, &str); 6] = [
     (Point::Absent, "absent"),
-    (Point::Signed(-7), "-7"),
-    (Point::Unsigned(12), "12"),
+    (Point::Signed(-15), "-1.5"),
+    (Point::Unsigned(4294967295), "429496729.5"),
     (Point::Bits(0xAB), "0x000000ab"),
+    (
+        Point::Text(Text {
+            words: &[0x4142, 0x4344, 0x4500],
+        }),
+        "ABCDE",
+    ),
+    (Point::Text(Text { words: &[0, 0, 0] }), ""),
 ];
 
-fn cut_point(alloc: Global, point: &Point<'_>, text: &str, room: usize, fails: bool) -> bool {
+// Whether a writer gets as much of a point as it has room for.
+fn cut_point(
+    rt: &impl Abort,
+    alloc: Global,
+    point: &Point<'_>,
+    room: usize,
+    fails: bool,
+    text: &str,
+) -> bool {
+    let tenth = Scale::new(0xFFFF).expect(rt, "no scale");
     let mut output = Narrow::new(alloc, room, fails);
-    let outcome = point.write(Scale::default(), &mut output);
+    let outcome = point.write(tenth, &mut output);
     is_cut(&output, outcome, room, text)
 }
 
@@ -51,21 +66,10 @@ fn cut_point(alloc: Global, point: &Point<'_>, text: &str, room: usize, fails: b
 fn a_point_is_cut(rt: HostRuntime) {
     for (point, text) in &POINTS {
         for room in 0..12usize {
-            assert!(rt; cut_point(rt.alloc(), point, text, room, true), "{text}");
-            assert!(rt; cut_point(rt.alloc(), point, text, room, false), "{text}");
-        }
-    }
-}
-
-static TEXTS: [([u16; 3], &str); 2] = [([0x4142, 0x4344, 0x4500], "ABCDE"), ([0, 0, 0], "")];
-
-#[test]
-fn a_text_is_cut(rt: HostRuntime) {
-    for (words, text) in &TEXTS {
-        let point = Point::Text(Text { words });
-        for room in 0..7usize {
-            assert!(rt; cut_point(rt.alloc(), &point, text, room, true), "{text}");
-            assert!(rt; cut_point(rt.alloc(), &point, text, room, false), "{text}");
+            for fails in [true, false] {
+                let is_so = cut_point(&rt, rt.alloc(), point, room, fails, text);
+                assert!(rt; is_so, "{text} {room} {fails}");
+            }
         }
     }
 }

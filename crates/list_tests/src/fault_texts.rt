@@ -1,5 +1,5 @@
 //! Faults of images, chains and point lists.
-use crate::texts::tells;
+use crate::texts::assert_texts;
 use device_scan::ScanFault;
 use point_list::{FaultyRow, FaultyRows, ListFault, RowFault, WriteListFault};
 use std::alloc::Global;
@@ -77,11 +77,12 @@ const WRITES: [(WriteListFault, &str); 2] = [
 ];
 
 #[test]
-fn lists(rt: HostRuntime) {
-    tells(&rt, rt.alloc(), &IMAGES);
-    tells(&rt, rt.alloc(), &CHAINS);
-    tells(&rt, rt.alloc(), &ROWS);
-    tells(&rt, rt.alloc(), &WRITES)
+fn faults_say_their_texts(rt: HostRuntime) {
+    assert_texts(&rt, rt.alloc(), &IMAGES);
+    assert_texts(&rt, rt.alloc(), &SCANS);
+    assert_texts(&rt, rt.alloc(), &CHAINS);
+    assert_texts(&rt, rt.alloc(), &ROWS);
+    assert_texts(&rt, rt.alloc(), &WRITES)
 }
 
 const FAULTY: [FaultyRow; 2] = [
@@ -105,11 +106,6 @@ fn faulty(rt: &impl Abort, alloc: Global, count: usize) -> FaultyRows {
 }
 
 #[test]
-fn scans(rt: HostRuntime) {
-    tells(&rt, rt.alloc(), &SCANS)
-}
-
-#[test]
 fn lists_tell_their_first_row(rt: HostRuntime) {
     let lists = [
         (
@@ -126,5 +122,21 @@ fn lists_tell_their_first_row(rt: HostRuntime) {
         ),
         (ListFault::Memory, "memory ran out"),
     ];
-    tells(&rt, rt.alloc(), &lists)
+    assert_texts(&rt, rt.alloc(), &lists)
+}
+
+// The numbers that no golden case shows.
+#[test]
+fn faults_have_numbers(rt: HostRuntime) {
+    assert!(rt; ImageFault::PastEnd.number() == 1);
+    assert!(rt; ImageFault::Memory.number() == 2);
+    assert!(rt; ChainFault::Memory.number() == 5);
+    assert!(rt; WriteListFault::Write.number() == 1);
+    assert!(rt; WriteListFault::Memory.number() == 2);
+    assert!(rt; ListFault::Memory.number() == Some(13));
+    let faults = faulty(&rt, rt.alloc(), 2);
+    assert!(rt; faults.rows() == FAULTY.as_slice());
+    assert!(rt; ListFault::Faults(faults).number().is_none());
+    let kept = faulty(&rt, rt.alloc(), 1).into_rows();
+    assert!(rt; kept.as_slice() == &FAULTY[..1]);
 }

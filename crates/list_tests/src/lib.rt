@@ -2,21 +2,13 @@
 #![tactic(auto)]
 
 #[cfg(test)]
-mod absent_points;
-#[cfg(test)]
 mod broken_writers;
-#[cfg(test)]
-mod chain_lacks;
-#[cfg(test)]
-mod chains;
 #[cfg(test)]
 mod common_models;
 #[cfg(test)]
 mod counters;
 #[cfg(test)]
 mod failing_writers;
-#[cfg(test)]
-mod fault_numbers;
 #[cfg(test)]
 mod fault_texts;
 #[cfg(test)]
@@ -30,23 +22,15 @@ mod listed_chains;
 #[cfg(test)]
 mod lists_of_points;
 #[cfg(test)]
-mod many_rows;
-#[cfg(test)]
 mod names;
 #[cfg(test)]
 mod narrow;
-#[cfg(test)]
-mod plans;
-#[cfg(test)]
-mod point_types;
 #[cfg(test)]
 mod point_values;
 #[cfg(test)]
 mod read_counters;
 #[cfg(test)]
 mod register_texts;
-#[cfg(test)]
-mod row_faults;
 #[cfg(test)]
 mod scale_names;
 #[cfg(test)]
@@ -55,8 +39,6 @@ mod scaled_values;
 mod scales;
 #[cfg(test)]
 mod scans;
-#[cfg(test)]
-mod spelled_lists;
 #[cfg(test)]
 mod stand_in_link;
 #[cfg(test)]

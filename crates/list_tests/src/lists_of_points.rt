@@ -3,6 +3,7 @@
 use crate::given::name;
 use mb_wire::ReadFunction;
 use point_list::{ListedPoint, PointList, PointScale, find_scale, texts_spell_one_list};
+use read_plan::rule_is_least;
 use std::alloc::Global;
 use std::process::Abort;
 use sun_points::{PointType, Scale};
@@ -123,29 +124,27 @@ fn counters_end_at_the_last_register(rt: HostRuntime) {
     }
 }
 
-fn list_of_a_counter(rt: &impl Abort, alloc: Global) -> PointList {
-    let list = PointList::new(counter(rt, alloc, 65534));
-    list.ok().expect(rt, "no list")
-}
-
-// The points of a list, and one more of the same name.
-fn with_a_double_name(rt: &impl Abort, alloc: Global) -> Vec<ListedPoint> {
-    let double = listed(rt, alloc, "a", 0, PointType::Acc32, PointScale::Unscaled);
-    let mut points = list_of_a_counter(rt, alloc).into_points();
-    points.push(double).expect(rt, "no memory");
-    points
-}
-
 #[test]
 fn points_with_double_names_are_handed_back(rt: HostRuntime) {
-    let list = PointList::new(with_a_double_name(&rt, rt.alloc()));
-    let back = list.err().expect(&rt, "no double name");
+    let list = PointList::new(counter(&rt, rt.alloc(), 65534));
+    let mut points = list.ok().expect(&rt, "no list").into_points();
+    let double = listed(
+        &rt,
+        rt.alloc(),
+        "a",
+        0,
+        PointType::Acc32,
+        PointScale::Unscaled,
+    );
+    points.push(double).expect(&rt, "no memory");
+    let back = PointList::new(points).err().expect(&rt, "no double name");
     assert!(rt; back.len() == 2);
 }
 
 #[test]
 fn finds_a_scale(rt: HostRuntime) {
     texts_spell_one_list();
+    rule_is_least();
     let group = GROUPS.first().expect(&rt, "no group");
     let points = points_of(&rt, rt.alloc(), group);
     assert!(rt; find_scale(&points, b"w").is_none());

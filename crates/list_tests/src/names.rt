@@ -1,34 +1,42 @@
 //! Names of points.
-
-use crate::given::name;
 use point_list::PointName;
+use std::alloc::Global;
+use std::process::Abort;
 
-static NAMES: [&str; 4] = ["wh", "m2.WH_SF", "A", "a23456789.123456789_123456789.12"];
-
-static OTHERS: [&str; 7] = [
-    "",
-    "1x",
-    "_a",
-    ".a",
-    "a-b",
-    "a b",
-    "a23456789.123456789_123456789.123",
+// Texts, and whether they are names.
+static TEXTS: [(&str, bool); 11] = [
+    ("wh", true),
+    ("m2.WH_SF", true),
+    ("A", true),
+    ("a23456789.123456789_123456789.12", true),
+    ("", false),
+    ("1x", false),
+    ("_a", false),
+    (".a", false),
+    ("a-b", false),
+    ("a b", false),
+    ("a23456789.123456789_123456789.123", false),
 ];
 
-#[test]
-fn names(rt: HostRuntime) {
-    for text in &NAMES {
-        let name = name(&rt, rt.alloc(), text);
-        assert!(rt; name.as_bytes() == text.as_bytes(), "{text}");
-        assert!(rt; name.into_bytes().as_slice() == text.as_bytes(), "{text}");
-    }
+// Asserts that a text is a name or isn't. Its bytes are handed back.
+fn assert_name(rt: &impl Abort, alloc: Global, text: &str, is_name: bool) {
+    let bytes = text.as_bytes().to_vec(alloc).expect(rt, "no memory");
+    let back = match PointName::new(bytes) {
+        Ok(name) => {
+            assert!(rt; is_name && name.as_bytes() == text.as_bytes(), "{text}");
+            name.into_bytes()
+        }
+        Err(back) => {
+            assert!(rt; !is_name, "{text}");
+            back
+        }
+    };
+    assert!(rt; back.as_slice() == text.as_bytes(), "{text}");
 }
 
 #[test]
-fn other_bytes_are_handed_back(rt: HostRuntime) {
-    for text in &OTHERS {
-        let bytes = text.as_bytes().to_vec(rt.alloc()).expect(&rt, "no memory");
-        let back = PointName::new(bytes).err().expect(&rt, "no name");
-        assert!(rt; back.as_slice() == text.as_bytes(), "{text}");
+fn names_are_told_from_other_texts(rt: HostRuntime) {
+    for (text, is_name) in &TEXTS {
+        assert_name(&rt, rt.alloc(), text, *is_name);
     }
 }

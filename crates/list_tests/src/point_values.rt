@@ -1,10 +1,8 @@
 //! The values of points.
-use crate::given::same;
 use point_list::point_type;
 use std::alloc::Global;
-use std::process::Abort;
 use std::test::Fail;
-use sun_points::{Point, PointType, Scale, Text, TextLength, read_point};
+use sun_points::{Point, PointType, Scale, read_point};
 
 // Registers of a type, what they say, and how that is shown: a type that takes one register reads the first.
 static READINGS: [(&[u8], u16, u16, Point<'static>, &str); 33] = [
@@ -108,38 +106,4 @@ fn registers_are_read_by_type(rt: HostRuntime) -> Result<(), Fail> {
         assert!(rt; is_so, "reading {i}");
     }
     Ok(())
-}
-
-// Texts of eight registers: one of zeros, and one of which only the first is not 0.
-#[test]
-fn a_text_of_zeros_is_absent(rt: HostRuntime) -> Result<(), Fail> {
-    let ty = PointType::Text(TextLength::EIGHT);
-    let zeros = [0; 8];
-    assert!(rt; is_read(rt.alloc(), ty, &zeros, Point::Absent, "absent")?);
-    let words = [0x4F4B, 0, 0, 0, 0, 0, 0, 0];
-    let text = Point::Text(Text { words: &words });
-    assert!(rt; is_read(rt.alloc(), ty, &words, text, "OK")?);
-    Ok(())
-}
-
-// Values at a tenth.
-static TENTHS: [(Point<'static>, &str); 4] = [
-    (Point::Absent, "absent"),
-    (Point::Signed(-15), "-1.5"),
-    (Point::Unsigned(4294967295), "429496729.5"),
-    (Point::Bits(0xAB), "0x000000ab"),
-];
-
-fn at_a_tenth(rt: &impl Abort, alloc: Global, point: &Point<'_>) -> Vec<u8> {
-    let tenth = Scale::new(0xFFFF).expect(rt, "no scale");
-    let mut output = Vec::new(alloc);
-    point.write(tenth, &mut output).expect(rt, "not written");
-    output
-}
-
-#[test]
-fn numbers_are_scaled(rt: HostRuntime) {
-    for (point, want) in &TENTHS {
-        same(&rt, at_a_tenth(&rt, rt.alloc(), point).as_slice(), want);
-    }
 }

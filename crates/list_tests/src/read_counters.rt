@@ -44,57 +44,65 @@ const HOLDING: ReadFunction = ReadFunction::HoldingRegisters;
 
 const INPUT: ReadFunction = ReadFunction::InputRegisters;
 
-// How a counter is read, and what it shows.
-type Counter = (ReadFunction, u16, CounterScale, (u32, i16));
+// What a counter shows, if it shows anything.
+type Count = Option<(u32, i16)>;
 
-static COUNTERS: [Counter; 6] = [
-    (HOLDING, 40000, CounterScale::Fixed(0), (65538, 0)),
-    (HOLDING, 40000, CounterScale::Fixed(-3), (65538, -3)),
-    (INPUT, 40010, CounterScale::Fixed(3), (131_075, 3)),
-    (INPUT, 40010, CounterScale::Register(40014), (131_075, 3)),
-    (INPUT, 40010, CounterScale::Register(40000), (131_075, -3)),
-    (INPUT, 40005, CounterScale::Register(40129), (0, 0)),
+// How a counter is read, what it shows, and how many requests that takes.
+static COUNTERS: [(ReadFunction, u16, CounterScale, Count, u64); 13] = [
+    (HOLDING, 40000, CounterScale::Fixed(0), Some((65538, 0)), 1),
+    (
+        HOLDING,
+        40000,
+        CounterScale::Fixed(-3),
+        Some((65538, -3)),
+        1,
+    ),
+    (INPUT, 40010, CounterScale::Fixed(3), Some((131_075, 3)), 1),
+    (
+        INPUT,
+        40010,
+        CounterScale::Register(40014),
+        Some((131_075, 3)),
+        1,
+    ),
+    (
+        INPUT,
+        40010,
+        CounterScale::Register(40000),
+        Some((131_075, -3)),
+        1,
+    ),
+    (INPUT, 40005, CounterScale::Register(40129), Some((0, 0)), 1),
+    // a scale that is not implemented, and scales out of range
+    (INPUT, 40010, CounterScale::Register(40015), None, 1),
+    (INPUT, 40010, CounterScale::Register(40016), None, 1),
+    (INPUT, 40010, CounterScale::Register(40017), None, 1),
+    (INPUT, 40010, CounterScale::Fixed(4), None, 1),
+    // registers that the device doesn't have
+    (HOLDING, 40129, CounterScale::Fixed(0), None, 2),
+    // 126 registers, and half a counter at the last address
+    (INPUT, 40004, CounterScale::Register(40129), None, 0),
+    (INPUT, 65535, CounterScale::Fixed(0), None, 0),
 ];
+
+// What a counter shows.
+fn shown(count: Count) -> Option<Shown> {
+    let (raw, sf) = count?;
+    Some(Shown { raw, sf })
+}
 
 #[test]
 fn a_counter_is_read_with_its_scale(rt: HostRuntime) {
     let mut link = StandInLink::new(meter(&rt, rt.alloc()), &[]);
-    for (function, address, scale, (raw, sf)) in &COUNTERS {
-        let found = read_counter(rt.alloc(), &mut link, 1, *function, *address, *scale);
-        let (raw, sf) = (*raw, *sf);
-        assert!(rt; found == Ok(Some(Shown { raw, sf })), "{address}");
-    }
-    assert!(rt; link.gives() == 6);
-}
-
-// Counters that show nothing, and how often something is asked for.
-static UNSHOWN: [(ReadFunction, u16, CounterScale, u64); 7] = [
-    // a scale that is not implemented, and scales out of range
-    (INPUT, 40010, CounterScale::Register(40015), 1),
-    (INPUT, 40010, CounterScale::Register(40016), 1),
-    (INPUT, 40010, CounterScale::Register(40017), 1),
-    (INPUT, 40010, CounterScale::Fixed(4), 1),
-    // registers that the device doesn't have
-    (HOLDING, 40129, CounterScale::Fixed(0), 2),
-    // 126 registers, and half a counter at the last address
-    (INPUT, 40004, CounterScale::Register(40129), 0),
-    (INPUT, 65535, CounterScale::Fixed(0), 0),
-];
-
-#[test]
-fn a_counter_without_a_scale_or_words_shows_nothing(rt: HostRuntime) {
-    let mut link = StandInLink::new(meter(&rt, rt.alloc()), &[]);
-    for (function, address, scale, gives) in &UNSHOWN {
+    for (function, address, scale, count, requests) in &COUNTERS {
         let before = link.gives();
         let found = read_counter(rt.alloc(), &mut link, 1, *function, *address, *scale);
-        assert!(rt; found == Ok(None), "{address}");
-        assert!(rt; link.gives() == before.saturating_add(*gives), "{address}");
+        assert!(rt; found == Ok(shown(*count)), "{address}");
+        assert!(rt;
+            link.gives() == before.saturating_add(*requests),
+            "{address}"
+        );
     }
-}
-
-// What a counter shows.
-fn shown(raw: u32, sf: i16) -> Option<Shown> {
-    Some(Shown { raw, sf })
 }
 
 // The counter with the scale after it, under tricks.
@@ -120,14 +128,10 @@ static ONCE: [Trick; 5] = [
 fn a_counter_is_asked_for_twice(rt: HostRuntime) {
     for trick in &ONCE {
         let found = tricked(&rt, rt.alloc(), &[(1, *trick)]);
-        assert!(rt; found == Ok(shown(131_075, 3)));
+        assert!(rt; found == Ok(shown(Some((131_075, 3)))));
     }
     let silent = tricked(&rt, rt.alloc(), &[(1, Trick::Drop), (2, Trick::Drop)]);
     assert!(rt; silent == Ok(None));
-}
-
-#[test]
-fn a_connection_that_breaks_shows_nothing(rt: HostRuntime) {
     let cut = tricked(&rt, rt.alloc(), &[(1, Trick::Cut(5))]);
     assert!(rt; cut == Err(ScanFault::Gone));
     let garbled = tricked(&rt, rt.alloc(), &[(1, Trick::Garble)]);
@@ -144,24 +148,28 @@ static REQUESTS: [u8; 24] = [
     0, 1, 0, 0, 0, 6, 7, 4, 0x9C, 0x4A, 0, 2, 0, 2, 0, 0, 0, 6, 7, 4, 0x9C, 0x4A, 0, 2,
 ];
 
-#[test]
-fn words_may_come_after_an_exception(rt: HostRuntime) {
+// Asserts what is read over a link, one of whose calls may fail. Returns the bytes that were written.
+fn assert_read(
+    rt: &impl Abort,
+    alloc: Global,
+    failing: Option<u64>,
+    wanted: Result<Option<Shown>, ScanFault>,
+) -> Vec<u8> {
     let mut given = [0; 36];
-    let mut link = MemoryLink::new(&EXCEPTION_THEN_WORDS, &mut given, 9, None);
+    let mut link = MemoryLink::new(&EXCEPTION_THEN_WORDS, &mut given, 9, failing);
     let scale = CounterScale::Fixed(-1);
-    let found = read_counter(rt.alloc(), &mut link, 7, INPUT, 40010, scale);
-    assert!(rt; found == Ok(shown(65538, -1)));
-    assert!(rt; link.given() == REQUESTS.as_slice());
+    let found = read_counter(alloc, &mut link, 7, INPUT, 40010, scale);
+    assert!(rt; found == wanted);
+    link.given().to_vec(alloc).expect(rt, "no memory")
 }
 
+// Words may come after an exception. The first write, the second, and the first read fail in turn.
 #[test]
-fn a_failing_link_shows_nothing(rt: HostRuntime) {
-    // the first give, the second, and the first take
+fn words_may_come_after_an_exception(rt: HostRuntime) {
+    let wanted = Ok(shown(Some((65538, -1))));
+    let written = assert_read(&rt, rt.alloc(), None, wanted);
+    assert!(rt; written.as_slice() == REQUESTS.as_slice());
     for call in 1..4u64 {
-        let mut given = [0; 36];
-        let mut link = MemoryLink::new(&EXCEPTION_THEN_WORDS, &mut given, 9, Some(call));
-        let scale = CounterScale::Fixed(-1);
-        let found = read_counter(rt.alloc(), &mut link, 7, INPUT, 40010, scale);
-        assert!(rt; found == Err(ScanFault::Failed), "{call}");
+        assert_read(&rt, rt.alloc(), Some(call), Err(ScanFault::Failed));
     }
 }

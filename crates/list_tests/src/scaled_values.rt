@@ -1,6 +1,6 @@
 //! Scaled values: the texts come from decimal arithmetic in another language.
 
-use crate::given::same;
+use crate::given::assert_same;
 use std::alloc::Global;
 use std::process::Abort;
 use sun_points::{Scale, write_scaled};
@@ -98,34 +98,21 @@ fn write_at(rt: &impl Abort, value: i64, exponent: i16, output: &mut Vec<u8>) {
     write_scaled(value, scale, output).expect(rt, "not written");
 }
 
-fn values_at(rt: &impl Abort, alloc: Global, exponent: i16) -> Vec<u8> {
+// Asserts the texts of values at a scale.
+fn assert_scaled(rt: &impl Abort, alloc: Global, values: &[i64], exponent: i16, want: &str) {
     let mut line = Vec::new(alloc);
-    for value in &VALUES {
+    for value in values {
         write_at(rt, *value, exponent, &mut line);
     }
-    line
+    assert_same(rt, line.as_slice(), want);
 }
 
 #[test]
-fn values_at_each_scale(rt: HostRuntime) {
+fn values_are_written_at_each_scale(rt: HostRuntime) {
     for (exponent, want) in &SCALED {
-        same(&rt, values_at(&rt, rt.alloc(), *exponent).as_slice(), want);
+        assert_scaled(&rt, rt.alloc(), &VALUES, *exponent, want);
     }
-}
-
-fn other_values(rt: &impl Abort, alloc: Global) -> Vec<u8> {
-    let mut line = Vec::new(alloc);
-    write_at(rt, 12, 3, &mut line);
-    write_at(rt, 1000, 0, &mut line);
-    write_at(rt, -1234, -2, &mut line);
-    line
-}
-
-#[test]
-fn others_at_a_scale(rt: HostRuntime) {
-    same(
-        &rt,
-        other_values(&rt, rt.alloc()).as_slice(),
-        " 12000 1000 -12.34",
-    );
+    assert_scaled(&rt, rt.alloc(), &[12], 3, " 12000");
+    assert_scaled(&rt, rt.alloc(), &[1000], 0, " 1000");
+    assert_scaled(&rt, rt.alloc(), &[-1234], -2, " -12.34");
 }

@@ -22,9 +22,5 @@ fn exponents_are_ten_at_most(rt: HostRuntime) {
     for (word, exponent) in &REGISTERS {
         assert!(rt; exponent_of(*word) == *exponent, "{word}");
     }
-}
-
-#[test]
-fn the_default_scale_is_0(rt: HostRuntime) {
     assert!(rt; Scale::default().exponent() == 0);
 }

@@ -41,23 +41,49 @@ fn assert_full(rt: &impl Abort, alloc: Global, found: &Image) {
     }
 }
 
-// Scans the full models under tricks.
-fn scanned(rt: &impl Abort, alloc: Global, tricks: &[(u64, Trick)]) -> Result<Image, ScanFault> {
-    let mut link = StandInLink::new(full_bank(rt, alloc), tricks);
-    scan_over(alloc, &mut link, 1, &mut Shown(0))
+// How a scan ended, how many requests it sent, and how many models it showed.
+#[derive(Drop)]
+struct Scanned {
+    found: Result<Image, ScanFault>,
+    requests: u64,
+    models: u64,
 }
 
+// Scans a bank under tricks.
+fn scan_bank(alloc: Global, bank: Bank, tricks: &[(u64, Trick)]) -> Scanned {
+    let mut link = StandInLink::new(bank, tricks);
+    let mut shown = Shown(0);
+    let found = scan_over(alloc, &mut link, 1, &mut shown);
+    Scanned {
+        found,
+        requests: link.gives(),
+        models: shown.0,
+    }
+}
+
+// Scans the full models under tricks.
+fn scanned_full(
+    rt: &impl Abort,
+    alloc: Global,
+    tricks: &[(u64, Trick)],
+) -> Result<Image, ScanFault> {
+    scan_bank(alloc, full_bank(rt, alloc), tricks).found
+}
+
+// Scans a bank, which takes so many requests.
+fn assert_image(rt: &impl Abort, alloc: Global, bank: Bank, requests: u64) -> Image {
+    let scanned = scan_bank(alloc, bank, &[]);
+    assert!(rt; scanned.requests == requests, "{requests}");
+    scanned.found.ok().expect(rt, "no scan")
+}
+
+// The mark, four heads, of which the last is asked for twice and then its ID alone, and three models take ten requests.
 #[test]
 fn full_models_are_read(rt: HostRuntime) {
-    let mut link = StandInLink::new(full_bank(&rt, rt.alloc()), &[]);
-    let mut shown = Shown(0);
-    let image = scan_over(rt.alloc(), &mut link, 1, &mut shown)
-        .ok()
-        .expect(&rt, "no scan");
-    assert_full(&rt, rt.alloc(), &image);
-    // the mark, four heads, of which the last is asked for twice and then its ID alone, and three models
-    assert!(rt; link.gives() == 10);
-    assert!(rt; shown.0 == 3);
+    let scanned = scan_bank(rt.alloc(), full_bank(&rt, rt.alloc()), &[]);
+    assert!(rt; scanned.requests == 10);
+    assert!(rt; scanned.models == 3);
+    assert_full(&rt, rt.alloc(), &scanned.found.ok().expect(&rt, "no scan"));
 }
 
 // On any of these frames a reply is lost or wrong, and comes at the second try.
@@ -73,7 +99,7 @@ static ONCE: [Trick; 5] = [
 fn a_reply_that_fails_once_is_asked_for_again(rt: HostRuntime) {
     for trick in &ONCE {
         for frame in 1..8u64 {
-            let found = scanned(&rt, rt.alloc(), &[(frame, *trick)]);
+            let found = scanned_full(&rt, rt.alloc(), &[(frame, *trick)]);
             assert_full(&rt, rt.alloc(), &found.ok().expect(&rt, "no scan"));
         }
     }
@@ -81,9 +107,9 @@ fn a_reply_that_fails_once_is_asked_for_again(rt: HostRuntime) {
 
 #[test]
 fn a_connection_that_breaks_ends_the_scan(rt: HostRuntime) {
-    let cut = scanned(&rt, rt.alloc(), &[(3, Trick::Cut(5))]);
+    let cut = scanned_full(&rt, rt.alloc(), &[(3, Trick::Cut(5))]);
     assert!(rt; cut.err() == Some(ScanFault::Gone));
-    let garbled = scanned(&rt, rt.alloc(), &[(3, Trick::Garble)]);
+    let garbled = scanned_full(&rt, rt.alloc(), &[(3, Trick::Garble)]);
     assert!(rt; garbled.err() == Some(ScanFault::Garbled));
 }
 
@@ -91,7 +117,7 @@ fn a_connection_that_breaks_ends_the_scan(rt: HostRuntime) {
 #[test]
 fn what_fails_twice_is_unread(rt: HostRuntime) {
     let tricks = [(5, Trick::Drop), (6, Trick::Drop)];
-    let image = scanned(&rt, rt.alloc(), &tricks)
+    let image = scanned_full(&rt, rt.alloc(), &tricks)
         .ok()
         .expect(&rt, "no scan");
     assert!(rt; image.word(40071) == Some(50));
@@ -124,14 +150,11 @@ static TO_THE_LAST: [(u16, u16); 5] = [
     (65535, 0xFFFF),
 ];
 
+// 40000 twice, 50000, and two heads take five requests: the registers of the model aren't read.
 #[test]
 fn a_chain_may_end_at_the_last_address(rt: HostRuntime) {
-    let mut link = StandInLink::new(upper_bank(&rt, rt.alloc(), &TO_THE_LAST), &[]);
-    let image = scan_over(rt.alloc(), &mut link, 1, &mut Shown(0))
-        .ok()
-        .expect(&rt, "no scan");
-    // 40000 twice, 50000, and two heads: the registers of the model aren't asked for
-    assert!(rt; link.gives() == 5);
+    let bank = upper_bank(&rt, rt.alloc(), &TO_THE_LAST);
+    let image = assert_image(&rt, rt.alloc(), bank, 5);
     assert!(rt; image.word(50004).is_none());
     let chain = walk(rt.alloc(), &image).ok().expect(&rt, "no chain");
     assert!(rt; chain.end() == 65535);
@@ -147,14 +170,10 @@ static LONG: [(u16, u16); 6] = [
     (50130, 0xFFFF),
 ];
 
+// 40000 twice, 50000, two heads, 125 registers and one more take seven requests.
 #[test]
 fn a_long_model_takes_several_reads(rt: HostRuntime) {
-    let mut link = StandInLink::new(upper_bank(&rt, rt.alloc(), &LONG), &[]);
-    let image = scan_over(rt.alloc(), &mut link, 1, &mut Shown(0))
-        .ok()
-        .expect(&rt, "no scan");
-    // 40000 twice, 50000, two heads, 125 registers and one more
-    assert!(rt; link.gives() == 7);
+    let image = assert_image(&rt, rt.alloc(), upper_bank(&rt, rt.alloc(), &LONG), 7);
     assert!(rt; image.word(50128) == Some(0));
     assert!(rt; image.word(50129) == Some(7));
 }
@@ -169,11 +188,7 @@ fn many_models(rt: &impl Abort, alloc: Global, count: u16) -> Image {
     }
     let end = 50002u16.saturating_add(count.saturating_mul(2));
     bank.set(Kind::Holding, end, 0xFFFF);
-    let mut link = StandInLink::new(bank, &[]);
-
-    scan_over(alloc, &mut link, 1, &mut Shown(0))
-        .ok()
-        .expect(rt, "no scan")
+    scan_bank(alloc, bank, &[]).found.ok().expect(rt, "no scan")
 }
 
 #[test]

@@ -21,8 +21,15 @@ j,3,7,19,string1,
 k,3,7,20,string125,
 ";
 
-// Each kind of point; a text as a spreadsheet writes it; and a header alone.
-static TEXTS: [Rewritten; 3] = [
+const COUNTER: &[u8] = b"name,function,area,address,type,scale
+wh,3,0,40094,acc32,whsf
+whsf,3,0,40096,sunssf,
+";
+
+// Each kind of point; a text as a spreadsheet writes it; a header alone; a counter and its scale point with a byte order mark and
+// carriage returns, with quoted fields, blank lines and a last line without its end, and with leading zeros up to ten digits; the
+// ends of ranges.
+static TEXTS: [Rewritten; 8] = [
     Rewritten {
         text: EVERY_KIND,
         written: EVERY_KIND,
@@ -34,6 +41,26 @@ static TEXTS: [Rewritten; 3] = [
     Rewritten {
         text: b"name,function,area,address,type,scale\n",
         written: b"name,function,area,address,type,scale\n",
+    },
+    Rewritten {
+        text: COUNTER,
+        written: COUNTER,
+    },
+    Rewritten {
+        text: b"\xEF\xBB\xBFname,function,area,address,type,scale\r\nwh,3,0,40094,acc32,whsf\r\nwhsf,3,0,40096,sunssf,\r\n",
+        written: COUNTER,
+    },
+    Rewritten {
+        text: b"\"name\",\"function\",\"area\",\"address\",\"type\",\"scale\"\n\n\"wh\",\"3\",0,40094,\"acc32\",\"whsf\"\n\r\nwhsf,3,0,40096,sunssf,\"\"",
+        written: COUNTER,
+    },
+    Rewritten {
+        text: b"name,function,area,address,type,scale\nwh,0000000003,000,0000040094,acc32,whsf\nwhsf,3,0,40096,sunssf,\n",
+        written: COUNTER,
+    },
+    Rewritten {
+        text: b"name,function,area,address,type,scale\na,4,255,65535,int16,-10\nb,3,0,0,string125,\nc,3,0,0,uint32,-0\nd,3,0,0,int32,10\n",
+        written: b"name,function,area,address,type,scale\na,4,255,65535,int16,-10\nb,3,0,0,string125,\nc,3,0,0,uint32,0\nd,3,0,0,int32,10\n",
     },
 ];
 

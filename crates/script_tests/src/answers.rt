@@ -3,7 +3,8 @@ use crate::streams::Kept;
 use energy_core::Cause;
 use office_events::{Answer, Name, Note};
 use poll_core::Outcome;
-use script_text::{write_accepted, write_answer};
+use script_text::write_accepted;
+use std::alloc::Global;
 use std::process::Abort;
 
 const STARTED: Answer = Answer::Started {
@@ -39,17 +40,25 @@ const WHOLE: &str = "\
     held m1 4294967295 cause 6\n\
     started 1 1 2 00ff\n";
 
-// Two bytes are written with each call, and the notes come before the answer.
-#[test]
-fn each_failing_write_is_told(rt: HostRuntime) {
-    let notes = notes(&rt);
-    for failing in 1..80 {
-        let mut kept = Kept::new(rt.alloc(), failing, 2);
-        let ended = write_accepted(&STARTED, &notes, b"\x00\xff", &mut kept);
-        let whole = kept.assert_written(&rt, WHOLE);
-        assert!(rt; ended.is_ok() == whole);
-        assert!(rt; whole || failing < 79);
+// Each write fails in turn, of at most so many bytes, until none does. Returns how many writes there are.
+fn assert_failing_writes(
+    rt: &impl Abort,
+    alloc: Global,
+    notes: &[Note],
+    frames: &[u8],
+    most: usize,
+    text: &str,
+) -> usize {
+    for failing in 1..80usize {
+        let mut kept = Kept::new(alloc, failing, most);
+        let ended = write_accepted(&STARTED, notes, frames, &mut kept);
+        let whole = kept.assert_written(rt, text);
+        assert!(rt; ended.is_ok() == whole, "{failing}");
+        if whole {
+            return failing.saturating_sub(1);
+        }
     }
+    panic!(rt; "a write fails each time")
 }
 
 /// Frames, the line that they are written in, and in how many calls of at most 50 bytes.
@@ -94,15 +103,14 @@ static CASES: [Case; 5] = [
     },
 ];
 
+// The notes come before the answer.
 #[test]
-fn each_failing_write_of_frames_is_told(rt: HostRuntime) {
+fn each_failing_write_is_told(rt: HostRuntime) {
+    let notes = notes(&rt);
+    let count = assert_failing_writes(&rt, rt.alloc(), &notes, b"\x00\xff", 2, WHOLE);
+    assert!(rt; count < 79);
     for case in &CASES {
-        for failing in 1..10 {
-            let mut kept = Kept::new(rt.alloc(), failing, 50);
-            let ended = write_answer(&STARTED, case.frames, &mut kept);
-            let whole = kept.assert_written(&rt, case.line);
-            assert!(rt; ended.is_ok() == whole, "{failing}");
-            assert!(rt; whole == (failing > case.calls), "{failing}");
-        }
+        let count = assert_failing_writes(&rt, rt.alloc(), &[], case.frames, 50, case.line);
+        assert!(rt; count == case.calls, "{count}");
     }
 }

@@ -95,21 +95,20 @@ fn each_connection_is_answered_in_turn(rt: HostRuntime) {
     }
 }
 
-#[test]
-fn a_trick_is_played_on_a_link(rt: HostRuntime) {
-    let mut bank = bank_with_nine(&rt, rt.alloc());
-    let mut output = [0; 64];
-    let mut link = MemoryLink::new(READ, &mut output, 260, None);
-    let tricks = [(1, Trick::Cut(4))];
-    assert!(rt; answer_one(&mut link, &mut bank, &tricks) == Ok(1));
-    assert!(rt; link.given() == &NINE[..4]);
-}
+// A call of a link that fails, if one does, how a read is answered then under a trick, and the bytes that are written.
+static ANSWERS: [(Option<u64>, Result<u64, ServeFault>, &[u8]); 2] = [
+    (None, Ok(1), &[0, 7, 0, 0]),
+    (Some(1), Err(ServeFault::Read), &[]),
+];
 
 #[test]
-fn a_link_that_fails_is_told(rt: HostRuntime) {
-    let mut bank = bank_with_nine(&rt, rt.alloc());
-    let mut output = [0; 64];
-    let mut link = MemoryLink::new(READ, &mut output, 260, Some(1));
-    let answered = answer_one(&mut link, &mut bank, &[]);
-    assert!(rt; answered == Err(ServeFault::Read));
+fn a_trick_is_played_on_a_link_and_a_link_that_fails_is_told(rt: HostRuntime) {
+    for (failing, answer, written) in &ANSWERS {
+        let mut bank = bank_with_nine(&rt, rt.alloc());
+        let mut output = [0; 64];
+        let mut link = MemoryLink::new(READ, &mut output, 260, *failing);
+        let tricks = [(1, Trick::Cut(4))];
+        assert!(rt; answer_one(&mut link, &mut bank, &tricks) == *answer);
+        assert!(rt; link.given() == *written);
+    }
 }

@@ -1,10 +1,9 @@
 //! Chains and plans over streams that fail.
 use crate::streams::{Kept, Slow};
 use command_io::ExitStatus;
-use point_list::read_list;
 use std::alloc::Global;
-use std::io::{ErrorKind, Read, Write};
-use sunspec_text::{chain_text, plan_text, print_plan};
+use std::io::ErrorKind;
+use sunspec_text::{chain_text, plan_text};
 
 // What an input is given to.
 #[derive(Clone, Copy)]
@@ -14,12 +13,7 @@ enum Task {
 }
 
 impl Task {
-    fn carry_out<R: Read, W: Write>(
-        self,
-        alloc: Global,
-        input: &mut R,
-        output: &mut W,
-    ) -> ExitStatus {
+    fn carry_out(self, alloc: Global, input: &mut Slow<'_>, output: &mut Kept) -> ExitStatus {
         match self {
             Task::Chain => chain_text(alloc, input, output),
             Task::Plan => plan_text(alloc, input, output),
@@ -70,12 +64,30 @@ const FAULTY_PRINTED: &str = "\
     row 4 fault 5\n\
     row 5 fault 4\n";
 
-static CASES: [(Task, &str, &str, ExitStatus); 5] = [
+static CASES: [(Task, &str, &str, ExitStatus); 8] = [
     (Task::Chain, METER, METER_PRINTED, ExitStatus::Fine),
     (Task::Chain, "", "fault 1\n", ExitStatus::Refused),
     (Task::Plan, LIST, LIST_PRINTED, ExitStatus::Fine),
     (Task::Plan, FAULTY, FAULTY_PRINTED, ExitStatus::Refused),
     (Task::Plan, "", "row 1 fault 2\n", ExitStatus::Refused),
+    (
+        Task::Plan,
+        "name,function,area,address,type,scale\n",
+        "",
+        ExitStatus::Fine,
+    ),
+    (
+        Task::Plan,
+        "name,function,area,address,type,scale\nw,3,0,0,int16,s\ns,3,0,124,sunssf,\n",
+        "read 1 3 0 0 125\npoint w 1 0\npoint s 1 124\n",
+        ExitStatus::Fine,
+    ),
+    (
+        Task::Plan,
+        "name,function,area,address,type,scale\na,3,0,0,acc32,\nb,3,0,200,acc32,\n",
+        "read 1 3 0 0 2\nread 2 3 0 200 2\npoint a 1 0\npoint b 2 0\n",
+        ExitStatus::Fine,
+    ),
 ];
 
 // A read that fails or is interrupted ends the run, and none comes after it.
@@ -85,10 +97,10 @@ fn each_failing_read_ends_it(rt: HostRuntime) {
         for kind in [ErrorKind::Interrupted, ErrorKind::BrokenPipe] {
             for failing in 1..text.len() + 2 {
                 let mut slow = Slow::of(text.as_bytes(), failing, kind);
-                let mut printed = Vec::new(rt.alloc());
-                let ended = task.carry_out(rt.alloc(), &mut slow, &mut printed);
+                let mut kept = Kept::whole(rt.alloc());
+                let ended = task.carry_out(rt.alloc(), &mut slow, &mut kept);
                 assert!(rt; ended == ExitStatus::Failed);
-                assert!(rt; printed.is_empty());
+                assert!(rt; kept.got.is_empty());
                 assert!(rt; slow.calls == failing);
             }
         }
@@ -100,41 +112,13 @@ fn each_failing_write_ends_it(rt: HostRuntime) {
     for (task, text, output, status) in &CASES {
         let mut whole = false;
         for failing in 1..200 {
-            let mut input = text.as_bytes();
+            let mut slow = Slow::whole(text.as_bytes());
             let mut kept = Kept::new(rt.alloc(), failing, 8192);
-            let ended = task.carry_out(rt.alloc(), &mut input, &mut kept);
+            let ended = task.carry_out(rt.alloc(), &mut slow, &mut kept);
             whole = kept.assert_written(&rt, output);
             let wanted = if whole { *status } else { ExitStatus::Failed };
             assert!(rt; ended == wanted);
         }
         assert!(rt; whole);
-    }
-}
-
-static PLANS: [(&str, &str); 4] = [
-    (LIST, LIST_PRINTED),
-    ("name,function,area,address,type,scale\n", ""),
-    (
-        "name,function,area,address,type,scale\nw,3,0,0,int16,s\ns,3,0,124,sunssf,\n",
-        "read 1 3 0 0 125\npoint w 1 0\npoint s 1 124\n",
-    ),
-    (
-        "name,function,area,address,type,scale\na,3,0,0,acc32,\nb,3,0,200,acc32,\n",
-        "read 1 3 0 0 2\nread 2 3 0 200 2\npoint a 1 0\npoint b 2 0\n",
-    ),
-];
-
-#[test]
-fn each_failing_write_of_a_list_is_told(rt: HostRuntime) {
-    for (text, output) in &PLANS {
-        let list = read_list(rt.alloc(), text.as_bytes())
-            .ok()
-            .expect(&rt, "no list");
-        for failing in 1..60 {
-            let mut kept = Kept::new(rt.alloc(), failing, 8192);
-            let ended = print_plan(rt.alloc(), &list, &mut kept);
-            let whole = kept.assert_written(&rt, output);
-            assert!(rt; (ended == ExitStatus::Fine) == whole);
-        }
     }
 }

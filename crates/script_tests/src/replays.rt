@@ -2,7 +2,8 @@
 use crate::streams::{Kept, Slow};
 use command_io::ExitStatus;
 use interval_core::Zone;
-use script_run::replay;
+use script_run::{Replayed, replay};
+use std::alloc::Global;
 use std::io::ErrorKind;
 use std::process::Abort;
 
@@ -25,8 +26,19 @@ const READING_PRINTED: &str = "\
     reading m1 5200 rolls 0 step 200000\n\
     ok\n";
 
+/// Returns the zone of the tests.
 pub(crate) fn zone(rt: &impl Abort) -> Zone {
     Zone::read("UTC0").ok().expect(rt, "no zone")
+}
+
+/// Runs a script. This is the one call of `replay`, which is generic over its streams.
+pub(crate) fn run(
+    rt: &impl Abort,
+    alloc: Global,
+    input: &mut Slow<'_>,
+    output: Kept,
+) -> Replayed<Kept> {
+    replay(alloc, zone(rt), input, output)
 }
 
 #[test]
@@ -34,9 +46,9 @@ fn each_failing_read_ends_a_script(rt: HostRuntime) {
     for kind in [ErrorKind::Interrupted, ErrorKind::BrokenPipe] {
         for failing in 1..READING.len() + 2 {
             let mut slow = Slow::of(READING.as_bytes(), failing, kind);
-            let ended = replay(rt.alloc(), zone(&rt), &mut slow, Vec::new(rt.alloc()));
+            let ended = run(&rt, rt.alloc(), &mut slow, Kept::whole(rt.alloc()));
             assert!(rt; ended.status == ExitStatus::Failed);
-            assert!(rt; ended.output.is_empty());
+            assert!(rt; ended.output.got.is_empty());
             assert!(rt; slow.calls == failing);
         }
     }
@@ -46,9 +58,9 @@ fn each_failing_read_ends_a_script(rt: HostRuntime) {
 fn each_failing_write_ends_a_script(rt: HostRuntime) {
     for most in [1, 7, 8192] {
         for failing in 1..200 {
-            let mut input = READING.as_bytes();
+            let mut slow = Slow::whole(READING.as_bytes());
             let kept = Kept::new(rt.alloc(), failing, most);
-            let ended = replay(rt.alloc(), zone(&rt), &mut input, kept);
+            let ended = run(&rt, rt.alloc(), &mut slow, kept);
             let whole = ended.output.assert_written(&rt, READING_PRINTED);
             assert!(rt; (ended.status == ExitStatus::Fine) == whole);
         }

@@ -3,7 +3,7 @@ use crate::spelled_words::assert_spelled;
 use command_words::{CommandLine, command_of};
 
 /// Each line and its command.
-static RIGHT: [(&str, &str); 38] = [
+static RIGHT: [(&str, &str); 40] = [
     ("replay", r#"Replay { zone: "UTC0" }"#),
     ("replay|--zone|CET-1", r#"Replay { zone: "CET-1" }"#),
     ("loop", r#"Loop { zone: "UTC0" }"#),
@@ -44,6 +44,17 @@ static RIGHT: [(&str, &str); 38] = [
         "Report { db: \"o.db\", register: \"main\", form: FormWords { \
          from: Some(\"2024-02-30\"), till: Some(\"\"), period: Some(Year), \
          unit: Some(KilowattHours), format: Some(Json), statement: false } }",
+    ),
+    // the other words of a form
+    (
+        "report|--db|o.db|--register|main|--by|day|--unit|mwh|--format|text",
+        "Report { db: \"o.db\", register: \"main\", form: FormWords { from: None, till: None, \
+         period: Some(Day), unit: Some(MilliwattHours), format: Some(Text), statement: false } }",
+    ),
+    (
+        "report|--db|o.db|--register|main|--by|month|--format|csv",
+        "Report { db: \"o.db\", register: \"main\", form: FormWords { from: None, till: None, \
+         period: Some(Month), unit: None, format: Some(Csv), statement: false } }",
     ),
     // a statement has no periods
     (

@@ -2,8 +2,17 @@
 use interval_core::{Day, DayTotal, Share};
 use script_text::{Line, write_day, write_end, write_interval};
 
+/// A day, how many quarter hours it has, and its energy in mWh.
+static DAYS: [(i16, i8, i8, u32, u128); 2] = [(33, 12, 9, 1, 7), (-1, 1, 1, 1000, u128::MAX)];
+
+static WRITTEN: &str = "\
+    18446744073709551615 18446744073709551615\n\
+    end 18446744073709551615\n\
+    0033-12-09   1                        7\n\
+    -000001-01-01 1000 340282366920938463463374607431768211455\n";
+
 #[test]
-fn the_greatest_numbers_are_written(rt: HostRuntime) {
+fn the_greatest_numbers_and_days_of_any_year_are_written(rt: HostRuntime) {
     let share = Share {
         start: u64::MAX,
         mwh: u64::MAX,
@@ -11,36 +20,16 @@ fn the_greatest_numbers_are_written(rt: HostRuntime) {
     let mut told = Vec::new(rt.alloc());
     assert!(rt; write_interval(share, &mut told).is_ok());
     assert!(rt; write_end(u64::MAX, &mut told).is_ok());
-    let wanted = b"18446744073709551615 18446744073709551615\nend 18446744073709551615\n";
-    assert!(rt; told.as_slice() == wanted.as_slice());
-}
-
-/// A day, how many quarter hours it has, and its energy in mWh.
-static DAYS: [(i16, i8, i8, u32, u128, &str); 2] = [
-    (33, 12, 9, 1, 7, "0033-12-09   1                        7\n"),
-    (
-        -1,
-        1,
-        1,
-        1000,
-        u128::MAX,
-        "-000001-01-01 1000 340282366920938463463374607431768211455\n",
-    ),
-];
-
-#[test]
-fn days_of_any_year_are_written(rt: HostRuntime) {
-    for (year, month, of_month, count, mwh, wanted) in &DAYS {
+    for (year, month, of_month, count, mwh) in &DAYS {
         let day = Day::new(*year, *month, *of_month).ok();
         let total = DayTotal {
             day: day.expect(&rt, "no day"),
             count: *count,
             mwh: *mwh,
         };
-        let mut told = Vec::new(rt.alloc());
         assert!(rt; write_day(&total, &mut told).is_ok());
-        assert!(rt; told.as_slice() == wanted.as_bytes());
     }
+    assert!(rt; told.as_slice() == WRITTEN.as_bytes());
 }
 
 #[test]

@@ -22,6 +22,11 @@ impl<'a> Slow<'a> {
             kind,
         }
     }
+
+    /// No call fails.
+    pub(crate) fn whole(text: &'a [u8]) -> Slow<'a> {
+        Slow::of(text, 0, ErrorKind::Other)
+    }
 }
 
 impl Read for Slow<'_> {
@@ -58,6 +63,11 @@ impl Kept {
             failing,
             most,
         }
+    }
+
+    /// No call fails.
+    pub(crate) fn whole(alloc: Global) -> Kept {
+        Kept::new(alloc, usize::MAX, 8192)
     }
 
     /// Asserts that a prefix of the text was written, all of it unless a call failed, and that no call followed a failed one.

@@ -1,7 +1,7 @@
 //! Words that spell no command, and the texts that are printed of them.
 use crate::spelled_words::{assert_spelled, spelled};
 
-static WRONG: [&str; 59] = [
+static WRONG: [&str; 61] = [
     "bogus",
     "",
     "Plan",
@@ -29,7 +29,9 @@ static WRONG: [&str; 59] = [
     "report|--register|r",
     "report|--db|x|--register|r|--by|week",
     "report|--db|x|--register|r|--unit|wh",
+    "report|--db|x|--register|r|--unit|kWh",
     "report|--db|x|--register|r|--format|xml",
+    "report|--db|x|--register|r|--format|",
     "report|--db|x|--register|r|--statement|--by|day",
     "scan|--host|h",
     "scan|--port|1|--unit|256",
