@@ -1,15 +1,9 @@
-//! Tests of the office: its events, its books in memory, runs from nothing, requests that are sent again, commands by chance
-//! after each of which all rows are computed anew, books and links that fail at each of their calls, and polling on a schedule.
+//! Tests of the office that no script shows: runs from nothing, requests that no client can send, books and links that fail at
+//! each of their calls, books that keep answers, and polling on a schedule.
 #![tactic(auto)]
 
 #[cfg(test)]
-mod accounts;
-#[cfg(test)]
-mod acts;
-#[cfg(test)]
 mod benches;
-#[cfg(test)]
-mod chances;
 #[cfg(test)]
 mod facts;
 #[cfg(test)]
@@ -51,8 +45,6 @@ mod planned_lists;
 #[cfg(test)]
 mod questions;
 #[cfg(test)]
-mod random_acts;
-#[cfg(test)]
 mod read_registers;
 #[cfg(test)]
 mod refusals;
@@ -78,8 +70,6 @@ mod sayings;
 mod schedule;
 #[cfg(test)]
 mod scripts;
-#[cfg(test)]
-mod seen;
 #[cfg(test)]
 mod site;
 #[cfg(test)]

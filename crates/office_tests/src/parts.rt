@@ -2,39 +2,15 @@
 use crate::kept_rows::KeptRows;
 use crate::offices::{Tried, event_of, new_office};
 use crate::scripts::READ;
-use crate::site::{Told, built, is_meter};
+use crate::site::built;
 use energy_core::{Entry, Last};
 use interval_core::Share;
 use meter_journal::{EntryKind, EntryRow};
 use office_books::{Books, MeterEntry, Span};
 use office_core::Office;
-use office_events::{Installation, Name, Refusal};
+use office_events::{Name, Refusal};
 use std::alloc::Global;
 use std::process::Abort;
-
-// The register main had m1, which was exchanged, and has m2; export never had one.
-static METERS: [Told<'static>; 2] = [
-    (b"m1", 1900, 5200, 0, 200_000, true),
-    (b"m2", 1900, 10, -1, 0, false),
-];
-
-fn are_meters(rows: &[Installation]) -> bool {
-    for (row, told) in rows.iter().zip(&METERS) {
-        if !is_meter(row, *told) {
-            return false;
-        }
-    }
-    rows.len() == METERS.len()
-}
-
-#[test]
-fn a_register_has_its_meters_in_order(rt: HostRuntime) {
-    let mut office = built(&rt, rt.alloc(), 0);
-    let rows = office.meters(&Name::new(b"main")).ok();
-    assert!(rt; are_meters(&rows.expect(&rt, "rows")));
-    let rows = office.meters(&Name::new(b"export")).ok();
-    assert!(rt; rows.expect(&rt, "no row").is_empty());
-}
 
 const BEGUN: MeterEntry = MeterEntry::Opening(Last {
     at: 1000,

@@ -1,5 +1,5 @@
-//! The registers of a device of which a read gives readings: told by books in memory, by books that keep answers, and by books
-//! one of whose calls is refused.
+//! The registers of a device of which a read gives readings: told by books that keep answers, and by books one of whose calls is
+//! refused. The golden test `polls/registers_of_a_read` of `script_cases` has the same reads.
 use crate::offices::{empty_books, inv};
 use failing_books::FailingBooks;
 use kept_books::KeptBooks;
@@ -194,21 +194,8 @@ fn refusing(alloc: Global, call: u64) -> Option<FailingBooks> {
     Some(FailingBooks::new(books_of_registers(alloc)?, call))
 }
 
-/// A read gives readings of the registers whose function it has, and whose counter and scale lie in it.
-#[test]
-fn a_read_tells_its_registers(rt: HostRuntime) {
-    let mut books = books_of_registers(rt.alloc()).expect(&rt, "books");
-    for case in &CASES {
-        assert!(rt;
-            is_told(&mut books, case) == Ok(true),
-            "{} {}",
-            case.address,
-            case.count
-        );
-    }
-}
-
-/// So it is where they were not kept yet, and where they are.
+/// A read gives readings of the registers whose function it has, and whose counter and scale lie in it: where they were not kept
+/// yet, and where they are.
 #[test]
 fn kept_registers_are_told_by_their_read(rt: HostRuntime) {
     for case in &CASES {

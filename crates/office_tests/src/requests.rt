@@ -1,6 +1,6 @@
-//! Requests that are sent again.
+//! Requests that no client can send by HTTP, and what a request is to the one under its caller and number.
 use crate::offices::{Tried, command_of, new_office};
-use crate::scripts::{READ, print, prints};
+use crate::scripts::{READ, print};
 use office_books::Repeat;
 use office_events::{Answer, Asked, CommandKind, Event, Name, Piece, Refusal};
 use std::alloc::Global;
@@ -15,79 +15,7 @@ struct Request {
     answer: Result<Answer, Refusal>,
 }
 
-static REQUESTS: [Request; 16] = [
-    Request {
-        caller: "desk",
-        number: 7,
-        bytes: "exchange",
-        line: "2800 exchange main 5300 0 m2 0 0 100000",
-        answer: Ok(Answer::Done(CommandKind::Exchange)),
-    },
-    Request {
-        caller: "desk",
-        number: 7,
-        bytes: "exchange",
-        line: "2800 exchange main 5300 0 m2 0 0 100000",
-        answer: Ok(Answer::Again(CommandKind::Exchange)),
-    },
-    // A repeat is answered at any moment.
-    Request {
-        caller: "desk",
-        number: 7,
-        bytes: "exchange",
-        line: "1 exchange main 5300 0 m2 0 0 100000",
-        answer: Ok(Answer::Again(CommandKind::Exchange)),
-    },
-    Request {
-        caller: "desk",
-        number: 7,
-        bytes: "exchange, once more",
-        line: "2800 exchange main 5301 0 m2 0 0 100000",
-        answer: Err(Refusal::Reused),
-    },
-    Request {
-        caller: "desk",
-        number: 8,
-        bytes: "exchange",
-        line: "2800 exchange main 5300 0 m2 0 0 100000",
-        answer: Err(Refusal::Exists),
-    },
-    Request {
-        caller: "agent",
-        number: 7,
-        bytes: "exchange",
-        line: "2800 exchange main 0 0 m2 0 0 100000",
-        answer: Err(Refusal::Exists),
-    },
-    // What was refused is not kept: it is judged anew.
-    Request {
-        caller: "desk",
-        number: 8,
-        bytes: "manual",
-        line: "2800 manual main 45 0",
-        answer: Err(Refusal::NotLater),
-    },
-    Request {
-        caller: "desk",
-        number: 8,
-        bytes: "manual",
-        line: "3700 manual main 45 0",
-        answer: Ok(Answer::Done(CommandKind::Manual)),
-    },
-    Request {
-        caller: "desk",
-        number: 8,
-        bytes: "exchange",
-        line: "3700 exchange main 45 0 m3 0 0 100000",
-        answer: Err(Refusal::Reused),
-    },
-    Request {
-        caller: "desk",
-        number: 8,
-        bytes: "manual",
-        line: "3800 manual main 50 0",
-        answer: Ok(Answer::Again(CommandKind::Manual)),
-    },
+static REQUESTS: [Request; 4] = [
     // A start is kept as one; its repeat sends nothing.
     Request {
         caller: "desk",
@@ -112,43 +40,17 @@ static REQUESTS: [Request; 16] = [
         caller: "1",
         number: 1,
         bytes: "void",
-        line: "3700 void m2 2",
+        line: "3700 void m1 2",
         answer: Err(Refusal::Limit),
     },
     Request {
         caller: "desk",
         number: 9_223_372_036_854_775_808,
         bytes: "close",
-        line: "3800 close main 50 0",
+        line: "3800 close main 5300 0",
         answer: Err(Refusal::Limit),
     },
-    Request {
-        caller: "desk",
-        number: 9_223_372_036_854_775_807,
-        bytes: "close",
-        line: "3800 close main 50 0",
-        answer: Ok(Answer::Done(CommandKind::Close)),
-    },
-    Request {
-        caller: "desk",
-        number: 9_223_372_036_854_775_807,
-        bytes: "close",
-        line: "3800 close main 50 0",
-        answer: Ok(Answer::Again(CommandKind::Close)),
-    },
 ];
-
-const ROWS: &str = "meter m1\nmeter m2\nmeter m3\nintervals m2\npoll 2\npoll 3";
-
-const PRINTED: &str = "meter m1 last 5300 sf 0 at 2800 total 300000 ended
-meter m2 last 50 sf 0 at 3800 total 50000 ended
-refused 1
-2700 40000
-3600 10000
-end 2
-poll 2 pending
-refused 1
-";
 
 fn asked(alloc: Global, request: &Request) -> Option<(u64, Event)> {
     let (at, command) = command_of(alloc, request.line)?;
@@ -166,16 +68,11 @@ fn asked(alloc: Global, request: &Request) -> Option<(u64, Event)> {
 type Repeated = (&'static [u8], u64, &'static str, Result<Repeat, Refusal>);
 
 static REPEATED: [Repeated; 5] = [
-    (
-        b"desk",
-        7,
-        "exchange",
-        Ok(Repeat::Same(CommandKind::Exchange)),
-    ),
-    (b"desk", 7, "exchange, once more", Ok(Repeat::Other)),
-    (b"desk", 99, "exchange", Err(Refusal::NotFound)),
-    (b"nobody", 7, "exchange", Err(Refusal::NotFound)),
-    (b"", 7, "exchange", Err(Refusal::NotFound)),
+    (b"desk", 0, "start", Ok(Repeat::Same(CommandKind::Start))),
+    (b"desk", 0, "start, once more", Ok(Repeat::Other)),
+    (b"desk", 99, "start", Err(Refusal::NotFound)),
+    (b"nobody", 0, "start", Err(Refusal::NotFound)),
+    (b"", 0, "start", Err(Refusal::NotFound)),
 ];
 
 // Whether a request is answered so, and a frame is sent where it starts a poll, and no other.
@@ -205,7 +102,6 @@ fn requested(rt: &impl Abort, alloc: Global) -> Tried {
 #[test]
 fn requests_act_once(rt: HostRuntime) {
     let mut office = requested(&rt, rt.alloc());
-    prints(&rt, rt.alloc(), &mut office, ROWS, PRINTED);
     for (place, repeated) in REPEATED.iter().enumerate() {
         assert!(rt; is_repeated(&mut office, repeated), "at {place}");
     }

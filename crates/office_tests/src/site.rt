@@ -1,5 +1,5 @@
 //! Which registers and meters there are.
-use crate::offices::{Tried, event_of, new_office, office_with};
+use crate::offices::{Tried, event_of, office_with};
 use energy_core::Last;
 use office_core::SiteRow;
 use office_events::{Installation, Name, Refusal, Register, ScaleSource, StoreCause};
@@ -38,9 +38,9 @@ pub(crate) fn built(rt: &impl Abort, alloc: Global, failing: u64) -> Tried {
 }
 
 // A meter as it is told: its name, the moment, counter and scale of its last entry, its energy in mWh, whether it was closed.
-pub(crate) type Told<'a> = (&'a [u8], u64, u32, i16, u64, bool);
+type Told<'a> = (&'a [u8], u64, u32, i16, u64, bool);
 
-pub(crate) fn is_meter(row: &Installation, told: Told<'_>) -> bool {
+fn is_meter(row: &Installation, told: Told<'_>) -> bool {
     let (meter, at, raw, sf, total, ended) = told;
     Some(row.opening.meter) == Name::new(meter)
         && row.last == Last { at, raw, sf }
@@ -168,19 +168,6 @@ fn a_register_is_told_by_its_name(rt: HostRuntime) {
         assert!(rt; has_place(&mut office, &Name::new(register), place));
     }
     assert!(rt; has_place(&mut office, &None, None));
-}
-
-fn has_no_row(office: &mut Tried) -> bool {
-    match office.site() {
-        Ok(rows) => rows.is_empty(),
-        Err(_) => false,
-    }
-}
-
-#[test]
-fn an_empty_office_has_no_registers(rt: HostRuntime) {
-    let mut office = new_office(&rt, rt.alloc());
-    assert!(rt; has_no_row(&mut office));
 }
 
 // What is answered, asked again where the books refuse; and whether they did.
