@@ -1,13 +1,14 @@
-//! Names, terms and pieces.
-use office_events::{Name, Piece, Timeout, Window};
+//! Names and copies.
+use crate::offices::{LIST, name_of, planned};
+use office_events::{Piece, Timeout, Window};
+use read_plan::lists_are_planned_once;
 
 #[test]
 fn a_name_is_its_text(rt: HostRuntime) {
-    let name = Name::new(b"m1").expect(&rt, "a name");
-    let other = Name::new(b"m2").expect(&rt, "another");
+    let name = name_of(&rt, b"m1");
     assert!(rt; name.as_bytes() == b"m1".as_slice());
     assert!(rt; name.is(&name));
-    assert!(rt; !name.is(&other));
+    assert!(rt; !name.is(&name_of(&rt, b"m2")));
 }
 
 #[test]
@@ -18,8 +19,13 @@ fn a_timeout_and_a_window_are_their_numbers(rt: HostRuntime) {
 }
 
 #[test]
-fn a_copied_piece(rt: HostRuntime) {
+fn copies_are_the_same(rt: HostRuntime) {
     let bytes = b"abc".to_vec(rt.alloc()).expect(&rt, "bytes");
     let copy = Piece::new(bytes).clone().expect(&rt, "a copy");
     assert!(rt; copy.as_slice() == b"abc".as_slice());
+    lists_are_planned_once();
+    let list = planned(&rt, rt.alloc(), LIST);
+    let copy = list.clone().expect(&rt, "a copy");
+    assert!(rt; copy.points().len() == 3);
+    assert!(rt; copy.reads() == list.reads());
 }
