@@ -99,6 +99,7 @@ fn refusals_have_numbers_and_sentences(rt: HostRuntime) {
     }
     for (cause, number, text) in &CAUSES {
         assert!(rt; cause.number() == *number);
+        assert!(rt; Refusal::Store(*cause).number() == 13);
         assert_text(&rt, rt.alloc(), cause, *text);
     }
 }
