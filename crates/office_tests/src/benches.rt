@@ -1,13 +1,14 @@
-//! Devices that are polled at once, and an observer that is shown what is fed.
+//! Two devices that are polled at once, and an observer that is shown every event.
 use crate::links::{SECOND_REPLY, first_reply};
-use crate::offices::{Tried, list, office_with};
+use crate::offices::{assert_list_accepted, inv, office_after};
+use office_books::Books;
 use office_events::{Name, Observer, Piece};
 use office_rounds::{DeviceEvent, Round, turn};
 use poll_core::Closing;
 use std::alloc::Global;
 use std::process::Abort;
 
-/// What happens to the device of a place.
+/// An event of the device of a slot.
 #[derive(Clone, Copy)]
 pub(crate) enum Step {
     Stands(usize),
@@ -22,76 +23,61 @@ pub(crate) enum Step {
     Tick,
 }
 
-/// What happens at a moment.
+/// An event and its time.
 pub(crate) type Moment = (u64, Step);
 
-/// The lines that add the devices, and their names.
-const DEVICES: [&str; 2] = ["1000 device inv 1 5 1", "1000 device two 1 5 1"];
+/// The lines that add the devices.
+static DEVICES: [&str; 2] = ["1000 device inv 1 5 1", "1000 device two 1 5 1"];
 
 const NAMES: [&[u8]; 2] = [b"inv", b"two"];
 
-/// What is polled, and who sees it.
+/// Returns the names of the devices.
+pub(crate) fn names() -> [Option<Name>; 2] {
+    [inv(), Name::new(b"two")]
+}
+
+/// The rounds of the devices, and the observer.
 #[derive(Drop)]
 pub(crate) struct Bench<W> {
-    pub(crate) office: Tried,
     pub(crate) rounds: Vec<Round>,
     pub(crate) observer: W,
 }
 
-fn rounds(alloc: Global) -> Option<Vec<Round>> {
-    let mut rounds = Vec::new(alloc);
-    for name in NAMES {
-        rounds.push(Round::new(Name::new(name))).ok()?;
-    }
-    Some(rounds)
+fn received(rt: &impl Abort, alloc: Global, place: usize, bytes: &[u8]) -> DeviceEvent {
+    let bytes = bytes.to_vec(alloc).expect(rt, "memory");
+    DeviceEvent::Received(place, Piece::new(bytes))
 }
 
-// An office with the devices `inv` and `two`, whose lists take two reads each.
-fn office(rt: &impl Abort, alloc: Global) -> Tried {
-    let mut office = office_with(rt, alloc, 0, &DEVICES);
-    for name in NAMES {
-        list(rt, alloc, &mut office, Name::new(name));
-    }
-    office
-}
-
-fn bytes(alloc: Global, step: Step) -> Option<Piece> {
-    let bytes = match step {
-        Step::First(_) => first_reply(alloc),
-        Step::Second(_) => SECOND_REPLY.to_vec(alloc),
-        Step::Came(_, bytes) => bytes.to_vec(alloc),
-        _ => return None,
-    };
-    Some(Piece::new(bytes.ok()?))
-}
-
-fn device_event(alloc: Global, step: Step) -> Option<DeviceEvent> {
+fn device_event(rt: &impl Abort, alloc: Global, step: Step) -> DeviceEvent {
     match step {
-        Step::Stands(place) => Some(DeviceEvent::Connected(place)),
-        Step::First(place) | Step::Second(place) | Step::Came(place, _) => {
-            Some(DeviceEvent::Received(place, bytes(alloc, step)?))
-        }
-        Step::Ended(place, closing) => Some(DeviceEvent::Closed(place, closing)),
-        Step::Tick => Some(DeviceEvent::Tick),
+        Step::Stands(place) => DeviceEvent::Connected(place),
+        Step::First(place) => { DeviceEvent::Received(place, Piece::new(first_reply(rt, alloc))) }
+        Step::Second(place) => received(rt, alloc, place, SECOND_REPLY),
+        Step::Came(place, bytes) => received(rt, alloc, place, bytes),
+        Step::Ended(place, closing) => DeviceEvent::Closed(place, closing),
+        Step::Tick => DeviceEvent::Tick,
     }
 }
 
-/// Both devices, after all this has happened, and who has seen it.
-pub(crate) fn play<W: Observer + Drop>(
+/// Feeds all this to an office with both devices, whose point lists take two reads each.
+pub(crate) fn play<B: Books, W: Observer + Drop>(
     rt: &impl Abort,
     alloc: Global,
+    books: B,
     moments: &[Moment],
     mut observer: W,
 ) -> Bench<W> {
-    let mut office = office(rt, alloc);
-    let mut rounds = rounds(alloc).expect(rt, "rounds");
+    let mut office = office_after(rt, alloc, books, &DEVICES);
+    let mut rounds = Vec::new(alloc);
+    for name in NAMES {
+        assert_list_accepted(rt, alloc, &mut office, Name::new(name));
+        rounds
+            .push(Round::new(Name::new(name)))
+            .expect(rt, "memory");
+    }
     for &(at, step) in moments {
-        let device_event = device_event(alloc, step).expect(rt, "a happening");
-        turn(&mut rounds, device_event, &mut office, at, &mut observer);
+        let event = device_event(rt, alloc, step);
+        turn(&mut rounds, event, &mut office, at, &mut observer);
     }
-    Bench {
-        office,
-        rounds,
-        observer,
-    }
+    Bench { rounds, observer }
 }

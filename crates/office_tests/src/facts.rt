@@ -1,123 +1,108 @@
-//! Facts of one device, `inv`, with one register, `main`, and books that hold them.
-use crate::offices::{empty_books, inv};
+//! Records of stores.
+use crate::offices::name_of;
 use energy_core::{Cause, Entry};
 use mb_wire::{ReadFunction, ReadSpan};
-use memory_books::ListBooks;
 use meter_journal::EntryKind;
-use office_books::Books;
 use office_events::{
-    BookedEntry, Device, EndedPoll, Fact, HeldReading, Name, Opening, Poll, Register, ScaleSource,
+    BookedEntry, Device, EndedPoll, Fact, HeldReading, Opening, Poll, Register, ScaleSource,
     Timeout, VoidedEntry, Window,
 };
+use poll_core::Outcome;
 use std::alloc::Global;
+use std::process::Abort;
 
-/// What is booked.
+/// A record.
 #[derive(Clone, Copy)]
 pub(crate) enum Booked {
-    Device,
-    Register,
-    /// The meter of a name showed nothing when it was installed, at this moment. A count is 1 Wh.
+    /// The device of a name.
+    Device(&'static [u8]),
+    /// The register of a name, its device, and where it is read.
+    Register(&'static [u8], &'static [u8], ReadFunction, u16, ScaleSource),
+    /// The meter of a name is installed at the register `main` at a time. It shows 0, and a count is 1 Wh.
     Opening(&'static [u8], u64),
-    /// It showed so much.
+    /// It shows a number at a time.
     Entry(&'static [u8], EntryKind, u64, u32),
-    /// The entry at this place is voided.
+    /// Its entry of a sequence number is voided at a time.
     Void(&'static [u8], u64, u64),
+    /// A poll of `inv`.
     Poll(u64),
-    Ended(EndedPoll),
-    /// A reading of m1 by a poll, at this moment, that showed so much and was held.
-    Hold(u64, u64, u32, Cause),
+    /// It timed out.
+    Ended(u64),
+    /// A reading of a meter by a poll, its time and number, and why it was rejected.
+    Hold(&'static [u8], u64, u64, u32, Cause),
 }
 
-fn device() -> Option<Fact> {
-    Some(Fact::Device(Device {
-        name: inv()?,
+fn device(rt: &impl Abort, name: &[u8]) -> Device {
+    Device {
+        name: name_of(rt, name),
         unit: 1,
-        timeout: Timeout::new(5)?,
-        window: Window::new(2)?,
-    }))
+        timeout: Timeout::new(5).expect(rt, "a timeout"),
+        window: Window::new(2).expect(rt, "a window"),
+    }
 }
 
-fn register() -> Option<Fact> {
-    Some(Fact::Register(Register {
-        name: Name::new(b"main")?,
-        device: inv()?,
-        function: ReadFunction::HoldingRegisters,
-        address: 40094,
-        scale: ScaleSource::Fixed(0),
-    }))
-}
-
-fn opening(meter: &[u8], at: u64) -> Option<Fact> {
-    Some(Fact::Opening(Opening {
-        meter: Name::new(meter)?,
-        register: Name::new(b"main")?,
-        ceiling: 100_000,
-        range: 65_536,
-        at,
-        raw: 0,
-        sf: 0,
-    }))
-}
-
-fn entry(meter: &[u8], kind: EntryKind, at: u64, raw: u32) -> Option<Fact> {
-    let entry = Entry::Step { at, raw, rolls: 0 };
-    let meter = Name::new(meter)?;
-    Some(Fact::Entry(BookedEntry { meter, kind, entry }))
-}
-
-fn void(meter: &[u8], place: u64, at: u64) -> Option<Fact> {
-    let meter = Name::new(meter)?;
-    Some(Fact::Void(VoidedEntry { meter, place, at }))
-}
-
-fn hold(poll: u64, at: u64, raw: u32, cause: Cause) -> Option<Fact> {
-    Some(Fact::Hold(HeldReading {
-        meter: Name::new(b"m1")?,
-        poll,
-        at,
-        raw,
-        sf: 0,
-        cause,
-    }))
-}
-
-/// The poll of a number.
-pub(crate) fn poll(number: u64) -> Option<Poll> {
-    Some(Poll {
+fn poll(rt: &impl Abort, number: u64) -> Poll {
+    Poll {
         number,
-        device: inv()?,
+        device: name_of(rt, b"inv"),
         unit: 1,
         at: 1000,
         id: 7,
-        span: ReadSpan::new(3, 40094, 2)?,
-    })
-}
-
-fn fact(booked: &Booked) -> Option<Fact> {
-    match *booked {
-        Booked::Device => device(),
-        Booked::Register => register(),
-        Booked::Opening(meter, at) => opening(meter, at),
-        Booked::Entry(meter, kind, at, raw) => entry(meter, kind, at, raw),
-        Booked::Void(meter, place, at) => void(meter, place, at),
-        Booked::Poll(number) => Some(Fact::Poll(poll(number)?)),
-        Booked::Ended(ended) => Some(Fact::Outcome(ended)),
-        Booked::Hold(poll, at, raw, cause) => hold(poll, at, raw, cause),
+        span: ReadSpan::new(3, 40094, 2).expect(rt, "a span"),
     }
 }
 
-/// What is booked, as facts.
-pub(crate) fn facts(alloc: Global, history: &[Booked]) -> Option<Vec<Fact>> {
+fn fact(rt: &impl Abort, booked: &Booked) -> Fact {
+    match *booked {
+        Booked::Device(name) => Fact::Device(device(rt, name)),
+        Booked::Register(name, device, function, address, scale) => Fact::Register(Register {
+            name: name_of(rt, name),
+            device: name_of(rt, device),
+            function,
+            address,
+            scale,
+        }),
+        Booked::Opening(meter, at) => Fact::Opening(Opening {
+            meter: name_of(rt, meter),
+            register: name_of(rt, b"main"),
+            ceiling: 100_000,
+            range: 65_536,
+            at,
+            raw: 0,
+            sf: 0,
+        }),
+        Booked::Entry(meter, kind, at, raw) => Fact::Entry(BookedEntry {
+            meter: name_of(rt, meter),
+            kind,
+            entry: Entry::Step { at, raw, rolls: 0 },
+        }),
+        Booked::Void(meter, place, at) => Fact::Void(VoidedEntry {
+            meter: name_of(rt, meter),
+            place,
+            at,
+        }),
+        Booked::Poll(number) => Fact::Poll(poll(rt, number)),
+        Booked::Ended(poll) => Fact::Outcome(EndedPoll {
+            poll,
+            at: 1010,
+            outcome: Outcome::Silent,
+        }),
+        Booked::Hold(meter, poll, at, raw, cause) => Fact::Hold(HeldReading {
+            meter: name_of(rt, meter),
+            poll,
+            at,
+            raw,
+            sf: 0,
+            cause,
+        }),
+    }
+}
+
+/// Returns records in their order.
+pub(crate) fn facts(rt: &impl Abort, alloc: Global, history: &[Booked]) -> Vec<Fact> {
     let mut facts = Vec::new(alloc);
     for booked in history {
-        facts.push(fact(booked)?).ok()?;
+        facts.push(fact(rt, booked)).expect(rt, "memory");
     }
-    Some(facts)
-}
-
-/// Books in memory that hold this, in its order.
-pub(crate) fn books_of(alloc: Global, history: &[Booked]) -> Option<ListBooks> {
-    let mut books = empty_books(alloc)?;
-    books.book(facts(alloc, history)?).ok()?;
-    Some(books)
+    facts
 }

@@ -1,9 +1,9 @@
 //! A device is polled in a run, and its meter's reading is booked.
-use crate::offices::{empty_books, event_of};
+use crate::offices::event_of;
 use crate::runs::run_anew;
 use interval_core::Zone;
-use memory_books::ListBooks;
-use office_core::{Office, Run, run};
+use office_books::Books;
+use office_core::{Run, run};
 use office_events::{Answer, CommandKind, EndedPoll, Event, Name, Refusal};
 use poll_core::{LostCause, Outcome};
 use std::alloc::Global;
@@ -48,41 +48,20 @@ static EVENTS: [(&str, Result<Answer, Refusal>); 8] = [
     ),
 ];
 
-fn events(alloc: Global) -> Option<Vec<(u64, Event)>> {
+fn events(rt: &impl Abort, alloc: Global) -> Vec<(u64, Event)> {
     let mut events = Vec::new(alloc);
     for (line, _) in &EVENTS {
-        events.push(event_of(alloc, line)?).ok()?;
+        events.push(event_of(rt, alloc, *line)).expect(rt, "memory");
     }
-    Some(events)
-}
-
-fn ran(alloc: Global) -> Option<Run<ListBooks>> {
-    let zone = Zone::read("UTC0").ok()?;
-    run_anew(alloc, zone, 0, &events(alloc)?).ok()
+    events
 }
 
 // The events have these answers, in their order.
-fn answer(rt: &impl Abort, answers: &[Result<Answer, Refusal>]) {
+fn assert_answers(rt: &impl Abort, answers: &[Result<Answer, Refusal>]) {
     assert!(rt; answers.len() == EVENTS.len());
     for (answer, (line, expected)) in answers.iter().zip(&EVENTS) {
         assert!(rt; answer == expected, "{line}");
     }
-}
-
-// Whether the meter was read.
-fn is_read(office: &mut Office<ListBooks>) -> bool {
-    match office.meter(&Name::new(b"m1")) {
-        Ok(meter) => meter.last.raw == 5200 && meter.total == 200_000,
-        Err(_) => false,
-    }
-}
-
-#[test]
-fn a_run_keeps_each_answer(rt: HostRuntime) {
-    let mut done = ran(rt.alloc()).expect(&rt, "a run");
-    answer(&rt, &done.results);
-    assert!(rt; done.office.outgoing().len() == 12);
-    assert!(rt; is_read(&mut done.office));
 }
 
 // The poll that waited is lost when the books are opened again.
@@ -92,21 +71,33 @@ const LOST: EndedPoll = EndedPoll {
     outcome: Outcome::Lost(LostCause::Restart),
 };
 
-// The books of the run, opened again and refused at the moment before its latest event's.
-fn refused(alloc: Global) -> Option<(ListBooks, Refusal)> {
-    let books = ran(alloc)?.office.into_books();
-    run(alloc, books, 1900, &[]).err()
+// The books of a run are refused before its latest event, and then opened again.
+fn assert_opened_again<B: Books>(rt: &impl Abort, alloc: Global, books: B) {
+    let (books, why) = run(alloc, books, 1900, &[]).err().expect(rt, "a refusal");
+    assert!(rt; why == Refusal::ClockBack);
+    let mut again = run(alloc, books, 1902, &[]).ok().expect(rt, "a run");
+    let row = again.office.poll(2).ok().expect(rt, "a poll");
+    assert!(rt; row.ended == Some(LOST));
 }
 
-// How the poll that waited ended, once the books are opened again.
-fn ended(alloc: Global, books: ListBooks) -> Option<EndedPoll> {
-    let mut again = run(alloc, books, 1902, &[]).ok()?;
-    again.office.poll(2).ok()?.ended
+fn assert_run<B: Books>(rt: &impl Abort, alloc: Global, mut done: Run<B>) {
+    assert_answers(rt, &done.results);
+    assert!(rt; done.office.outgoing().len() == 12);
+    let meter = done
+        .office
+        .meter(&Name::new(b"m1"))
+        .ok()
+        .expect(rt, "a meter");
+    assert!(rt; meter.last.raw == 5200 && meter.total == 200_000);
+    assert_opened_again(rt, alloc, done.office.into_books());
 }
 
 #[test]
-fn books_of_a_run_are_opened_again(rt: HostRuntime) {
-    let (books, why) = refused(rt.alloc()).expect(&rt, "a refusal");
-    assert!(rt; why == Refusal::ClockBack);
-    assert!(rt; ended(rt.alloc(), books) == Some(LOST));
+fn a_run_keeps_each_answer(rt: HostRuntime) {
+    let zone = Zone::read("UTC0").expect(&rt, "a zone");
+    let events = events(&rt, rt.alloc());
+    let done = run_anew(rt.alloc(), zone, 0, &events)
+        .ok()
+        .expect(&rt, "a run");
+    assert_run(&rt, rt.alloc(), done);
 }

@@ -1,15 +1,9 @@
-//! Tests of the office: its events, its books in memory, runs from nothing, requests that are sent again, commands by chance
-//! after each of which all rows are computed anew, books and links that fail at each of their calls, and polling on a schedule.
+//! Tests of the office that no script shows: stores and links that fail at each of their calls, stores that keep what look-ups
+//! answered, rounds, schedules, and what a run reports. What a script shows is a golden test of `script_cases` or `http_cases`.
 #![tactic(auto)]
 
 #[cfg(test)]
-mod accounts;
-#[cfg(test)]
-mod acts;
-#[cfg(test)]
 mod benches;
-#[cfg(test)]
-mod chances;
 #[cfg(test)]
 mod facts;
 #[cfg(test)]
@@ -17,25 +11,19 @@ mod failing_links;
 #[cfg(test)]
 mod failures;
 #[cfg(test)]
-mod fault_texts;
+mod faults;
 #[cfg(test)]
 mod headline;
 #[cfg(test)]
 mod kept_answers;
 #[cfg(test)]
-mod kept_rows;
-#[cfg(test)]
 mod led_files;
 #[cfg(test)]
 mod links;
 #[cfg(test)]
-mod list_books;
-#[cfg(test)]
 mod look_ups;
 #[cfg(test)]
 mod names;
-#[cfg(test)]
-mod noted_failures;
 #[cfg(test)]
 mod observer;
 #[cfg(test)]
@@ -47,25 +35,11 @@ mod peers;
 #[cfg(test)]
 mod periods;
 #[cfg(test)]
-mod planned_lists;
-#[cfg(test)]
-mod questions;
-#[cfg(test)]
-mod random_acts;
-#[cfg(test)]
-mod read_registers;
-#[cfg(test)]
-mod refusals;
-#[cfg(test)]
 mod refusing_books;
 #[cfg(test)]
 mod requests;
 #[cfg(test)]
-mod round_breaks;
-#[cfg(test)]
 mod round_cases;
-#[cfg(test)]
-mod round_faults;
 #[cfg(test)]
 mod rounds;
 #[cfg(test)]
@@ -79,13 +53,13 @@ mod schedule;
 #[cfg(test)]
 mod scripts;
 #[cfg(test)]
-mod seen;
-#[cfg(test)]
 mod site;
 #[cfg(test)]
 mod status;
 #[cfg(test)]
-mod stopped_office;
+mod steps;
+#[cfg(test)]
+mod tried;
 #[cfg(test)]
 mod turns;
 #[cfg(test)]

@@ -1,22 +1,25 @@
 //! Links to devices that answer nothing, and what a device sends that does.
 use mb_wire::{LastTake, Link, LinkFailed, Took};
-use std::alloc::{AllocError, Global};
+use std::alloc::Global;
+use std::process::Abort;
 
 /// The reply to the second read of the list: a register of 7.
 pub(crate) const SECOND_REPLY: &[u8] = b"\x00\x01\x00\x00\x00\x05\x01\x03\x02\x00\x07";
 
 /// The reply to the first read of the list: 125 registers of 0.
-pub(crate) fn first_reply(alloc: Global) -> Result<Vec<u8>, AllocError> {
-    let mut bytes = b"\x00\x00\x00\x00\x00\xfd\x01\x03\xfa".to_vec(alloc)?;
-    bytes.extend_from_slice(&[0; 250])?;
-    Ok(bytes)
+pub(crate) fn first_reply(rt: &impl Abort, alloc: Global) -> Vec<u8> {
+    let mut bytes = b"\x00\x00\x00\x00\x00\xfd\x01\x03\xfa"
+        .to_vec(alloc)
+        .expect(rt, "memory");
+    bytes.extend_from_slice(&[0; 250]).expect(rt, "memory");
+    bytes
 }
 
 /// The replies to both.
-pub(crate) fn replies(alloc: Global) -> Result<Vec<u8>, AllocError> {
-    let mut bytes = first_reply(alloc)?;
-    bytes.extend_from_slice(SECOND_REPLY)?;
-    Ok(bytes)
+pub(crate) fn replies(rt: &impl Abort, alloc: Global) -> Vec<u8> {
+    let mut bytes = first_reply(rt, alloc);
+    bytes.extend_from_slice(SECOND_REPLY).expect(rt, "memory");
+    bytes
 }
 
 /// A link that takes whatever it is given, and brings nothing.

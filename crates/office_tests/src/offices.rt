@@ -1,42 +1,55 @@
-//! Offices over books in memory, and what is fed to them.
+//! Offices over stores in memory, and the events that are fed to them.
 use failing_books::FailingBooks;
 use interval_core::Zone;
 use memory_books::ListBooks;
+use office_books::Books;
 use office_core::Office;
-use office_events::{Command, Event, Name, PlannedList, PutList, Refusal, StartPoll, StoreCause};
+use office_events::{
+    Asked, Command, Event, Name, Piece, PlannedList, PutList, Refusal, StartPoll, StoreCause,
+};
 use point_list::read_list;
 use script_lines::{GivenStart, ScriptLine};
 use std::alloc::Global;
 use std::process::Abort;
 
-/// An office over books in memory, one call of which may be refused.
-pub(crate) type Tried = Office<FailingBooks>;
-
-/// A list whose plan has two reads: of the registers 0 to 124, and of 125.
+/// A point list whose plan has two reads: the registers 0 to 124, and 125.
 pub(crate) const LIST: &[u8] = b"name,function,area,address,type,scale
 a,3,0,0,acc32,
 b,3,0,124,uint16,
 c,3,0,125,uint16,
 ";
 
-/// The device of most tests.
+/// A device, its register and its meter; a poll is sent, and its response shows 5200 at the scale 0.
+pub(crate) static READ: [&str; 6] = [
+    "1000 device inv 1 5 1",
+    "1000 register main inv 3 40094 @40096",
+    "1000 install main m1 5000 0 100000",
+    "1898 connect inv",
+    "1898 start inv 3 40094 3",
+    "1900 bytes inv 000000000009010306000014500000",
+];
+
+/// Returns the name of the device of most tests.
 pub(crate) fn inv() -> Option<Name> {
     Name::new(b"inv")
 }
 
-/// Books in memory that hold nothing.
-pub(crate) fn empty_books(alloc: Global) -> Option<ListBooks> {
-    let zone = Zone::read("UTC0").ok()?;
-    Some(ListBooks::new(alloc, zone))
+pub(crate) fn name_of(rt: &impl Abort, name: &[u8]) -> Name {
+    Name::new(name).expect(rt, "a name")
 }
 
-/// Books in memory that hold nothing, and refuse the call of this number; 0: none.
-pub(crate) fn books_failing_at(alloc: Global, call: u64) -> Option<FailingBooks> {
-    Some(FailingBooks::new(empty_books(alloc)?, call))
+/// Returns a store in memory that has no record.
+pub(crate) fn new_books(rt: &impl Abort, alloc: Global) -> ListBooks {
+    ListBooks::new(alloc, Zone::read("UTC0").expect(rt, "a zone"))
 }
 
-/// Opens an office. Where the books refuse, they are handed back, and it is opened again.
-pub(crate) fn opened(rt: &impl Abort, alloc: Global, books: FailingBooks, moment: u64) -> Tried {
+/// Returns a store in memory that refuses the call of this number; 0: none.
+pub(crate) fn books_failing_at(rt: &impl Abort, alloc: Global, call: u64) -> FailingBooks {
+    FailingBooks::new(new_books(rt, alloc), call)
+}
+
+/// Opens an office. Where the store refuses a call, it returns the store, and the office is opened again.
+pub(crate) fn opened<B: Books>(rt: &impl Abort, alloc: Global, books: B, moment: u64) -> Office<B> {
     let (books, why) = match Office::open(alloc, books, moment) {
         Ok(office) => return office,
         Err(refused) => refused,
@@ -47,69 +60,87 @@ pub(crate) fn opened(rt: &impl Abort, alloc: Global, books: FailingBooks, moment
         .expect(rt, "an office that is opened again")
 }
 
-/// An office over books that hold nothing and refuse nothing, opened at moment 0.
-pub(crate) fn new_office(rt: &impl Abort, alloc: Global) -> Tried {
-    let books = books_failing_at(alloc, 0).expect(rt, "books");
-    opened(rt, alloc, books, 0)
-}
-
-fn start_of(given: &GivenStart) -> Option<Event> {
-    Some(Event::Command(Command::StartPoll(StartPoll {
+/// Returns the event of a start.
+pub(crate) fn start_of(rt: &impl Abort, given: &GivenStart) -> Event {
+    Event::Command(Command::StartPoll(StartPoll {
         device: given.device,
-        span: given.span()?,
-    })))
+        span: given.span().expect(rt, "a span"),
+    }))
 }
 
-/// The event of a script's line, and its moment.
-pub(crate) fn event_of(alloc: Global, line: &str) -> Option<(u64, Event)> {
-    let said = ScriptLine::read(alloc, line.as_bytes()).ok()?;
-    match said {
-        ScriptLine::Event { at, event } => Some((at, event)),
-        ScriptLine::Start { at, start } => Some((at, start_of(&start)?)),
-        _ => None,
+/// Returns the time and the event of a script's line.
+pub(crate) fn event_of(rt: &impl Abort, alloc: Global, line: &str) -> (u64, Event) {
+    match ScriptLine::read(alloc, line.as_bytes()) {
+        Ok(ScriptLine::Event { at, event }) => (at, event),
+        Ok(ScriptLine::Start { at, start }) => (at, start_of(rt, &start)),
+        _ => panic!(rt; "{line}"),
     }
 }
 
-/// The command of a script's line, and its moment.
-pub(crate) fn command_of(alloc: Global, line: &str) -> Option<(u64, Command)> {
-    let (at, event) = event_of(alloc, line)?;
+/// Returns the time and the command of a line, asked under a caller and a number. The line's bytes are those of the request.
+pub(crate) fn request_of(
+    rt: &impl Abort,
+    alloc: Global,
+    caller: &[u8],
+    number: u64,
+    line: &str,
+) -> (u64, Event) {
+    let (at, event) = event_of(rt, alloc, line);
     match event {
-        Event::Command(command) => Some((at, command)),
-        _ => None,
+        Event::Command(command) => {
+            let asked = Asked {
+                caller: Name::new(caller),
+                number,
+                request: Piece::new(line.as_bytes().to_vec(alloc).expect(rt, "memory")),
+                command,
+            };
+            (at, Event::Asked(asked))
+        }
+        _ => panic!(rt; "{line}"),
     }
 }
 
-/// The point list that a text spells, with its plan.
-pub(crate) fn planned(alloc: Global, text: &[u8]) -> Option<PlannedList> {
-    let list = read_list(alloc, text).ok()?;
-    PlannedList::new(alloc, list).ok()
+/// Returns the point list of a text, with its plan.
+pub(crate) fn planned(rt: &impl Abort, alloc: Global, text: &[u8]) -> PlannedList {
+    let list = read_list(alloc, text).ok().expect(rt, "a list");
+    PlannedList::new(alloc, list).ok().expect(rt, "a plan")
 }
 
-fn put_list(alloc: Global, device: Option<Name>) -> Option<Event> {
-    let list = planned(alloc, LIST)?;
-    Some(Event::Command(Command::PutList(PutList { device, list })))
-}
-
-/// The office takes an event; again, where the books refused.
-fn take(rt: &impl Abort, office: &mut Tried, event: &Event) {
-    if office.feed(1000, event).is_err() {
-        assert!(rt; office.feed(1000, event).is_ok());
+/// Feeds an event; again, where the store refuses a call.
+pub(crate) fn assert_accepted<B: Books>(
+    rt: &impl Abort,
+    office: &mut Office<B>,
+    at: u64,
+    event: &Event,
+) {
+    if office.feed(at, event).is_err() {
+        assert!(rt; office.feed(at, event).is_ok());
     }
 }
 
-/// An office whose devices these lines add. Its books refuse the call of this number; 0: none.
-pub(crate) fn office_with(rt: &impl Abort, alloc: Global, failing: u64, devices: &[&str]) -> Tried {
-    let books = books_failing_at(alloc, failing).expect(rt, "books");
+/// Opens an office, and feeds it the events of these lines.
+pub(crate) fn office_after<B: Books>(
+    rt: &impl Abort,
+    alloc: Global,
+    books: B,
+    lines: &[&str],
+) -> Office<B> {
     let mut office = opened(rt, alloc, books, 0);
-    for line in devices {
-        let (_, event) = event_of(alloc, line).expect(rt, "a device");
-        take(rt, &mut office, &event);
+    for line in lines {
+        let (at, event) = event_of(rt, alloc, line);
+        assert_accepted(rt, &mut office, at, &event);
     }
     office
 }
 
-/// The device gets its list.
-pub(crate) fn list(rt: &impl Abort, alloc: Global, office: &mut Tried, device: Option<Name>) {
-    let event = put_list(alloc, device).expect(rt, "a list");
-    take(rt, office, &event);
+/// Puts the point list of a device.
+pub(crate) fn assert_list_accepted<B: Books>(
+    rt: &impl Abort,
+    alloc: Global,
+    office: &mut Office<B>,
+    device: Option<Name>,
+) {
+    let list = planned(rt, alloc, LIST);
+    let event = Event::Command(Command::PutList(PutList { device, list }));
+    assert_accepted(rt, office, 1000, &event);
 }

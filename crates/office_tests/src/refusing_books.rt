@@ -1,8 +1,9 @@
 //! Rounds whose books refuse each of their calls in turn.
+use crate::failures::assert_stopped;
 use crate::links::replies;
 use crate::offices::opened;
-use crate::rounds::{ANSWERED, Ends, ONE_BY_ONE, RESTARTED, ends, listed_over, round};
-use crate::stopped_office::refuse_all;
+use crate::rounds::{ANSWERED, Ends, ONE_BY_ONE, RESTARTED, ends, listed, round};
+use crate::tried::{Trial, try_failing};
 use mb_wire::MemoryLink;
 use office_books::Books;
 use office_events::{Refusal, StoreCause};
@@ -15,57 +16,9 @@ const REFUSED: Result<(), RoundFault> = Err(RoundFault::Refused(Refusal::Store(
     StoreCause::Refused,
 )));
 
+const STOPPED: Result<(), RoundFault> = Err(RoundFault::Refused(Refusal::Stopped));
+
 const NONE: Ends = [None, None, None];
-
-// How a round ended, whether a call was refused by its end, how its polls did, and what an office that is opened again finds of them.
-#[derive(Clone, Copy)]
-struct Ended {
-    done: Result<(), RoundFault>,
-    has_failed: bool,
-    polls: Ends,
-    again: Ends,
-}
-
-// The call of the books of a number is refused; before the round the event that was refused comes again.
-fn refuse_call(rt: &impl Abort, alloc: Global, input: &[u8], number: u64) -> Ended {
-    let mut office = listed_over(rt, alloc, number, ONE_BY_ONE);
-    let mut given = [0; 24];
-    let mut link = MemoryLink::new(input, &mut given, 259, None);
-    let done = round(alloc, &mut office, &mut link, &[1000]).done;
-    if matches!(office.poll(1), Err(Refusal::Stopped)) {
-        refuse_all(rt, alloc, &mut office);
-    }
-    let polls = ends(&mut office);
-    let books = office.into_books();
-    let has_failed = books.faults() == 1;
-    let again = ends(&mut opened(rt, alloc, books, 5000));
-    Ended {
-        done,
-        has_failed,
-        polls,
-        again,
-    }
-}
-
-// The polls that the broken rounds leave, each refused call in turn, without those that are like the ones before.
-fn left_after(rt: &impl Abort, alloc: Global) -> Vec<Ends> {
-    let input = replies(alloc).expect(rt, "replies");
-    let mut left = Vec::new(alloc);
-    for number in 1..1000 {
-        let ended = refuse_call(rt, alloc, &input, number);
-        if !ended.has_failed {
-            return left;
-        }
-        if ended.done.is_err() {
-            assert!(rt; ended.done == REFUSED);
-            assert!(rt; ended.polls == NONE || ended.polls == ended.again);
-            if left.last() != Some(&ended.again) {
-                assert!(rt; left.push(ended.again).is_ok());
-            }
-        }
-    }
-    panic!(rt; "a call fails each time");
-}
 
 // The polls that a round leaves whose books refuse a call: at the first start, at the first reply, at the second start, and
 // at the second reply.
@@ -76,10 +29,64 @@ static LEFT: [Ends; 4] = [
     [ANSWERED, RESTARTED, None],
 ];
 
-/// Whichever call of the books is refused, the round is broken off. Where a start was refused, nothing waits, and a restart
-/// adds nothing; where a reply was settled, the office stops, and the restart loses the poll.
+// No call was refused, or none of the round.
+const NOT_REFUSED: u64 = 10;
+
+const NOT_BROKEN: u64 = 11;
+
+fn place_of(left: Ends) -> u64 {
+    let mut place = 0u64;
+    for polls in LEFT {
+        if polls == left {
+            return place;
+        }
+        place = place.saturating_add(1);
+    }
+    place
+}
+
+/// Runs a round over a store that refuses a call; before the round the event that was refused comes again. Where a start is
+/// refused, nothing waits, and a restart adds nothing; where a reply is settled, the office stops, and the restart loses the poll.
+/// Returns the place in `LEFT` of the polls that the restart finds.
+pub(crate) fn refuse_call<B: Books>(rt: &impl Abort, alloc: Global, books: B) -> u64 {
+    let mut office = listed(rt, alloc, books, ONE_BY_ONE);
+    let mut given = [0; 24];
+    let input = replies(rt, alloc);
+    let mut link = MemoryLink::new(&input, &mut given, 259, None);
+    let done = round(alloc, &mut office, &mut link, &[1000]).done;
+    if matches!(office.poll(1), Err(Refusal::Stopped)) {
+        assert_stopped(rt, alloc, &mut office);
+        let again = round(alloc, &mut office, &mut link, &[1000]).done;
+        assert!(rt; again == STOPPED);
+    }
+    let polls = ends(&mut office);
+    let books = office.into_books();
+    if books.faults() == 0 {
+        return NOT_REFUSED;
+    }
+    if done == Ok(()) {
+        return NOT_BROKEN;
+    }
+    assert!(rt; done == REFUSED);
+    let left = ends(&mut opened(rt, alloc, books, 5000));
+    assert!(rt; polls == NONE || polls == left);
+    place_of(left)
+}
+
+/// Whichever call of the books is refused, the round is broken off, and leaves what it had got to.
 #[test]
 fn failing_books_break_the_round_off(rt: HostRuntime) {
-    let left = left_after(&rt, rt.alloc());
-    assert!(rt; left.as_slice() == LEFT.as_slice());
+    let mut last = 0;
+    for number in 1..1000 {
+        let left = try_failing(&rt, rt.alloc(), number, Trial::RefusedRound);
+        if left == NOT_REFUSED {
+            assert!(rt; last == 3);
+            return;
+        }
+        if left != NOT_BROKEN {
+            assert!(rt; left == last || left == last.saturating_add(1));
+            last = left;
+        }
+    }
+    panic!(rt; "a call fails each time");
 }

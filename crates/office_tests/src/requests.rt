@@ -1,212 +1,69 @@
-//! Requests that are sent again.
-use crate::offices::{Tried, command_of, new_office};
-use crate::scripts::{READ, print, prints};
-use office_books::Repeat;
-use office_events::{Answer, Asked, CommandKind, Event, Name, Piece, Refusal};
+//! Requests that no client can send by HTTP, and what a request is to the one under its caller and number.
+use crate::offices::{READ, office_after, request_of};
+use crate::tried::{Trial, try_in_memory};
+use office_books::{Books, Repeat};
+use office_core::Office;
+use office_events::{Answer, CommandKind, Name, Refusal};
 use std::alloc::Global;
 use std::process::Abort;
 
-/// A command that is asked under a caller and a number, with the bytes of its request.
-struct Request {
-    caller: &'static str,
-    number: u64,
-    bytes: &'static str,
-    line: &'static str,
-    answer: Result<Answer, Refusal>,
-}
+const START: &str = "3700 start inv 3 40094 3";
 
-static REQUESTS: [Request; 16] = [
-    Request {
-        caller: "desk",
-        number: 7,
-        bytes: "exchange",
-        line: "2800 exchange main 5300 0 m2 0 0 100000",
-        answer: Ok(Answer::Done(CommandKind::Exchange)),
-    },
-    Request {
-        caller: "desk",
-        number: 7,
-        bytes: "exchange",
-        line: "2800 exchange main 5300 0 m2 0 0 100000",
-        answer: Ok(Answer::Again(CommandKind::Exchange)),
-    },
-    // A repeat is answered at any moment.
-    Request {
-        caller: "desk",
-        number: 7,
-        bytes: "exchange",
-        line: "1 exchange main 5300 0 m2 0 0 100000",
-        answer: Ok(Answer::Again(CommandKind::Exchange)),
-    },
-    Request {
-        caller: "desk",
-        number: 7,
-        bytes: "exchange, once more",
-        line: "2800 exchange main 5301 0 m2 0 0 100000",
-        answer: Err(Refusal::Reused),
-    },
-    Request {
-        caller: "desk",
-        number: 8,
-        bytes: "exchange",
-        line: "2800 exchange main 5300 0 m2 0 0 100000",
-        answer: Err(Refusal::Exists),
-    },
-    Request {
-        caller: "agent",
-        number: 7,
-        bytes: "exchange",
-        line: "2800 exchange main 0 0 m2 0 0 100000",
-        answer: Err(Refusal::Exists),
-    },
-    // What was refused is not kept: it is judged anew.
-    Request {
-        caller: "desk",
-        number: 8,
-        bytes: "manual",
-        line: "2800 manual main 45 0",
-        answer: Err(Refusal::NotLater),
-    },
-    Request {
-        caller: "desk",
-        number: 8,
-        bytes: "manual",
-        line: "3700 manual main 45 0",
-        answer: Ok(Answer::Done(CommandKind::Manual)),
-    },
-    Request {
-        caller: "desk",
-        number: 8,
-        bytes: "exchange",
-        line: "3700 exchange main 45 0 m3 0 0 100000",
-        answer: Err(Refusal::Reused),
-    },
-    Request {
-        caller: "desk",
-        number: 8,
-        bytes: "manual",
-        line: "3800 manual main 50 0",
-        answer: Ok(Answer::Again(CommandKind::Manual)),
-    },
-    // A start is kept as one; its repeat sends nothing.
-    Request {
-        caller: "desk",
-        number: 0,
-        bytes: "start",
-        line: "3700 start inv 3 40094 3",
-        answer: Ok(Answer::Started {
+// A command under a caller and a number, its answer, and how many bytes are sent. The retry of a start sends nothing.
+static REQUESTS: [(&[u8], u64, &str, Result<Answer, Refusal>, usize); 4] = [
+    (
+        b"desk",
+        0,
+        START,
+        Ok(Answer::Started {
             first: 2,
             count: 1,
             of: 1,
         }),
-    },
-    Request {
-        caller: "desk",
-        number: 0,
-        bytes: "start",
-        line: "3700 start inv 3 40094 3",
-        answer: Ok(Answer::Again(CommandKind::Start)),
-    },
-    // Callers and numbers have limits.
-    Request {
-        caller: "1",
-        number: 1,
-        bytes: "void",
-        line: "3700 void m2 2",
-        answer: Err(Refusal::Limit),
-    },
-    Request {
-        caller: "desk",
-        number: 9_223_372_036_854_775_808,
-        bytes: "close",
-        line: "3800 close main 50 0",
-        answer: Err(Refusal::Limit),
-    },
-    Request {
-        caller: "desk",
-        number: 9_223_372_036_854_775_807,
-        bytes: "close",
-        line: "3800 close main 50 0",
-        answer: Ok(Answer::Done(CommandKind::Close)),
-    },
-    Request {
-        caller: "desk",
-        number: 9_223_372_036_854_775_807,
-        bytes: "close",
-        line: "3800 close main 50 0",
-        answer: Ok(Answer::Again(CommandKind::Close)),
-    },
-];
-
-const ROWS: &str = "meter m1\nmeter m2\nmeter m3\nintervals m2\npoll 2\npoll 3";
-
-const PRINTED: &str = "meter m1 last 5300 sf 0 at 2800 total 300000 ended
-meter m2 last 50 sf 0 at 3800 total 50000 ended
-refused 1
-2700 40000
-3600 10000
-end 2
-poll 2 pending
-refused 1
-";
-
-fn asked(alloc: Global, request: &Request) -> Option<(u64, Event)> {
-    let (at, command) = command_of(alloc, request.line)?;
-    let bytes = request.bytes.as_bytes().to_vec(alloc).ok()?;
-    let event = Event::Asked(Asked {
-        caller: Name::new(request.caller.as_bytes()),
-        number: request.number,
-        request: Piece::new(bytes),
-        command,
-    });
-    Some((at, event))
-}
-
-// What a request would be, asked anew: its caller, number and bytes.
-type Repeated = (&'static [u8], u64, &'static str, Result<Repeat, Refusal>);
-
-static REPEATED: [Repeated; 5] = [
+        12,
+    ),
+    (b"desk", 0, START, Ok(Answer::Again(CommandKind::Start)), 0),
+    (b"1", 1, "3700 void m1 2", Err(Refusal::Limit), 0),
     (
         b"desk",
-        7,
-        "exchange",
-        Ok(Repeat::Same(CommandKind::Exchange)),
+        9_223_372_036_854_775_808,
+        "3800 close main 5300 0",
+        Err(Refusal::Limit),
+        0,
     ),
-    (b"desk", 7, "exchange, once more", Ok(Repeat::Other)),
-    (b"desk", 99, "exchange", Err(Refusal::NotFound)),
-    (b"nobody", 7, "exchange", Err(Refusal::NotFound)),
-    (b"", 7, "exchange", Err(Refusal::NotFound)),
 ];
 
-// Whether a request is answered so, and a frame is sent where it starts a poll, and no other.
-fn acts(alloc: Global, office: &mut Tried, request: &Request) -> bool {
-    let Some((at, event)) = asked(alloc, request) else {
-        return false;
-    };
-    let is_start = matches!(&request.answer, Ok(Answer::Started { .. }));
-    office.feed(at, &event) == request.answer && office.outgoing().is_empty() != is_start
-}
+static REPEATED: [(&[u8], u64, &str, Result<Repeat, Refusal>); 5] = [
+    (b"desk", 0, START, Ok(Repeat::Same(CommandKind::Start))),
+    (b"desk", 0, "3700 start inv 3 40094 4", Ok(Repeat::Other)),
+    (b"desk", 99, START, Err(Refusal::NotFound)),
+    (b"nobody", 0, START, Err(Refusal::NotFound)),
+    (b"", 0, START, Err(Refusal::NotFound)),
+];
 
-fn is_repeated(office: &mut Tried, repeated: &Repeated) -> bool {
-    let (caller, number, bytes, expected) = *repeated;
-    office.repeat(&Name::new(caller), number, bytes.as_bytes()) == expected
-}
-
-// An office whose meter was read, after the requests.
-fn requested(rt: &impl Abort, alloc: Global) -> Tried {
-    let mut office = new_office(rt, alloc);
-    let _ = print(rt, alloc, &mut office, READ);
-    for (place, request) in REQUESTS.iter().enumerate() {
-        assert!(rt; acts(alloc, &mut office, request), "at {place}");
+fn assert_requests<B: Books>(rt: &impl Abort, alloc: Global, office: &mut Office<B>) {
+    for (caller, number, line, answer, sent) in &REQUESTS {
+        let (at, event) = request_of(rt, alloc, *caller, *number, *line);
+        assert!(rt; office.feed(at, &event) == *answer, "{line}");
+        assert!(rt; office.outgoing().len() == *sent, "{line}");
     }
-    office
+}
+
+fn assert_repeats<B: Books>(rt: &impl Abort, office: &mut Office<B>) {
+    for (caller, number, line, wanted) in &REPEATED {
+        let found = office.repeat(&Name::new(*caller), *number, line.as_bytes());
+        assert!(rt; found == *wanted, "{number} {line}");
+    }
+}
+
+/// Sends the requests to an office whose meter was read, and asks what each was.
+pub(crate) fn play<B: Books>(rt: &impl Abort, alloc: Global, books: B) {
+    let mut office = office_after(rt, alloc, books, &READ);
+    assert_requests(rt, alloc, &mut office);
+    assert_repeats(rt, &mut office);
 }
 
 #[test]
 fn requests_act_once(rt: HostRuntime) {
-    let mut office = requested(&rt, rt.alloc());
-    prints(&rt, rt.alloc(), &mut office, ROWS, PRINTED);
-    for (place, repeated) in REPEATED.iter().enumerate() {
-        assert!(rt; is_repeated(&mut office, repeated), "at {place}");
-    }
+    try_in_memory(&rt, rt.alloc(), Trial::Requests);
 }

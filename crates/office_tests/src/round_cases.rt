@@ -1,12 +1,18 @@
 //! Rounds that come to their end or are broken off: what they print, and how their polls end.
 use crate::links::{IdleLink, replies};
-use crate::offices::Tried;
-use crate::rounds::{ANSWERED, Done, Ends, LOST, ends, listed, round};
+use crate::offices::{inv, office_after};
+use crate::rounds::{ANSWERED, Done, Ends, LOST, ONE_BY_ONE, ends, listed, round};
+use crate::tried::{Trial, try_in_memory};
+use crate::writers::Narrow;
 use mb_wire::{Link, MemoryLink};
-use office_events::Refusal;
-use office_rounds::RoundFault;
+use office_books::Books;
+use office_core::Office;
+use office_events::{Name, Refusal};
+use office_rounds::{RoundFault, round_over};
 use poll_core::{LostCause, Outcome};
+use socket_link::FixedClock;
 use std::alloc::Global;
+use std::process::Abort;
 use std::str;
 
 const BOTH_ANSWERED: &str = "ok
@@ -55,7 +61,7 @@ ok
 
 /// What a device does in a round.
 #[derive(Clone, Copy)]
-enum Device {
+enum Does {
     /// It replies to both reads; the call of the link of this number fails.
     Replies(Option<u64>),
     /// It ends the link.
@@ -66,171 +72,226 @@ enum Device {
     IsSilent,
 }
 
-/// A round by a clock that tells these moments: how it ends, what it prints, how its polls end, and how many calls of the link failed.
-struct Case {
-    shows: &'static str,
-    device: Device,
-    moments: &'static [u64],
-    done: Result<(), RoundFault>,
-    printed: &'static str,
-    polls: Ends,
-    failures: u64,
-}
+/// What the device does, the times that the clock shows, how the round ends, what it prints, and how its polls end.
+type Case = (
+    Does,
+    &'static [u64],
+    Result<(), RoundFault>,
+    &'static str,
+    Ends,
+);
+
+const NOT_FOUND: Result<(), RoundFault> = Err(RoundFault::Refused(Refusal::NotFound));
+
+const SET_BACK: Result<(), RoundFault> = Err(RoundFault::Refused(Refusal::ClockBack));
+
+const PAST_THE_LAST: Result<(), RoundFault> = Err(RoundFault::Refused(Refusal::Limit));
+
+const LINK: Result<(), RoundFault> = Err(RoundFault::Link);
 
 const WENT: Option<Option<Outcome>> = Some(Some(Outcome::Lost(LostCause::Gone)));
 
 const WAS_SILENT: Option<Option<Outcome>> = Some(Some(Outcome::Silent));
 
+const NONE: Ends = [None, None, None];
+
+const BOTH: Ends = [ANSWERED, ANSWERED, None];
+
+const FIRST: Ends = [LOST, None, None];
+
+const SECOND: Ends = [ANSWERED, LOST, None];
+
 static CASES: [Case; 11] = [
-    Case {
-        shows: "each read of the plan is answered",
-        device: Device::Replies(None),
-        moments: &[1000, 1001],
-        done: Ok(()),
-        printed: BOTH_ANSWERED,
-        polls: [ANSWERED, ANSWERED, None],
-        failures: 0,
-    },
-    Case {
-        shows: "an end of the link is the device's",
-        device: Device::Ends,
-        moments: &[1000],
-        done: Ok(()),
-        printed: GONE,
-        polls: [WENT, None, None],
-        failures: 0,
-    },
-    Case {
-        shows: "a silent device is asked for each read",
-        device: Device::IsSilent,
-        moments: &[1000, 1000, 1004, 1005, 1005, 1009, 1010],
-        done: Ok(()),
-        printed: SILENT,
-        polls: [WAS_SILENT, WAS_SILENT, None],
-        failures: 0,
-    },
-    Case {
-        shows: "a moment that is refused loses the poll: the clock is set back",
-        device: Device::IsSilent,
-        moments: &[1000, 1002, 1001],
-        done: Err(RoundFault::Refused(Refusal::ClockBack)),
-        printed: BROKEN_OFF,
-        polls: [LOST, None, None],
-        failures: 0,
-    },
-    Case {
-        shows: "a moment that is refused loses the poll: it is past the last",
-        device: Device::IsSilent,
-        moments: &[1000, 1002, 4_102_444_801],
-        done: Err(RoundFault::Refused(Refusal::Limit)),
-        printed: BROKEN_OFF,
-        polls: [LOST, None, None],
-        failures: 0,
-    },
+    // each read of the plan is answered
+    (
+        Does::Replies(None),
+        &[1000, 1001],
+        Ok(()),
+        BOTH_ANSWERED,
+        BOTH,
+    ),
+    // an end of the link is the device's
+    (Does::Ends, &[1000], Ok(()), GONE, [WENT, None, None]),
+    // a silent device is asked for each read
+    (
+        Does::IsSilent,
+        &[1000, 1000, 1004, 1005, 1005, 1009, 1010],
+        Ok(()),
+        SILENT,
+        [WAS_SILENT, WAS_SILENT, None],
+    ),
+    // a time that is refused loses the poll: the clock is set back, or past the last time of all
+    (
+        Does::IsSilent,
+        &[1000, 1002, 1001],
+        SET_BACK,
+        BROKEN_OFF,
+        FIRST,
+    ),
+    (
+        Does::IsSilent,
+        &[1000, 1002, 4_102_444_801],
+        PAST_THE_LAST,
+        BROKEN_OFF,
+        FIRST,
+    ),
     // each call of the link may fail: a give and a take for each read; the fifth never comes
-    Case {
-        shows: "the first give fails",
-        device: Device::Replies(Some(1)),
-        moments: &[1000],
-        done: Err(RoundFault::Link),
-        printed: BROKEN_OFF,
-        polls: [LOST, None, None],
-        failures: 1,
-    },
-    Case {
-        shows: "the first take fails",
-        device: Device::Replies(Some(2)),
-        moments: &[1000],
-        done: Err(RoundFault::Link),
-        printed: BROKEN_OFF,
-        polls: [LOST, None, None],
-        failures: 1,
-    },
-    Case {
-        shows: "the second give fails",
-        device: Device::Replies(Some(3)),
-        moments: &[1000],
-        done: Err(RoundFault::Link),
-        printed: SECOND_LOST,
-        polls: [ANSWERED, LOST, None],
-        failures: 1,
-    },
-    Case {
-        shows: "the second take fails",
-        device: Device::Replies(Some(4)),
-        moments: &[1000],
-        done: Err(RoundFault::Link),
-        printed: SECOND_LOST,
-        polls: [ANSWERED, LOST, None],
-        failures: 1,
-    },
-    Case {
-        shows: "a fifth call never comes",
-        device: Device::Replies(Some(5)),
-        moments: &[1000],
-        done: Ok(()),
-        printed: BOTH_ANSWERED,
-        polls: [ANSWERED, ANSWERED, None],
-        failures: 0,
-    },
-    Case {
-        shows: "a give that takes nothing is the link's",
-        device: Device::TakesNothing,
-        moments: &[1000],
-        done: Err(RoundFault::Link),
-        printed: BROKEN_OFF,
-        polls: [LOST, None, None],
-        failures: 1,
-    },
+    (Does::Replies(Some(1)), &[1000], LINK, BROKEN_OFF, FIRST),
+    (Does::Replies(Some(2)), &[1000], LINK, BROKEN_OFF, FIRST),
+    (Does::Replies(Some(3)), &[1000], LINK, SECOND_LOST, SECOND),
+    (Does::Replies(Some(4)), &[1000], LINK, SECOND_LOST, SECOND),
+    (Does::Replies(Some(5)), &[1000], Ok(()), BOTH_ANSWERED, BOTH),
+    // a give that takes nothing is the link's
+    (Does::TakesNothing, &[1000], LINK, BROKEN_OFF, FIRST),
 ];
 
-// A round over a link in memory that brings these bytes, has so much room for what is given, and of which one call fails.
-fn round_over_memory(
+// Runs a round over a link in memory that brings these bytes and of which a call fails. Returns how many calls failed.
+fn round_over_memory<B: Books>(
     alloc: Global,
-    office: &mut Tried,
-    moments: &[u64],
+    office: &mut Office<B>,
+    times: &[u64],
     input: &[u8],
     given: &mut [u8],
     failing: Option<u64>,
 ) -> (Done, u64) {
     let mut link = MemoryLink::new(input, given, 259, failing);
-    let done = round(alloc, office, &mut link, moments);
+    let done = round(alloc, office, &mut link, times);
     (done, link.failures())
 }
 
-// The round of a case, and how many calls of its link failed.
-fn played(alloc: Global, office: &mut Tried, case: &Case, input: &[u8]) -> (Done, u64) {
-    let device = case.device;
+// Runs a round in which the device does this. Returns how many calls of its link failed.
+fn round_of<B: Books>(
+    alloc: Global,
+    office: &mut Office<B>,
+    does: Does,
+    times: &[u64],
+    input: &[u8],
+) -> (Done, u64) {
     let mut given = [0; 24];
-    match device {
-        Device::Replies(failing) => {
-            round_over_memory(alloc, office, case.moments, input, &mut given, failing)
+    match does {
+        Does::Replies(failing) => {
+            round_over_memory(alloc, office, times, input, &mut given, failing)
         }
-        Device::Ends => round_over_memory(alloc, office, case.moments, &[], &mut given, None),
-        Device::TakesNothing => {
-            round_over_memory(alloc, office, case.moments, &[], &mut [], None)
-        }
-        Device::IsSilent => {
+        Does::Ends => round_over_memory(alloc, office, times, &[], &mut given, None),
+        Does::TakesNothing => round_over_memory(alloc, office, times, &[], &mut [], None),
+        Does::IsSilent => {
             let mut link = IdleLink::new();
-            let done = round(alloc, office, &mut link, case.moments);
+            let done = round(alloc, office, &mut link, times);
             (done, link.failures())
         }
     }
 }
 
+pub(crate) fn assert_case<B: Books>(rt: &impl Abort, alloc: Global, books: B, place: usize) {
+    let input = replies(rt, alloc);
+    let case = CASES.get(place).expect(rt, "a case");
+    let (does, times, wanted, printed, polls) = *case;
+    let mut office = listed(rt, alloc, books, ONE_BY_ONE);
+    let (done, failures) = round_of(alloc, &mut office, does, times, &input);
+    assert!(rt; done.done == wanted, "{printed}");
+    assert!(rt; str::from_utf8(&done.printed) == Ok(printed), "{printed}");
+    assert!(rt; ends(&mut office) == polls, "{printed}");
+    assert!(rt; failures == u64::from(wanted == LINK), "{printed}");
+}
+
+static FRAMES: &[u8] =
+    b"\x00\x00\x00\x00\x00\x06\x01\x03\x00\x00\x00\x7d\x00\x01\x00\x00\x00\x06\x01\x03\x00\x7d\x00\x01";
+
+// Each read of the plan is sent once, also where responses come in pieces of so many bytes.
+pub(crate) fn assert_pieces<B: Books>(rt: &impl Abort, alloc: Global, books: B, piece: usize) {
+    let input = replies(rt, alloc);
+    let mut office = listed(rt, alloc, books, ONE_BY_ONE);
+    let mut given = [0; 24];
+    let mut link = MemoryLink::new(&input, &mut given, piece.max(1), None);
+    let done = round(alloc, &mut office, &mut link, &[1000]);
+    assert!(rt; done.done == Ok(()), "{piece}");
+    assert!(rt; link.given() == FRAMES, "{piece}");
+    assert!(rt; ends(&mut office) == BOTH, "{piece}");
+}
+
+// A device without a point list is gone again, and no other device exists.
+pub(crate) fn assert_not_found<B: Books>(rt: &impl Abort, alloc: Global, books: B) {
+    let mut office = office_after(rt, alloc, books, &[ONE_BY_ONE]);
+    for _round in 0..2 {
+        let done = round(alloc, &mut office, &mut IdleLink::new(), &[1000]);
+        assert!(rt; done.done == NOT_FOUND);
+        assert!(rt; str::from_utf8(&done.printed) == Ok("ok\nok\n"));
+    }
+    for name in [Name::new(b"none"), Name::new(b"9")] {
+        let mut link = IdleLink::new();
+        let done = round_into(alloc, &mut office, &mut link, name, 0);
+        assert!(rt; done == NOT_FOUND);
+    }
+}
+
+// Runs a round whose writer has so much room.
+fn round_into<B: Books, L: Link>(
+    alloc: Global,
+    office: &mut Office<B>,
+    link: &mut L,
+    name: Option<Name>,
+    room: usize,
+) -> Result<(), RoundFault> {
+    let mut clock = FixedClock::new(&[1000]);
+    let mut output = Narrow { room };
+    round_over(alloc, link, office, name, &mut clock, &mut output)
+}
+
+// A round whose writer has too little room is broken off.
+pub(crate) fn assert_narrow<B: Books>(
+    rt: &impl Abort,
+    alloc: Global,
+    books: B,
+    room: usize,
+    polls: Ends,
+) {
+    let input = replies(rt, alloc);
+    let mut office = listed(rt, alloc, books, ONE_BY_ONE);
+    let mut given = [0; 24];
+    let mut link = MemoryLink::new(&input, &mut given, 259, None);
+    let done = round_into(alloc, &mut office, &mut link, inv(), room);
+    assert!(rt; done == Err(RoundFault::Output), "room for {room}");
+    assert!(rt; ends(&mut office) == polls, "room for {room}");
+}
+
+// A round reads its link 100,000 times at most.
+pub(crate) fn assert_takes<B: Books>(rt: &impl Abort, alloc: Global, books: B) {
+    let mut office = listed(rt, alloc, books, ONE_BY_ONE);
+    let mut link = IdleLink::new();
+    let done = round(alloc, &mut office, &mut link, &[1000]);
+    assert!(rt; done.done == Err(RoundFault::TurnsUsed));
+    assert!(rt; link.takes() == 100_000);
+    assert!(rt; ends(&mut office) == [LOST, None, None]);
+}
+
 #[test]
 fn rounds_end_so(rt: HostRuntime) {
-    let input = replies(rt.alloc()).expect(&rt, "replies");
-    for case in &CASES {
-        let mut office = listed(&rt, rt.alloc());
-        let (done, failures) = played(rt.alloc(), &mut office, case, &input);
-        assert!(rt; done.done == case.done, "{}", case.shows);
-        assert!(rt;
-            str::from_utf8(&done.printed) == Ok(case.printed),
-            "{}",
-            case.shows
-        );
-        assert!(rt; ends(&mut office) == case.polls, "{}", case.shows);
-        assert!(rt; failures == case.failures, "{}", case.shows);
+    for place in 0..CASES.len() {
+        try_in_memory(&rt, rt.alloc(), Trial::Round(place));
     }
+}
+
+#[test]
+fn replies_come_byte_by_byte(rt: HostRuntime) {
+    for piece in [259, 1] {
+        try_in_memory(&rt, rt.alloc(), Trial::Pieces(piece));
+    }
+}
+
+#[test]
+fn a_device_that_is_not_found_is_refused(rt: HostRuntime) {
+    try_in_memory(&rt, rt.alloc(), Trial::NoDevice);
+}
+
+// The lines that say `ok`, that a poll was started, and that it was answered.
+#[test]
+fn each_line_may_fail(rt: HostRuntime) {
+    for (room, polls) in [(2, NONE), (20, FIRST), (50, [ANSWERED, None, None])] {
+        try_in_memory(&rt, rt.alloc(), Trial::Narrow(room, polls));
+    }
+}
+
+#[test]
+fn a_round_has_so_many_takes(rt: HostRuntime) {
+    try_in_memory(&rt, rt.alloc(), Trial::Takes);
 }

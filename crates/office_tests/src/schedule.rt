@@ -8,6 +8,8 @@ fn a_device_is_due_at_multiples(rt: HostRuntime) {
         (60, 0, 60),
         (60, 59, 60),
         (60, 60, 120),
+        // what is late is not made up for
+        (60, 187, 240),
         (1, 41, 42),
         (900, 1_700_000_000, 1_700_000_100),
         (86_400, 1_700_000_000, 1_700_006_400),
@@ -17,11 +19,6 @@ fn a_device_is_due_at_multiples(rt: HostRuntime) {
             assert!(rt; next_due(every, now) == due);
         }
     }
-}
-
-#[test]
-fn what_is_late_is_not_made_up_for(rt: HostRuntime) {
-    assert!(rt; next_due(60, 187) == 240);
 }
 
 #[test]

@@ -1,25 +1,17 @@
-//! Scripts: lines that come to an office, and what is printed of them.
-use crate::offices::{Tried, event_of};
-use crate::questions::{ask_days, ask_intervals, ask_meter, ask_poll};
+//! What an office prints of a script's line.
+use crate::offices::start_of;
+use energy_report::RowLines;
 use office_books::Books;
 use office_core::Office;
-use office_events::Event;
+use office_events::{Event, Refusal};
 use script_lines::ScriptLine;
-use script_text::{write_accepted, write_notes, write_refusal};
+use script_text::{write_accepted, write_end, write_meter, write_notes, write_poll, write_refusal};
 use std::alloc::Global;
+use std::io;
 use std::process::Abort;
-use std::{io, str};
 
-/// A device, its register and its meter; a read of them is sent, and the counter shows 5200 at the scale 0.
-pub(crate) const READ: &str = "1000 device inv 1 5 1
-1000 register main inv 3 40094 @40096
-1000 install main m1 5000 0 100000
-1898 connect inv
-1898 start inv 3 40094 3
-1900 bytes inv 000000000009010306000014500000";
-
-/// Feeds an event, and prints what it brought and what it is answered.
-fn feed_event<B: Books>(
+// Feeds an event, and prints its notes and its answer.
+fn feed<B: Books>(
     office: &mut Office<B>,
     at: u64,
     event: &Event,
@@ -34,65 +26,75 @@ fn feed_event<B: Books>(
     }
 }
 
-/// The same of an office over books one call of which may be refused.
-pub(crate) fn feed(
-    office: &mut Tried,
-    at: u64,
-    event: &Event,
-    output: &mut Vec<u8>,
-) -> io::Result<()> {
-    feed_event(office, at, event, output)
+// Prints the number of rows, or why the question is refused.
+fn write_count(answer: Result<(), Refusal>, count: u64, output: &mut Vec<u8>) -> io::Result<()> {
+    match answer {
+        Ok(()) => write_end(count, output),
+        Err(why) => write_refusal(why, output),
+    }
 }
 
-/// Asks the office what a line asks, and prints its answer.
+// Prints the answer to a question.
 fn ask<B: Books>(
-    alloc: Global,
     office: &mut Office<B>,
-    line: &str,
+    said: &ScriptLine,
     output: &mut Vec<u8>,
 ) -> io::Result<()> {
-    let Ok(said) = ScriptLine::read(alloc, line.as_bytes()) else {
-        return Ok(());
-    };
-    match &said {
-        ScriptLine::Meter { name } => ask_meter(office, name, output),
-        ScriptLine::Poll { number } => ask_poll(office, *number, output),
-        ScriptLine::Intervals { name } => ask_intervals(alloc, office, name, output),
-        ScriptLine::Days { name } => ask_days(alloc, office, name, output),
+    match said {
+        ScriptLine::Meter { name } => match office.meter(name) {
+            Ok(row) => write_meter(&row, output),
+            Err(why) => write_refusal(why, output),
+        },
+        ScriptLine::Poll { number } => match office.poll(*number) {
+            Ok(row) => write_poll(&row, output),
+            Err(why) => write_refusal(why, output),
+        },
+        ScriptLine::Intervals { name } => {
+            let mut rows = RowLines::to(output);
+            let answer = office.intervals(name, &mut rows);
+            write_count(answer, rows.count, rows.output)
+        }
+        ScriptLine::Days { name } => {
+            let mut rows = RowLines::to(output);
+            let answer = office.days(name, &mut rows);
+            write_count(answer, rows.count, rows.output)
+        }
         _ => Ok(()),
     }
 }
 
-fn print_line<B: Books>(
+/// Returns what an office prints of an event.
+pub(crate) fn print_event<B: Books>(
+    rt: &impl Abort,
     alloc: Global,
     office: &mut Office<B>,
-    line: &str,
-    output: &mut Vec<u8>,
-) -> io::Result<()> {
-    match event_of(alloc, line) {
-        Some((at, event)) => feed_event(office, at, &event, output),
-        None => ask(alloc, office, line, output),
-    }
-}
-
-/// What an office prints of the lines of a script.
-pub(crate) fn print(rt: &impl Abort, alloc: Global, office: &mut Tried, script: &str) -> Vec<u8> {
+    at: u64,
+    event: &Event,
+) -> Vec<u8> {
     let mut output = Vec::new(alloc);
-    for line in script.lines() {
-        let done = print_line(alloc, office, line, &mut output);
-        assert!(rt; done.is_ok(), "{line}");
-    }
+    assert!(rt; feed(office, at, event, &mut output).is_ok());
     output
 }
 
-/// An office prints this of the lines of a script.
-pub(crate) fn prints(
+/// Returns what an office prints of a line.
+pub(crate) fn print_line<B: Books>(
     rt: &impl Abort,
     alloc: Global,
-    office: &mut Tried,
-    script: &str,
-    wanted: &str,
-) {
-    let printed = print(rt, alloc, office, script);
-    assert!(rt; str::from_utf8(&printed) == Ok(wanted), "{script}");
+    office: &mut Office<B>,
+    line: &str,
+) -> Vec<u8> {
+    let said = ScriptLine::read(alloc, line.as_bytes())
+        .ok()
+        .expect(rt, "a line");
+    match &said {
+        ScriptLine::Event { at, event } => print_event(rt, alloc, office, *at, event),
+        ScriptLine::Start { at, start } => {
+            print_event(rt, alloc, office, *at, &start_of(rt, start))
+        }
+        _ => {
+            let mut output = Vec::new(alloc);
+            assert!(rt; ask(office, &said, &mut output).is_ok());
+            output
+        }
+    }
 }

@@ -158,13 +158,6 @@ fn the_metrics_are_in_text_format(rt: HostRuntime) {
     assert!(rt; str::from_utf8(&text) == Ok(METRICS));
 }
 
-#[test]
-fn no_device_is_an_empty_list(rt: HostRuntime) {
-    let mut text = Vec::new(rt.alloc());
-    assert!(rt; put_status(&mut text, &Counts::new(), &[], &[]).is_ok());
-    assert!(rt; text.starts_with(b"{\"devices\":[],\"polls\":"));
-}
-
 // The register import of grid, which needs the registers 40117 to 40125 by function 3.
 fn import() -> Option<Register> {
     Some(Register {

@@ -1,13 +1,14 @@
 //! Turns over made-up happenings.
 use crate::benches::{Bench, Moment, Step, play};
 use crate::observer::Seen;
+use crate::offices::new_books;
 use office_rounds::Stage;
 use poll_core::Closing;
 use std::alloc::Global;
 use std::process::Abort;
 
 fn seen(rt: &impl Abort, alloc: Global, moments: &[Moment]) -> Bench<Seen> {
-    play(rt, alloc, moments, Seen::new(alloc))
+    play(rt, alloc, new_books(rt, alloc), moments, Seen::new(alloc))
 }
 
 // What happens, what is seen of it, and the bytes of the frames: 12 for each read.
@@ -96,21 +97,16 @@ fn turns_feed_what_rounds_wish(rt: HostRuntime) {
     }
 }
 
-static COME_AGAIN: [Moment; 3] = [
-    (1001, Step::Stands(0)),
-    (1002, Step::Ended(0, Closing::Failed)),
-    (1003, Step::Stands(0)),
-];
-
 // How far the round of a device is, by its place.
 fn stage(bench: &Bench<Seen>, place: usize) -> Option<Stage> {
     let round = bench.rounds.get(place)?;
     Some(round.stage)
 }
 
+// The device comes again after it failed, as in the fifth of the turns.
 #[test]
 fn a_device_that_came_again_waits(rt: HostRuntime) {
-    let bench = seen(&rt, rt.alloc(), &COME_AGAIN);
+    let bench = seen(&rt, rt.alloc(), TURNS[4].0);
     assert!(rt; stage(&bench, 0) == Some(Stage::Waiting));
     assert!(rt; stage(&bench, 1) == Some(Stage::Off));
     assert!(rt; stage(&bench, 2) == None);

@@ -1,0 +1,140 @@
+//! The numbers and the sentences of refusals and faults, and how the failures of a store are counted.
+use energy_core::Cause;
+use office_books::{BooksFault, Failures, StoreFault};
+use office_events::{Refusal, StoreCause};
+use office_rounds::RoundFault;
+use std::alloc::Global;
+use std::fmt::Display;
+use std::process::Abort;
+
+const REFUSED: &str = "the store of the books refused or failed";
+
+const DAMAGED: &str = "the store of the books is damaged: it holds what cannot be";
+
+const NO_DAY: &str = "an interval row has no civil day in the zone of the books";
+
+const MEMORY: &str = "memory ran out";
+
+// Their numbers go from 1 to 17.
+static REFUSALS: [Refusal; 17] = [
+    Refusal::NotFound,
+    Refusal::Exists,
+    Refusal::ClockBack,
+    Refusal::BadScale,
+    Refusal::NegativeStep,
+    Refusal::NotLater,
+    Refusal::SpanTooLong,
+    Refusal::TotalFull,
+    Refusal::Ended,
+    Refusal::Busy,
+    Refusal::Reused,
+    Refusal::Limit,
+    Refusal::Store(StoreCause::NoDay),
+    Refusal::Memory,
+    Refusal::Stopped,
+    Refusal::NotVoidable,
+    Refusal::NotPlausible(Cause::TooFast),
+];
+
+static SENTENCES: [&str; 17] = [
+    "no device, register, meter, list, entry or poll has that name, place or number",
+    "the name is taken, or a meter is open at the register",
+    "the moment is before that of the latest accepted event",
+    "the scale is not from -3 to 3",
+    "the counter would have gone back since the last entry",
+    "the moment is not later than that of the last entry",
+    "more than 3000 quarter hours passed since the last entry",
+    "the energy of the meter would pass 4 * 10^18 mWh",
+    "the meter at the register was closed",
+    "the device is not connected, is connected already, or can start no poll now",
+    "the caller used the number for another request",
+    "a name, a number or a moment is out of its range, or there is no room for one more",
+    NO_DAY,
+    MEMORY,
+    "the office has stopped, as the books or memory failed while polls were settled: open it again",
+    "the entry is no reading of the device that stands, or the next that stands is none",
+    "the next entry would have been held after the one before: the counter went further than the ceiling allows",
+];
+
+static CAUSES: [(StoreCause, u8, &str); 3] = [
+    (StoreCause::Refused, 1, REFUSED),
+    (StoreCause::Damaged, 2, DAMAGED),
+    (StoreCause::NoDay, 3, NO_DAY),
+];
+
+const ENDED_ROUND: &str = "the office refused an event of the round: memory ran out";
+
+const ENDED_LINK: &str = "a read or a write of the connection failed";
+
+const ENDED_OUTPUT: &str = "what the office told could not be printed";
+
+const ENDED_TURNS: &str = "the round was not over after 100000 reads";
+
+static ROUNDS: [(RoundFault, u8, &str); 4] = [
+    (RoundFault::Refused(Refusal::Memory), 1, ENDED_ROUND),
+    (RoundFault::Link, 2, ENDED_LINK),
+    (RoundFault::Output, 3, ENDED_OUTPUT),
+    (RoundFault::TurnsUsed, 4, ENDED_TURNS),
+];
+
+static STORES: [(StoreFault, &str); 2] = [
+    (StoreFault::Refused, REFUSED),
+    (StoreFault::Damaged, DAMAGED),
+];
+
+// A fault has this sentence, which has no full stop.
+fn assert_text<F: Display>(rt: &impl Abort, alloc: Global, fault: &F, text: &str) {
+    let said = format!(in alloc; "{fault}").expect(rt, "a text");
+    assert!(rt; said.as_str() == text);
+    assert!(rt; !text.ends_with('.'));
+}
+
+#[test]
+fn refusals_have_numbers_and_sentences(rt: HostRuntime) {
+    let mut number = 0u8;
+    for (refusal, text) in REFUSALS.iter().zip(&SENTENCES) {
+        number = number.saturating_add(1);
+        assert!(rt; refusal.number() == number);
+        assert_text(&rt, rt.alloc(), refusal, *text);
+    }
+    for (cause, number, text) in &CAUSES {
+        assert!(rt; cause.number() == *number);
+        assert!(rt; Refusal::Store(*cause).number() == 13);
+        assert_text(&rt, rt.alloc(), cause, *text);
+    }
+}
+
+#[test]
+fn faults_have_numbers_and_sentences(rt: HostRuntime) {
+    for (fault, number, text) in &ROUNDS {
+        assert!(rt; fault.number() == *number);
+        assert_text(&rt, rt.alloc(), fault, *text);
+    }
+    for (fault, text) in &STORES {
+        assert_text(&rt, rt.alloc(), fault, *text);
+        assert_text(&rt, rt.alloc(), &BooksFault::Store(*fault), *text);
+    }
+    assert_text(&rt, rt.alloc(), &BooksFault::Memory, MEMORY);
+}
+
+const STORE_REFUSED: BooksFault = BooksFault::Store(StoreFault::Refused);
+
+const STORE_DAMAGED: BooksFault = BooksFault::Store(StoreFault::Damaged);
+
+// What books answer, one call after the other; how often their store has failed then, and what the last failure was.
+static CALLS: [(Result<u8, BooksFault>, u64, Option<BooksFault>); 5] = [
+    (Ok(7), 0, None),
+    (Err(STORE_REFUSED), 1, Some(STORE_REFUSED)),
+    (Err(BooksFault::Memory), 1, Some(BooksFault::Memory)),
+    (Err(STORE_DAMAGED), 2, Some(STORE_DAMAGED)),
+    (Ok(9), 2, Some(STORE_DAMAGED)),
+];
+
+#[test]
+fn each_failure_is_counted_with_its_kind(rt: HostRuntime) {
+    let mut failures = Failures::new();
+    for (answer, count, last) in CALLS {
+        assert!(rt; failures.noted(answer) == answer);
+        assert!(rt; failures == Failures { count, last });
+    }
+}

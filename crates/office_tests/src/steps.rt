@@ -1,0 +1,242 @@
+//! Records that are booked, and look-ups with their answers.
+use crate::facts::{Booked, facts};
+use crate::offices::{name_of, planned};
+use energy_core::Cause;
+use mb_wire::ReadSpan;
+use office_books::{Books, BooksFault, RowSink, Span, with_whole_energy};
+use office_events::{
+    DeviceList, EntryPlace, Fact, HeldReading, Installation, Name, Poll, Register,
+};
+use std::alloc::Global;
+use std::process::Abort;
+
+/// What is booked, or looked up with this answer. The device is `inv`.
+#[derive(Clone, Copy)]
+pub(crate) enum Step {
+    Books(&'static [Booked]),
+    /// The device gets the point list of a text.
+    Lists(&'static [u8]),
+    /// Its point list has so many reads.
+    Reads(usize),
+    /// It has so many registers.
+    Registers(usize),
+    /// A read of it, by its function, address and count, gives readings of these registers.
+    Read(u8, u16, u16, &'static [&'static str]),
+    /// The latest meter at the register `main`, its energy in mWh, and whether it was closed.
+    Installed(&'static [u8], u64, bool),
+    /// The same of the meter of a name.
+    Meter(&'static [u8], u64, bool),
+    /// So many meters were installed.
+    Meters(usize),
+    /// An entry of a meter, by its sequence number: the energy in mWh before it, and whether it was voided.
+    Entry(&'static [u8], u64, u64, bool),
+    /// An entry by the rows around it: the number before it, and the energy in mWh of the whole meter.
+    EntryNear(&'static [u8], u64, u32, u64),
+    NoEntry(&'static [u8], u64),
+    /// The times and causes of the rejected readings of a meter in a span.
+    Held(&'static [u8], Span, &'static [(u64, Cause)]),
+    /// So many polls were started.
+    Started(u64),
+    /// The poll of a number waits, or has ended.
+    Waits(u64, bool),
+    /// These polls wait.
+    Pending(&'static [u64]),
+    /// The latest time of a record.
+    Latest(u64),
+}
+
+/// Keeps the times and causes of rejected readings.
+#[derive(Drop)]
+struct HeldRows {
+    rows: Vec<(u64, Cause)>,
+    is_whole: bool,
+}
+
+impl RowSink<HeldReading> for HeldRows {
+    ghost takes = { λ _ _ _. Unit {0} };
+
+    fn put(&mut self, row: HeldReading) {
+        self.is_whole = self.rows.push((row.at, row.cause)).is_ok() && self.is_whole;
+    }
+}
+
+fn list(rt: &impl Abort, alloc: Global, text: &[u8]) -> Vec<Fact> {
+    let device = name_of(rt, b"inv");
+    let list = planned(rt, alloc, text);
+    let mut facts = Vec::new(alloc);
+    facts
+        .push(Fact::List(DeviceList { device, list }))
+        .expect(rt, "memory");
+    facts
+}
+
+fn has_reads<B: Books>(books: &mut B, device: &Name, count: usize) -> Result<bool, BooksFault> {
+    match books.list(device)? {
+        Some(list) => Ok(list.reads().len() == count),
+        None => Ok(count == 0),
+    }
+}
+
+fn has_registers<B: Books>(books: &mut B, device: &Name, count: usize) -> Result<bool, BooksFault> {
+    let registers = books.registers(device)?;
+    Ok(registers.len() == count && books.register_count(device)? == count)
+}
+
+fn are_named(registers: &[Register], names: &[&str]) -> bool {
+    for (register, name) in registers.iter().zip(names) {
+        if register.name.as_bytes() != name.as_bytes() {
+            return false;
+        }
+    }
+    registers.len() == names.len()
+}
+
+fn are_numbered(polls: &[Poll], numbers: &[u64]) -> bool {
+    for (poll, number) in polls.iter().zip(numbers) {
+        if poll.number != *number {
+            return false;
+        }
+    }
+    polls.len() == numbers.len()
+}
+
+fn are_held(held: &[(u64, Cause)], wanted: &[(u64, Cause)]) -> bool {
+    for (row, (at, cause)) in held.iter().zip(wanted) {
+        if row.0 != *at || row.1 != *cause {
+            return false;
+        }
+    }
+    held.len() == wanted.len()
+}
+
+fn is_meter(found: &Option<Installation>, meter: &[u8], total: u64, ended: bool) -> bool {
+    match found {
+        Some(row) => {
+            row.opening.meter.as_bytes() == meter && row.total == total && row.ended == ended
+        }
+        None => false,
+    }
+}
+
+fn is_entry(found: &Option<EntryPlace>, total: u64, is_voided: bool) -> bool {
+    match found {
+        Some(place) => place.before.total == total && place.row.stands != is_voided,
+        None => false,
+    }
+}
+
+// Whether an entry is this by the rows around it, and has the energy of the whole meter.
+fn is_near<B: Books>(
+    books: &mut B,
+    meter: &Name,
+    place: u64,
+    raw: u32,
+    total: u64,
+) -> Result<bool, BooksFault> {
+    let Some(near) = books.entry_near(meter, place)? else {
+        return Ok(false);
+    };
+    let Some(entry) = books.entry(meter, place)? else {
+        return Ok(false);
+    };
+    let Some(whole) = books.meter(meter)? else {
+        return Ok(false);
+    };
+    Ok(
+        near == with_whole_energy(&entry, &whole)
+            && near.before.last.raw == raw
+            && near.before.total == total,
+    )
+}
+
+fn has_held<B: Books>(
+    alloc: Global,
+    books: &mut B,
+    meter: &Name,
+    span: Span,
+    wanted: &[(u64, Cause)],
+) -> Result<bool, BooksFault> {
+    let mut held = HeldRows {
+        rows: Vec::new(alloc),
+        is_whole: true,
+    };
+    books.holds(meter, span, &mut held)?;
+    Ok(held.is_whole && are_held(&held.rows, wanted))
+}
+
+fn is_waiting<B: Books>(books: &mut B, number: u64, waits: bool) -> Result<bool, BooksFault> {
+    match books.poll(number)? {
+        Some(row) => Ok(row.poll.number == number && row.ended.is_none() == waits),
+        None => Ok(false),
+    }
+}
+
+// Books what a step of the device books, or compares what it looks up.
+fn try_device<B: Books>(
+    rt: &impl Abort,
+    alloc: Global,
+    books: &mut B,
+    step: Step,
+) -> Result<bool, BooksFault> {
+    let device = name_of(rt, b"inv");
+    match step {
+        Step::Books(history) => {
+            books.book(facts(rt, alloc, history))?;
+            Ok(true)
+        }
+        Step::Lists(text) => {
+            books.book(list(rt, alloc, text))?;
+            Ok(true)
+        }
+        Step::Reads(count) => has_reads(books, &device, count),
+        Step::Registers(count) => has_registers(books, &device, count),
+        Step::Read(function, address, count, names) => {
+            let span = ReadSpan::new(function, address, count).expect(rt, "a span");
+            let read = books.registers_read(&device, span)?;
+            Ok(are_named(&read, names))
+        }
+        Step::Pending(numbers) => {
+            let pending = books.pending()?;
+            Ok(are_numbered(&pending, numbers))
+        }
+        Step::Started(count) => Ok(books.poll_count()? == count),
+        Step::Waits(number, waits) => is_waiting(books, number, waits),
+        Step::Latest(at) => Ok(books.latest()? == at),
+        _ => Ok(false),
+    }
+}
+
+/// Books what a step books, or compares what it looks up with its answer.
+pub(crate) fn try_step<B: Books>(
+    rt: &impl Abort,
+    alloc: Global,
+    books: &mut B,
+    step: Step,
+) -> Result<bool, BooksFault> {
+    match step {
+        Step::Installed(meter, total, ended) => {
+            let found = books.installation(&name_of(rt, b"main"))?;
+            Ok(is_meter(&found, meter, total, ended))
+        }
+        Step::Meter(meter, total, ended) => {
+            let found = books.meter(&name_of(rt, meter))?;
+            Ok(is_meter(&found, meter, total, ended))
+        }
+        Step::Meters(count) => Ok(books.installation_count()? == count),
+        Step::Entry(meter, place, total, is_voided) => {
+            let found = books.entry(&name_of(rt, meter), place)?;
+            Ok(is_entry(&found, total, is_voided))
+        }
+        Step::NoEntry(meter, place) => {
+            let meter = name_of(rt, meter);
+            Ok(books.entry(&meter, place)?.is_none() && books.entry_near(&meter, place)?.is_none())
+        }
+        Step::EntryNear(meter, place, raw, total) => {
+            is_near(books, &name_of(rt, meter), place, raw, total)
+        }
+        Step::Held(meter, span, wanted) => {
+            has_held(alloc, books, &name_of(rt, meter), span, wanted)
+        }
+        _ => try_device(rt, alloc, books, step),
+    }
+}
