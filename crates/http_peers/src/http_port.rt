@@ -162,6 +162,20 @@ fn places_for(clients: usize) -> Peers {
     peers
 }
 
+// Records in its slot whether a client waits for its reply, or was replied to.
+fn note_state(peers: &mut Peers, place: usize, peer: &Peer)
+    requires { place < 64 }
+{
+    match peer.lingers {
+        Some(until) => peers.linger(place, until),
+        None => {
+            if peer.has_reply() {
+                peers.ask(place);
+            }
+        }
+    }
+}
+
 // A connection for each place, of which there is none yet.
 fn no_connections(alloc: Global) -> Result<Vec<Option<Peer>>, AllocError> {
     let mut connections = Vec::new(alloc);
@@ -688,22 +702,8 @@ impl HttpPort {
         if peer.is_over() {
             self.end(place);
         } else if place < MOST_PEERS && place < self.connections.len() {
-            self.note(place, &peer);
+            note_state(&mut self.peers, place, &peer);
             self.connections[place] = Some(peer);
-        }
-    }
-
-    // Takes note whether a peer waits for its reply, or was replied to.
-    fn note(&mut self, place: usize, peer: &Peer)
-        requires { place < 64 }
-    {
-        match peer.lingers {
-            Some(until) => self.peers.linger(place, until),
-            None => {
-                if peer.has_reply() {
-                    self.peers.ask(place);
-                }
-            }
         }
     }
 
