@@ -1,7 +1,7 @@
 #!/usr/bin/env bash
 # Holds the files of the built program to the `sqlite3` program, and files of that program to ours:
-# `tests/sqlite3.sh [PROGRAM]`, out/sunreg by default, which `./sunreg-build` makes. It needs curl and sqlite3, and is no part
-# of the gate. It ends on 'N passed, M failed'.
+# `tests/sqlite3.sh [PROGRAM]`, out/sunreg by default, which `./sunreg-build` makes. It needs curl and sqlite3.
+# It ends on 'N passed, M failed'.
 set -uo pipefail
 here=$(dirname "$(readlink -f "$0")")
 program=${1:-${SUNREG:-$here/../out/sunreg}}
