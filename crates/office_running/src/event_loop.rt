@@ -229,7 +229,7 @@ impl Running {
     {
         self.port.accept(self.poll.registry(), now.time);
         let first = self.port.first();
-        let system = Watching::of(rt, &self.files);
+        let system = Watching::of(rt, !self.files.is_lost(rt));
         for step in 0..MOST_PEERS {
             let place = place_at(first, step);
             let told = RunTold {
@@ -238,6 +238,13 @@ impl Running {
                 earlier: &*earlier,
             };
             self.port.attend(&system, place, names, office, &told, now);
+        }
+    }
+
+    // Has no reply given again, where a device was fed to the office: that may have recorded something.
+    fn note_fed(&mut self, has_fed: bool) {
+        if has_fed {
+            self.port.forget_replies();
         }
     }
 
@@ -256,11 +263,8 @@ impl Running {
         ensures { Goes (texts names.now) now.moment B.ledger office.old office.new }
     {
         let has_fed = self.polling.attend(place, office, &mut self.voice, now);
-        if !has_fed {
-            return;
-        }
-        self.port.forget_replies();
-        if self.look(events, 0).is_ok() {
+        self.note_fed(has_fed);
+        if has_fed && self.look(events, 0).is_ok() {
             self.attend_peers(rt, names, earlier, office, now);
         }
     }

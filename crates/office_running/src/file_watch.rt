@@ -126,20 +126,20 @@ impl FileWatch {
     }
 }
 
-/// The system, and the files of an office, which are looked at when a command is to be acknowledged.
+/// The system, and whether the files of an office were there at the last look.
 #[derive(Drop)]
-pub(crate) struct Watching<'r, R: std::rt::Clock + Files> {
+pub(crate) struct Watching<'r, R: std::rt::Clock> {
     rt: &'r R,
-    files: &'r FileWatch,
+    are_there: bool,
 }
 
-impl<'r, R: std::rt::Clock + Files> Watching<'r, R> {
-    pub(crate) fn of(rt: &'r R, files: &'r FileWatch) -> Watching<'r, R> {
-        Watching { rt, files }
+impl<'r, R: std::rt::Clock> Watching<'r, R> {
+    pub(crate) fn of(rt: &'r R, are_there: bool) -> Watching<'r, R> {
+        Watching { rt, are_there }
     }
 }
 
-impl<R: std::rt::Clock + Files> std::rt::Clock for Watching<'_, R> {
+impl<R: std::rt::Clock> std::rt::Clock for Watching<'_, R> {
     fn monotonic(&self) -> io::Result<Duration> {
         self.rt.monotonic()
     }
@@ -149,8 +149,8 @@ impl<R: std::rt::Clock + Files> std::rt::Clock for Watching<'_, R> {
     }
 }
 
-impl<R: std::rt::Clock + Files> RunSystem for Watching<'_, R> {
+impl<R: std::rt::Clock> RunSystem for Watching<'_, R> {
     fn are_files_there(&self) -> bool {
-        !self.files.is_lost(self.rt)
+        self.are_there
     }
 }
