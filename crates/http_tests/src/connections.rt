@@ -1,7 +1,6 @@
 //! Requests of clients of the same process, which connected and wrote before.
 use crate::office::metered;
-use crate::stores::{InMemory, Stores};
-use office_books::Books;
+use memory_books::ListBooks;
 use office_core::Office;
 use office_events::Name;
 use office_http::{serve_named_on, serve_on};
@@ -10,7 +9,7 @@ use std::alloc::Global;
 use std::cell::Cell;
 use std::io::{self, ErrorKind, Read, Write};
 use std::net::{Shutdown, TcpListener, TcpStream};
-use std::process::Abort;
+use std::test::Fail;
 use std::time::Duration;
 
 /// What a client writes, whether it ends its stream then, and all that it is replied.
@@ -92,41 +91,43 @@ pub(crate) fn client_of(
     rt: &HostRuntime,
     listener: &TcpListener,
     bytes: &[u8],
-) -> io::Result<TcpStream> {
+) -> Result<TcpStream, Fail> {
     let mut client = TcpStream::connect(rt, listener.local_addr()?)?;
     client.write_all(bytes)?;
     Ok(client)
 }
 
-// The streams of clients. What opens sockets takes the runtime, and a test beside it, which can be aborted.
+// The streams of clients.
 fn streams_of(
     rt: &HostRuntime,
-    test: &impl Abort,
     listener: &TcpListener,
     clients: &[Client],
-) -> Vec<TcpStream> {
+) -> Result<Vec<TcpStream>, Fail> {
     let mut streams = Vec::new(rt.alloc());
     for client in clients {
-        let mut stream = client_of(rt, listener, client.bytes).expect(test, "no client");
+        let mut stream = client_of(rt, listener, client.bytes)?;
         if client.ends {
-            stream
-                .shutdown(Shutdown::Write)
-                .expect(test, "not shut down");
+            stream.shutdown(Shutdown::Write)?;
         }
-        streams.push(stream).expect(test, "no memory");
+        streams.push(stream)?;
     }
-    streams
+    Ok(streams)
 }
 
-/// Reads a stream to its end.
-pub(crate) fn read_all(test: &impl Abort, alloc: Global, stream: &mut TcpStream) -> Vec<u8> {
-    let mut got = Vec::new(alloc);
-    let _count = stream.read_to_end(&mut got).expect(test, "not read");
-    got
+// Whether each client has its reply, and its stream ends.
+fn are_replied(alloc: Global, streams: &mut [TcpStream], clients: &[Client]) -> Result<bool, Fail> {
+    for (stream, client) in streams.iter_mut().zip(clients) {
+        let mut got = Vec::new(alloc);
+        stream.read_to_end(&mut got)?;
+        if got.as_slice() != client.reply {
+            return Ok(false);
+        }
+    }
+    Ok(true)
 }
 
 /// The energy of `m1`, where it was ended.
-pub(crate) fn energy_of_ended<B: Books>(office: &mut Office<B>) -> Option<u64> {
+pub(crate) fn energy_of_ended(office: &mut Office<ListBooks>) -> Option<u64> {
     match office.meter(&Name::new(b"m1")) {
         Ok(row) if row.ended => Some(row.total),
         _ => None,
@@ -163,12 +164,12 @@ impl std::rt::Clock for Stepping {
 
 // Whether an office serves as many clients as there are. So many seconds pass each time that the clock of their waits is read; where
 // none is given, `serve_on` serves them.
-fn serves<B: Books>(
+fn serves(
     alloc: Global,
     listener: &TcpListener,
     clients: u64,
     step: Option<u64>,
-    office: &mut Office<B>,
+    office: &mut Office<ListBooks>,
 ) -> bool {
     let mut clock = FixedClock::new(&[2800]);
     match step {
@@ -181,36 +182,34 @@ fn serves<B: Books>(
     }
 }
 
-// Asserts that clients have their replies, after which their streams end, and that the meter is exchanged once.
-fn assert_served<D: Stores>(
+// Whether clients have their replies, and the meter is exchanged once.
+fn are_served(
     rt: &HostRuntime,
-    test: &impl Abort,
-    stores: &D,
+    office: &mut Office<ListBooks>,
     clients: &[Client],
     step: Option<u64>,
-) {
-    let mut office = metered(test, rt.alloc(), stores);
-    let listener = TcpListener::bind(rt, "127.0.0.1:0").expect(test, "no listener");
-    let mut streams = streams_of(rt, test, &listener, clients);
-    let count = clients.len() as u64;
-    assert!(test; serves(rt.alloc(), &listener, count, step, &mut office));
-    assert!(test; energy_of_ended(&mut office) == Some(300_000));
-    for (stream, client) in streams.iter_mut().zip(clients) {
-        let got = read_all(test, rt.alloc(), stream);
-        assert!(test; got.as_slice() == client.reply);
+) -> Result<bool, Fail> {
+    let listener = TcpListener::bind(rt, "127.0.0.1:0")?;
+    let mut streams = streams_of(rt, &listener, clients)?;
+    let is_done = serves(rt.alloc(), &listener, clients.len() as u64, step, office)
+        && energy_of_ended(office) == Some(300_000);
+    if !is_done {
+        return Ok(false);
     }
+    are_replied(rt.alloc(), &mut streams, clients)
 }
 
-// Each connection has its reply, and each name; a fault ends its connection alone; one connection is served.
 #[test]
-fn clients_are_served(rt: HostRuntime) {
-    let served: [(&[Client], Option<u64>); 4] = [
-        (&ASKING, Some(0)),
-        (&NAMED, Some(0)),
-        (&FAILING, Some(3)),
-        (&ASKING[..1], None),
+fn clients_are_served(rt: HostRuntime) -> Result<(), Fail> {
+    let served: [(&str, &[Client], Option<u64>); 4] = [
+        ("each connection has its reply", &ASKING, Some(0)),
+        ("each name has its reply", &NAMED, Some(0)),
+        ("a fault ends its connection alone", &FAILING, Some(3)),
+        ("one connection is served", &ASKING[..1], None),
     ];
-    for (clients, step) in served {
-        assert_served(&rt, &rt, &InMemory, clients, step);
+    for (name, clients, step) in served {
+        let mut office = metered(&rt, rt.alloc());
+        assert!(rt; are_served(&rt, &mut office, clients, step)?, "{name}");
     }
+    Ok(())
 }

@@ -2,12 +2,11 @@
 use crate::cases::{reply, text_reply};
 use crate::office::{polled, unmetered};
 use crate::run_questions::route_of;
-use crate::stores::Stores;
-use crate::tried::{Tried, in_memory};
 use carried_books::{EarlierDays, EarlierRegister, JoinedDays};
 use http_peers::{EarlierFiles, place_among, reply_energy_over};
 use interval_core::{Share, Zone};
-use office_books::{Books, RowSink};
+use memory_books::ListBooks;
+use office_books::RowSink;
 use office_core::Office;
 use office_events::{Installation, Name};
 use run_http::RunRoute;
@@ -69,15 +68,16 @@ impl Earlier {
 }
 
 // What is replied to a target by an office, with days of earlier files before its own.
-fn energy_over<B: Books>(
+fn energy_over(
     rt: &impl Abort,
     alloc: Global,
-    office: &mut Office<B>,
+    office: &mut Office<ListBooks>,
     earlier: &EarlierDays,
     target: &str,
 ) -> Vec<u8> {
     let zone = Zone::read("UTC0").expect(rt, "no zone");
-    let Some(RunRoute::Energy { register, form }) = route_of(rt, alloc, target) else {
+    let Some(RunRoute::Energy { register, form }) = route_of(alloc, target).expect(rt, "no memory")
+    else {
         panic!(rt; "no energy");
     };
     let name = register.expect(rt, "no name");
@@ -89,84 +89,106 @@ fn energy_over<B: Books>(
     text
 }
 
-/// A target, and the status and the body of its reply. The size of a text is in its head.
-type Asked = (&'static str, &'static str, &'static str);
+// Whether these lines are the reply.
+fn are_told(
+    rt: &impl Abort,
+    alloc: Global,
+    office: &mut Office<ListBooks>,
+    earlier: &EarlierDays,
+    target: &str,
+    lines: &str,
+) -> bool {
+    let text = energy_over(rt, alloc, office, earlier, target);
+    let expected = text_reply(alloc, lines).expect(rt, "no memory");
+    text.as_slice() == expected.as_bytes()
+}
 
-// The quarter hour from 900 is in both. What is kept of earlier files is read again and again.
-static OF_A_METER: [Asked; 5] = [
+// Whether this refusal is the reply.
+fn is_refused(
+    rt: &impl Abort,
+    alloc: Global,
+    office: &mut Office<ListBooks>,
+    earlier: &EarlierDays,
+    target: &str,
+    (status, body): (&str, &str),
+) -> bool {
+    let text = energy_over(rt, alloc, office, earlier, target);
+    let expected = reply(alloc, status, body).expect(rt, "no memory");
+    text.as_slice() == expected.as_bytes()
+}
+
+// The quarter hour from 900 is in both. What is kept of earlier files is asked for again and again.
+static TOLD: [(&str, &str); 4] = [
     (
         "/registers/main/days/1970-01-01/1970-01-02",
-        OK,
         "1970-01-01   3                   200012\nend 1\n",
     ),
     (
         "/registers/main/months",
-        OK,
         "1970-01    3                   200012\nend 1\n",
     ),
-    ("/registers/main/days/1969-12-01/1970-01-01", OK, "end 0\n"),
-    ("/registers/main/days/1970-01-02/1970-02-01", OK, "end 0\n"),
-    ("/registers/none/months", "404 Not Found", "{\"refused\":1}"),
+    ("/registers/main/days/1969-12-01/1970-01-01", "end 0\n"),
+    ("/registers/main/days/1970-01-02/1970-02-01", "end 0\n"),
 ];
 
-const OK: &str = "200 OK";
-
-// A register that has no meter has its earlier days.
-static OF_NO_METER: [Asked; 1] = [(
-    "/registers/main/months",
-    OK,
-    "1970-01    2                       12\nend 1\n",
-)];
-
-// A quarter hour before the last of the earlier files has no day.
-static AFTER_LATE_ROWS: [Asked; 1] = [(
-    "/registers/main/months",
-    "503 Service Unavailable",
-    "{\"refused\":13}",
-)];
-
-// Asserts the replies of an office over these rows of earlier files.
-fn assert_replies<B: Books>(
-    rt: &impl Abort,
-    alloc: Global,
-    mut office: Office<B>,
-    rows: &[Share],
-    cases: &[Asked],
-) {
-    let earlier = days_of(rt, alloc, rows);
-    for (target, status, body) in cases {
-        let text = energy_over(rt, alloc, &mut office, &earlier, target);
-        let wanted = if *status == OK {
-            text_reply(rt, alloc, body)
-        } else {
-            reply(rt, alloc, status, body)
-        };
-        assert!(rt; text.as_slice() == wanted.as_bytes(), "{target}");
+#[test]
+fn days_of_earlier_files_are_told_too(rt: HostRuntime) {
+    let mut office = polled(&rt, rt.alloc());
+    let earlier = days_of(&rt, rt.alloc(), &EARLIER);
+    for (target, lines) in TOLD {
+        assert!(rt; are_told(&rt, rt.alloc(), &mut office, &earlier, target, lines));
     }
 }
 
-/// The energy of earlier files is in the replies.
-pub(crate) fn assert_all<D: Stores>(rt: &impl Abort, alloc: Global, stores: &D) {
-    assert_replies(rt, alloc, polled(rt, alloc, stores), &EARLIER, &OF_A_METER);
-    assert_replies(
-        rt,
-        alloc,
-        unmetered(rt, alloc, stores),
-        &EARLIER,
-        &OF_NO_METER,
+#[test]
+fn a_register_that_has_no_meter_has_its_earlier_days(rt: HostRuntime) {
+    let mut office = unmetered(&rt, rt.alloc());
+    let earlier = days_of(&rt, rt.alloc(), &EARLIER);
+    let lines = "1970-01    2                       12\nend 1\n";
+    assert!(rt;
+        are_told(
+            &rt,
+            rt.alloc(),
+            &mut office,
+            &earlier,
+            "/registers/main/months",
+            lines
+        )
     );
-    assert_replies(
-        rt,
-        alloc,
-        polled(rt, alloc, stores),
-        &LATE,
-        &AFTER_LATE_ROWS,
-    )
 }
 
 #[test]
-fn energy_of_earlier_files_is_in_the_replies(rt: HostRuntime) {
-    in_memory(&rt, rt.alloc(), Tried::EnergyOver)
+fn a_quarter_hour_before_the_last_has_no_day(rt: HostRuntime) {
+    let mut office = polled(&rt, rt.alloc());
+    let earlier = days_of(&rt, rt.alloc(), &LATE);
+    let refusal = ("503 Service Unavailable", "{\"refused\":13}");
+    assert!(rt;
+        is_refused(
+            &rt,
+            rt.alloc(),
+            &mut office,
+            &earlier,
+            "/registers/main/months",
+            refusal
+        )
+    );
+}
+
+#[test]
+fn a_register_that_is_none_has_no_earlier_days(rt: HostRuntime) {
+    let mut office = polled(&rt, rt.alloc());
+    let earlier = days_of(&rt, rt.alloc(), &EARLIER);
+    let refusal = ("404 Not Found", "{\"refused\":1}");
+    assert!(rt;
+        is_refused(
+            &rt,
+            rt.alloc(),
+            &mut office,
+            &earlier,
+            "/registers/none/months",
+            refusal
+        )
+    );
 }
 
 #[test]

@@ -1,7 +1,8 @@
 //! Inputs that are entered into books in memory, and looked at.
-use crate::stores::Stores;
-use crate::tried::{Tried, in_memory};
+use crate::office::blank;
 use command_io::ExitStatus;
+use failing_books::FailingBooks;
+use memory_books::ListBooks;
 use office_books::Books;
 use office_events::{Device, Register};
 use office_program::{
@@ -63,12 +64,12 @@ fn enter<B: Books>(
 }
 
 /// Looks at a text: how it ends, and what it prints.
-fn check<B: Books>(
+fn check(
     alloc: Global,
-    books: B,
+    books: ListBooks,
     files: &OneFile,
     text: &[u8],
-) -> (CommandEnd<B, ExitStatus>, Vec<u8>) {
+) -> (CommandEnd<ListBooks, ExitStatus>, Vec<u8>) {
     let mut printed = Vec::new(alloc);
     let end = check_books(alloc, books, "desk", text, files, &mut printed);
     (end, printed)
@@ -232,7 +233,8 @@ static COUNTERS: [Row; 6] = [
 ];
 
 // The rows come one after the other over the same books, which held nothing.
-fn assert_rows<B: Books>(rt: &impl Abort, alloc: Global, mut books: B, rows: &[Row]) {
+fn enter_all(rt: &impl Abort, alloc: Global, rows: &[Row]) {
+    let mut books = blank(rt, alloc);
     for (place, (text, files, moment, end, printed)) in rows.iter().enumerate() {
         let (done, shown) = enter(alloc, books, files, text, *moment);
         assert!(rt; done.end == *end, "row {place}");
@@ -241,30 +243,27 @@ fn assert_rows<B: Books>(rt: &impl Abort, alloc: Global, mut books: B, rows: &[R
     }
 }
 
-/// Inputs are entered.
-pub(crate) fn assert_entered<D: Stores>(rt: &impl Abort, alloc: Global, stores: &D) {
-    assert_rows(rt, alloc, stores.blank(rt, alloc), &ONCE);
-    assert_rows(rt, alloc, stores.blank(rt, alloc), &BY_HAND);
-    assert_rows(rt, alloc, stores.blank(rt, alloc), &COUNTERS)
+#[test]
+fn inputs_are_entered(rt: HostRuntime) {
+    enter_all(&rt, rt.alloc(), &ONCE);
+    enter_all(&rt, rt.alloc(), &BY_HAND);
+    enter_all(&rt, rt.alloc(), &COUNTERS)
 }
 
 // Where a call of the books fails, nothing is known of the line, and it isn't asked.
-fn assert_doubt<B: Books>(rt: &impl Abort, alloc: Global, books: B) {
-    let (done, shown) = enter(alloc, books, &LIST, b"5 manual main 105002 0\n", 4600);
-    let printed = if done.books.faults() == 0 {
-        b"doubted 100002000\n".as_slice()
-    } else {
-        b"refused 13\n".as_slice()
-    };
-    assert!(rt; done.end == ExitStatus::Refused);
-    assert!(rt; shown.as_slice() == printed);
-}
-
-/// A doubt that can't be printed is a refusal.
-pub(crate) fn assert_doubts<D: Stores>(rt: &impl Abort, alloc: Global, stores: &D) {
+#[test]
+fn a_doubt_that_is_not_told_is_a_refusal(rt: HostRuntime) {
     for failing in 1..12 {
-        let (site, _) = enter(alloc, stores.blank(rt, alloc), &LIST, SITE, 1000);
-        assert_doubt(rt, alloc, stores.failing(site.books, failing));
+        let (site, _) = enter(rt.alloc(), blank(&rt, rt.alloc()), &LIST, SITE, 1000);
+        let books = FailingBooks::new(site.books, failing);
+        let (done, shown) = enter(rt.alloc(), books, &LIST, b"5 manual main 105002 0\n", 4600);
+        let printed = if done.books.faults() == 0 {
+            b"doubted 100002000\n".as_slice()
+        } else {
+            b"refused 13\n".as_slice()
+        };
+        assert!(rt; done.end == ExitStatus::Refused);
+        assert!(rt; shown.as_slice() == printed, "{failing}");
     }
 }
 
@@ -281,50 +280,24 @@ static LOOKS: [(&[u8], &[u8]); 3] = [
     ),
 ];
 
-// Asserts what a look at a text prints. Returns the books.
-fn assert_look<B: Books>(
-    rt: &impl Abort,
-    alloc: Global,
-    books: B,
-    text: &[u8],
-    printed: &[u8],
-) -> B {
-    let (done, shown) = check(alloc, books, &LIST, text);
-    assert!(rt; shown.as_slice() == printed);
-    done.books
-}
-
-/// A look books nothing.
-pub(crate) fn assert_looks<D: Stores>(rt: &impl Abort, alloc: Global, stores: &D) {
-    let (done, shown) = check(alloc, stores.blank(rt, alloc), &LIST, SITE);
+#[test]
+fn looking_books_nothing(rt: HostRuntime) {
+    let (done, shown) = check(rt.alloc(), blank(&rt, rt.alloc()), &LIST, SITE);
     assert!(rt; done.end == ExitStatus::Fine);
     assert!(rt; shown.as_slice() == b"new\nnew\nnew\nnew\n".as_slice());
-    let (done, shown) = enter(alloc, done.books, &LIST, SITE, 1000);
+    let (done, shown) = enter(rt.alloc(), done.books, &LIST, SITE, 1000);
     assert!(rt; shown.as_slice() == b"ok\nok\nok\nok\n".as_slice());
     let mut books = done.books;
     for (text, printed) in &LOOKS {
-        books = assert_look(rt, alloc, books, text, printed);
+        let (done, shown) = check(rt.alloc(), books, &LIST, text);
+        assert!(rt; shown.as_slice() == *printed);
+        books = done.books;
     }
-}
-
-#[test]
-fn inputs_are_entered(rt: HostRuntime) {
-    in_memory(&rt, rt.alloc(), Tried::Entering)
-}
-
-#[test]
-fn a_doubt_that_is_not_told_is_a_refusal(rt: HostRuntime) {
-    in_memory(&rt, rt.alloc(), Tried::Doubts)
-}
-
-#[test]
-fn looking_books_nothing(rt: HostRuntime) {
-    in_memory(&rt, rt.alloc(), Tried::Looks)
 }
 
 #[test]
 fn laws_of_repeats_are_called(rt: HostRuntime) {
     requests_are_repeated();
     inputs_act_once(&LIST);
-    assert!(rt; LIST.bytes.len() <= MOST_FILE);
+    assert_eq!(rt; LIST.bytes.len() <= MOST_FILE, true);
 }

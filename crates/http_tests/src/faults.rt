@@ -6,11 +6,15 @@ use std::alloc::Global;
 use std::fmt::Display;
 use std::process::Abort;
 
-// Asserts that each fault says its text, which has no full stop.
-fn assert_texts<F: Display>(rt: &impl Abort, alloc: Global, texts: &[(F, &str)]) {
+// Each fault says its text, which has no full stop.
+fn tells<F: Display>(rt: &impl Abort, alloc: Global, texts: &[(F, &str)]) {
     for (fault, text) in texts {
-        let said = format!(in alloc; "{fault}").expect(rt, "no memory");
-        assert!(rt; said.as_str() == *text, "{text}");
+        assert_eq!(rt;
+            format!(in alloc; "{fault}")
+                .expect(rt, "no memory")
+                .as_str(),
+            *text
+        );
         assert!(rt; !text.ends_with('.'));
     }
 }
@@ -34,9 +38,9 @@ const TAKES: [(TakeFault, &str); 3] = [
 ];
 
 #[test]
-fn bodies_and_reads_say_their_faults(rt: HostRuntime) {
-    assert_texts(&rt, rt.alloc(), &BODIES);
-    assert_texts(&rt, rt.alloc(), &TAKES)
+fn bodies_and_takes_tell_their_faults(rt: HostRuntime) {
+    tells(&rt, rt.alloc(), &BODIES);
+    tells(&rt, rt.alloc(), &TAKES)
 }
 
 // One faulty row.
@@ -49,7 +53,7 @@ fn faulty(rt: &impl Abort, alloc: Global) -> FaultyRows {
 }
 
 #[test]
-fn commands_say_their_rows(rt: HostRuntime) {
+fn commands_tell_their_rows(rt: HostRuntime) {
     let commands = [
         (
             CommandFault::Malformed,
@@ -62,5 +66,5 @@ fn commands_say_their_rows(rt: HostRuntime) {
         ),
         (CommandFault::Memory, "memory ran out"),
     ];
-    assert_texts(&rt, rt.alloc(), &commands)
+    tells(&rt, rt.alloc(), &commands)
 }

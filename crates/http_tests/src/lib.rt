@@ -26,6 +26,10 @@ mod held_readings;
 #[cfg(test)]
 mod hosts;
 #[cfg(test)]
+mod lines;
+#[cfg(test)]
+mod links;
+#[cfg(test)]
 mod narrow;
 #[cfg(test)]
 mod office;
@@ -58,10 +62,6 @@ mod sockets;
 #[cfg(test)]
 mod stops;
 #[cfg(test)]
-mod stores;
-#[cfg(test)]
 mod tables;
 #[cfg(test)]
 mod times;
-#[cfg(test)]
-mod tried;

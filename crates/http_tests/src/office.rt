@@ -1,8 +1,8 @@
-//! Offices that requests by HTTP told of the device `inv`, its register `main` and the meter `m1` there.
+//! Offices over books in memory that requests by HTTP told of the device `inv`, its register `main` and the meter `m1` there.
 use crate::cases::serve;
-use crate::stores::Stores;
+use interval_core::Zone;
 use mb_wire::ReadSpan;
-use office_books::Books;
+use memory_books::ListBooks;
 use office_core::Office;
 use office_events::{Command, Event, Name, Piece, StartPoll};
 use std::alloc::Global;
@@ -15,25 +15,28 @@ static REQUESTS: [&[u8]; 3] = [
     b"POST /registers/main/install HTTP/1.1\r\nContent-Length: 49\r\nOffice-Caller: desk\r\nOffice-Request: 3\r\n\r\n{\"meter\":\"m1\",\"raw\":5000,\"sf\":0,\"ceiling\":100000}",
 ];
 
-/// Opens an office over books at a moment.
-pub(crate) fn opened<B: Books>(rt: &impl Abort, alloc: Global, books: B, at: u64) -> Office<B> {
-    match Office::open(alloc, books, at) {
+/// Books in memory that hold nothing.
+pub(crate) fn blank(rt: &impl Abort, alloc: Global) -> ListBooks {
+    ListBooks::new(alloc, Zone::read("UTC0").expect(rt, "no zone"))
+}
+
+/// An office over such books.
+pub(crate) fn opened(rt: &impl Abort, alloc: Global) -> Office<ListBooks> {
+    match Office::open(alloc, blank(rt, alloc), 0) {
         Ok(office) => office,
         Err(_) => panic!(rt; "not opened"),
     }
 }
 
-// An office over new books, to which these requests came at moment 1000.
-fn told<D: Stores>(
-    rt: &impl Abort,
-    alloc: Global,
-    stores: &D,
-    requests: &[&[u8]],
-) -> Office<D::Store> {
-    let mut office = opened(rt, alloc, stores.blank(rt, alloc), 0);
+// An office to which these requests came at moment 1000.
+fn told(rt: &impl Abort, alloc: Global, requests: &[&[u8]]) -> Office<ListBooks> {
+    let mut office = opened(rt, alloc);
     for request in requests {
-        let served = serve(rt, alloc, &mut office, 1000, request);
-        if served.handled.is_err() {
+        if serve(alloc, &mut office, 1000, request)
+            .expect(rt, "no memory")
+            .handled
+            .is_err()
+        {
             panic!(rt; "not served");
         }
     }
@@ -41,13 +44,13 @@ fn told<D: Stores>(
 }
 
 /// An office with a device and a register, at which no meter was installed.
-pub(crate) fn unmetered<D: Stores>(rt: &impl Abort, alloc: Global, stores: &D) -> Office<D::Store> {
-    told(rt, alloc, stores, &REQUESTS[..2])
+pub(crate) fn unmetered(rt: &impl Abort, alloc: Global) -> Office<ListBooks> {
+    told(rt, alloc, &REQUESTS[..2])
 }
 
 /// An office whose meter showed 5000 at moment 1000.
-pub(crate) fn metered<D: Stores>(rt: &impl Abort, alloc: Global, stores: &D) -> Office<D::Store> {
-    told(rt, alloc, stores, &REQUESTS)
+pub(crate) fn metered(rt: &impl Abort, alloc: Global) -> Office<ListBooks> {
+    told(rt, alloc, &REQUESTS)
 }
 
 // 3 registers from 40094: the counter 5200 and the scale 0.
@@ -57,7 +60,7 @@ fn inv() -> Option<Name> {
     Name::new(b"inv")
 }
 
-/// The device is connected, its poll is started, and the response comes.
+/// The device is connected, its poll is started, and the reply comes.
 pub(crate) fn poll(rt: &impl Abort, alloc: Global) -> [Event; 3] {
     let span = ReadSpan::new(3, 40_094, 3).expect(rt, "no span");
     let frame = FRAME.to_vec(alloc).expect(rt, "no memory");
@@ -71,14 +74,13 @@ pub(crate) fn poll(rt: &impl Abort, alloc: Global) -> [Event; 3] {
 }
 
 // The office after these events, each at its moment.
-fn following<B: Books>(
+fn following(
     rt: &impl Abort,
-    alloc: Global,
-    mut office: Office<B>,
+    mut office: Office<ListBooks>,
     moments: &[u64],
-) -> Office<B> {
-    let events = poll(rt, alloc);
-    for (moment, event) in moments.iter().zip(&events) {
+    events: &[Event],
+) -> Office<ListBooks> {
+    for (moment, event) in moments.iter().zip(events) {
         if office.feed(*moment, event).is_err() {
             panic!(rt; "refused");
         }
@@ -87,11 +89,13 @@ fn following<B: Books>(
 }
 
 /// An office that has polled its device: the meter has gone from 5000 to 5200, which is 200 Wh.
-pub(crate) fn polled<D: Stores>(rt: &impl Abort, alloc: Global, stores: &D) -> Office<D::Store> {
-    following(rt, alloc, metered(rt, alloc, stores), &[1898, 1898, 1900])
+pub(crate) fn polled(rt: &impl Abort, alloc: Global) -> Office<ListBooks> {
+    let events = poll(rt, alloc);
+    following(rt, metered(rt, alloc), &[1898, 1898, 1900], &events)
 }
 
 /// Books in which the poll 1 of the device waits since moment 2000.
-pub(crate) fn waiting<D: Stores>(rt: &impl Abort, alloc: Global, stores: &D) -> D::Store {
-    following(rt, alloc, unmetered(rt, alloc, stores), &[2000, 2000]).into_books()
+pub(crate) fn waiting(rt: &impl Abort, alloc: Global) -> ListBooks {
+    let events = poll(rt, alloc);
+    following(rt, unmetered(rt, alloc), &[2000, 2000], &events).into_books()
 }

@@ -1,22 +1,21 @@
 //! Peers of a run, over sockets that don't wait.
-use crate::connections::{REQUEST, Stepping, client_of, energy_of_ended, read_all};
+use crate::connections::{REQUEST, Stepping, client_of, energy_of_ended};
 use crate::energy_over::Earlier;
 use crate::office::{metered, polled};
-use crate::stores::{InMemory, Stores};
 use http_peers::{
     EarlierFiles, HttpPort, KeptRoom, Now, Outbox, PORT_TOKEN, RunSystem, RunTold, Went,
     even_milliseconds, went_by,
 };
+use memory_books::ListBooks;
 use mio::{Events, Interest, Poll, Token};
-use office_books::Books;
 use office_core::Office;
 use run_http::PeerReply;
 use run_schedule::{MOST_PEERS, place_at};
 use run_status::RunMonitor;
-use std::alloc::Global;
-use std::io::{self, ErrorKind};
+use std::alloc::{AllocError, Global};
+use std::io::{self, ErrorKind, Read};
 use std::net::{TcpListener, TcpStream};
-use std::process::Abort;
+use std::test::Fail;
 use std::time::Duration;
 
 // A clock, and whether the files of the office are still there.
@@ -62,28 +61,32 @@ fn registered(listener: TcpListener, poll: &Poll) -> io::Result<mio::net::TcpLis
 }
 
 impl Listening {
-    fn open(
-        rt: &HostRuntime,
-        test: &impl Abort,
-        listener: TcpListener,
+    fn of(
+        alloc: Global,
+        poll: Poll,
+        listener: mio::net::TcpListener,
         room: KeptRoom,
-        are_there: bool,
-    ) -> Listening {
-        let poll = Poll::new(rt).expect(test, "no poll");
-        let listener = registered(listener, &poll).expect(test, "not registered");
-        let port = HttpPort::new(rt.alloc(), listener, room, MOST_PEERS);
-        let clock = Stepping::of(7, 0);
-        Listening {
-            system: System { clock, are_there },
+    ) -> Result<Listening, AllocError> {
+        Ok(Listening {
+            system: System {
+                clock: Stepping::of(7, 0),
+                are_there: true,
+            },
             poll,
-            events: Events::with_capacity(rt.alloc(), 8).expect(test, "no memory"),
-            port: port.expect(test, "no memory"),
-            monitor: RunMonitor::new(rt.alloc(), &[]).expect(test, "no memory"),
-        }
+            events: Events::with_capacity(alloc, 8)?,
+            port: HttpPort::new(alloc, listener, room, MOST_PEERS)?,
+            monitor: RunMonitor::new(alloc, &[])?,
+        })
+    }
+
+    fn open(rt: &HostRuntime, listener: TcpListener, room: KeptRoom) -> Result<Listening, Fail> {
+        let poll = Poll::new(rt)?;
+        let listener = registered(listener, &poll)?;
+        Ok(Listening::of(rt.alloc(), poll, listener, room)?)
     }
 
     // What waits is accepted, each peer attended, and those that were replied to are dropped.
-    fn turn<B: Books>(&mut self, earlier: &EarlierFiles<'_>, office: &mut Office<B>, time: u64) {
+    fn turn(&mut self, earlier: &EarlierFiles<'_>, office: &mut Office<ListBooks>, time: u64) {
         let now = Now { time, moment: 2800 };
         self.port.begin_turn();
         self.port.accept(self.poll.registry(), time);
@@ -112,10 +115,10 @@ impl Listening {
         Ok(())
     }
 
-    fn turns<B: Books>(
+    fn turns(
         &mut self,
         earlier: &EarlierFiles<'_>,
-        office: &mut Office<B>,
+        office: &mut Office<ListBooks>,
     ) -> io::Result<()> {
         for time in 0..3 {
             self.turn(earlier, office, time);
@@ -126,38 +129,44 @@ impl Listening {
     }
 }
 
-// Asserts that the clients of a listener are served, so that none of them waits. It is then to be reported once that nothing more
-// is kept, or isn't.
-fn assert_served<B: Books>(
+// Whether the clients of a listener are served, so that none of them waits, and it is then to be said once that nothing more is
+// kept, or isn't.
+fn serves(
     rt: &HostRuntime,
-    test: &impl Abort,
     listener: TcpListener,
     room: KeptRoom,
     earlier: &Earlier,
-    office: &mut Office<B>,
+    office: &mut Office<ListBooks>,
     is_full: bool,
-) {
-    let mut listening = Listening::open(rt, test, listener, room, true);
-    assert!(test; listening.turns(&earlier.files(), office).is_ok());
-    assert!(test; !listening.port.is_waiting() && !listening.port.is_ready());
-    assert!(test; listening.port.take_full() == is_full);
-    assert!(test; !listening.port.take_full());
+) -> Result<bool, Fail> {
+    let mut listening = Listening::open(rt, listener, room)?;
+    listening.turns(&earlier.files(), office)?;
+    let is_idle = !listening.port.is_waiting() && !listening.port.is_ready();
+    let is_told = listening.port.take_full() == is_full;
+    Ok(is_idle && is_told && !listening.port.take_full())
 }
 
-// What a client is replied that sends this. It is then to be reported that nothing more is kept, or isn't.
-fn replied<B: Books>(
+fn read_all(alloc: Global, mut stream: TcpStream) -> Result<Vec<u8>, Fail> {
+    let mut got = Vec::new(alloc);
+    stream.read_to_end(&mut got)?;
+    Ok(got)
+}
+
+// What a client is replied that asks this; it is then to be said that nothing more is kept, or isn't.
+fn replied(
     rt: &HostRuntime,
-    test: &impl Abort,
     room: KeptRoom,
     request: &[u8],
     earlier: &Earlier,
-    office: &mut Office<B>,
+    office: &mut Office<ListBooks>,
     is_full: bool,
-) -> Vec<u8> {
-    let listener = TcpListener::bind(rt, "127.0.0.1:0").expect(test, "no listener");
-    let mut client = client_of(rt, &listener, request).expect(test, "no client");
-    assert_served(rt, test, listener, room, earlier, office, is_full);
-    read_all(test, rt.alloc(), &mut client)
+) -> Result<Vec<u8>, Fail> {
+    let listener = TcpListener::bind(rt, "127.0.0.1:0")?;
+    let client = client_of(rt, &listener, request)?;
+    if !serves(rt, listener, room, earlier, office, is_full)? {
+        return Err(Fail::from("a client waits, or what is kept is told otherwise"));
+    }
+    read_all(rt.alloc(), client)
 }
 
 static MONTHS: &[u8] = b"GET /registers/main/months HTTP/1.1\r\n\r\n";
@@ -166,11 +175,14 @@ static MONTHS_OF_BOTH: &[u8] =
     b"HTTP/1.1 200 OK\r\nX-Content-Type-Options: nosniff\r\nCross-Origin-Resource-Policy: same-origin\r\nCache-Control: no-store\r\nContent-Type: text/plain\r\nContent-Length: 44\r\nConnection: close\r\n\r\n1970-01    3                   200012\nend 1\n";
 
 // The quarter hour from 900 is in both, and counted once.
-fn assert_months<D: Stores>(rt: &HostRuntime, test: &impl Abort, stores: &D, earlier: &Earlier) {
-    let mut office = polled(test, rt.alloc(), stores);
+#[test]
+fn a_peer_is_told_of_earlier_files_too(rt: HostRuntime) -> Result<(), Fail> {
+    let mut office = polled(&rt, rt.alloc());
+    let earlier = Earlier::of_main(&rt, rt.alloc());
     let room = KeptRoom::new(None, 0);
-    let got = replied(rt, test, room, MONTHS, earlier, &mut office, false);
-    assert!(test; got.as_slice() == MONTHS_OF_BOTH);
+    let got = replied(&rt, room, MONTHS, &earlier, &mut office, false)?;
+    assert!(rt; got.as_slice() == MONTHS_OF_BOTH);
+    Ok(())
 }
 
 static AFTER_LINES: &[u8] =
@@ -186,8 +198,8 @@ static NO_ROOM: &[u8] =
 /// of the meter where the request ended it.
 type Kept = (u64, u64, &'static [u8], bool, &'static [u8], Option<u64>);
 
-// A client is replied to, and its command is carried out where it may be kept.
-fn assert_kept<D: Stores>(rt: &HostRuntime, test: &impl Abort, stores: &D, earlier: &Earlier) {
+#[test]
+fn a_peer_is_replied_to(rt: HostRuntime) -> Result<(), Fail> {
     let peers: [Kept; 2] = [
         (
             REQUEST.len() as u64,
@@ -197,66 +209,47 @@ fn assert_kept<D: Stores>(rt: &HostRuntime, test: &impl Abort, stores: &D, earli
             EXCHANGED,
             Some(300_000),
         ),
-        // a command has no room; empty lines before it don't hide it from the count of kept bytes
+        // a command has no room; empty lines before it don't hide it from who counts what is kept
         (300, 200, AFTER_LINES, true, NO_ROOM, None),
     ];
+    let earlier = Earlier::of_main(&rt, rt.alloc());
     for (most, kept, request, is_full, reply, energy) in peers {
-        let mut office = metered(test, rt.alloc(), stores);
+        let mut office = metered(&rt, rt.alloc());
         let room = KeptRoom::new(Some(most), kept);
-        let got = replied(rt, test, room, request, earlier, &mut office, is_full);
-        assert!(test; got.as_slice() == reply, "room for {most}");
-        assert!(test; energy_of_ended(&mut office) == energy, "room for {most}");
+        let got = replied(&rt, room, request, &earlier, &mut office, is_full)?;
+        assert!(rt; got.as_slice() == reply, "room for {most}");
+        assert!(rt; energy_of_ended(&mut office) == energy, "room for {most}");
     }
+    Ok(())
 }
 
-// A file of the office is gone. A command alone has the files looked at.
-fn assert_files_lost<B: Books>(
+// The reply to this request while a file of the office is gone.
+fn replied_without_files(
     rt: &HostRuntime,
-    test: &impl Abort,
-    listener: TcpListener,
-    earlier: &Earlier,
-    office: &mut Office<B>,
-    is_command: bool,
-) {
-    let room = KeptRoom::new(None, 0);
-    let mut listening = Listening::open(rt, test, listener, room, false);
-    assert!(test; listening.turns(&earlier.files(), office).is_ok());
-    assert!(test; listening.port.has_lost() == is_command);
-}
-
-// What a client is replied that sends this, while a file of the office is gone.
-fn replied_without_files<B: Books>(
-    rt: &HostRuntime,
-    test: &impl Abort,
     request: &[u8],
     earlier: &Earlier,
-    office: &mut Office<B>,
-) -> Vec<u8> {
-    let listener = TcpListener::bind(rt, "127.0.0.1:0").expect(test, "no listener");
-    let mut client = client_of(rt, &listener, request).expect(test, "no client");
-    assert_files_lost(rt, test, listener, earlier, office, request == REQUEST);
-    read_all(test, rt.alloc(), &mut client)
-}
-
-// A command over lost files is not acknowledged, and a question is answered.
-fn assert_lost<D: Stores>(rt: &HostRuntime, test: &impl Abort, stores: &D, earlier: &Earlier) {
-    let mut office = polled(test, rt.alloc(), stores);
-    let got = replied_without_files(rt, test, REQUEST, earlier, &mut office);
-    assert!(test; got.as_slice() == NO_ROOM);
-    let got = replied_without_files(rt, test, MONTHS, earlier, &mut office);
-    assert!(test; got.starts_with(b"HTTP/1.1 200 "));
-}
-
-fn assert_all<D: Stores>(rt: &HostRuntime, test: &impl Abort, stores: &D) {
-    let earlier = Earlier::of_main(test, rt.alloc());
-    assert_months(rt, test, stores, &earlier);
-    assert_kept(rt, test, stores, &earlier);
-    assert_lost(rt, test, stores, &earlier)
+    office: &mut Office<ListBooks>,
+) -> Result<Vec<u8>, Fail> {
+    let listener = TcpListener::bind(rt, "127.0.0.1:0")?;
+    let client = client_of(rt, &listener, request)?;
+    let mut listening = Listening::open(rt, listener, KeptRoom::new(None, 0))?;
+    listening.system.are_there = false;
+    listening.turns(&earlier.files(), office)?;
+    if listening.port.has_lost() != (request == REQUEST) {
+        return Err(Fail::from("the files are looked at for another request"));
+    }
+    read_all(rt.alloc(), client)
 }
 
 #[test]
-fn a_peer_is_replied_to(rt: HostRuntime) {
-    assert_all(&rt, &rt, &InMemory)
+fn a_command_over_lost_files_is_not_acknowledged(rt: HostRuntime) -> Result<(), Fail> {
+    let mut office = polled(&rt, rt.alloc());
+    let earlier = Earlier::of_main(&rt, rt.alloc());
+    let got = replied_without_files(&rt, REQUEST, &earlier, &mut office)?;
+    assert!(rt; got.as_slice() == NO_ROOM);
+    let got = replied_without_files(&rt, MONTHS, &earlier, &mut office)?;
+    assert!(rt; got.starts_with(b"HTTP/1.1 200 "));
+    Ok(())
 }
 
 static GET: &[u8] = b"GET /meters/m1 HTTP/1.1\r\n\r\n";
@@ -265,23 +258,23 @@ static GET: &[u8] = b"GET /meters/m1 HTTP/1.1\r\n\r\n";
 static POST: &[u8] = b"\r\nPOST /devices HTTP/1.1\r\n\r\n";
 
 // A reply that begins so.
-fn reply_of(rt: &impl Abort, alloc: Global, text: &[u8]) -> PeerReply {
-    PeerReply::Replied(text.to_vec(alloc).expect(rt, "no memory"))
+fn reply_of(alloc: Global, text: &[u8]) -> Result<PeerReply, AllocError> {
+    Ok(PeerReply::Replied(text.to_vec(alloc)?))
 }
 
 #[test]
-fn a_command_that_acted_is_counted(rt: HostRuntime) {
+fn a_command_that_acted_is_counted(rt: HostRuntime) -> Result<(), Fail> {
     let mut room = KeptRoom::new(Some(100), 60);
-    let refused = reply_of(&rt, rt.alloc(), b"HTTP/1.1 409 Conflict");
-    let acted = reply_of(&rt, rt.alloc(), b"HTTP/1.1 200 OK");
     assert!(rt; !room.lacks(POST));
     room.count(POST, &PeerReply::Open);
-    room.count(POST, &refused);
+    room.count(POST, &reply_of(rt.alloc(), b"HTTP/1.1 409 Conflict")?);
+    let acted = reply_of(rt.alloc(), b"HTTP/1.1 200 OK")?;
     room.count(GET, &acted);
     assert!(rt; !room.lacks(POST));
     room.count(POST, &acted);
     assert!(rt; room.lacks(POST));
     assert!(rt; !room.lacks(GET));
+    Ok(())
 }
 
 #[test]
@@ -298,34 +291,40 @@ fn is_taken(stream: TcpStream, outbox: &mut Outbox) -> bool {
     outbox.write_all(&stream) == Went::On && outbox.is_written()
 }
 
-// Asserts the bytes that come of a connection on which an outbox is written.
-fn assert_written(rt: &HostRuntime, test: &impl Abort, outbox: &mut Outbox, bytes: &[u8]) {
-    let listener = TcpListener::bind(rt, "127.0.0.1:0").expect(test, "no listener");
-    let client = client_of(rt, &listener, b"").expect(test, "no client");
-    assert!(test; is_taken(client, outbox));
-    let (mut stream, _) = listener.accept().expect(test, "no stream");
-    let got = read_all(test, rt.alloc(), &mut stream);
-    assert!(test; got.as_slice() == bytes);
+// What comes of a connection on which an outbox was written.
+fn written(rt: &HostRuntime, outbox: &mut Outbox) -> Result<Vec<u8>, Fail> {
+    let listener = TcpListener::bind(rt, "127.0.0.1:0")?;
+    if !is_taken(client_of(rt, &listener, b"")?, outbox) {
+        return Err(Fail::from("a connection takes less than it is given"));
+    }
+    read_all(rt.alloc(), listener.accept()?.0)
+}
+
+// An outbox of some bytes.
+fn outbox_of(alloc: Global, bytes: &[u8]) -> Result<Outbox, AllocError> {
+    Ok(Outbox::of(bytes.to_vec(alloc)?))
 }
 
 #[test]
-fn what_is_put_is_written_once(rt: HostRuntime) {
-    let one = b"one".to_vec(rt.alloc()).expect(&rt, "no memory");
-    let mut outbox = Outbox::of(one);
-    outbox.put(b"two").expect(&rt, "no memory");
-    assert!(rt; outbox.len() == 6 && !outbox.is_written());
-    assert_written(&rt, &rt, &mut outbox, b"onetwo");
+fn what_is_put_is_written_once(rt: HostRuntime) -> Result<(), Fail> {
+    let mut outbox = outbox_of(rt.alloc(), b"one")?;
+    outbox.put(b"two")?;
+    assert!(rt; outbox.len() == 6);
+    assert!(rt; !outbox.is_written());
+    assert!(rt; written(&rt, &mut outbox)?.as_slice() == b"onetwo".as_slice());
     assert!(rt; !outbox.is_empty());
+    Ok(())
 }
 
 #[test]
-fn what_was_written_makes_room(rt: HostRuntime) {
+fn what_was_written_makes_room(rt: HostRuntime) -> Result<(), Fail> {
     let mut outbox = Outbox::empty(rt.alloc());
     assert!(rt; outbox.is_empty() && outbox.is_written());
-    outbox.put(b"one").expect(&rt, "no memory");
-    assert_written(&rt, &rt, &mut outbox, b"one");
-    outbox.put(b"more").expect(&rt, "no memory");
+    outbox.put(b"one")?;
+    assert!(rt; written(&rt, &mut outbox)?.as_slice() == b"one".as_slice());
+    outbox.put(b"more")?;
     assert!(rt; outbox.len() == 4);
+    Ok(())
 }
 
 #[test]

@@ -1,10 +1,9 @@
-//! Replies with quarter hours of a meter that are sent piece by piece.
+//! Replies with quarter hours of a meter that are told piece by piece.
 use crate::cases::{serve, text_reply};
 use crate::office::polled;
-use crate::stores::Stores;
-use crate::tried::{Tried, in_memory};
 use http_request::router;
-use office_books::{Books, Span};
+use memory_books::ListBooks;
+use office_books::Span;
 use office_core::Office;
 use office_events::{Installation, Name};
 use run_http::{
@@ -14,49 +13,58 @@ use run_http::{
 use std::alloc::Global;
 use std::process::Abort;
 
-// Where the meter stands: its counter went on from moment 1000 to 1900.
-fn meter<B: Books>(rt: &impl Abort, office: &mut Office<B>) -> Installation {
+// Where the meter stands: its counter has gone on from moment 1000 to 1900.
+fn meter(rt: &impl Abort, office: &mut Office<ListBooks>) -> Installation {
     match office.meter(&Name::new(b"m1")) {
         Ok(it) => it,
         Err(_) => panic!(rt; "no meter"),
     }
 }
 
-// Begins a reply with the rows of a span, or with all rows where none is given. Returns the rows that are left.
-fn begun<B: Books>(
+// What a reply with rows of a span begins with, and what is still to be told of it.
+fn begun(
     rt: &impl Abort,
     alloc: Global,
     text: &mut Vec<u8>,
-    office: &mut Office<B>,
-    span: Option<(u64, u64)>,
+    office: &mut Office<ListBooks>,
+    from: u64,
+    till: u64,
 ) -> RowsLeft {
     let it = meter(rt, office);
-    let begun = match span {
-        Some((from, till)) => begin_intervals(alloc, text, office, &it, from, till),
-        None => begin_all_intervals(alloc, text, office, &it),
-    };
-    match begun.expect(rt, "no memory") {
+    match begin_intervals(alloc, text, office, &it, from, till).expect(rt, "no memory") {
         Ok(left) => left,
         Err(_) => panic!(rt; "refused"),
     }
 }
 
-// Appends the rest of a reply, in pieces of so many seconds. Returns how many pieces have rows that were asked for.
-fn finish<B: Books>(
+// One piece of so many seconds.
+fn tell_piece(
     rt: &impl Abort,
     alloc: Global,
     text: &mut Vec<u8>,
-    office: &mut Office<B>,
+    office: &mut Office<ListBooks>,
+    left: &mut RowsLeft,
+    seconds: u64,
+) {
+    match tell_rows(alloc, text, office, left, seconds).expect(rt, "no memory") {
+        Ok(()) => (),
+        Err(_) => panic!(rt; "refused"),
+    }
+}
+
+// What is told of a reply, in pieces of so many seconds; it answers how many pieces have rows that were asked for.
+fn tell_all(
+    rt: &impl Abort,
+    alloc: Global,
+    text: &mut Vec<u8>,
+    office: &mut Office<ListBooks>,
     left: &mut RowsLeft,
     seconds: u64,
 ) -> u32 {
     let mut count = 0u32;
     for _piece in 0..20 {
         if has_more(left) {
-            let told = tell_rows(alloc, text, office, left, seconds).expect(rt, "no memory");
-            if told.is_err() {
-                panic!(rt; "refused");
-            }
+            tell_piece(rt, alloc, text, office, left, seconds);
             count = count.saturating_add(1);
         }
     }
@@ -64,17 +72,31 @@ fn finish<B: Books>(
     count
 }
 
-// A whole reply, in pieces of so many seconds.
-fn in_pieces<B: Books>(
+// All that a span's reply has, told at once.
+fn whole(
     rt: &impl Abort,
     alloc: Global,
-    office: &mut Office<B>,
-    span: Option<(u64, u64)>,
+    office: &mut Office<ListBooks>,
+    from: u64,
+    till: u64,
+) -> Vec<u8> {
+    let mut text = Vec::new(alloc);
+    let span = Span::Between { from, till };
+    reply_intervals(alloc, &mut text, office, &Name::new(b"m1"), span).expect(rt, "no memory");
+    text
+}
+
+// The same, told in pieces of so many seconds.
+fn in_pieces(
+    rt: &impl Abort,
+    alloc: Global,
+    office: &mut Office<ListBooks>,
+    (from, till): (u64, u64),
     seconds: u64,
 ) -> Vec<u8> {
     let mut text = Vec::new(alloc);
-    let mut left = begun(rt, alloc, &mut text, office, span);
-    finish(rt, alloc, &mut text, office, &mut left, seconds);
+    let mut left = begun(rt, alloc, &mut text, office, from, till);
+    tell_all(rt, alloc, &mut text, office, &mut left, seconds);
     text
 }
 
@@ -88,13 +110,13 @@ static SPANS: [(u64, u64); 6] = [
 ];
 
 // In pieces of a quarter hour, of less, and of all at once.
-fn assert_pieces<B: Books>(rt: &impl Abort, alloc: Global, office: &mut Office<B>) {
+#[test]
+fn pieces_are_the_reply(rt: HostRuntime) {
+    let mut office = polled(&rt, rt.alloc());
     for (from, till) in SPANS {
-        let mut whole = Vec::new(alloc);
-        let span = Span::Between { from, till };
-        reply_intervals(alloc, &mut whole, office, &Name::new(b"m1"), span).expect(rt, "no memory");
+        let whole = whole(&rt, rt.alloc(), &mut office, from, till);
         for seconds in [100, 900, 90000] {
-            let text = in_pieces(rt, alloc, office, Some((from, till)), seconds);
+            let text = in_pieces(&rt, rt.alloc(), &mut office, (from, till), seconds);
             assert!(rt;
                 text.as_slice() == whole.as_slice(),
                 "{from} {till} {seconds}"
@@ -103,53 +125,71 @@ fn assert_pieces<B: Books>(rt: &impl Abort, alloc: Global, office: &mut Office<B
     }
 }
 
+// The counter goes on after the reply was begun, so that its last row would have more, and another would follow.
+static LATER: &[u8] =
+    b"POST /registers/main/manual HTTP/1.1\r\nContent-Length: 22\r\nOffice-Caller: desk\r\nOffice-Request: 4\r\n\r\n{\"raw\":5500,\"rolls\":0}";
+
+// What is told of a reply that had begun then, and in how many pieces.
+fn told_of_before(
+    rt: &impl Abort,
+    alloc: Global,
+    office: &mut Office<ListBooks>,
+) -> (u32, Vec<u8>) {
+    let mut text = Vec::new(alloc);
+    let mut left = begun(rt, alloc, &mut text, office, 0, 9000);
+    let served = serve(alloc, office, 2800, LATER).expect(rt, "no memory");
+    if !served.given.starts_with(b"HTTP/1.1 200 ") {
+        panic!(rt; "not read");
+    }
+    let count = tell_all(rt, alloc, &mut text, office, &mut left, 900);
+    (count, text)
+}
+
+#[test]
+fn what_comes_meanwhile_is_not_told(rt: HostRuntime) {
+    let mut office = polled(&rt, rt.alloc());
+    let (count, text) = told_of_before(&rt, rt.alloc(), &mut office);
+    assert!(rt; count == 1);
+    let expected = text_reply(rt.alloc(), "900 177777\n1800 22223\nend 2\n").expect(
+        &rt,
+        "no memory",
+    );
+    assert!(rt; text.as_slice() == expected.as_bytes());
+}
+
 static ALL_ROWS: &[u8] = b"GET /meters/m1/intervals HTTP/1.1\r\nHost: localhost\r\n\r\n";
 
-// All rows in pieces are the reply of the office.
-fn assert_all_rows<B: Books>(rt: &impl Abort, alloc: Global, office: &mut Office<B>) {
-    let text = in_pieces(rt, alloc, office, None, 900);
-    match ask(alloc, ALL_ROWS, office, 1900) {
+// All rows of the meter, told in pieces of a quarter hour.
+fn all_in_pieces(rt: &impl Abort, alloc: Global, office: &mut Office<ListBooks>) -> Vec<u8> {
+    let it = meter(rt, office);
+    let mut text = Vec::new(alloc);
+    let begun = begin_all_intervals(alloc, &mut text, office, &it).expect(rt, "no memory");
+    let Ok(mut left) = begun else {
+        panic!(rt; "refused");
+    };
+    tell_all(rt, alloc, &mut text, office, &mut left, 900);
+    text
+}
+
+#[test]
+fn all_rows_are_the_reply_of_the_office(rt: HostRuntime) {
+    let mut office = polled(&rt, rt.alloc());
+    let text = all_in_pieces(&rt, rt.alloc(), &mut office);
+    match ask(rt.alloc(), ALL_ROWS, &mut office, 1900) {
         PeerReply::Replied(reply) => assert!(rt; text.as_slice() == reply.as_slice()),
         _ => panic!(rt; "no reply"),
     }
 }
 
 // From the quarter hour of the opening, 900, up to that of the last entry, 1800.
-fn assert_many(rt: &impl Abort, it: &Installation) {
-    assert!(rt; are_many(it, 0, u64::MAX, 899));
-    assert!(rt; !are_many(it, 0, u64::MAX, 900));
-    assert!(rt; !are_many(it, 1800, 900, 0));
-    assert!(rt; !are_many(it, 0, 1000, 100));
-}
-
-// The counter goes on after the reply was begun, so that its last row would have more, and another would follow.
-static LATER: &[u8] =
-    b"POST /registers/main/manual HTTP/1.1\r\nContent-Length: 22\r\nOffice-Caller: desk\r\nOffice-Request: 4\r\n\r\n{\"raw\":5500,\"rolls\":0}";
-
-// A reply that was begun before a later entry has nothing of the entry.
-fn assert_old_rows<B: Books>(rt: &impl Abort, alloc: Global, office: &mut Office<B>) {
-    let mut text = Vec::new(alloc);
-    let mut left = begun(rt, alloc, &mut text, office, Some((0, 9000)));
-    let served = serve(rt, alloc, office, 2800, LATER);
-    assert!(rt; served.given.starts_with(b"HTTP/1.1 200 "));
-    let count = finish(rt, alloc, &mut text, office, &mut left, 900);
-    assert!(rt; count == 1);
-    let wanted = text_reply(rt, alloc, "900 177777\n1800 22223\nend 2\n");
-    assert!(rt; text.as_slice() == wanted.as_bytes());
-}
-
-/// Pieces are the reply, and nothing that comes meanwhile is in them.
-pub(crate) fn assert_all<D: Stores>(rt: &impl Abort, alloc: Global, stores: &D) {
-    let mut office = polled(rt, alloc, stores);
-    assert_pieces(rt, alloc, &mut office);
-    assert_all_rows(rt, alloc, &mut office);
-    assert_many(rt, &meter(rt, &mut office));
-    assert_old_rows(rt, alloc, &mut office)
-}
-
 #[test]
-fn pieces_are_the_reply(rt: HostRuntime) {
-    in_memory(&rt, rt.alloc(), Tried::Pieces)
+fn rows_are_many_by_their_seconds(rt: HostRuntime) {
+    let mut office = polled(&rt, rt.alloc());
+    let it = meter(&rt, &mut office);
+    assert!(rt; are_many(&it, 0, u64::MAX, 899));
+    assert!(rt; !are_many(&it, 0, u64::MAX, 900));
+    assert!(rt; !are_many(&it, 1800, 900, 0));
+    assert!(rt; !are_many(&it, 0, 1000, 100));
 }
 
 static OTHERS: [&[u8]; 6] = [
@@ -172,21 +212,18 @@ fn a_request_may_ask_for_all_rows(rt: HostRuntime) {
     }
 }
 
-// Requests that may void, and requests that may not.
-static VOIDS: [(&[u8], bool); 6] = [
-    (b"POST /meters/m1/void HTTP/1.1\r\n\r\n", true),
-    (b"\r\nPOST /meters/m1/void HTTP/1.1\r\n\r\n", true),
-    (b"POST /registers/main/manual HTTP/1.1\r\n\r\n", false),
-    (b"GET /meters/m1/void HTTP/1.1\r\n\r\n", false),
-    (b"POST /meters/m1/void HTTP/1.1\r\n", false),
-    (b"", false),
-];
-
 #[test]
 fn a_request_may_void(rt: HostRuntime) {
+    assert!(rt; may_void(b"POST /meters/m1/void HTTP/1.1\r\n\r\n"));
+    assert!(rt; may_void(b"\r\nPOST /meters/m1/void HTTP/1.1\r\n\r\n"));
+    assert!(rt; !may_void(b"POST /registers/main/manual HTTP/1.1\r\n\r\n"));
+    assert!(rt; !may_void(b"GET /meters/m1/void HTTP/1.1\r\n\r\n"));
+    assert!(rt; !may_void(b"POST /meters/m1/void HTTP/1.1\r\n"));
+}
+
+#[test]
+fn laws_of_pieces_are_called(rt: HostRuntime) {
     text_stays();
     pieces_are_whole();
-    for (request, may) in &VOIDS {
-        assert!(rt; may_void(request) == *may);
-    }
+    assert!(rt; !may_void(b""));
 }

@@ -1,15 +1,20 @@
-//! Commands of the program at a port, also where the clock was set back.
+//! Commands of the program at a port over books in memory, also where the clock was set back.
 use crate::office::metered;
-use crate::stores::{InMemory, Stores};
 use command_io::ExitStatus;
-use office_books::Books;
+use memory_books::ListBooks;
 use office_events::Refusal;
 use office_program::{PollEnd, ServeEnd, poll_books, serve_books};
 use office_rounds::RoundFault;
 use socket_link::FixedClock;
+use std::alloc::Global;
 use std::net::TcpListener;
 use std::process::Abort;
 use std::test::Fail;
+
+/// Books of an office that has a device, a register and a meter since moment 1000.
+fn books(rt: &impl Abort, alloc: Global) -> ListBooks {
+    metered(rt, alloc).into_books()
+}
 
 /// A listener of this machine, and its port.
 fn taken(rt: &HostRuntime) -> Result<(TcpListener, u16), Fail> {
@@ -18,8 +23,8 @@ fn taken(rt: &HostRuntime) -> Result<(TcpListener, u16), Fail> {
     Ok((listener, port))
 }
 
-/// How serving at a port ends, where the clock shows a moment, and what it prints.
-fn serve<B: Books>(rt: &HostRuntime, books: B, moment: u64, port: u16) -> (ServeEnd, Vec<u8>) {
+/// How serving at a port ends, where the clock tells a moment, and what it prints.
+fn serve(rt: &HostRuntime, books: ListBooks, moment: u64, port: u16) -> (ServeEnd, Vec<u8>) {
     let place = ("127.0.0.1", port);
     let moments = [moment];
     let mut clock = FixedClock::new(&moments);
@@ -37,8 +42,10 @@ fn serve<B: Books>(rt: &HostRuntime, books: B, moment: u64, port: u16) -> (Serve
     (done.end, printed)
 }
 
-// Serving opens the office first, and then the port.
-fn assert_serving<D: Stores>(rt: &HostRuntime, test: &impl Abort, stores: &D, port: u16) {
+// The opening comes first, and then the port.
+#[test]
+fn serving_ends_by_its_first_fault(rt: HostRuntime) -> Result<(), Fail> {
+    let (_taken, port) = taken(&rt)?;
     let cases: [(u64, u16, ServeEnd, &[u8]); 3] = [
         (
             999,
@@ -50,15 +57,15 @@ fn assert_serving<D: Stores>(rt: &HostRuntime, test: &impl Abort, stores: &D, po
         (1000, 0, ServeEnd::Served, b""),
     ];
     for (moment, port, end, text) in cases {
-        let books = metered(test, rt.alloc(), stores).into_books();
-        let (ended, printed) = serve(rt, books, moment, port);
-        assert!(test; ended == end);
-        assert!(test; printed.as_slice() == text);
+        let (ended, printed) = serve(&rt, books(&rt, rt.alloc()), moment, port);
+        assert!(rt; ended == end);
+        assert!(rt; printed.as_slice() == text);
     }
+    Ok(())
 }
 
-/// How a round at a port ends, where the clock shows a moment, and what it prints.
-fn poll<B: Books>(rt: &HostRuntime, books: B, moment: u64, port: u16) -> (PollEnd, Vec<u8>) {
+/// How a round at a port ends, where the clock tells a moment, and what it prints.
+fn poll(rt: &HostRuntime, books: ListBooks, moment: u64, port: u16) -> (PollEnd, Vec<u8>) {
     let place = ("127.0.0.1", port);
     let moments = [moment];
     let mut clock = FixedClock::new(&moments);
@@ -75,8 +82,10 @@ fn poll<B: Books>(rt: &HostRuntime, books: B, moment: u64, port: u16) -> (PollEn
     (done.end, printed)
 }
 
-// A round opens the office first, then connects the device, and then reads its list, which it lacks. Port 1 is nobody's.
-fn assert_rounds<D: Stores>(rt: &HostRuntime, test: &impl Abort, stores: &D, port: u16) {
+// The opening comes first, then the device, and then its list, which it lacks. Port 1 is nobody's.
+#[test]
+fn a_round_ends_by_its_first_fault(rt: HostRuntime) -> Result<(), Fail> {
+    let (_device, port) = taken(&rt)?;
     let no_list = PollEnd::Polled(Err(RoundFault::Refused(Refusal::NotFound)));
     let cases: [(u64, u16, PollEnd, &[u8]); 3] = [
         (
@@ -89,17 +98,9 @@ fn assert_rounds<D: Stores>(rt: &HostRuntime, test: &impl Abort, stores: &D, por
         (1000, port, no_list, b"ok\nok\nrefused 1\n"),
     ];
     for (moment, port, end, text) in cases {
-        let books = metered(test, rt.alloc(), stores).into_books();
-        let (ended, printed) = poll(rt, books, moment, port);
-        assert!(test; ended == end);
-        assert!(test; printed.as_slice() == text);
+        let (ended, printed) = poll(&rt, books(&rt, rt.alloc()), moment, port);
+        assert!(rt; ended == end);
+        assert!(rt; printed.as_slice() == text);
     }
-}
-
-#[test]
-fn commands_at_a_port_end_by_their_first_fault(rt: HostRuntime) -> Result<(), Fail> {
-    let (_taken, port) = taken(&rt)?;
-    assert_serving(&rt, &rt, &InMemory, port);
-    assert_rounds(&rt, &rt, &InMemory, port);
     Ok(())
 }

@@ -1,8 +1,23 @@
 //! Replies that go to a link.
-use http_answer::{ReplyWriter, put_day, put_end, put_share};
-use interval_core::{DayTotal, Share};
-use jiff::civil::date;
+use http_answer::{ReplyWriter, put_json};
+use http_request::Status;
 use mb_wire::{Link, MemoryLink};
+
+static JSON: &[u8] =
+    b"HTTP/1.1 404 Not Found\r\nContent-Type: application/json\r\nContent-Length: 13\r\nConnection: close\r\n\r\n{\"refused\":1}";
+
+#[test]
+fn each_give_may_fail(rt: HostRuntime) {
+    for call in 1..12u64 {
+        let mut output = [0; 200];
+        let mut link = MemoryLink::new(b"", &mut output, 10, Some(call));
+        let mut writer = ReplyWriter::new(&mut link);
+        put_json(Status::NotFound, b"{\"refused\":1}", &mut writer);
+        assert!(rt; writer.finish().is_err());
+        assert!(rt; link.failures() == 1);
+        assert!(rt; JSON.starts_with(link.given()));
+    }
+}
 
 static BLOCK: [u8; 300] = [b'x'; 300];
 
@@ -17,44 +32,4 @@ fn nothing_is_given_after_a_failed_give(rt: HostRuntime) {
     assert!(rt; writer.finish().is_err());
     assert!(rt; link.given().len() == 100);
     assert!(rt; link.failures() == 1);
-}
-
-static ROWS: [Share; 2] = [
-    Share {
-        start: 900,
-        mwh: 177_777,
-    },
-    Share {
-        start: 1800,
-        mwh: 0,
-    },
-];
-
-static LINES: &[u8] =
-    b"900 177777\n1800 0\nend 2\n2024-03-31  92                   920000\n1969-12-31   4 79228162514264337593543950336\nend 10\n";
-
-// No office has a day of so much energy, nor a row without energy.
-#[test]
-fn intervals_and_days_are_lines(rt: HostRuntime) {
-    let mut output = [0; 200];
-    let mut link = MemoryLink::new(b"", &mut output, 200, None);
-    let mut writer = ReplyWriter::new(&mut link);
-    for row in &ROWS {
-        put_share(row, &mut writer);
-    }
-    put_end(2, &mut writer);
-    let days = [
-        (date(2024, 3, 31), 92, 920_000),
-        (
-            date(1969, 12, 31),
-            4,
-            79_228_162_514_264_337_593_543_950_336,
-        ),
-    ];
-    for (day, count, mwh) in days {
-        put_day(&DayTotal { day, count, mwh }, &mut writer);
-    }
-    put_end(10, &mut writer);
-    assert!(rt; writer.finish().is_ok());
-    assert!(rt; link.given() == LINES);
 }

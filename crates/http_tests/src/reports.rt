@@ -1,12 +1,10 @@
 //! Reports of a register, by days or in a form: by months, in kWh, in three formats.
 use crate::narrow::Narrow;
 use crate::office::{metered, polled, unmetered};
-use crate::stores::Stores;
-use crate::tried::{Tried, in_memory};
 use command_io::ExitStatus;
 use energy_report::{EnergyUnit, Format, Period, ReportForm};
 use interval_core::DayRange;
-use office_books::Books;
+use memory_books::ListBooks;
 use office_core::Office;
 use office_events::Name;
 use office_program::{report_books, report_days, report_range, report_range_books};
@@ -26,16 +24,11 @@ enum Booked {
     Reading,
 }
 
-fn office_of<D: Stores>(
-    rt: &impl Abort,
-    alloc: Global,
-    stores: &D,
-    booked: Booked,
-) -> Office<D::Store> {
+fn office_of(rt: &impl Abort, alloc: Global, booked: Booked) -> Office<ListBooks> {
     match booked {
-        Booked::Register => unmetered(rt, alloc, stores),
-        Booked::Meter => metered(rt, alloc, stores),
-        Booked::Reading => polled(rt, alloc, stores),
+        Booked::Register => unmetered(rt, alloc),
+        Booked::Meter => metered(rt, alloc),
+        Booked::Reading => polled(rt, alloc),
     }
 }
 
@@ -46,8 +39,8 @@ enum By {
     Months(Format),
 }
 
-fn put_report<B: Books, W: Write>(
-    office: &mut Office<B>,
+fn put_report<W: Write>(
+    office: &mut Office<ListBooks>,
     register: &[u8],
     by: By,
     output: &mut W,
@@ -138,11 +131,11 @@ static REPORTS: [Report; 9] = [
     ),
 ];
 
-/// Registers have reports.
-pub(crate) fn assert_reports<D: Stores>(rt: &impl Abort, alloc: Global, stores: &D) {
+#[test]
+fn registers_have_reports(rt: HostRuntime) {
     for (place, (booked, register, by, end, text)) in REPORTS.iter().enumerate() {
-        let mut office = office_of(rt, alloc, stores, *booked);
-        let mut printed = Vec::new(alloc);
+        let mut office = office_of(&rt, rt.alloc(), *booked);
+        let mut printed = Vec::new(rt.alloc());
         let ended = put_report(&mut office, register, *by, &mut printed);
         assert!(rt; ended == *end, "at {place}");
         assert!(rt; printed.as_slice() == *text, "at {place}");
@@ -163,9 +156,9 @@ static NARROW: [(usize, &[u8], By); 8] = [
     (9, b"none", By::Months(Format::Text)),
 ];
 
-/// A write that fails is reported.
-pub(crate) fn assert_failed_writes<D: Stores>(rt: &impl Abort, alloc: Global, stores: &D) {
-    let mut office = polled(rt, alloc, stores);
+#[test]
+fn a_write_that_fails_is_told(rt: HostRuntime) {
+    let mut office = polled(&rt, rt.alloc());
     for (room, register, by) in &NARROW {
         let mut narrow = Narrow { room: *room };
         let status = put_report(&mut office, register, *by, &mut narrow);
@@ -240,9 +233,9 @@ static CLOCKS: [Clocked; 7] = [
 ];
 
 /// How the command for a report ends, and what it prints.
-fn report_by<B: Books>(
+fn report_by(
     alloc: Global,
-    books: B,
+    books: ListBooks,
     moment: u64,
     register: &str,
     is_form: bool,
@@ -259,27 +252,12 @@ fn report_by<B: Books>(
     (done.end, printed)
 }
 
-/// Commands for reports end so.
-pub(crate) fn assert_commands<D: Stores>(rt: &impl Abort, alloc: Global, stores: &D) {
+#[test]
+fn commands_for_reports_end_so(rt: HostRuntime) {
     for (place, (booked, moment, register, is_form, end, text)) in CLOCKS.iter().enumerate() {
-        let books = office_of(rt, alloc, stores, *booked).into_books();
-        let (ended, printed) = report_by(alloc, books, *moment, register, *is_form);
+        let books = office_of(&rt, rt.alloc(), *booked).into_books();
+        let (ended, printed) = report_by(rt.alloc(), books, *moment, register, *is_form);
         assert!(rt; ended == *end, "at {place}");
         assert!(rt; printed.as_slice() == *text, "at {place}");
     }
-}
-
-#[test]
-fn registers_have_reports(rt: HostRuntime) {
-    in_memory(&rt, rt.alloc(), Tried::Reports)
-}
-
-#[test]
-fn a_write_that_fails_is_reported(rt: HostRuntime) {
-    in_memory(&rt, rt.alloc(), Tried::FailedWrites)
-}
-
-#[test]
-fn commands_for_reports_end_so(rt: HostRuntime) {
-    in_memory(&rt, rt.alloc(), Tried::ReportCommands)
 }

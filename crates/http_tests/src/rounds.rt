@@ -1,8 +1,6 @@
 //! Rounds, and the refusals that break them off.
 use crate::narrow::Narrow;
 use crate::office::unmetered;
-use crate::stores::Stores;
-use crate::tried::{Tried, in_memory};
 use mb_wire::MemoryLink;
 use office_events::{Name, Refusal};
 use office_program::{poll_round, round_status};
@@ -13,14 +11,13 @@ use std::io::Write;
 use std::process::Abort;
 
 // How a round of a device ends that has no list.
-fn round<D: Stores, W: Write>(
+fn round<W: Write>(
     rt: &impl Abort,
     alloc: Global,
-    stores: &D,
     device: &[u8],
     output: &mut W,
 ) -> Result<(), RoundFault> {
-    let mut office = unmetered(rt, alloc, stores);
+    let mut office = unmetered(rt, alloc);
     let device = Name::new(device);
     let mut link = MemoryLink::new(&[], &mut [], 260, None);
     let mut clock = FixedClock::new(&[1000]);
@@ -30,22 +27,21 @@ fn round<D: Stores, W: Write>(
 // A device that is connected and has no list is gone again.
 static ROUNDS: [(&[u8], &[u8]); 2] = [(b"none", b"refused 1\n"), (b"inv", b"ok\nok\nrefused 1\n")];
 
-/// A refusal is printed after the round. Where it can't be printed, the round fails.
-pub(crate) fn assert_all<D: Stores>(rt: &impl Abort, alloc: Global, stores: &D) {
+#[test]
+fn a_refusal_is_printed_after_the_round(rt: HostRuntime) {
     for (device, text) in &ROUNDS {
-        let mut printed = Vec::new(alloc);
-        let done = round(rt, alloc, stores, device, &mut printed);
+        let mut printed = Vec::new(rt.alloc());
+        let done = round(&rt, rt.alloc(), device, &mut printed);
         assert!(rt; done == Err(RoundFault::Refused(Refusal::NotFound)));
         assert!(rt; round_status(done).number() == 1);
         assert!(rt; printed.as_slice() == *text);
     }
-    let done = round(rt, alloc, stores, b"none", &mut Narrow { room: 3 });
-    assert!(rt; done == Err(RoundFault::Output));
 }
 
 #[test]
-fn a_refusal_is_printed_after_the_round(rt: HostRuntime) {
-    in_memory(&rt, rt.alloc(), Tried::Rounds)
+fn a_refusal_that_is_not_printed_is_a_failure(rt: HostRuntime) {
+    let done = round(&rt, rt.alloc(), b"none", &mut Narrow { room: 3 });
+    assert!(rt; done == Err(RoundFault::Output));
 }
 
 #[test]

@@ -1,12 +1,9 @@
 //! The lines of entries and meters, and the members of a site, at the edges of their numbers.
 use crate::office::polled;
-use crate::stores::Stores;
-use crate::tried::{Tried, in_memory};
 use energy_core::{Entry, Last};
 use meter_journal::{EntryKind, EntryRow};
 use office_books::MeterEntry;
 use office_core::SiteRow;
-use office_events::Installation;
 use run_http::{SiteLine, put_entries, put_register_meters, put_site};
 use std::alloc::Global;
 use std::process::Abort;
@@ -65,17 +62,18 @@ static SITE: &str =
     "{\"at\":7,\"registers\":[{\"device\":\"inv\",\"register\":\"main\",\"meter\":\"m1\",\"at\":1950,\"last\":4294967295,\"sf\":-3,\"total\":\"18446744073709551615\",\"earlier\":\"18446744073709551614\",\"ended\":true},{\"device\":\"inv\",\"register\":\"main\",\"meter\":null}]}\n";
 
 // The row of the register of an office that was polled.
-fn polled_row<D: Stores>(rt: &impl Abort, alloc: Global, stores: &D) -> SiteRow {
-    let mut office = polled(rt, alloc, stores);
+fn polled_row(rt: &impl Abort, alloc: Global) -> SiteRow {
+    let mut office = polled(rt, alloc);
     let Ok(rows) = office.site() else {
         panic!(rt; "no rows");
     };
     rows.first().copied().expect(rt, "no row")
 }
 
-// A scale may be negative, and a meter closed.
-fn assert_site(rt: &impl Abort, alloc: Global, row: &SiteRow) {
-    let mut closed = *row;
+#[test]
+fn a_scale_may_be_negative_and_a_meter_closed(rt: HostRuntime) {
+    let row = polled_row(&rt, rt.alloc());
+    let mut closed = row;
     if let Some(meter) = &mut closed.meter {
         meter.last = Last {
             at: 1950,
@@ -85,9 +83,9 @@ fn assert_site(rt: &impl Abort, alloc: Global, row: &SiteRow) {
         meter.total = u64::MAX;
         meter.ended = true;
     }
-    let mut bare = *row;
+    let mut bare = row;
     bare.meter = None;
-    let mut text = Vec::new(alloc);
+    let mut text = Vec::new(rt.alloc());
     let closed = SiteLine {
         row: closed,
         earlier: Some(u64::MAX - 1),
@@ -96,16 +94,18 @@ fn assert_site(rt: &impl Abort, alloc: Global, row: &SiteRow) {
         row: bare,
         earlier: None,
     };
-    put_site(&mut text, 7, &[closed, bare]).expect(rt, "no memory");
+    put_site(&mut text, 7, &[closed, bare]).expect(&rt, "no memory");
     assert!(rt; text.as_slice() == SITE.as_bytes());
 }
 
 static METERS: &str =
     "m1 1000 18446744073709551615 4294967295 -10 18446744073709551615 ended\nm1 18446744073709551615 0 0 10 0 open\nend 2\n";
 
-// Each number of a meter may be the greatest.
-fn assert_meters(rt: &impl Abort, alloc: Global, row: &Installation) {
-    let mut closed = *row;
+#[test]
+fn each_number_of_a_meter_may_be_the_greatest(rt: HostRuntime) {
+    let row = polled_row(&rt, rt.alloc());
+    let row = row.meter.expect(&rt, "no meter");
+    let mut closed = row;
     closed.last = Last {
         at: u64::MAX,
         raw: u32::MAX,
@@ -113,7 +113,7 @@ fn assert_meters(rt: &impl Abort, alloc: Global, row: &Installation) {
     };
     closed.total = u64::MAX;
     closed.ended = true;
-    let mut open = *row;
+    let mut open = row;
     open.opening.at = u64::MAX;
     open.last = Last {
         at: 0,
@@ -121,20 +121,7 @@ fn assert_meters(rt: &impl Abort, alloc: Global, row: &Installation) {
         sf: 10,
     };
     open.total = 0;
-    let mut text = Vec::new(alloc);
-    put_register_meters(&mut text, &[closed, open]).expect(rt, "no memory");
+    let mut text = Vec::new(rt.alloc());
+    put_register_meters(&mut text, &[closed, open]).expect(&rt, "no memory");
     assert!(rt; text.as_slice() == METERS.as_bytes());
-}
-
-/// Numbers of a site and of its meters may be the greatest.
-pub(crate) fn assert_all<D: Stores>(rt: &impl Abort, alloc: Global, stores: &D) {
-    let row = polled_row(rt, alloc, stores);
-    let meter = row.meter.expect(rt, "no meter");
-    assert_site(rt, alloc, &row);
-    assert_meters(rt, alloc, &meter)
-}
-
-#[test]
-fn numbers_of_a_site_may_be_the_greatest(rt: HostRuntime) {
-    in_memory(&rt, rt.alloc(), Tried::RowLines)
 }

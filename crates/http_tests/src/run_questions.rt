@@ -1,64 +1,92 @@
 //! The replies of a run whose store fails, and entries from an index that no target spells.
 use crate::cases::{reply, text_reply};
 use crate::office::polled;
-use crate::stores::Stores;
-use crate::tried::{Tried, in_memory};
+use failing_books::FailingBooks;
 use http_peers::reply_site_over;
+use memory_books::ListBooks;
 use office_books::Books;
 use office_core::Office;
 use office_events::Name;
 use run_http::{RunRoute, reply_entries, reply_meters, reply_metrics, run_route};
 use run_status::Counts;
-use std::alloc::Global;
+use std::alloc::{AllocError, Global};
 use std::process::Abort;
 
 /// The route of a target.
-pub(crate) fn route_of(rt: &impl Abort, alloc: Global, target: &str) -> Option<RunRoute> {
-    let request = format!(in alloc; "GET {target} HTTP/1.1\r\n\r\n").expect(rt, "no memory");
-    run_route(&[], request.as_bytes())
+pub(crate) fn route_of(alloc: Global, target: &str) -> Result<Option<RunRoute>, AllocError> {
+    let request = format!(in alloc; "GET {target} HTTP/1.1\r\n\r\n")?;
+    Ok(run_route(&[], request.as_bytes()))
 }
 
-// What is replied to one of these targets at moment 2800.
-fn replied<B: Books>(
-    rt: &impl Abort,
+// Appends the reply to one of these targets at a timestamp.
+fn put_reply<B: Books>(
     alloc: Global,
+    text: &mut Vec<u8>,
     office: &mut Office<B>,
+    at: u64,
     target: &str,
-) -> Vec<u8> {
-    let mut text = Vec::new(alloc);
-    let replied = match route_of(rt, alloc, target) {
-        Some(RunRoute::Metrics) => reply_metrics(alloc, &mut text, office, &Counts::new(), &[]),
-        Some(RunRoute::Site) => reply_site_over(alloc, &mut text, office, &[], 2800),
-        Some(RunRoute::Meters { register }) => reply_meters(alloc, &mut text, office, &register),
-        _ => panic!(rt; "no such route"),
-    };
-    replied.expect(rt, "no memory");
-    text
+) -> Result<(), AllocError> {
+    match route_of(alloc, target)? {
+        Some(RunRoute::Metrics) => reply_metrics(alloc, text, office, &Counts::new(), &[]),
+        Some(RunRoute::Site) => reply_site_over(alloc, text, office, &[], at),
+        Some(RunRoute::Meters { register }) => reply_meters(alloc, text, office, &register),
+        _ => Ok(()),
+    }
 }
 
 // What is replied over books; nothing, where the office isn't opened.
 fn replied_over<B: Books>(
-    rt: &impl Abort,
     alloc: Global,
     books: B,
+    at: u64,
     target: &str,
-) -> Option<Vec<u8>> {
-    match Office::open(alloc, books, 2800) {
-        Ok(mut office) => Some(replied(rt, alloc, &mut office, target)),
-        Err(_) => None,
+) -> Result<Option<Vec<u8>>, AllocError> {
+    let Ok(mut office) = Office::open(alloc, books, at) else {
+        return Ok(None);
+    };
+    let mut text = Vec::new(alloc);
+    match put_reply(alloc, &mut text, &mut office, at, target) {
+        Ok(()) => Ok(Some(text)),
+        Err(error) => Err(error),
     }
 }
 
-// What is replied of a meter that was read, where the call of a number fails, 0: none; nothing, where that is one of the opening's.
-fn replied_of_reading<D: Stores>(
+// What is replied over books that refuse the call of a number, 0: none; nothing, where that is one of the opening's.
+fn replied(
+    alloc: Global,
+    books: ListBooks,
+    failing: u64,
+    at: u64,
+    target: &str,
+) -> Result<Option<Vec<u8>>, AllocError> {
+    replied_over(alloc, FailingBooks::new(books, failing), at, target)
+}
+
+// No target spells this place.
+#[test]
+fn entries_from_the_greatest_place_on_are_none(rt: HostRuntime) {
+    let mut office = polled(&rt, rt.alloc());
+    let mut text = Vec::new(rt.alloc());
+    reply_entries(
+        rt.alloc(),
+        &mut text,
+        &mut office,
+        &Name::new(b"m1"),
+        u64::MAX,
+    )
+    .expect(&rt, "no memory");
+    let wanted = text_reply(rt.alloc(), "end 0\n").expect(&rt, "no memory");
+    assert!(rt; text.as_slice() == wanted.as_bytes());
+}
+
+// What is replied to a target over books of a meter that was read.
+fn replied_of_reading(
     rt: &impl Abort,
     alloc: Global,
-    stores: &D,
     failing: u64,
     target: &str,
 ) -> Option<Vec<u8>> {
-    let books = polled(rt, alloc, stores).into_books();
-    replied_over(rt, alloc, stores.failing(books, failing), target)
+    replied(alloc, polled(rt, alloc).into_books(), failing, 2800, target).expect(rt, "no memory")
 }
 
 // What failing books show, a target, and how many calls there are of the books whose failure is replied.
@@ -74,18 +102,12 @@ static FAILING: [(&str, &str, u8); 3] = [
     ),
 ];
 
-// How many calls of the books have this reply where they fail. Where another call fails, of the opening or none, the whole reply comes.
-fn calls_that_fail<D: Stores>(
-    rt: &impl Abort,
-    alloc: Global,
-    stores: &D,
-    target: &str,
-    failure: &[u8],
-) -> u8 {
-    let whole = replied_of_reading(rt, alloc, stores, 0, target).expect(rt, "not opened");
+// How many calls of the books have this reply where they fail. Where another fails, which is one of the opening's, or none, all is told.
+fn calls_that_fail(rt: &impl Abort, alloc: Global, target: &str, failure: &[u8]) -> u8 {
+    let whole = replied_of_reading(rt, alloc, 0, target).expect(rt, "not opened");
     let mut count = 0u8;
     for failing in 1..20 {
-        if let Some(text) = replied_of_reading(rt, alloc, stores, failing, target) {
+        if let Some(text) = replied_of_reading(rt, alloc, failing, target) {
             let is_failure = text.as_slice() == failure;
             assert!(rt;
                 is_failure || text.as_slice() == whole.as_slice(),
@@ -97,31 +119,14 @@ fn calls_that_fail<D: Stores>(
     count
 }
 
-/// Failing books are unavailable.
-pub(crate) fn assert_unavailable<D: Stores>(rt: &impl Abort, alloc: Global, stores: &D) {
-    let failure = reply(rt, alloc, "503 Service Unavailable", "{\"refused\":13}");
-    for (name, target, wanted) in &FAILING {
-        let count = calls_that_fail(rt, alloc, stores, target, failure.as_bytes());
-        assert!(rt; count == *wanted, "{name}");
-    }
-}
-
-/// No entries follow the greatest place. No target spells this place.
-pub(crate) fn assert_no_entries<D: Stores>(rt: &impl Abort, alloc: Global, stores: &D) {
-    let mut office = polled(rt, alloc, stores);
-    let mut text = Vec::new(alloc);
-    let meter = Name::new(b"m1");
-    reply_entries(alloc, &mut text, &mut office, &meter, u64::MAX).expect(rt, "no memory");
-    let wanted = text_reply(rt, alloc, "end 0\n");
-    assert!(rt; text.as_slice() == wanted.as_bytes());
-}
-
-#[test]
-fn entries_from_the_greatest_place_on_are_none(rt: HostRuntime) {
-    in_memory(&rt, rt.alloc(), Tried::NoEntries)
-}
-
 #[test]
 fn failing_books_are_unavailable(rt: HostRuntime) {
-    in_memory(&rt, rt.alloc(), Tried::RunQuestions)
+    let failure = reply(rt.alloc(), "503 Service Unavailable", "{\"refused\":13}").expect(
+        &rt,
+        "no memory",
+    );
+    for (name, target, wanted) in &FAILING {
+        let count = calls_that_fail(&rt, rt.alloc(), target, failure.as_bytes());
+        assert!(rt; count == *wanted, "{name}");
+    }
 }

@@ -2,11 +2,9 @@
 use crate::cases::reply;
 use crate::energy_over::earlier_register;
 use crate::office::{polled, unmetered};
-use crate::stores::Stores;
-use crate::tried::{Tried, in_memory};
 use energy_core::Last;
 use http_peers::reply_site_over;
-use office_books::Books;
+use memory_books::ListBooks;
 use office_core::Office;
 use office_events::{Installation, Name, Opening};
 use std::alloc::Global;
@@ -105,10 +103,10 @@ fn earlier_meter(rt: &impl Abort, it: &Earlier) -> Installation {
 }
 
 // What is replied by an office at moment 2800, with these meters of earlier files at a register.
-fn replied<B: Books>(
+fn replied(
     rt: &impl Abort,
     alloc: Global,
-    office: &mut Office<B>,
+    office: &mut Office<ListBooks>,
     register: &[u8],
     meters: &[Earlier],
 ) -> Vec<u8> {
@@ -122,25 +120,28 @@ fn replied<B: Books>(
     text
 }
 
-// Asserts that an office replies with the meter of each case.
-fn assert_meters<B: Books>(rt: &impl Abort, alloc: Global, mut office: Office<B>, cases: &[Case]) {
-    for (shown, register, meters, told) in cases {
-        let body = format!(in alloc;
-            "{{\"at\":2800,\"registers\":[{{\"device\":\"inv\",\"register\":\"main\",\"meter\":{told}}}]}}\n"
-        ).expect(rt, "no memory");
-        let want = reply(rt, alloc, "200 OK", &body);
-        let text = replied(rt, alloc, &mut office, register, meters);
-        assert!(rt; text.as_slice() == want.as_bytes(), "{shown}");
-    }
-}
-
-/// The meter at a register is that of all files; a register may have meters in earlier files alone.
-pub(crate) fn assert_all<D: Stores>(rt: &impl Abort, alloc: Global, stores: &D) {
-    assert_meters(rt, alloc, polled(rt, alloc, stores), &OF_A_METER);
-    assert_meters(rt, alloc, unmetered(rt, alloc, stores), &OF_NO_METER)
+// Whether an office tells that of a case.
+fn tells(rt: &impl Abort, alloc: Global, office: &mut Office<ListBooks>, case: &Case) -> bool {
+    let (_, register, meters, told) = *case;
+    let body = format!(in alloc;
+        "{{\"at\":2800,\"registers\":[{{\"device\":\"inv\",\"register\":\"main\",\"meter\":{told}}}]}}\n"
+    ).expect(rt, "no memory");
+    let want = reply(alloc, "200 OK", &body).expect(rt, "no memory");
+    replied(rt, alloc, office, register, meters).as_slice() == want.as_bytes()
 }
 
 #[test]
 fn the_meter_at_a_register_is_that_of_all_files(rt: HostRuntime) {
-    in_memory(&rt, rt.alloc(), Tried::SiteOver)
+    let mut office = polled(&rt, rt.alloc());
+    for case in &OF_A_METER {
+        assert!(rt; tells(&rt, rt.alloc(), &mut office, case), "{}", case.0);
+    }
+}
+
+#[test]
+fn a_register_may_have_meters_in_earlier_files_alone(rt: HostRuntime) {
+    let mut office = unmetered(&rt, rt.alloc());
+    for case in &OF_NO_METER {
+        assert!(rt; tells(&rt, rt.alloc(), &mut office, case), "{}", case.0);
+    }
 }

@@ -24,7 +24,7 @@ static WHOLE: [(usize, u64, u64, Result<u64, RowFault>); 3] = [
     (2, 0, 9, Err(RowFault::Damaged)),
 ];
 
-pub(crate) fn assert_columns<D: Stores>(rt: &impl Abort, alloc: Global, stores: &D) {
+pub(crate) fn columns_are_read<D: Stores>(rt: &impl Abort, alloc: Global, stores: &D) {
     let row = one_row(rt, alloc, stores);
     for (at, low, high, read) in &WHOLE {
         assert!(rt; whole(&row, *at, *low, *high) == *read, "{at} {high}");

@@ -68,7 +68,7 @@ fn told_strictly<D: Stores>(
     }
 }
 
-fn assert_damage_told<D: Stores>(rt: &impl Abort, alloc: Global, stores: &D) {
+fn what_no_column_can_be_is_told<D: Stores>(rt: &impl Abort, alloc: Global, stores: &D) {
     for (table, column, text, number) in &COLUMNS {
         for value in ["NULL", *text, *number] {
             let loose = told_loosely(rt, alloc, stores, (*table, *column), value);
@@ -80,7 +80,7 @@ fn assert_damage_told<D: Stores>(rt: &impl Abort, alloc: Global, stores: &D) {
     }
 }
 
-fn assert_unread_untold<D: Stores>(rt: &impl Abort, alloc: Global, stores: &D) {
+fn what_is_not_read_is_not_told<D: Stores>(rt: &impl Abort, alloc: Global, stores: &D) {
     for column in &UNREAD {
         for value in ["NULL", "'1x'", "-1"] {
             let told = told_loosely(rt, alloc, stores, *column, value);
@@ -89,12 +89,12 @@ fn assert_unread_untold<D: Stores>(rt: &impl Abort, alloc: Global, stores: &D) {
     }
 }
 
-fn assert_rows_untold<D: Stores>(rt: &impl Abort, alloc: Global, stores: &D) {
+fn rows_without_damage_are_not_told<D: Stores>(rt: &impl Abort, alloc: Global, stores: &D) {
     assert!(rt; told(rt, alloc, loose(rt, alloc, stores)) == 0);
     assert!(rt; told(rt, alloc, strict(rt, alloc, stores)) == 0);
 }
 
-fn assert_others_refused<D: Stores>(rt: &impl Abort, alloc: Global, stores: &D) {
+fn other_databases_are_no_books<D: Stores>(rt: &impl Abort, alloc: Global, stores: &D) {
     let blank = stores.open(rt, alloc);
     assert!(rt; told(rt, alloc, blank) == 1);
     for (column, value, fault) in &[("version", "9", 1u8), ("zone", "'x'", 2)] {
@@ -117,7 +117,7 @@ fn is_refused_for_damage<B: Books>(rt: &impl Abort, alloc: Global, books: B) -> 
     matches!(answer, Err(Refusal::Store(StoreCause::Damaged)))
 }
 
-fn assert_question_refused<D: Stores>(rt: &impl Abort, alloc: Global, stores: &D) {
+fn a_question_is_refused_for_damage<D: Stores>(rt: &impl Abort, alloc: Global, stores: &D) {
     let books = damaged(rt, alloc, stores);
     assert!(rt; is_refused_for_damage(rt, alloc, books));
 }
@@ -153,7 +153,7 @@ fn is_refused<S: Alter + Drop>(books: &mut SqlBooks<S>, facts: Vec<Fact>) -> boo
     )
 }
 
-fn assert_failures_counted<D: Stores>(rt: &impl Abort, alloc: Global, stores: &D) {
+fn failures_are_told_and_counted<D: Stores>(rt: &impl Abort, alloc: Global, stores: &D) {
     let meter = Name::new(b"m1").expect(rt, "no name");
     let facts = known(rt, alloc);
     let mut books = damaged(rt, alloc, stores);
@@ -163,13 +163,13 @@ fn assert_failures_counted<D: Stores>(rt: &impl Abort, alloc: Global, stores: &D
 }
 
 /// All of these hold.
-pub(crate) fn assert_all<D: Stores>(rt: &impl Abort, alloc: Global, stores: &D) {
-    assert_damage_told(rt, alloc, stores);
-    assert_unread_untold(rt, alloc, stores);
-    assert_rows_untold(rt, alloc, stores);
-    assert_others_refused(rt, alloc, stores);
-    assert_question_refused(rt, alloc, stores);
-    assert_failures_counted(rt, alloc, stores)
+pub(crate) fn all_hold<D: Stores>(rt: &impl Abort, alloc: Global, stores: &D) {
+    what_no_column_can_be_is_told(rt, alloc, stores);
+    what_is_not_read_is_not_told(rt, alloc, stores);
+    rows_without_damage_are_not_told(rt, alloc, stores);
+    other_databases_are_no_books(rt, alloc, stores);
+    a_question_is_refused_for_damage(rt, alloc, stores);
+    failures_are_told_and_counted(rt, alloc, stores)
 }
 
 #[test]

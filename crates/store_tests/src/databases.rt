@@ -43,7 +43,7 @@ static STEPS: [Step; 10] = [
 ];
 
 /// The connection after a step, which has its fault.
-fn assert_step<S: Alter + Drop>(
+fn stepped<S: Alter + Drop>(
     rt: &impl Abort,
     alloc: Global,
     mut connection: Connection<S>,
@@ -59,10 +59,10 @@ fn assert_step<S: Alter + Drop>(
     left
 }
 
-pub(crate) fn assert_handed_back<D: Stores>(rt: &impl Abort, alloc: Global, stores: &D) {
+pub(crate) fn each_is_handed_back<D: Stores>(rt: &impl Abort, alloc: Global, stores: &D) {
     let mut connection = stores.open(rt, alloc);
     for step in &STEPS {
-        connection = assert_step(rt, alloc, connection, step);
+        connection = stepped(rt, alloc, connection, step);
     }
 }
 

@@ -6,11 +6,15 @@ use std::process::Abort;
 use store_files::OpenFault;
 use store_tables::RowFault;
 
-/// Asserts that each fault says its text, which has no full stop.
-fn assert_texts<F: Display>(rt: &impl Abort, alloc: Global, texts: &[(F, &str)]) {
+/// Each fault says its text, which has no full stop.
+fn tells<F: Display>(rt: &impl Abort, alloc: Global, texts: &[(F, &str)]) {
     for (fault, text) in texts {
-        let said = format!(in alloc; "{fault}").expect(rt, "no memory");
-        assert!(rt; said.as_str() == *text, "{text}");
+        assert_eq!(rt;
+            format!(in alloc; "{fault}")
+                .expect(rt, "no memory")
+                .as_str(),
+            *text
+        );
         assert!(rt; !text.ends_with('.'));
     }
 }
@@ -41,8 +45,8 @@ const ROWS: [(RowFault, &str); 2] = [
 
 #[test]
 fn faults_say_their_texts(rt: HostRuntime) {
-    assert_texts(&rt, rt.alloc(), &FILES);
-    assert_texts(&rt, rt.alloc(), &ROWS)
+    tells(&rt, rt.alloc(), &FILES);
+    tells(&rt, rt.alloc(), &ROWS)
 }
 
 #[test]

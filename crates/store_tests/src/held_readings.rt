@@ -139,7 +139,7 @@ static PARTS: [Part; 5] = [
 ];
 
 /// All of them, and those of each span.
-pub(crate) fn assert_handed_on<D: Stores>(rt: &impl Abort, alloc: Global, stores: &D) {
+pub(crate) fn they_are_handed_on<D: Stores>(rt: &impl Abort, alloc: Global, stores: &D) {
     let mut conn = held(rt, alloc, stores);
     assert!(rt; hands_on(rt, alloc, &mut conn, Span::All, PARTS[0].wanted) == Ok(true));
     for part in &PARTS {

@@ -72,7 +72,7 @@ static COUNTS: [(&str, i64); 4] = [
 ];
 
 /// A poll and a reading may follow, but a known device not; nor may a counter that goes back.
-pub(crate) fn assert_no_row<D: Stores>(rt: &impl Abort, alloc: Global, stores: &D) {
+pub(crate) fn they_leave_no_row<D: Stores>(rt: &impl Abort, alloc: Global, stores: &D) {
     let mut conn = strict(rt, alloc, stores);
     let many = whole(rt, alloc, [poll(), reading(5000, 5300), known_device()]);
     let back = whole(rt, alloc, [reading(5000, 5100)]);

@@ -1,11 +1,11 @@
 //! The machine stops at each call of the two files of a database, while the file of the books is made or brought to today's
 //! version, and in each event of an office and in a request. What stands afterwards is whole: what was acknowledged, or that
 //! and what was under way.
-pub(crate) mod asked;
+mod asked;
 mod day;
-pub(crate) mod file_stops;
-pub(crate) mod files;
-pub(crate) mod office_stops;
+mod file_stops;
+mod files;
+mod office_stops;
 mod offices;
 mod printed;
 mod shown;

@@ -1,7 +1,5 @@
-//! What is tried over databases, and the one call of it over those in memory: a function that calls generic code for these costs
-//! some ten seconds of proof for each call.
-use crate::stops::asked::Asked;
-use crate::stops::{file_stops, office_stops};
+//! What is tried over empty databases, and the one call of it over those in memory, since a function that calls what is generic
+//! for these costs some ten seconds to prove for each call.
 use crate::stores::{InMemory, Stores};
 use crate::{columns, damage, databases, held_readings, refused_facts};
 use std::alloc::Global;
@@ -13,22 +11,18 @@ pub(crate) enum Tried {
     Columns,
     Damage,
     Databases,
-    FileStops,
     HeldReadings,
     RefusedFacts,
-    Stops(Asked),
 }
 
 /// Tries it over databases of these stores.
 fn try_over<D: Stores>(rt: &impl Abort, alloc: Global, stores: &D, tried: Tried) {
     match tried {
-        Tried::Columns => columns::assert_columns(rt, alloc, stores),
-        Tried::Damage => damage::assert_all(rt, alloc, stores),
-        Tried::Databases => databases::assert_handed_back(rt, alloc, stores),
-        Tried::FileStops => file_stops::assert_all(rt, alloc, stores),
-        Tried::HeldReadings => held_readings::assert_handed_on(rt, alloc, stores),
-        Tried::RefusedFacts => refused_facts::assert_no_row(rt, alloc, stores),
-        Tried::Stops(asked) => office_stops::assert_all(rt, alloc, stores, asked),
+        Tried::Columns => columns::columns_are_read(rt, alloc, stores),
+        Tried::Damage => damage::all_hold(rt, alloc, stores),
+        Tried::Databases => databases::each_is_handed_back(rt, alloc, stores),
+        Tried::HeldReadings => held_readings::they_are_handed_on(rt, alloc, stores),
+        Tried::RefusedFacts => refused_facts::they_leave_no_row(rt, alloc, stores),
     }
 }
 

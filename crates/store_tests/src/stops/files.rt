@@ -1,4 +1,4 @@
-//! The two files of a database, in memory. From one of their calls on each fails, as after a crash.
+//! The two files of a database, in memory. From one of their calls on each fails, as where the machine has stopped.
 use sqlite::{Connection, FileStore, Files, Options};
 use sqlite_disk::{Crash, Disk, Fuse, Memory};
 use std::alloc::Global;
@@ -35,21 +35,14 @@ fn file(rt: &impl Abort, alloc: Global, bytes: &[u8], calls: u64) -> Fuse<Memory
     Fuse::new(file, calls)
 }
 
-/// A crash that never comes.
-pub(crate) const NEVER: Stop = Stop {
-    file: Stopping::Log,
-    calls: u64::MAX,
-    is_lost: true,
-};
-
-/// The files of a database.
-pub(crate) type TwoFiles = Files<Fuse<Memory>>;
-
-/// The store of a database in these files.
-pub(crate) type FuseStore = FileStore<Fuse<Memory>>;
-
-/// Makes a log and a database's file with these bytes, where the machine will crash.
-pub(crate) fn files(rt: &impl Abort, alloc: Global, log: &[u8], db: &[u8], stop: Stop) -> TwoFiles {
+/// A log and a database's file with these bytes, where the machine will stop.
+pub(crate) fn files(
+    rt: &impl Abort,
+    alloc: Global,
+    log: &[u8],
+    db: &[u8],
+    stop: Stop,
+) -> Files<Fuse<Memory>> {
     let (log_calls, db_calls) = match stop.file {
         Stopping::Log => (stop.calls, u64::MAX),
         Stopping::Database => (u64::MAX, stop.calls),
@@ -60,8 +53,11 @@ pub(crate) fn files(rt: &impl Abort, alloc: Global, log: &[u8], db: &[u8], stop:
     }
 }
 
-/// Connects to files, or hands the files back where that fails.
-pub(crate) fn connected(alloc: Global, files: TwoFiles) -> Result<Connection<FuseStore>, TwoFiles> {
+/// A connection to files, or the files where that fails.
+pub(crate) fn connected(
+    alloc: Global,
+    files: Files<Fuse<Memory>>,
+) -> Result<Connection<FileStore<Fuse<Memory>>>, Files<Fuse<Memory>>> {
     if !files.may_be_used() {
         return Err(files);
     }
@@ -71,18 +67,25 @@ pub(crate) fn connected(alloc: Global, files: TwoFiles) -> Result<Connection<Fus
     }
 }
 
-/// Returns the files after a restart. What was not synced is lost, or is there as it was written.
+/// The files of a store, which is closed.
+pub(crate) fn closed(store: FileStore<Fuse<Memory>>) -> Files<Fuse<Memory>> {
+    store.close()
+}
+
+/// The files once the machine has come back. What was not synced is lost, or is there as it was written.
 pub(crate) fn restarted(
     rt: &impl Abort,
     alloc: Global,
-    mut disks: TwoFiles,
+    mut files: Files<Fuse<Memory>>,
     is_lost: bool,
-) -> TwoFiles {
+) -> Files<Fuse<Memory>> {
     if is_lost {
-        disks.log.crash();
-        disks.db.crash();
-        return disks;
+        files.log.crash();
+        files.db.crash();
+        return files;
     }
-    let (log, db) = (disks.log.inner().bytes(), disks.db.inner().bytes());
-    files(rt, alloc, log, db, NEVER)
+    Files {
+        log: file(rt, alloc, files.log.inner().bytes(), u64::MAX),
+        db: file(rt, alloc, files.db.inner().bytes(), u64::MAX),
+    }
 }

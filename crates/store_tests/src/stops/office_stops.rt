@@ -1,50 +1,44 @@
-//! Crashes in each event of a script, and in the request that follows it.
+//! Stops in each event of a script, and in the request that follows it.
 use crate::stops::asked::Asked;
-use crate::stops::files::{Stop, Stopping};
+use crate::stops::files::{Stop, Stopping, closed, connected, files, restarted};
 use crate::stops::offices::play;
-use crate::stops::standing::assert_stands;
-use crate::stores::Stores;
-use crate::tried::{Tried, in_memory};
+use crate::stops::standing::stands;
+use sqlite::Files;
+use sqlite_disk::{Fuse, Memory};
 use std::alloc::Global;
 use std::process::Abort;
 
-/// Plays all steps. How many were acknowledged where the machine crashed, and the files.
-fn played<D: Stores>(
+/// Plays all steps. How many were acknowledged where the machine stopped, and the files.
+fn played(
     rt: &impl Abort,
     alloc: Global,
-    stores: &D,
     asked: Asked,
     stop: Stop,
-) -> (usize, D::Disks) {
-    match stores.start(rt, alloc, None, stop) {
+) -> (usize, Files<Fuse<Memory>>) {
+    match connected(alloc, files(rt, alloc, b"", b"", stop)) {
         Ok(connection) => {
             let (steps, store) = play(rt, alloc, connection, asked);
-            (steps, stores.close(store))
+            (steps, closed(store))
         }
         Err(files) => (0, files),
     }
 }
 
-/// How many steps were acknowledged where the machine crashed. These stand afterwards, or one more.
-fn assert_crash<D: Stores>(
-    rt: &impl Abort,
-    alloc: Global,
-    stores: &D,
-    asked: Asked,
-    stop: Stop,
-) -> usize {
-    let (steps, files) = played(rt, alloc, stores, asked, stop);
-    let connection = stores.restart(rt, alloc, files, stop.is_lost);
-    assert_stands(rt, alloc, connection, asked, steps);
+/// How many steps were acknowledged where the machine stopped. These stand afterwards, or one more.
+fn stopped(rt: &impl Abort, alloc: Global, asked: Asked, stop: Stop) -> usize {
+    let (steps, files) = played(rt, alloc, asked, stop);
+    match connected(alloc, restarted(rt, alloc, files, stop.is_lost)) {
+        Ok(connection) => stands(rt, alloc, connection, asked, steps),
+        Err(_left) => panic!(rt; "not opened"),
+    }
     steps
 }
 
-/// The machine crashes at each call of a file, until it comes to none, so that all steps are acknowledged. For each crash, how
+/// The machine stops at each call of a file, until it comes to none, so that all steps are acknowledged. For each stop, how
 /// many were.
-fn assert_each_crash<D: Stores>(
+fn stop_each(
     rt: &impl Abort,
     alloc: Global,
-    stores: &D,
     asked: Asked,
     file: Stopping,
     is_lost: bool,
@@ -56,13 +50,13 @@ fn assert_each_crash<D: Stores>(
             calls,
             is_lost,
         };
-        let steps = assert_crash(rt, alloc, stores, asked, stop);
+        let steps = stopped(rt, alloc, asked, stop);
         if steps == 8 {
             return stops;
         }
         stops.push(steps).expect(rt, "no memory");
     }
-    panic!(rt; "it crashes each time")
+    panic!(rt; "it stops each time")
 }
 
 /// How many steps go before each one that books something. The step after the first four connects the device, and books
@@ -79,22 +73,22 @@ fn each_came_up(stops: &[usize]) -> bool {
     true
 }
 
-/// Crashes at calls of each file, whether or not what was not synced is lost.
-pub(crate) fn assert_all<D: Stores>(rt: &impl Abort, alloc: Global, stores: &D, asked: Asked) {
+/// Stops of each file, whether or not what was not synced is lost.
+fn stop_all(rt: &impl Abort, alloc: Global, asked: Asked) {
     for is_lost in [true, false] {
-        let of_log = assert_each_crash(rt, alloc, stores, asked, Stopping::Log, is_lost);
+        let of_log = stop_each(rt, alloc, asked, Stopping::Log, is_lost);
         assert!(rt; of_log.len() > 30 && each_came_up(&of_log));
-        let of_database = assert_each_crash(rt, alloc, stores, asked, Stopping::Database, is_lost);
+        let of_database = stop_each(rt, alloc, asked, Stopping::Database, is_lost);
         assert!(rt; of_database.len() > 5);
     }
 }
 
 #[test]
 fn an_exchange_that_was_acknowledged_stands(rt: HostRuntime) {
-    in_memory(&rt, rt.alloc(), Tried::Stops(Asked::Exchange))
+    stop_all(&rt, rt.alloc(), Asked::Exchange)
 }
 
 #[test]
 fn a_void_that_was_acknowledged_stands(rt: HostRuntime) {
-    in_memory(&rt, rt.alloc(), Tried::Stops(Asked::Void))
+    stop_all(&rt, rt.alloc(), Asked::Void)
 }

@@ -21,12 +21,8 @@ pub(crate) fn number<S: Alter>(rt: &impl Abort, conn: &mut Connection<S>, query:
 }
 
 /// The file shows these numbers.
-pub(crate) fn assert_shows<S: Alter>(
-    rt: &impl Abort,
-    conn: &mut Connection<S>,
-    numbers: &[(&str, i64)],
-) {
+pub(crate) fn shows<S: Alter>(rt: &impl Abort, conn: &mut Connection<S>, numbers: &[(&str, i64)]) {
     for (query, shown) in numbers {
-        assert!(rt; number(rt, conn, query) == *shown, "{query}");
+        assert_eq!(rt; number(rt, conn, query), *shown, "{query}");
     }
 }

@@ -2,7 +2,7 @@
 use crate::stops::asked::Asked;
 use crate::stops::offices::acknowledges;
 use crate::stops::printed::opened;
-use crate::stops::shown::assert_shows;
+use crate::stops::shown::shows;
 use office_books::Books;
 use office_store::{OpenFault, SqlBooks};
 use sqlite::{Alter, Connection};
@@ -71,10 +71,10 @@ fn may_stand(asked: Asked, steps: usize, text: &str) -> bool {
 }
 
 /// A request stands once.
-fn assert_once<S: Alter>(rt: &impl Abort, connection: &mut Connection<S>, asked: Asked) {
+fn stands_once<S: Alter>(rt: &impl Abort, connection: &mut Connection<S>, asked: Asked) {
     match asked {
-        Asked::Exchange => assert_shows(rt, connection, &EXCHANGED_ROWS),
-        Asked::Void => assert_shows(rt, connection, &VOIDED_ROWS),
+        Asked::Exchange => shows(rt, connection, &EXCHANGED_ROWS),
+        Asked::Void => shows(rt, connection, &VOIDED_ROWS),
     }
 }
 
@@ -90,7 +90,7 @@ fn reopened<B: Books>(rt: &impl Abort, alloc: Global, books: B, asked: Asked, st
 }
 
 /// What so many steps left stands, or one more. Where none was acknowledged, there may be no books.
-pub(crate) fn assert_stands<S: Alter + Drop>(
+pub(crate) fn stands<S: Alter + Drop>(
     rt: &impl Abort,
     alloc: Global,
     connection: Connection<S>,
@@ -103,7 +103,7 @@ pub(crate) fn assert_stands<S: Alter + Drop>(
             if steps < 7 {
                 return;
             }
-            assert_once(rt, &mut books.into_connection(), asked)
+            stands_once(rt, &mut books.into_connection(), asked)
         }
         Err(unopened) => {
             assert!(rt; steps == 0 && unopened.fault == OpenFault::NotOurs);

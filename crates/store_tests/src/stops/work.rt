@@ -1,6 +1,6 @@
 //! What is done to a file, and what stands afterwards.
 use crate::stops::day::{DAY, FIRST, NEW, OLD, READ, ROWS};
-use crate::stops::shown::{assert_shows, fault, number};
+use crate::stops::shown::{fault, number, shows};
 use sqlite::{Alter, Connection};
 use std::process::Abort;
 use store_files::{create, open};
@@ -43,35 +43,35 @@ pub(crate) fn carry_out<S: Alter + Drop>(mut conn: Connection<S>, work: Work) ->
 }
 
 /// A file is there, or there is none and it can be made.
-fn assert_made<S: Alter>(rt: &impl Abort, conn: &mut Connection<S>, is_done: bool) {
+fn is_made<S: Alter>(rt: &impl Abort, conn: &mut Connection<S>, is_done: bool) {
     if !is_done && number(rt, conn, "SELECT count(*) FROM sqlite_schema") == 0 {
-        assert!(rt; fault(open(conn)) == 1);
-        assert!(rt; fault(create(conn, "UTC0")) == 0);
+        assert_eq!(rt; fault(open(conn)), 1);
+        assert_eq!(rt; fault(create(conn, "UTC0")), 0);
     }
-    assert!(rt; fault(open(conn)) == 0);
+    assert_eq!(rt; fault(open(conn)), 0);
     let marked = "SELECT count(*) FROM meta WHERE id = 1 AND version = 3 AND zone = 'UTC0'";
-    assert!(rt; number(rt, conn, marked) == 1);
+    assert_eq!(rt; number(rt, conn, marked), 1);
 }
 
 /// The old file is there, or the new one, with every row, and opens.
-fn assert_brought<S: Alter>(rt: &impl Abort, conn: &mut Connection<S>, is_done: bool) {
+fn is_brought<S: Alter>(rt: &impl Abort, conn: &mut Connection<S>, is_done: bool) {
     let is_old = !is_done && number(rt, conn, "SELECT version FROM meta") == 1;
-    assert_shows(rt, conn, &ROWS);
-    assert_shows(rt, conn, if is_old { &OLD } else { &NEW });
-    assert!(rt; fault(open(conn)) == 0);
-    assert_shows(rt, conn, &ROWS);
-    assert_shows(rt, conn, &NEW)
+    shows(rt, conn, &ROWS);
+    shows(rt, conn, if is_old { &OLD } else { &NEW });
+    assert_eq!(rt; fault(open(conn)), 0);
+    shows(rt, conn, &ROWS);
+    shows(rt, conn, &NEW)
 }
 
 /// What stands after the work, whether or not it was acknowledged.
-pub(crate) fn assert_stands<S: Alter + Drop>(
+pub(crate) fn stands<S: Alter + Drop>(
     rt: &impl Abort,
     mut conn: Connection<S>,
     work: Work,
     is_done: bool,
 ) {
     match work {
-        Work::Making => assert_made(rt, &mut conn, is_done),
-        Work::Bringing => assert_brought(rt, &mut conn, is_done),
+        Work::Making => is_made(rt, &mut conn, is_done),
+        Work::Bringing => is_brought(rt, &mut conn, is_done),
     }
 }
