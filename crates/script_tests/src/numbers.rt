@@ -41,7 +41,7 @@ fn no_sentence_is_empty(rt: HostRuntime) {
             }
         }
     }
-    assert!(rt; count == 70);
+    assert!(rt; count == 72);
 }
 
 #[test]
