@@ -1,4 +1,4 @@
--- Replies for the energy of a register, of which earlier files tell, too.
+-- Lemmas on the energy of a register over earlier files.
 use Rattle.std.proofs.Common.{◌≡◌, ℕ, inl, inr, List, [], ◌∷◌, ◌++◌, map, Some, Result, Ok, Err, IsErr, refl, sym, ap, subst, ◌∙◌}
 use Rattle.std.specs.Prelude.{OnOk}
 use Rattle.std.specs.declared.alloc.Global.{Global}
@@ -37,7 +37,7 @@ pub put_whole : (text : List ℕ) (status : ExitStatus) (had holds : List ℕ) �
 put_whole text status had holds fine (inl told) = told.1
 put_whole text status had holds fine (inr failed) = absurd (let e : Fine ≡ Failed = sym fine ∙ failed.0 in cc e)
 
--- ---- what days come to
+-- ---- the sums of days
 
 module _ {B : Type 0} (ledger : B → Ledger) (a b : Office B) (zone : Zone) (earlier : EarlierDays) (register : List ℕ) (form : ReportForm) where
   abbrev asked : Span

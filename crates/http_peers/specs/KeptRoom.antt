@@ -1,4 +1,4 @@
--- How many bytes of requests may still be kept.
+-- The room, in bytes, that is left for stored commands.
 use Rattle.std.specs.Prelude.{◌≡◌, ◌==◌, ◌&&◌, ◌||◌, ◌-◌, if◌then◌else◌, List, ℕ, Bool, false, Option, Some, None, length, nat_lt, codes}
 use Rattle.std.specs.List.{starts_with}
 use Rattle.std.specs.Str.{bytes_eq}
@@ -9,49 +9,50 @@ use Rattle.http_request.specs.declared.head.head.HeadState.TheVariants.{Open, To
 use Rattle.run_http.specs.declared.answer.PeerReply.{PeerReply}
 use Rattle.run_http.specs.declared.answer.PeerReply.TheVariants as reply
 
--- Commands are given by POST, and by nothing else.
+-- A command is a POST.
 abbrev pub is_command_in : (bytes : List ℕ) → HeadState → Bool
 is_command_in bytes Open = false
 is_command_in bytes TooLarge = false
 is_command_in bytes NoHead = false
 is_command_in bytes (Whole at) = bytes_eq (span_bytes bytes at.method) (codes "POST")
 
--- a look at the bytes finds such a head, or none
+-- the bytes parse to such a head, or to none
 pub record IsCommand (bytes : List ℕ) (result : Bool) : Type 0 where
   pub head_state : HeadState
   pub looks : Looks bytes head_state
   pub is : result ≡ is_command_in bytes head_state
 
--- the reply says that the office acted, now or when it was asked before
+-- the reply's status is 200: the office acted, now or when the same command came before
 abbrev pub has_acted : PeerReply → Bool
 has_acted reply.Open = false
 has_acted (reply.Replied text) = starts_with (λ a b. a == b) text.items (codes "HTTP/1.1 200 ")
 has_acted reply.Failed = false
 
--- what is left of the most, or as good as no limit
+-- what the limit leaves; without a limit, more than any client can send
 abbrev pub room_of : (most : Option ℕ) → (taken : ℕ) → ℕ
 room_of None taken = 18446744073709551615
 room_of (Some most) taken = most - taken
 
--- a command that is longer than what is left
+-- a command that is longer than the room
 pub record Lacks (left : ℕ) (bytes : List ℕ) (result : Bool) : Type 0 where
   pub is_command : Bool
   pub finds : IsCommand bytes is_command
   pub is : result ≡ (is_command && nat_lt left (length bytes))
 
--- A command is rejected that is longer than what is left, and each one once a file of the office is gone.
+-- A command is rejected where it is longer than the room, or where a file of the office is gone.
 pub record Rejects (left : ℕ) (is_lost : Bool) (bytes : List ℕ) (result : Bool) : Type 0 where
   pub is_command : Bool
   pub finds : IsCommand bytes is_command
   pub is : result ≡ (is_command && (nat_lt left (length bytes) || is_lost))
 
--- A command that acted takes as many bytes as it has, and nothing else takes any.
+-- A command that acted uses as many bytes of the room as it has. Nothing else uses any.
 pub record Counts (left later : ℕ) (bytes : List ℕ) (reply : PeerReply) : Type 0 where
   pub is_command : Bool
   pub finds : IsCommand bytes is_command
   pub is : later ≡ if is_command && has_acted reply then left - length bytes else left
 
--- A reply acknowledges something exactly where the request is a command and the reply's status is 200.
+-- A reply acknowledges its request exactly where the request is a command and the reply's status is
+-- 200.
 pub record Acknowledges (bytes : List ℕ) (reply : PeerReply) (result : Bool) : Type 0 where
   pub is_command : Bool
   pub finds : IsCommand bytes is_command

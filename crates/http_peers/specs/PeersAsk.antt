@@ -1,4 +1,4 @@
--- What peers ask of the office of a run.
+-- The requests of HTTP clients to the office of a run.
 use Rattle.std.specs.Prelude.{◌≡◌, ℕ, List, [], ◌∷◌}
 use Rattle.office_books.specs.Ledgers.{Ledger}
 use Rattle.office_core.specs.Standing.{After, Stands, books_in}
@@ -6,20 +6,21 @@ use Rattle.office_core.specs.declared.office.Office.{Office}
 use Rattle.office_http.specs.Connections.Connections.{Connection, history_with}
 use Rattle.office_rules.specs.History.{History}
 
--- each of them came at this moment
+-- each connection's request came at this time
 abbrev pub AreAt : {names : List (List ℕ)} → (at : ℕ) → List (Connection names) → Type 0
 AreAt at [] = Unit {0}
 AreAt at (one ∷ earlier) = (one.at ≡ at) × AreAt at earlier
 
--- The office stands after what was asked on some connections at a moment, of an office that may be asked by these names.
+-- The office is in the state after the requests of some connections at one time, each sent to an
+-- accepted host name.
 pub record StandsAfterPeers {B : Type 0} (names : List (List ℕ)) (at : ℕ) (ledger : B → Ledger)
     (past : History) (office : Office B) : Type 0 where
   pub connections : List (Connection names)
   pub each : AreAt at connections
   pub stands : Stands ledger (history_with past connections) office
 
--- Whatever the sockets of peers bring at a moment, the office stands after what was asked on connections at that moment, and
--- after nothing else; a wrong answer of a store that was taken as true stays one, and the zone stays.
+-- Any input of clients leaves the office in the state after complete requests at that time, and
+-- after nothing else. A wrong answer of the store is never forgotten, and the zone stays.
 pub record PeersAsk {B : Type 0} (names : List (List ℕ)) (at : ℕ) (ledger : B → Ledger)
     (old new : Office B) : Type 0 where
   pub stands : After ledger old new (λ past. StandsAfterPeers names at ledger past new)

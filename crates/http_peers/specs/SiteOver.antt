@@ -1,4 +1,4 @@
--- The reply to the question which registers and meters there are, of which earlier files tell, too.
+-- The registers and meters of an office and of earlier files.
 use Rattle.std.specs.Prelude.{◌≡◌, ℕ, List, [], map, Option, Some, None, Result, Ok, Err, codes}
 use Rattle.std.specs.declared.alloc.Global.{Global}
 use Rattle.std.specs.declared.vec.Vec.{Vec}
@@ -15,7 +15,7 @@ use Rattle.run_http.specs.StatusRoute.{with_reply}
 use Rattle.run_http.specs.Texts.SiteText.{with_site}
 use Rattle.run_http.specs.declared.texts.site.SiteLine.{SiteLine}
 
--- what is told of a register with this as its latest meter over all files
+-- the line of a register with this latest meter over all files
 abbrev pub line_of : Register → Option LatestMeter → SiteLine
 line_of register None =
     record { row = record { register = register; meter = None }; earlier = None }
@@ -24,15 +24,15 @@ line_of register (Some told) = record {
   earlier = told.earlier;
 }
 
--- of one at which earlier files have these meters
+-- the line of a register at which earlier files have these meters
 abbrev pub line_after : (earlier : List Installation) → SiteRow → SiteLine
 line_after earlier row = line_of row.register (latest_meter earlier row.meter)
 
--- Of each register the latest meter is told that the office and earlier files have.
+-- Each register's line has the latest meter of the office and the earlier files.
 abbrev pub line_over : List EarlierRegister → SiteRow → SiteLine
 line_over earlier row = line_after (earlier_meters earlier row.register.name) row
 
--- what is told for what the office answers
+-- the lines of the office's answer, or its refusal
 abbrev pub IsTold : List EarlierRegister → Result (Vec SiteRow Global) Refusal
     → Result (Vec SiteLine Global) Refusal → Type 0
 IsTold earlier (Ok rows) (Ok lines) = lines.items ≡ map (line_over earlier) rows.items
@@ -40,7 +40,7 @@ IsTold earlier (Ok rows) (Err why) = ⊥
 IsTold earlier (Err why) (Ok lines) = ⊥
 IsTold earlier (Err why) (Err told) = told ≡ why
 
--- the reply for what the office answers: a refusal is answered as that of any other question
+-- the reply to the office's answer; a refusal is reported as for any other question
 abbrev pub with_site_over : List EarlierRegister → (at : ℕ) → Result (Vec SiteRow Global) Refusal
     → List ℕ → List ℕ
 with_site_over earlier at (Ok rows) text =

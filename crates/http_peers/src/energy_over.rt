@@ -1,4 +1,4 @@
-//! What a peer is replied who asks for the energy of a register, of which earlier files tell, too.
+//! The energy of a register over earlier files and an office.
 ghost use Rattle.std.specs.Prelude.{◌≡◌, ◌++◌, ◌<◌, IfSome, OnOk, length, position};
 ghost use Rattle.energy_report.specs.Texts.{report_text};
 ghost use Rattle.office_rules.specs.Facts.{is_named};
@@ -14,14 +14,14 @@ use office_events::{Name, Refusal};
 use run_http::put_energy_reply;
 use std::alloc::{AllocError, Global};
 
-/// What earlier files of a run's office tell of its registers, and by which zone the days are.
+/// The registers of earlier files, and the zone of their days.
 #[derive(Clone, Copy)]
 pub struct EarlierFiles<'a> {
     pub zone: Zone,
     pub registers: &'a [EarlierRegister],
 }
 
-// Writes the report on days, in a form. There was no memory for it where that failed.
+// Writes the report on days. It fails only where memory runs out.
 fn put_days(days: &[DayTotal], form: &ReportForm, output: &mut Vec<u8>) -> Result<(), AllocError>
     ensures { OnOk result (output.new.items
         ≡ output.old.items ++ report_text form.now days.now) }
@@ -32,7 +32,7 @@ fn put_days(days: &[DayTotal], form: &ReportForm, output: &mut Vec<u8>) -> Resul
     }
 }
 
-// Asks for the days of a register over earlier files and an office, and writes the report on them in a form.
+// Writes the report on the days of a register over earlier files and an office.
 fn put_energy_over<B: Books>(
     office: &mut Office<B>,
     zone: Zone,
@@ -54,9 +54,10 @@ fn put_energy_over<B: Books>(
     }
 }
 
-/// Asks an office for the days of a register that follow those which earlier files tell, and puts the reply with the report on all of
-/// them, in a form, at the end of a text. Days are by the clocks of a zone, as the earlier ones. Where the form's range has both ends,
-/// only the quarter hours of its days, and of two days more at each end, are read. Want of memory leaves a part of the reply.
+/// Appends the reply with the report on a register's days: those of earlier files, then those of
+/// the office. All days are in the site's time zone. Where the form's range has both ends, only the
+/// quarter hours of its days, and of two days more at each end, are read. Where memory runs out, a
+/// part of the reply is appended.
 pub fn reply_energy_over<B: Books>(
     alloc: Global,
     text: &mut Vec<u8>,
@@ -74,7 +75,7 @@ pub fn reply_energy_over<B: Books>(
     put_energy_reply(text, &answer, &body)
 }
 
-// Whether what is told is of a register of this name, which is `None` where no register can have it.
+// Whether an earlier register has this name. `None` is a name that no register can have.
 fn is_of(it: &EarlierRegister, register: &Option<Name>) -> bool
     ensures { result ≡ is_named register.now it.now.name }
 {
@@ -84,14 +85,14 @@ fn is_of(it: &EarlierRegister, register: &Option<Name>) -> bool
     }
 }
 
-// The first place where what is told is of a register of this name.
+// The first index of an earlier register with this name.
 fn first_of(registers: &[EarlierRegister], register: &Option<Name>) -> Option<usize>
     ensures { result ≡ position (λ it. is_named register.now it.name) registers.now }
 {
     registers.iter().position(|it| is_of(it, register))
 }
 
-/// The first place of a register among those of which earlier files tell.
+/// Returns the first index of a register among those of earlier files.
 pub fn place_among(registers: &[EarlierRegister], register: &Option<Name>) -> Option<usize>
     ensures first { result ≡ position (λ it. is_named register.now it.name) registers.now }
     ensures within { IfSome result (λ place. place < length registers.now) }

@@ -1,46 +1,44 @@
-//! HTTP on a port.
-ghost use Rattle.std.specs.Prelude.{◌≡◌, ◌⊎◌, ◌<◌, ℕ, false, true, List};
+//! The HTTP port of a run, and its connections.
+ghost use Rattle.std.specs.Prelude.{◌≡◌, ◌⊎◌, ℕ, false, true, List};
 ghost use Rattle.http_request.specs.Hosts.{texts};
 ghost use Rattle.http_peers.specs.PeersAsk.{PeersAsk};
 
-use crate::energy_over::{EarlierFiles, place_among, reply_energy_over};
+use crate::clients::Client;
+use crate::interval_answers::{answer_span, append_piece, begin_all};
 use crate::kept_room::{KeptRoom, is_acknowledged, is_command};
 use crate::moments::{Now, even_milliseconds};
-use crate::peers::Peer;
 use crate::repeats::Repeats;
+use crate::route_answers::{
+    answer_days, answer_entries, answer_meters, answer_metrics, answer_site, answer_status,
+    answer_voids,
+};
 use crate::run_told::{RunSystem, RunTold};
-use crate::site_over::reply_site_over;
-use carried_books::EarlierRegister;
-use energy_report::ReportForm;
+use crate::slots::{
+    empty_slots, has_rows_left, held_bytes, is_attended, is_done, is_ready, open_slots,
+    record_state,
+};
 use http_request::{Route, Status, router};
-use interval_core::Zone;
 use matchit::Router;
 use mio::net::{TcpListener, TcpStream};
 use mio::{Interest, Registry, Token};
-use office_books::{Books, Span};
+use office_books::Books;
 use office_core::Office;
-use office_events::{Name, Refusal};
 use run_http::{
-    PeerReply, RowsLeft, RunRoute, StatusRoute, all_rows_asked, are_many, ask, asks_energy,
-    begin_all_intervals, begin_intervals, end_rows, for_browsers, has_more, may_void, reply_energy,
-    reply_entries, reply_intervals, reply_meters, reply_metrics, reply_status, reply_voids,
-    run_route, tell_rows,
+    PeerReply, RowsLeft, RunRoute, StatusRoute, ask, asks_energy, for_browsers, may_void, run_route,
 };
 use run_schedule::{MOST_PEERS, PEER_SECONDS, Peers, TurnShare, may_reply, place_at, place_for};
 use std::alloc::{AllocError, Global};
 use std::io::ErrorKind;
 use std::mem;
 
-/// Quarter hours of more seconds are told in pieces of so many: a thousand lines, of 32 bytes each at most.
-const PIECE_SECONDS: u64 = 900_000;
-
-/// How many pieces a peer is told in a row at most: more than a turn replies.
+// The most pieces of a reply that are sent to one client in a row: more than a turn's share allows.
 const MOST_PIECES: u32 = 64;
 
-/// The token of the port. That of a connection is its place, and all are less.
+/// The token of the listener. The token of a connection is its slot, which is lower.
 pub const PORT_TOKEN: usize = MOST_PEERS;
 
-/// The port and its connections.
+/// A listener and up to 64 connections. The event loop marks what is ready, and serves one slot
+/// after the other.
 #[derive(Drop)]
 pub struct HttpPort {
     alloc: Global,
@@ -48,96 +46,20 @@ pub struct HttpPort {
     waiting: bool,
     router: Router<Route>,
     peers: Peers,
-    connections: Vec<Option<Peer>>,
-    /// What may still be replied in this turn.
+    connections: Vec<Option<Client>>,
+    /// What may still be sent in this turn.
     share: TurnShare,
-    /// The place that is attended first.
+    /// The slot that is served first.
     first: usize,
     room: KeptRoom,
     repeats: Repeats,
-    /// Whether a command was refused since there is no room to keep it, which was not said yet.
+    /// Whether a command was rejected for want of room, and nobody has logged that yet.
     is_full: bool,
-    /// Whether a file of the office is gone: then no command is carried out.
+    /// Whether a file of the office is gone: then every command is rejected.
     is_lost: bool,
 }
 
-// Whether the connection of a place has something that was not looked at, and needn't wait for what is held of replies.
-fn is_ready(connection: &Option<Peer>, may_reply: bool) -> bool {
-    match connection {
-        Some(peer) => peer.ready && (may_reply || peer.has_reply()),
-        None => false,
-    }
-}
-
-// Whether the connection of a place is attended, where this is left of what may be replied in a turn: those that ask, or want
-// more rows, wait for a turn in which something is left, and what was made of a reply is written on.
-fn is_attended(connection: &Option<Peer>, share: TurnShare) -> bool {
-    match connection {
-        Some(peer) => {
-            let is_written_on = peer.has_reply() && !peer.wants_rows();
-            is_written_on || !share.is_over()
-        }
-        None => false,
-    }
-}
-
-// How many bytes are held of the reply of the connection of a place.
-fn held_by(connection: &Option<Peer>) -> usize {
-    match connection {
-        Some(peer) => peer.held(),
-        None => 0,
-    }
-}
-
-// Whether the reply of the connection of a place has rows that are still to be told.
-fn tells_rows(connection: &Option<Peer>) -> bool {
-    match connection {
-        Some(peer) => peer.rows.is_some(),
-        None => false,
-    }
-}
-
-// What was begun of a reply with many rows. Where the office refuses it, it is asked for all of it.
-fn begun_reply(
-    text: Vec<u8>,
-    begun: Result<Result<RowsLeft, Refusal>, AllocError>,
-    rows: &mut Option<RowsLeft>,
-) -> Option<PeerReply> {
-    match begun {
-        Ok(Ok(left)) => {
-            *rows = Some(left);
-            Some(PeerReply::Replied(text))
-        }
-        Ok(Err(_)) => None,
-        Err(_) => Some(PeerReply::Failed),
-    }
-}
-
-// Puts the next rows of a reply at the end of a text, or the last; it answers whether these were. None where the books failed, or
-// memory was wanting.
-#[tactic(auto, using(crate::proofs::PeersAsking::nobody_asks, crate::proofs::PeersAsking::asks_told))]
-fn put_next<B: Books>(
-    alloc: Global,
-    text: &mut Vec<u8>,
-    rows: &mut RowsLeft,
-    office: &mut Office<B>,
-) -> Option<bool>
-    ensures { (names : List (List ℕ)) (at : ℕ) → PeersAsk names at B.ledger office.old office.new }
-{
-    if !has_more(rows) {
-        return match end_rows(text, rows) {
-            Ok(()) => Some(true),
-            Err(_) => None,
-        };
-    }
-    match tell_rows(alloc, text, office, rows, PIECE_SECONDS) {
-        Ok(Ok(())) => Some(false),
-        Ok(Err(_)) => None,
-        Err(_) => None,
-    }
-}
-
-// How many bytes are replied.
+// The bytes of a reply.
 fn size_of(asked: &PeerReply) -> usize {
     match asked {
         PeerReply::Replied(reply) => reply.len(),
@@ -145,49 +67,10 @@ fn size_of(asked: &PeerReply) -> usize {
     }
 }
 
-// Whether the connection of a place was replied to, and may be dropped.
-fn is_done(connection: &Option<Peer>, time: u64) -> bool {
-    match connection {
-        Some(peer) => peer.is_done(time),
-        None => false,
-    }
-}
-
-// Opens this many slots, and shuts the others.
-fn places_for(clients: usize) -> Peers {
-    let mut peers = Peers::new();
-    for place in clients..MOST_PEERS {
-        peers.shut(place);
-    }
-    peers
-}
-
-// Records in its slot whether a client waits for its reply, or was replied to.
-fn note_state(peers: &mut Peers, place: usize, peer: &Peer)
-    requires { place < 64 }
-{
-    match peer.lingers {
-        Some(until) => peers.linger(place, until),
-        None => {
-            if peer.has_reply() {
-                peers.ask(place);
-            }
-        }
-    }
-}
-
-// A connection for each place, of which there is none yet.
-fn no_connections(alloc: Global) -> Result<Vec<Option<Peer>>, AllocError> {
-    let mut connections = Vec::new(alloc);
-    for _place in 0..MOST_PEERS {
-        connections.push(None)?;
-    }
-    Ok(connections)
-}
-
 impl HttpPort {
-    /// A port that is listened on, whose listener is registered under [`PORT_TOKEN`]; nobody is connected. It accepts this many clients
-    /// at once, and 64 at most.
+    /// Returns a port without connections. The caller has registered the listener under
+    /// [`PORT_TOKEN`]. The port accepts `clients` connections at once, 64 at most. Fails where
+    /// memory runs out.
     pub fn new(
         alloc: Global,
         listener: TcpListener,
@@ -195,13 +78,13 @@ impl HttpPort {
         clients: usize,
     ) -> Result<HttpPort, AllocError> {
         let router = router(alloc)?;
-        let connections = no_connections(alloc)?;
+        let connections = empty_slots(alloc)?;
         Ok(HttpPort {
             alloc,
             listener,
             waiting: true,
             router,
-            peers: places_for(clients),
+            peers: open_slots(clients),
             connections,
             share: TurnShare::whole(),
             first: 0,
@@ -212,25 +95,25 @@ impl HttpPort {
         })
     }
 
-    /// A turn begins, with what may be replied in it: devices wait for no more.
+    /// Begins a turn with a whole share. The share bounds how long HTTP keeps devices waiting.
     pub fn begin_turn(&mut self) {
         self.share = TurnShare::whole();
     }
 
-    /// The place that is attended first: the one after that which was replied to last.
+    /// Returns the slot that is served first: the slot after the last reply's.
     pub fn first(&self) -> usize
         ensures { result ≡ self.now.first }
     {
         self.first
     }
 
-    // A place was replied so many bytes, which took so long.
-    fn note_reply(&mut self, place: usize, bytes: usize, milliseconds: u64) {
+    // Takes a reply off the turn's share, and moves on to the next slot.
+    fn record_reply(&mut self, slot: usize, bytes: usize, milliseconds: u64) {
         self.share = self.share.after(bytes, milliseconds);
-        self.first = place_at(place, 1);
+        self.first = place_at(slot, 1);
     }
 
-    /// Takes whether a command was refused since there is no room to keep it.
+    /// Returns whether a command was rejected for want of room since the last call.
     pub fn take_full(&mut self) -> bool
         ensures taken { result ≡ self.old.is_full }
         ensures later { self.new.is_full ≡ false }
@@ -238,116 +121,115 @@ impl HttpPort {
         mem::replace(&mut self.is_full, false)
     }
 
-    /// The office may have recorded something: no reply is given again.
+    /// Drops the kept reply, since the office may have recorded something.
     pub fn forget_replies(&mut self) {
         self.repeats.forget();
     }
 
-    /// A file of the office is gone: from now on commands are answered by the fault 503, and not acted on.
+    /// Rejects every later command by fault 503, since a file of the office is gone.
     pub fn lose_files(&mut self)
         ensures { self.new.is_lost ≡ true }
     {
         self.is_lost = true;
     }
 
-    /// Whether a file of the office was gone when a command was to be acknowledged, or earlier.
+    /// Whether a file of the office is gone. Each command's acknowledgement asks for that first.
     pub fn has_lost(&self) -> bool
         ensures { result ≡ self.now.is_lost }
     {
         self.is_lost
     }
 
-    /// Something may have come for a token.
+    /// Marks the listener or a connection as ready by its token.
     pub fn mark(&mut self, token: usize) {
         if token == PORT_TOKEN {
             self.waiting = true;
         } else if token < self.connections.len() {
-            if let Some(peer) = &mut self.connections[token] {
-                peer.ready = true;
+            if let Some(client) = &mut self.connections[token] {
+                client.ready = true;
             }
         }
     }
 
-    // Whether a request may be replied to, by what is held of replies that were not taken.
+    // Whether another reply may be made, by the bytes of those that clients have not read yet.
     fn may_reply(&self) -> bool {
         let mut held = 0usize;
         for connection in &self.connections {
-            held = held.saturating_add(held_by(connection));
+            held = held.saturating_add(held_bytes(connection));
         }
         may_reply(held)
     }
 
-    /// Whether something may have come that was not looked at, and needn't wait.
+    /// Whether a connection can be served without waiting.
     pub fn is_ready(&self) -> bool {
         let may_reply = self.may_reply();
         self.connections.iter().any(|it| is_ready(it, may_reply))
     }
 
-    /// Whether a connection may wait that was not accepted.
+    /// Whether a connection may wait at the listener.
     pub fn is_waiting(&self) -> bool
         ensures { result ≡ self.now.waiting }
     {
         self.waiting
     }
 
-    // Drops the connection of a place.
-    fn end(&mut self, place: usize) {
-        if place < MOST_PEERS && place < self.connections.len() {
-            self.peers.end(place);
-            self.connections[place] = None;
+    // Drops the connection of a slot, and frees the slot.
+    fn drop_client(&mut self, slot: usize) {
+        if slot < MOST_PEERS && slot < self.connections.len() {
+            self.peers.end(slot);
+            self.connections[slot] = None;
         }
     }
 
-    /// Drops the connections that took too long, and those that were replied to.
+    /// Drops connections whose time is over at `time`, and those that have their complete reply. In
+    /// seconds.
     pub fn sweep(&mut self, time: u64) {
-        for place in 0..MOST_PEERS {
-            let is_late = self.peers.is_over(place, time);
-            if is_late
-                || place < self.connections.len() && is_done(&self.connections[place], time)
-            {
-                self.end(place);
+        for slot in 0..MOST_PEERS {
+            let is_late = self.peers.is_over(slot, time);
+            if is_late || slot < self.connections.len() && is_done(&self.connections[slot], time) {
+                self.drop_client(slot);
             }
         }
     }
 
-    // Whether there is a place for one more connection: a free one, or one whose connection was replied to, or has asked nothing for a
-    // second.
+    // Whether a new connection finds a slot: a free one, one whose client has its reply, or one
+    // whose client has sent no request for a second.
     fn has_room(&self, time: u64) -> bool {
-        let Some(place) = place_for(&self.peers.places) else {
+        let Some(slot) = place_for(&self.peers.places) else {
             return false;
         };
-        if place >= MOST_PEERS {
+        if slot >= MOST_PEERS {
             return false;
         }
-        match self.peers.places[place].silent_until() {
+        match self.peers.places[slot].silent_until() {
             Some(until) => until < time.saturating_add(PEER_SECONDS),
             None => true,
         }
     }
 
-    // Gives a connection a place.
+    // Puts a new connection into a slot.
     fn admit(&mut self, mut stream: TcpStream, registry: &Registry, time: u64) {
         let Some(admission) = self.peers.admit(time, PEER_SECONDS) else {
             return;
         };
         let both = Interest::READABLE | Interest::WRITABLE;
-        let place = admission.place;
-        self.end_peer(place);
-        if registry.register(&mut stream, Token(place), both).is_err() {
-            self.end(place);
-        } else if place < self.connections.len() {
-            self.connections[place] = Some(Peer::new(self.alloc, stream));
+        let slot = admission.place;
+        self.vacate_slot(slot);
+        if registry.register(&mut stream, Token(slot), both).is_err() {
+            self.drop_client(slot);
+        } else if slot < self.connections.len() {
+            self.connections[slot] = Some(Client::new(self.alloc, stream));
         }
     }
 
-    // Drops the connection that had a place before.
-    fn end_peer(&mut self, place: usize) {
-        if place < self.connections.len() {
-            self.connections[place] = None;
+    // Drops the connection that the slot had before.
+    fn vacate_slot(&mut self, slot: usize) {
+        if slot < self.connections.len() {
+            self.connections[slot] = None;
         }
     }
 
-    /// Accepts what waits, as far as there are places.
+    /// Accepts waiting connections while there are slots.
     pub fn accept(&mut self, registry: &Registry, time: u64) {
         for _connection in 0..MOST_PEERS {
             if !self.waiting || !self.has_room(time) {
@@ -363,239 +245,8 @@ impl HttpPort {
         }
     }
 
-    // The reply of a route that is answered without the office.
-    fn reply_status(&self, route: StatusRoute, told: &RunTold<'_>) -> PeerReply {
-        let mut text = Vec::new(self.alloc);
-        let monitor = told.monitor;
-        match reply_status(
-            self.alloc,
-            &mut text,
-            route,
-            &monitor.counts,
-            &monitor.states,
-            told.lacks,
-        ) {
-            Ok(()) => PeerReply::Replied(text),
-            Err(_) => PeerReply::Failed,
-        }
-    }
-
-    // The reply with what was counted and the energy of meters.
-    #[tactic(auto, using(crate::proofs::PeersAsking::asks_site))]
-    fn reply_metrics<B: Books>(&self, office: &mut Office<B>, told: &RunTold<'_>) -> PeerReply
-        ensures { (names : List (List ℕ)) (at : ℕ) → PeersAsk names at B.ledger office.old office.new }
-    {
-        let mut text = Vec::new(self.alloc);
-        let monitor = told.monitor;
-        match reply_metrics(
-            self.alloc,
-            &mut text,
-            office,
-            &monitor.counts,
-            &monitor.states,
-        ) {
-            Ok(()) => PeerReply::Replied(text),
-            Err(_) => PeerReply::Failed,
-        }
-    }
-
-    // The reply to the question which registers and meters there are.
-    #[tactic(auto, using(crate::proofs::PeersAsking::asks_site))]
-    fn reply_site<B: Books>(
-        &self,
-        office: &mut Office<B>,
-        earlier: &[EarlierRegister],
-        moment: u64,
-    ) -> PeerReply
-        ensures { (names : List (List ℕ)) → PeersAsk names moment B.ledger office.old office.new }
-    {
-        let mut text = Vec::new(self.alloc);
-        match reply_site_over(self.alloc, &mut text, office, earlier, moment) {
-            Ok(()) => PeerReply::Replied(text),
-            Err(_) => PeerReply::Failed,
-        }
-    }
-
-    // The reply to the question for quarter hours of a meter.
-    #[tactic(auto, using(crate::proofs::PeersAsking::asks_rows))]
-    fn reply_intervals<B: Books>(
-        &self,
-        office: &mut Office<B>,
-        meter: &Option<Name>,
-        span: Span,
-    ) -> PeerReply
-        ensures { (names : List (List ℕ)) (at : ℕ) → PeersAsk names at B.ledger office.old office.new }
-    {
-        let mut text = Vec::new(self.alloc);
-        match reply_intervals(self.alloc, &mut text, office, meter, span) {
-            Ok(()) => PeerReply::Replied(text),
-            Err(_) => PeerReply::Failed,
-        }
-    }
-
-    // Begins the reply with those of a span, where they are many.
-    #[tactic(auto, using(crate::proofs::PeersAsking::nobody_asks, crate::proofs::PeersAsking::only_asks))]
-    fn begin_span<B: Books>(
-        &self,
-        office: &mut Office<B>,
-        meter: &Option<Name>,
-        span: Span,
-        rows: &mut Option<RowsLeft>,
-    ) -> Option<PeerReply>
-        ensures { (names : List (List ℕ)) (at : ℕ) → PeersAsk names at B.ledger office.old office.new }
-    {
-        let Span::Between { from, till } = span else {
-            return None;
-        };
-        let Ok(it) = office.meter(meter) else {
-            return None;
-        };
-        if !are_many(&it, from, till, PIECE_SECONDS) {
-            return None;
-        }
-        let mut text = Vec::new(self.alloc);
-        let begun = begin_intervals(self.alloc, &mut text, office, &it, from, till);
-        begun_reply(text, begun, rows)
-    }
-
-    // The reply with those of a span, or what it begins with.
-    fn reply_span<B: Books>(
-        &self,
-        office: &mut Office<B>,
-        meter: &Option<Name>,
-        span: Span,
-        rows: &mut Option<RowsLeft>,
-    ) -> PeerReply
-        ensures { (names : List (List ℕ)) (at : ℕ) → PeersAsk names at B.ledger office.old office.new }
-    {
-        match self.begin_span(office, meter, span, rows) {
-            Some(begun) => begun,
-            None => self.reply_intervals(office, meter, span),
-        }
-    }
-
-    // Begins the office's own reply with all quarter hours of a meter, where a request asks for them, and they are many.
-    #[tactic(auto, using(crate::proofs::PeersAsking::nobody_asks, crate::proofs::PeersAsking::only_asks))]
-    fn begin_all<B: Books>(
-        &self,
-        request: &[u8],
-        office: &mut Office<B>,
-        rows: &mut Option<RowsLeft>,
-    ) -> Option<PeerReply>
-        ensures { (names : List (List ℕ)) (at : ℕ) → PeersAsk names at B.ledger office.old office.new }
-    {
-        let Some(meter) = all_rows_asked(&self.router, request) else {
-            return None;
-        };
-        let Ok(it) = office.meter(&meter) else {
-            return None;
-        };
-        if !are_many(&it, 0, u64::MAX, PIECE_SECONDS) {
-            return None;
-        }
-        let mut text = Vec::new(self.alloc);
-        let begun = begin_all_intervals(self.alloc, &mut text, office, &it);
-        begun_reply(text, begun, rows)
-    }
-
-    // The reply to the question for entries of a meter.
-    #[tactic(auto, using(crate::proofs::PeersAsking::asks_rows))]
-    fn reply_entries<B: Books>(
-        &self,
-        office: &mut Office<B>,
-        meter: &Option<Name>,
-        from: u64,
-    ) -> PeerReply
-        ensures { (names : List (List ℕ)) (at : ℕ) → PeersAsk names at B.ledger office.old office.new }
-    {
-        let mut text = Vec::new(self.alloc);
-        match reply_entries(self.alloc, &mut text, office, meter, from) {
-            Ok(()) => PeerReply::Replied(text),
-            Err(_) => PeerReply::Failed,
-        }
-    }
-
-    // The reply to the question which entries of a meter voids name.
-    #[tactic(auto, using(crate::proofs::PeersAsking::asks_rows))]
-    fn reply_voids<B: Books>(&self, office: &mut Office<B>, meter: &Option<Name>) -> PeerReply
-        ensures { (names : List (List ℕ)) (at : ℕ) → PeersAsk names at B.ledger office.old office.new }
-    {
-        let mut text = Vec::new(self.alloc);
-        match reply_voids(self.alloc, &mut text, office, meter) {
-            Ok(()) => PeerReply::Replied(text),
-            Err(_) => PeerReply::Failed,
-        }
-    }
-
-    // The reply to the question for the energy of a register.
-    #[tactic(auto, using(crate::proofs::PeersAsking::asks_energy))]
-    fn reply_energy<B: Books>(
-        &self,
-        office: &mut Office<B>,
-        register: &Option<Name>,
-        form: &ReportForm,
-    ) -> PeerReply
-        ensures { (names : List (List ℕ)) (at : ℕ) → PeersAsk names at B.ledger office.old office.new }
-    {
-        let mut text = Vec::new(self.alloc);
-        match reply_energy(self.alloc, &mut text, office, register, form) {
-            Ok(()) => PeerReply::Replied(text),
-            Err(_) => PeerReply::Failed,
-        }
-    }
-
-    // The same over earlier files, too.
-    #[tactic(auto, using(crate::proofs::PeersAsking::asks_energy_over))]
-    fn reply_energy_over<B: Books>(
-        &self,
-        office: &mut Office<B>,
-        zone: Zone,
-        it: &EarlierRegister,
-        form: &ReportForm,
-    ) -> PeerReply
-        ensures { (names : List (List ℕ)) (at : ℕ) → PeersAsk names at B.ledger office.old office.new }
-    {
-        let mut text = Vec::new(self.alloc);
-        match reply_energy_over(
-            self.alloc, &mut text, office, zone, &it.days, &it.name, form,
-        ) {
-            Ok(()) => PeerReply::Replied(text),
-            Err(_) => PeerReply::Failed,
-        }
-    }
-
-    // The reply to the question for the energy of a register: over earlier files, too, where these tell of it.
-    fn reply_days<B: Books>(
-        &self,
-        office: &mut Office<B>,
-        earlier: &EarlierFiles<'_>,
-        register: &Option<Name>,
-        form: &ReportForm,
-    ) -> PeerReply
-        ensures { (names : List (List ℕ)) (at : ℕ) → PeersAsk names at B.ledger office.old office.new }
-    {
-        match place_among(earlier.registers, register) {
-            Some(place) => {
-                self.reply_energy_over(office, earlier.zone, &earlier.registers[place], form)
-            }
-            None => self.reply_energy(office, register, form),
-        }
-    }
-
-    // The reply to the question which meters are at a register.
-    #[tactic(auto, using(crate::proofs::PeersAsking::asks_rows))]
-    fn reply_meters<B: Books>(&self, office: &mut Office<B>, register: &Option<Name>) -> PeerReply
-        ensures { (names : List (List ℕ)) (at : ℕ) → PeersAsk names at B.ledger office.old office.new }
-    {
-        let mut text = Vec::new(self.alloc);
-        match reply_meters(self.alloc, &mut text, office, register) {
-            Ok(()) => PeerReply::Replied(text),
-            Err(_) => PeerReply::Failed,
-        }
-    }
-
-    // What comes of what a peer has asked, and the rows that are told after that. Who asks is tested before all else, and then
-    // whether what is kept has room.
+    // Routes a complete request to its answer; `rows` gets the rows that later pieces send. Hosts
+    // are checked before all else, then the room for commands.
     #[tactic(auto, using(crate::proofs::PeersAsking::nobody_asks, crate::proofs::PeersAsking::both_ask))]
     fn reply<B: Books>(
         &self,
@@ -608,32 +259,33 @@ impl HttpPort {
     ) -> PeerReply
         ensures { PeersAsk (texts names.now) now.moment B.ledger office.old office.new }
     {
+        let alloc = self.alloc;
         match run_route(names, request) {
-            Some(RunRoute::Own(route)) => self.reply_status(route, told),
-            Some(RunRoute::Metrics) => self.reply_metrics(office, told),
-            Some(RunRoute::Site) => self.reply_site(office, told.earlier.registers, now.moment),
+            Some(RunRoute::Own(route)) => answer_status(alloc, route, told),
+            Some(RunRoute::Metrics) => answer_metrics(alloc, office, told),
+            Some(RunRoute::Site) => answer_site(alloc, office, told.earlier.registers, now.moment),
             Some(RunRoute::Intervals { meter, span }) => {
-                self.reply_span(office, &meter, span, rows)
+                answer_span(alloc, office, &meter, span, rows)
             }
-            Some(RunRoute::Entries { meter, from }) => self.reply_entries(office, &meter, from),
-            Some(RunRoute::Voids { meter }) => self.reply_voids(office, &meter),
+            Some(RunRoute::Entries { meter, from }) => answer_entries(alloc, office, &meter, from),
+            Some(RunRoute::Voids { meter }) => answer_voids(alloc, office, &meter),
             Some(RunRoute::Energy { register, form }) => {
-                self.reply_days(office, told.earlier, &register, &form)
+                answer_days(alloc, office, told.earlier, &register, &form)
             }
-            Some(RunRoute::Meters { register }) => self.reply_meters(office, &register),
+            Some(RunRoute::Meters { register }) => answer_meters(alloc, office, &register),
             None => {
                 if self.room.rejects(request, self.is_lost) {
-                    return self.reply_status(StatusRoute::Rejected(Status::Unavailable), told);
+                    return answer_status(alloc, StatusRoute::Rejected(Status::Unavailable), told);
                 }
-                match self.begin_all(request, office, rows) {
+                match begin_all(alloc, &self.router, request, office, rows) {
                     Some(begun) => begun,
-                    None => ask(self.alloc, request, office, now.moment),
+                    None => ask(alloc, request, office, now.moment),
                 }
             }
         }
     }
 
-    // The same, or the reply that was given to the same request before, where nothing was recorded since.
+    // Sends the kept reply where the same request came before and nothing was recorded since.
     #[tactic(auto, using(crate::proofs::PeersAsking::nobody_asks))]
     fn reply_again<B: Books>(
         &mut self,
@@ -654,7 +306,7 @@ impl HttpPort {
         asked
     }
 
-    // Keeps a reply with energy, and none past a command, which may have changed it.
+    // Keeps a reply with energy. A command may have changed the energy, so it drops the kept reply.
     fn keep_reply(&mut self, names: &[&str], request: &[u8], asked: &PeerReply) {
         if is_command(request) {
             self.repeats.forget();
@@ -666,8 +318,8 @@ impl HttpPort {
         }
     }
 
-    // A reply as browsers get it.
-    fn told(&self, names: &[&str], request: &[u8], asked: PeerReply) -> PeerReply {
+    // Adds the headers that protect browsers.
+    fn add_browser_headers(&self, names: &[&str], request: &[u8], asked: PeerReply) -> PeerReply {
         match asked {
             PeerReply::Replied(reply) => match for_browsers(self.alloc, names, request, &reply) {
                 Ok(told) => PeerReply::Replied(told),
@@ -678,9 +330,9 @@ impl HttpPort {
         }
     }
 
-    // Whether the connection of a place is attended now.
-    fn has_turn(&self, place: usize) -> bool {
-        match self.connections.get(place) {
+    // Whether the connection of a slot is served now.
+    fn has_turn(&self, slot: usize) -> bool {
+        match self.connections.get(slot) {
             Some(connection) => {
                 is_attended(connection, self.share) && is_ready(connection, self.may_reply())
             }
@@ -688,44 +340,46 @@ impl HttpPort {
         }
     }
 
-    // Takes the connection of a place whose turn it is.
-    fn take_ready(&mut self, place: usize) -> Option<Peer> {
-        if self.has_turn(place) && place < self.connections.len() {
-            return self.connections[place].take();
+    // Takes the connection out of a slot that is served now.
+    fn take_ready(&mut self, slot: usize) -> Option<Client> {
+        if self.has_turn(slot) && slot < self.connections.len() {
+            return self.connections[slot].take();
         }
         None
     }
 
-    // Writes the reply of a peer, where it has one, and puts its connection back unless that is over.
-    fn put_back(&mut self, place: usize, mut peer: Peer, time: u64) {
-        peer.give(time);
-        if peer.is_over() {
-            self.end(place);
-        } else if place < MOST_PEERS && place < self.connections.len() {
-            note_state(&mut self.peers, place, &peer);
-            self.connections[place] = Some(peer);
+    // Writes what the socket accepts, and returns the connection to its slot unless it is over.
+    fn return_client(&mut self, slot: usize, mut client: Client, time: u64) {
+        client.write_reply(time);
+        if client.is_over() {
+            self.drop_client(slot);
+        } else if slot < MOST_PEERS && slot < self.connections.len() {
+            record_state(&mut self.peers, slot, &client);
+            self.connections[slot] = Some(client);
         }
     }
 
-    // A void may have changed rows that are still to be told: replies with such rows are cut.
+    // Cuts replies that have rows left: a void may have changed these rows.
     fn cut_replies(&mut self) {
-        for place in 0..MOST_PEERS {
-            if place < self.connections.len() && tells_rows(&self.connections[place]) {
-                self.end(place);
+        for slot in 0..MOST_PEERS {
+            if slot < self.connections.len() && has_rows_left(&self.connections[slot]) {
+                self.drop_client(slot);
             }
         }
     }
 
-    // A reply goes on: its place stays the first, so that one after the other is told to its end, and none is late for all.
-    fn stay_at(&mut self, place: usize, goes_on: bool) {
-        if goes_on {
-            self.first = place;
+    // Serves a slot with rows left first in the next turn: replies end one after the other, so no
+    // client waits for all of them.
+    fn keep_first(&mut self, slot: usize, has_more: bool) {
+        if has_more {
+            self.first = slot;
         }
     }
 
-    // Takes note of what a peer was replied, which took so long.
-    fn count(&mut self, place: usize, request: &[u8], asked: &PeerReply, milliseconds: u64) {
-        self.note_reply(place, size_of(asked), milliseconds);
+    // Accounts for a reply: its share of the turn, the room of its command, and the rows that a
+    // void may change.
+    fn count_reply(&mut self, slot: usize, request: &[u8], asked: &PeerReply, milliseconds: u64) {
+        self.record_reply(slot, size_of(asked), milliseconds);
         self.is_full = self.is_full || self.room.lacks(request);
         self.room.count(request, asked);
         if may_void(request) {
@@ -733,7 +387,7 @@ impl HttpPort {
         }
     }
 
-    // The reply to a request. Where a file of the office is gone, the fault 503 replaces a reply that acknowledges a command.
+    // Replaces the acknowledgement of a command by fault 503 where a file of the office is gone.
     fn confirmed<R: RunSystem>(
         &mut self,
         rt: &R,
@@ -747,15 +401,15 @@ impl HttpPort {
             return asked;
         }
         self.lose_files();
-        self.reply_status(StatusRoute::Rejected(Status::Unavailable), told)
+        answer_status(self.alloc, StatusRoute::Rejected(Status::Unavailable), told)
     }
 
-    // Replies to what a peer has asked.
-    fn answer<R: RunSystem, B: Books>(
+    // Answers the complete request of a client.
+    fn answer_request<R: RunSystem, B: Books>(
         &mut self,
         rt: &R,
-        place: usize,
-        peer: &mut Peer,
+        slot: usize,
+        client: &mut Client,
         names: &[&str],
         office: &mut Office<B>,
         told: &RunTold<'_>,
@@ -765,67 +419,67 @@ impl HttpPort {
     {
         let begun = even_milliseconds(rt);
         let mut rows = None;
-        let asked = self.reply_again(names, &peer.asked, office, told, now, &mut rows);
-        let asked = self.confirmed(rt, &peer.asked, asked, told);
+        let asked = self.reply_again(names, &client.request, office, told, now, &mut rows);
+        let asked = self.confirmed(rt, &client.request, asked, told);
         let took = even_milliseconds(rt).saturating_sub(begun);
-        self.count(place, &peer.asked, &asked, took);
-        self.stay_at(place, rows.is_some());
-        let asked = self.told(names, &peer.asked, asked);
-        peer.take(asked, rows);
+        self.count_reply(slot, &client.request, &asked, took);
+        self.keep_first(slot, rows.is_some());
+        let asked = self.add_browser_headers(names, &client.request, asked);
+        client.start_reply(asked, rows);
     }
 
-    // Tells a peer the next rows of its reply.
+    // Sends the next piece of a client's reply.
     #[tactic(auto, using(crate::proofs::PeersAsking::nobody_asks))]
-    fn tell_next<R: std::rt::Clock, B: Books>(
+    fn send_piece<R: std::rt::Clock, B: Books>(
         &mut self,
         rt: &R,
-        place: usize,
-        peer: &mut Peer,
+        slot: usize,
+        client: &mut Client,
         office: &mut Office<B>,
     )
         ensures { (names : List (List ℕ)) (at : ℕ) → PeersAsk names at B.ledger office.old office.new }
     {
-        let Some(rows) = &mut peer.rows else {
+        let Some(rows) = &mut client.rows else {
             return;
         };
         let begun = even_milliseconds(rt);
         let mut text = Vec::new(self.alloc);
-        let put = put_next(self.alloc, &mut text, rows, office);
+        let put = append_piece(self.alloc, &mut text, rows, office);
         let took = even_milliseconds(rt).saturating_sub(begun);
-        self.note_reply(place, text.len(), took);
-        self.stay_at(place, put == Some(false));
+        self.record_reply(slot, text.len(), took);
+        self.keep_first(slot, put == Some(false));
         match put {
-            Some(is_last) => peer.take_more(text, is_last),
-            None => peer.cut(),
+            Some(is_last) => client.append_rows(text, is_last),
+            None => client.cut_reply(),
         }
     }
 
-    // Tells a peer rows of its reply, as long as its socket takes them, and something is left of the turn.
-    fn tell_on<R: std::rt::Clock, B: Books>(
+    // Sends pieces while the socket accepts them and the turn has some share left.
+    fn send_pieces<R: std::rt::Clock, B: Books>(
         &mut self,
         rt: &R,
-        place: usize,
-        peer: &mut Peer,
+        slot: usize,
+        client: &mut Client,
         office: &mut Office<B>,
         now: Now,
     )
         ensures { (names : List (List ℕ)) (at : ℕ) → PeersAsk names at B.ledger office.old office.new }
     {
         for _piece in 0..MOST_PIECES {
-            if !peer.wants_rows() || self.share.is_over() {
+            if !client.wants_rows() || self.share.is_over() {
                 return;
             }
-            self.tell_next(rt, place, peer, office);
-            peer.give(now.time);
+            self.send_piece(rt, slot, client, office);
+            client.write_reply(now.time);
         }
     }
 
-    // Hears a peer, and replies to what it has asked, or goes on with its reply.
-    fn go_on<R: RunSystem, B: Books>(
+    // Reads from a client and answers its request, or continues its reply.
+    fn serve_client<R: RunSystem, B: Books>(
         &mut self,
         rt: &R,
-        place: usize,
-        peer: &mut Peer,
+        slot: usize,
+        client: &mut Client,
         names: &[&str],
         office: &mut Office<B>,
         told: &RunTold<'_>,
@@ -833,19 +487,19 @@ impl HttpPort {
     )
         ensures { PeersAsk (texts names.now) now.moment B.ledger office.old office.new }
     {
-        if peer.hear(&self.router) {
-            self.answer(rt, place, peer, names, office, told, now);
+        if client.read_request(&self.router) {
+            self.answer_request(rt, slot, client, names, office, told, now);
             return;
         }
-        self.tell_on(rt, place, peer, office, now);
+        self.send_pieces(rt, slot, client, office, now);
     }
 
-    /// Goes on with the connection of a place, where something may have come.
+    /// Serves the connection of a slot, if it is ready and its turn has come.
     #[tactic(auto, using(crate::proofs::PeersAsking::nobody_asks, crate::proofs::PeersAsking::both_ask))]
     pub fn attend<R: RunSystem, B: Books>(
         &mut self,
         rt: &R,
-        place: usize,
+        slot: usize,
         names: &[&str],
         office: &mut Office<B>,
         told: &RunTold<'_>,
@@ -853,10 +507,10 @@ impl HttpPort {
     )
         ensures { PeersAsk (texts names.now) now.moment B.ledger office.old office.new }
     {
-        let Some(mut peer) = self.take_ready(place) else {
+        let Some(mut client) = self.take_ready(slot) else {
             return;
         };
-        self.go_on(rt, place, &mut peer, names, office, told, now);
-        self.put_back(place, peer, now.time);
+        self.serve_client(rt, slot, &mut client, names, office, told, now);
+        self.return_client(slot, client, now.time);
     }
 }

@@ -1,4 +1,4 @@
-//! How much of what is asked may still be kept.
+//! The room that is left for stored commands.
 ghost use Rattle.std.specs.Prelude.{◌≡◌};
 ghost use Rattle.http_peers.specs.KeptRoom as kept;
 ghost use Rattle.http_peers.specs.KeptRoom.{Acknowledges, Counts, IsCommand, Lacks, Rejects};
@@ -6,13 +6,15 @@ ghost use Rattle.http_peers.specs.KeptRoom.{Acknowledges, Counts, IsCommand, Lac
 use http_request::{HeadState, parse_head};
 use run_http::PeerReply;
 
-/// How many bytes of requests may still be kept: each command that acts is kept for good, and read again by each opening.
+/// The bytes of requests that may still be stored. The office stores each command that acts for
+/// good, and reads all of them whenever its file is opened.
 #[derive(Clone, Copy, Debug, PartialEq, Eq)]
 pub struct KeptRoom {
     left: u64,
 }
 
-/// Whether a request is a command (POST). The head is parsed as the office parses it, so empty lines may come before it.
+/// Whether a request is a command (POST). The head is parsed as the office parses it: empty lines
+/// may precede it (RFC 9112, section 2.2).
 pub(crate) fn is_command(request: &[u8]) -> bool
     ensures { IsCommand request.now result }
 {
@@ -23,7 +25,7 @@ pub(crate) fn is_command(request: &[u8]) -> bool
     }
 }
 
-// Whether the office acted, now or when it was asked before.
+// Whether the office acted, now or when the same command came before.
 fn has_acted(reply: &PeerReply) -> bool
     ensures { result ≡ kept.has_acted reply.now }
 {
@@ -33,7 +35,7 @@ fn has_acted(reply: &PeerReply) -> bool
     }
 }
 
-/// Whether a reply acknowledges a command: then the client may rely on the command's record.
+/// Whether a reply acknowledges a command: the client may then rely on the command's record.
 pub(crate) fn is_acknowledged(request: &[u8], reply: &PeerReply) -> bool
     ensures { Acknowledges request.now reply.now result }
 {
@@ -41,7 +43,7 @@ pub(crate) fn is_acknowledged(request: &[u8], reply: &PeerReply) -> bool
 }
 
 impl KeptRoom {
-    /// The room for at most so many bytes, of which some are taken; without a limit where the most is `None`.
+    /// Returns the room that `taken` bytes leave of `most`; without a limit where `most` is `None`.
     pub fn new(most: Option<u64>, taken: u64) -> KeptRoom
         ensures { result.left ≡ kept.room_of most taken }
     {
@@ -52,22 +54,23 @@ impl KeptRoom {
         KeptRoom { left }
     }
 
-    /// Whether a request gives a command that is longer than what is left.
+    /// Whether a request is a command that is longer than the room.
     pub fn lacks(&self, request: &[u8]) -> bool
         ensures { Lacks self.now.left request.now result }
     {
         is_command(request) && request.len() as u64 > self.left
     }
 
-    /// Whether a request gives a command that is rejected: one that is longer than what is left, or any while a file of the office
-    /// is gone.
+    /// Whether a request is a command to reject: it is longer than the room, or a file of the
+    /// office is gone.
     pub fn rejects(&self, request: &[u8], is_lost: bool) -> bool
         ensures { Rejects self.now.left is_lost request.now result }
     {
         is_command(request) && (request.len() as u64 > self.left || is_lost)
     }
 
-    /// Counts a command that acted, whole: its head isn't kept, and one that is asked again isn't kept twice, so less is kept than is counted.
+    /// Counts the whole request of a command that acted. The office stores less: no head, and a
+    /// retry not twice.
     pub fn count(&mut self, request: &[u8], reply: &PeerReply)
         ensures { Counts self.old.left self.new.left request.now reply.now }
     {

@@ -1,15 +1,19 @@
-//! Who asks a run by HTTP: its port, what has come of each peer, which is replied to next, and what is still to be written.
+//! The HTTP port of a run: its connections, the order in which clients are served, and the answers
+//! to its routes.
 #![tactic(auto)]
 
+mod clients;
 mod energy_over;
 mod http_port;
+mod interval_answers;
 mod kept_room;
 mod moments;
 mod outbox;
-mod peers;
 mod repeats;
+mod route_answers;
 mod run_told;
 mod site_over;
+mod slots;
 
 pub use energy_over::{EarlierFiles, place_among, reply_energy_over};
 pub use http_port::{HttpPort, PORT_TOKEN};

@@ -1,15 +1,15 @@
-//! When something comes.
+//! The times at which an event comes.
 
-/// When something comes.
+/// The times at which an event comes, by two clocks.
 #[derive(Clone, Copy)]
 pub struct Now {
-    /// The seconds of the run's time, by which it waits.
+    /// Seconds of the run's own time, which measures waits.
     pub time: u64,
-    /// The moment at which it comes to the office, in seconds since 1970-01-01 UTC.
+    /// The timestamp that the office gets, in seconds since 1970-01-01 UTC.
     pub moment: u64,
 }
 
-/// What the clock tells that nobody sets, in milliseconds. Where it can't be read no time passes.
+/// Reads the monotonic clock, in milliseconds. A clock that can't be read stays at 0.
 pub fn even_milliseconds<R: std::rt::Clock>(rt: &R) -> u64 {
     match rt.monotonic() {
         Ok(since) => since

@@ -1,4 +1,4 @@
-//! What is still to be written to a socket.
+//! Bytes that wait for a socket.
 ghost use Rattle.std.specs.Prelude.{◌≡◌, ◌==◌, ◌≤◌, ◌++◌, [], drop, length, nat_le, OnOk};
 ghost use Rattle.http_peers.specs.Outbox.{went_of};
 
@@ -6,21 +6,21 @@ use mio::net::TcpStream;
 use std::alloc::{AllocError, Global};
 use std::io::{ErrorKind, Write};
 
-/// How many reads, or writes, one look at a socket may take.
+/// The most reads, or writes, of a socket in a row.
 pub(crate) const MOST_CALLS: u32 = 16;
 
-/// What a read, or a write, came to.
+/// The outcome of a read or a write.
 #[derive(Clone, Copy, Debug, PartialEq, Eq)]
 pub enum Went {
-    /// On.
+    /// Some bytes were read or written, or the call was interrupted.
     On,
-    /// The socket has no more for now, or takes no more.
+    /// The socket has no input, or no room for output, for now.
     Waits,
-    /// The connection is over.
+    /// The connection has ended or failed.
     Over,
 }
 
-/// What a read, or a write, came to that failed.
+/// Returns the outcome of a failed read or write.
 pub fn went_by(kind: ErrorKind) -> Went
     ensures { result ≡ went_of kind }
 {
@@ -31,7 +31,7 @@ pub fn went_by(kind: ErrorKind) -> Went
     }
 }
 
-/// Bytes, of which a beginning was written.
+/// Bytes, and how many of them the socket has accepted.
 #[derive(Drop)]
 pub struct Outbox {
     bytes: Vec<u8>,
@@ -39,7 +39,7 @@ pub struct Outbox {
 }
 
 impl Outbox {
-    /// Bytes of which none was written.
+    /// Queues unsent bytes.
     pub fn of(bytes: Vec<u8>) -> Outbox
         ensures bytes { result.bytes.items ≡ bytes.items }
         ensures written { result.written ≡ 0 }
@@ -47,7 +47,7 @@ impl Outbox {
         Outbox { bytes, written: 0 }
     }
 
-    /// No bytes.
+    /// Returns an empty outbox.
     pub fn empty(alloc: Global) -> Outbox
         ensures bytes { result.bytes.items ≡ [] }
         ensures written { result.written ≡ 0 }
@@ -55,28 +55,28 @@ impl Outbox {
         Outbox::of(Vec::new(alloc))
     }
 
-    /// Whether it never had any bytes.
+    /// Whether the outbox has no bytes, written ones included.
     pub fn is_empty(&self) -> bool
         ensures { result ≡ (length self.now.bytes.items == 0) }
     {
         self.bytes.is_empty()
     }
 
-    /// How many bytes it has, with those that were written.
+    /// Returns the count of its bytes, written ones included.
     pub fn len(&self) -> usize
         ensures { result ≡ length self.now.bytes.items }
     {
         self.bytes.len()
     }
 
-    /// Whether all of it was written.
+    /// Whether all bytes were written.
     pub fn is_written(&self) -> bool
         ensures { result ≡ nat_le (length self.now.bytes.items) self.now.written }
     {
         self.written >= self.bytes.len()
     }
 
-    /// Puts bytes after those that are still to be written.
+    /// Appends bytes to the unsent ones. Fails where memory runs out.
     pub fn put(&mut self, bytes: &[u8]) -> Result<(), AllocError>
         ensures { OnOk result (drop self.new.written self.new.bytes.items
             ≡ drop self.old.written self.old.bytes.items ++ bytes.now) }
@@ -88,7 +88,7 @@ impl Outbox {
         self.bytes.extend_from_slice(bytes)
     }
 
-    // Writes what is left once.
+    // Writes once.
     fn write(&mut self, stream: &TcpStream) -> Went
         ensures bytes { self.new.bytes ≡ self.old.bytes }
         ensures written { self.old.written ≤ self.new.written }
@@ -107,8 +107,8 @@ impl Outbox {
         }
     }
 
-    /// Writes what is left, as far as the socket takes it. On where all of it was written, or where there is more to write
-    /// at once.
+    /// Writes until the socket accepts no more, 16 times at most. [`Went::On`] where all bytes were
+    /// written, or where the socket may accept more at once.
     pub fn write_all(&mut self, stream: &TcpStream) -> Went
         ensures bytes { self.new.bytes ≡ self.old.bytes }
         ensures written { self.old.written ≤ self.new.written }

@@ -1,27 +1,27 @@
-//! A reply that is given again while nothing was recorded since.
+//! A reply that is sent again to the same request while nothing is recorded.
 ghost use Rattle.std.specs.Prelude.{◌≡◌, IfSome, None};
 ghost use Rattle.http_peers.specs.Repeats as repeats;
 
 use std::alloc::Global;
 
-/// How many bytes a reply may have that is given again: months never have as many.
+// The most bytes of a reply that is kept; a reply with months is shorter.
 const MOST_BYTES: usize = 65_536;
 
-/// A reply, and the request that it answers.
+/// A request and its reply.
 #[derive(Drop)]
 pub(crate) struct Replied {
     pub(crate) request: Vec<u8>,
     pub(crate) reply: Vec<u8>,
 }
 
-/// The latest reply with energy. Energy is reckoned from all rows of a register, and a crowd that asks for the same would have
-/// them read again for each.
+/// The latest reply with energy. Energy is summed over all rows of a register; a crowd with the
+/// same question would cause the same sum again and again.
 #[derive(Drop)]
 pub(crate) struct Repeats {
     pub(crate) latest: Option<Replied>,
 }
 
-// A copy of both. None where there is no memory.
+// Copies a request and its reply. None where memory runs out.
 fn copied(alloc: Global, request: &[u8], reply: &[u8]) -> Option<Replied>
     ensures { IfSome result (λ it. repeats.IsOf request.now reply.now it) }
 {
@@ -35,14 +35,15 @@ fn copied(alloc: Global, request: &[u8], reply: &[u8]) -> Option<Replied>
 }
 
 impl Repeats {
-    /// No reply yet.
+    /// Returns the state without a reply.
     pub(crate) fn new() -> Repeats
         ensures { result.latest ≡ None }
     {
         Repeats { latest: None }
     }
 
-    /// Keeps a reply in the place of the one before, unless it is long, has another status than 200, or finds no memory.
+    /// Replaces the kept reply. Only a reply with status 200 and at most 64 KiB is kept, and only
+    /// if memory suffices.
     pub(crate) fn keep(&mut self, alloc: Global, request: &[u8], reply: &[u8])
         ensures { IfSome self.new.latest (λ it. repeats.IsOf request.now reply.now it) }
     {
@@ -53,14 +54,15 @@ impl Repeats {
         };
     }
 
-    /// Something was recorded: the reply may be another now.
+    /// Drops the kept reply.
     pub(crate) fn forget(&mut self)
         ensures { self.new.latest ≡ None }
     {
         self.latest = None;
     }
 
-    /// The reply that was kept, where this request is the same to the byte. None too where there is no memory.
+    /// Returns a copy of the kept reply if the request is the same to the byte. None where memory
+    /// runs out.
     pub(crate) fn again(&self, alloc: Global, request: &[u8]) -> Option<Vec<u8>>
         ensures { IfSome result (λ reply.
             repeats.WasReplied self.now.latest request.now reply.items) }

@@ -1,9 +1,9 @@
-//! What a run's replies contain that doesn't come from the office, and what a run asks the system while it replies.
+//! What the answers of a run need besides the office.
 use crate::energy_over::EarlierFiles;
 use run_status::{DeviceLack, RunMonitor};
 
-/// What was counted and kept of a run, what its devices lacked when it began, and what earlier files of its office tell of its
-/// registers.
+/// The counts and states of a run, what its devices lacked when it began, and the registers of
+/// earlier files.
 #[derive(Clone, Copy)]
 pub struct RunTold<'a> {
     pub monitor: &'a RunMonitor,
@@ -11,8 +11,8 @@ pub struct RunTold<'a> {
     pub earlier: &'a EarlierFiles<'a>,
 }
 
-/// The clock, and whether the files of the office are still there.
+/// The clock, and the last look at the files of the office.
 pub trait RunSystem: std::rt::Clock {
-    /// Whether the paths of the office's files lead to the files that it has open, as the last look found.
+    /// Whether the paths of the office's files led to its open files at the last look.
     fn are_files_there(&self) -> bool;
 }

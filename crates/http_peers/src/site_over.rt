@@ -1,4 +1,4 @@
-//! What a peer is replied who asks which registers and meters there are, of which earlier files tell, too.
+//! The registers and meters of an office and of earlier files.
 ghost use Rattle.std.specs.Prelude.{◌≡◌, IfOk, OnOk, map};
 ghost use Rattle.run_http.specs.SiteReply.{RepliesSite};
 ghost use Rattle.http_peers.specs.SiteOver as site;
@@ -10,7 +10,7 @@ use office_events::{Installation, Refusal};
 use run_http::{SiteLine, put_site_reply};
 use std::alloc::{AllocError, Global};
 
-// What is told of a register at which earlier files have these meters.
+// The line of a register at which earlier files have these meters.
 fn line_after(earlier: &[Installation], row: &SiteRow) -> SiteLine
     ensures { result ≡ site.line_after earlier.now row.now }
 {
@@ -29,7 +29,7 @@ fn line_after(earlier: &[Installation], row: &SiteRow) -> SiteLine
     }
 }
 
-// What is told of registers.
+// The lines of registers.
 fn lines_over(
     alloc: Global,
     earlier: &[EarlierRegister],
@@ -45,7 +45,7 @@ fn lines_over(
     Ok(lines)
 }
 
-// What is told for what the office answers.
+// The lines, or the refusal of the office.
 fn told_of(
     alloc: Global,
     earlier: &[EarlierRegister],
@@ -62,7 +62,7 @@ fn told_of(
     }
 }
 
-// Puts the reply for what the office answers.
+// Writes the reply to the office's answer.
 fn put_answer(
     alloc: Global,
     text: &mut Vec<u8>,
@@ -77,8 +77,9 @@ fn put_answer(
     put_site_reply(alloc, text, moment, &told)
 }
 
-/// Asks the office which registers and meters there are, and puts the reply at the end of a text: of each register the latest meter
-/// that it and earlier files have. Moments are seconds since 1970-01-01 UTC. Want of memory leaves a part of it.
+/// Appends the reply with the registers of the office, each with its latest meter in the office and
+/// in earlier files. `moment` is in seconds since 1970-01-01 UTC. Where memory runs out, a part of
+/// the reply is appended.
 pub fn reply_site_over<B: Books>(
     alloc: Global,
     text: &mut Vec<u8>,

@@ -10,22 +10,22 @@ returns-in-None-begin_all g c =
     (may_ask_of (texts c.args.names.now) c.args.request.now c.in-None.ensures) c.ask.ensures.asks c.ask.ensures.lasts)
 
 pub returns-in-Some-Metrics : goal.returns-in-Some-Metrics
-returns-in-Some-Metrics g c = c.reply_metrics.ensures (texts c.args.names.now) c.args.now.moment
+returns-in-Some-Metrics g c = c.answer_metrics.ensures (texts c.args.names.now) c.args.now.moment
 
 pub returns-in-Some-Site : goal.returns-in-Some-Site
-returns-in-Some-Site g c = c.reply_site.ensures (texts c.args.names.now)
+returns-in-Some-Site g c = c.answer_site.ensures (texts c.args.names.now)
 
 pub returns-in-Some-Intervals : goal.returns-in-Some-Intervals
-returns-in-Some-Intervals g c = c.reply_span.ensures (texts c.args.names.now) c.args.now.moment
+returns-in-Some-Intervals g c = c.answer_span.ensures (texts c.args.names.now) c.args.now.moment
 
 pub returns-in-Some-Entries : goal.returns-in-Some-Entries
-returns-in-Some-Entries g c = c.reply_entries.ensures (texts c.args.names.now) c.args.now.moment
+returns-in-Some-Entries g c = c.answer_entries.ensures (texts c.args.names.now) c.args.now.moment
 
 pub returns-in-Some-Voids : goal.returns-in-Some-Voids
-returns-in-Some-Voids g c = c.reply_voids.ensures (texts c.args.names.now) c.args.now.moment
+returns-in-Some-Voids g c = c.answer_voids.ensures (texts c.args.names.now) c.args.now.moment
 
 pub returns-in-Some-Energy : goal.returns-in-Some-Energy
-returns-in-Some-Energy g c = c.reply_days.ensures (texts c.args.names.now) c.args.now.moment
+returns-in-Some-Energy g c = c.answer_days.ensures (texts c.args.names.now) c.args.now.moment
 
 pub returns-in-Some-Meters : goal.returns-in-Some-Meters
-returns-in-Some-Meters g c = c.reply_meters.ensures (texts c.args.names.now) c.args.now.moment
+returns-in-Some-Meters g c = c.answer_meters.ensures (texts c.args.names.now) c.args.now.moment

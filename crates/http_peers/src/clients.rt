@@ -1,4 +1,4 @@
-//! The connections of peers.
+//! The connection of a client: its request so far, and its reply.
 use crate::outbox::{MOST_CALLS, Outbox, Went, went_by};
 use http_request::{MOST_ROOM, Route, is_whole};
 use matchit::Router;
@@ -8,36 +8,36 @@ use std::alloc::Global;
 use std::io::Read;
 use std::net::Shutdown;
 
-/// A connection of a peer.
+/// A connection of a client, for one request and its reply.
 #[derive(Drop)]
-pub(crate) struct Peer {
+pub(crate) struct Client {
     alloc: Global,
     pub(crate) stream: TcpStream,
-    /// What it has asked so far.
-    pub(crate) asked: Vec<u8>,
-    /// Whether something may have come that was not looked at.
+    /// The bytes of its request so far.
+    pub(crate) request: Vec<u8>,
+    /// Whether its socket may have unread input or room for output.
     pub(crate) ready: bool,
-    /// Until when what still comes is dropped, once the reply was written.
+    /// Until when further input is dropped, once the reply is written.
     pub(crate) lingers: Option<u64>,
     reply: Outbox,
-    /// The rows that are told after what its reply has so far.
+    /// The rows that its reply still lacks.
     pub(crate) rows: Option<RowsLeft>,
     ended: bool,
     over: bool,
 }
 
-// As much of a piece as there is room for after what has come. No request needs more.
-fn fitting<'p>(asked: &[u8], piece: &'p [u8]) -> &'p [u8] {
-    let room = MOST_ROOM.saturating_sub(asked.len());
+// The part of a piece that still fits: no request needs more room.
+fn fitting<'p>(request: &[u8], piece: &'p [u8]) -> &'p [u8] {
+    let room = MOST_ROOM.saturating_sub(request.len());
     piece.get(..room).unwrap_or(piece)
 }
 
-impl Peer {
-    pub(crate) fn new(alloc: Global, stream: TcpStream) -> Peer {
-        Peer {
+impl Client {
+    pub(crate) fn new(alloc: Global, stream: TcpStream) -> Client {
+        Client {
             alloc,
             stream,
-            asked: Vec::new(alloc),
+            request: Vec::new(alloc),
             ready: true,
             lingers: None,
             reply: Outbox::empty(alloc),
@@ -47,51 +47,54 @@ impl Peer {
         }
     }
 
-    /// Whether the connection is over.
+    /// Whether the connection can be dropped.
     pub(crate) fn is_over(&self) -> bool {
         self.over
     }
 
-    /// Whether it has been replied to.
+    /// Whether its request was answered.
     pub(crate) fn has_reply(&self) -> bool {
         !self.reply.is_empty() || self.rows.is_some() || self.lingers.is_some()
     }
 
-    /// Whether rows are to be told after all that was written of its reply.
+    /// Whether the next piece of its reply can be made.
     pub(crate) fn wants_rows(&self) -> bool {
         !self.over && self.rows.is_some() && self.reply.is_written()
     }
 
-    /// How many bytes are held of its reply.
-    pub(crate) fn held(&self) -> usize {
+    /// The bytes of its reply that are in memory.
+    pub(crate) fn held_bytes(&self) -> usize {
         self.reply.len()
     }
 
-    // Keeps a piece of what came.
-    fn keep(&mut self, piece: &[u8]) -> Went {
+    // Appends a piece to the request. Input after the request is dropped.
+    fn keep_piece(&mut self, piece: &[u8]) -> Went {
         if self.has_reply() {
             return Went::On;
         }
-        match self.asked.extend_from_slice(fitting(&self.asked, piece)) {
+        match self
+            .request
+            .extend_from_slice(fitting(&self.request, piece))
+        {
             Ok(()) => Went::On,
             Err(_) => Went::Over,
         }
     }
 
-    // Reads a piece of what came.
+    // Reads a piece of at most 4,096 bytes.
     fn read(&mut self) -> Went {
         let mut room = [0u8; 4096];
         match self.stream.read(&mut room) {
             Ok(0) => Went::Over,
             Ok(count) => match room.get(..count) {
-                Some(piece) => self.keep(piece),
+                Some(piece) => self.keep_piece(piece),
                 None => Went::Over,
             },
             Err(error) => went_by(error.kind()),
         }
     }
 
-    // Reads what came.
+    // Reads until the socket has no more, 16 pieces at most.
     fn read_all(&mut self) -> Went {
         for _read in 0..MOST_CALLS {
             let went = self.read();
@@ -102,60 +105,61 @@ impl Peer {
         Went::On
     }
 
-    // Whether its reply is being written.
-    fn is_given(&self) -> bool {
+    // Whether its reply is under way.
+    fn is_replying(&self) -> bool {
         self.has_reply() && self.lingers.is_none()
     }
 
-    /// Reads what came. It answers whether a whole request has come, or a bad head, so that a reply is due.
-    pub(crate) fn hear(&mut self, router: &Router<Route>) -> bool {
-        if self.is_given() {
+    /// Reads input, and returns whether an answer is due: to a complete request, or to a malformed
+    /// head.
+    pub(crate) fn read_request(&mut self, router: &Router<Route>) -> bool {
+        if self.is_replying() {
             self.ready = false;
             return false;
         }
-        let before = self.asked.len();
+        let before = self.request.len();
         let went = self.read_all();
         self.ready = went == Went::On;
         self.ended = went == Went::Over;
-        if before < self.asked.len() && is_whole(router, &self.asked) {
+        if before < self.request.len() && is_whole(router, &self.request) {
             return true;
         }
         self.over = self.ended;
         false
     }
 
-    /// Takes what came of what was asked, and the rows that are told after that. What was asked isn't needed any more once it is
-    /// replied to.
-    pub(crate) fn take(&mut self, asked: PeerReply, rows: Option<RowsLeft>) {
+    /// Starts the reply; `rows` are sent after it. The request is dropped, since nobody needs it
+    /// any more.
+    pub(crate) fn start_reply(&mut self, asked: PeerReply, rows: Option<RowsLeft>) {
         match asked {
             PeerReply::Open => self.over = self.ended,
             PeerReply::Replied(reply) => {
                 self.over = reply.is_empty();
                 self.reply = Outbox::of(reply);
                 self.rows = rows;
-                self.asked = Vec::new(self.alloc);
+                self.request = Vec::new(self.alloc);
             }
             PeerReply::Failed => self.over = true,
         }
     }
 
-    /// Takes more of its reply, or the last of it.
-    pub(crate) fn take_more(&mut self, more: Vec<u8>, is_last: bool) {
+    /// Replaces the written piece of its reply by the next one.
+    pub(crate) fn append_rows(&mut self, more: Vec<u8>, is_last: bool) {
         self.reply = Outbox::of(more);
         if is_last {
             self.rows = None;
         }
     }
 
-    /// Its reply is cut.
-    pub(crate) fn cut(&mut self) {
+    /// Cuts its reply: the client sees an incomplete body.
+    pub(crate) fn cut_reply(&mut self) {
         self.over = true;
     }
 
-    /// Writes the reply, as far as the socket takes it, and says that nothing more comes. What the peer sends until it has
-    /// closed is dropped, for a second or two: a socket that is closed with bytes unread is reset, and the peer may then lose its
-    /// reply.
-    pub(crate) fn give(&mut self, time: u64) {
+    /// Writes what the socket accepts of the reply, and shuts the output once the reply is
+    /// complete. Further input is dropped for a second or two: closing a socket with unread input
+    /// resets the connection, and the client may then lose its reply.
+    pub(crate) fn write_reply(&mut self, time: u64) {
         if self.over || self.lingers.is_some() || !self.has_reply() {
             return;
         }
@@ -166,7 +170,7 @@ impl Peer {
         }
     }
 
-    // Says that nothing more comes, where the whole reply was written.
+    // Shuts the output once the reply is complete.
     fn close(&mut self, time: u64) {
         self.ready = true;
         if self.reply.is_written() && self.rows.is_none() {
@@ -176,7 +180,7 @@ impl Peer {
         }
     }
 
-    /// Whether the reply was written, and what still comes was dropped long enough.
+    /// Whether the reply is complete and the time for further input is over.
     pub(crate) fn is_done(&self, time: u64) -> bool {
         match self.lingers {
             Some(until) => until <= time,

@@ -1,6 +1,6 @@
 use Rattle.std.proofs.Common.{Ok}
 use Rattle.http_peers.proofs.PeersAsking.{asks_begun, both_ask, only_asks}
-use Rattle.http_peers.proofs.http_port.HttpPort.begin_span.Goals as goal
+use Rattle.http_peers.proofs.interval_answers.begin_span.Goals as goal
 
 pub returns : goal.returns
 returns g c = λ names at.

@@ -1,0 +1,142 @@
+//! Answers with many quarter hours, which are written in pieces.
+ghost use Rattle.std.specs.Prelude.{ℕ, List};
+ghost use Rattle.http_peers.specs.PeersAsk.{PeersAsk};
+
+use http_request::Route;
+use matchit::Router;
+use office_books::{Books, Span};
+use office_core::Office;
+use office_events::{Name, Refusal};
+use run_http::{
+    PeerReply, RowsLeft, all_rows_asked, are_many, begin_all_intervals, begin_intervals, end_rows,
+    has_more, reply_intervals, tell_rows,
+};
+use std::alloc::{AllocError, Global};
+
+/// The seconds of quarter hours in one piece: a thousand lines of at most 32 bytes each.
+const PIECE_SECONDS: u64 = 900_000;
+
+// Answers with the quarter hours of a span in one piece.
+#[tactic(auto, using(crate::proofs::PeersAsking::asks_rows))]
+fn answer_intervals<B: Books>(
+    alloc: Global,
+    office: &mut Office<B>,
+    meter: &Option<Name>,
+    span: Span,
+) -> PeerReply
+    ensures { (names : List (List ℕ)) (at : ℕ) → PeersAsk names at B.ledger office.old office.new }
+{
+    let mut text = Vec::new(alloc);
+    match reply_intervals(alloc, &mut text, office, meter, span) {
+        Ok(()) => PeerReply::Replied(text),
+        Err(_) => PeerReply::Failed,
+    }
+}
+
+// The answer whose first piece was written. Where the office refuses it, there is none, and the
+// caller asks for the whole answer.
+fn begun_answer(
+    text: Vec<u8>,
+    begun: Result<Result<RowsLeft, Refusal>, AllocError>,
+    rows: &mut Option<RowsLeft>,
+) -> Option<PeerReply> {
+    match begun {
+        Ok(Ok(left)) => {
+            *rows = Some(left);
+            Some(PeerReply::Replied(text))
+        }
+        Ok(Err(_)) => None,
+        Err(_) => Some(PeerReply::Failed),
+    }
+}
+
+// Begins the answer with the quarter hours of a span, where they fill more than one piece.
+#[tactic(auto, using(crate::proofs::PeersAsking::nobody_asks, crate::proofs::PeersAsking::only_asks))]
+fn begin_span<B: Books>(
+    alloc: Global,
+    office: &mut Office<B>,
+    meter: &Option<Name>,
+    span: Span,
+    rows: &mut Option<RowsLeft>,
+) -> Option<PeerReply>
+    ensures { (names : List (List ℕ)) (at : ℕ) → PeersAsk names at B.ledger office.old office.new }
+{
+    let Span::Between { from, till } = span else {
+        return None;
+    };
+    let Ok(it) = office.meter(meter) else {
+        return None;
+    };
+    if !are_many(&it, from, till, PIECE_SECONDS) {
+        return None;
+    }
+    let mut text = Vec::new(alloc);
+    let begun = begin_intervals(alloc, &mut text, office, &it, from, till);
+    begun_answer(text, begun, rows)
+}
+
+/// Answers with the quarter hours of a span, or with the first piece of them.
+pub(crate) fn answer_span<B: Books>(
+    alloc: Global,
+    office: &mut Office<B>,
+    meter: &Option<Name>,
+    span: Span,
+    rows: &mut Option<RowsLeft>,
+) -> PeerReply
+    ensures { (names : List (List ℕ)) (at : ℕ) → PeersAsk names at B.ledger office.old office.new }
+{
+    match begin_span(alloc, office, meter, span, rows) {
+        Some(begun) => begun,
+        None => answer_intervals(alloc, office, meter, span),
+    }
+}
+
+/// Begins the office's own answer with all quarter hours of a meter, where a request asks for them
+/// and they fill more than one piece.
+#[tactic(auto, using(crate::proofs::PeersAsking::nobody_asks, crate::proofs::PeersAsking::only_asks))]
+pub(crate) fn begin_all<B: Books>(
+    alloc: Global,
+    router: &Router<Route>,
+    request: &[u8],
+    office: &mut Office<B>,
+    rows: &mut Option<RowsLeft>,
+) -> Option<PeerReply>
+    ensures { (names : List (List ℕ)) (at : ℕ) → PeersAsk names at B.ledger office.old office.new }
+{
+    let Some(meter) = all_rows_asked(router, request) else {
+        return None;
+    };
+    let Ok(it) = office.meter(&meter) else {
+        return None;
+    };
+    if !are_many(&it, 0, u64::MAX, PIECE_SECONDS) {
+        return None;
+    }
+    let mut text = Vec::new(alloc);
+    let begun = begin_all_intervals(alloc, &mut text, office, &it);
+    begun_answer(text, begun, rows)
+}
+
+/// Appends the next piece of an answer, or its end, and returns whether that was the end. None
+/// where the store failed or memory ran out.
+#[tactic(auto, using(crate::proofs::PeersAsking::nobody_asks, crate::proofs::PeersAsking::asks_told))]
+pub(crate) fn append_piece<B: Books>(
+    alloc: Global,
+    text: &mut Vec<u8>,
+    rows: &mut RowsLeft,
+    office: &mut Office<B>,
+) -> Option<bool>
+    ensures { (names : List (List ℕ)) (at : ℕ) → PeersAsk names at B.ledger office.old office.new }
+{
+    if !has_more(rows) {
+        return match end_rows(text, rows) {
+            Ok(()) => Some(true),
+            Err(_) => None,
+        };
+    }
+    match tell_rows(alloc, text, office, rows, PIECE_SECONDS) {
+        Ok(Ok(())) => Some(false),
+        Ok(Err(_)) => None,
+        Err(_) => None,
+    }
+}

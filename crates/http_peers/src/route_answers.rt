@@ -1,0 +1,171 @@
+//! The answer to each route of a run, but those with many quarter hours.
+ghost use Rattle.std.specs.Prelude.{ℕ, List};
+ghost use Rattle.http_peers.specs.PeersAsk.{PeersAsk};
+
+use crate::energy_over::{EarlierFiles, place_among, reply_energy_over};
+use crate::run_told::RunTold;
+use crate::site_over::reply_site_over;
+use carried_books::EarlierRegister;
+use energy_report::ReportForm;
+use interval_core::Zone;
+use office_books::Books;
+use office_core::Office;
+use office_events::Name;
+use run_http::{
+    PeerReply, StatusRoute, reply_energy, reply_entries, reply_meters, reply_metrics, reply_status,
+    reply_voids,
+};
+use std::alloc::Global;
+
+/// Answers a route that needs nothing of the office.
+pub(crate) fn answer_status(alloc: Global, route: StatusRoute, told: &RunTold<'_>) -> PeerReply {
+    let mut text = Vec::new(alloc);
+    let monitor = told.monitor;
+    match reply_status(
+        alloc,
+        &mut text,
+        route,
+        &monitor.counts,
+        &monitor.states,
+        told.lacks,
+    ) {
+        Ok(()) => PeerReply::Replied(text),
+        Err(_) => PeerReply::Failed,
+    }
+}
+
+/// Answers with the counts of the run and the energy of the meters, for Prometheus.
+#[tactic(auto, using(crate::proofs::PeersAsking::asks_site))]
+pub(crate) fn answer_metrics<B: Books>(
+    alloc: Global,
+    office: &mut Office<B>,
+    told: &RunTold<'_>,
+) -> PeerReply
+    ensures { (names : List (List ℕ)) (at : ℕ) → PeersAsk names at B.ledger office.old office.new }
+{
+    let mut text = Vec::new(alloc);
+    let monitor = told.monitor;
+    match reply_metrics(alloc, &mut text, office, &monitor.counts, &monitor.states) {
+        Ok(()) => PeerReply::Replied(text),
+        Err(_) => PeerReply::Failed,
+    }
+}
+
+/// Answers with the registers and their meters, those of earlier files included.
+#[tactic(auto, using(crate::proofs::PeersAsking::asks_site))]
+pub(crate) fn answer_site<B: Books>(
+    alloc: Global,
+    office: &mut Office<B>,
+    earlier: &[EarlierRegister],
+    moment: u64,
+) -> PeerReply
+    ensures { (names : List (List ℕ)) → PeersAsk names moment B.ledger office.old office.new }
+{
+    let mut text = Vec::new(alloc);
+    match reply_site_over(alloc, &mut text, office, earlier, moment) {
+        Ok(()) => PeerReply::Replied(text),
+        Err(_) => PeerReply::Failed,
+    }
+}
+
+/// Answers with the entries of a meter, from an index on.
+#[tactic(auto, using(crate::proofs::PeersAsking::asks_rows))]
+pub(crate) fn answer_entries<B: Books>(
+    alloc: Global,
+    office: &mut Office<B>,
+    meter: &Option<Name>,
+    from: u64,
+) -> PeerReply
+    ensures { (names : List (List ℕ)) (at : ℕ) → PeersAsk names at B.ledger office.old office.new }
+{
+    let mut text = Vec::new(alloc);
+    match reply_entries(alloc, &mut text, office, meter, from) {
+        Ok(()) => PeerReply::Replied(text),
+        Err(_) => PeerReply::Failed,
+    }
+}
+
+/// Answers with the voided entries of a meter.
+#[tactic(auto, using(crate::proofs::PeersAsking::asks_rows))]
+pub(crate) fn answer_voids<B: Books>(
+    alloc: Global,
+    office: &mut Office<B>,
+    meter: &Option<Name>,
+) -> PeerReply
+    ensures { (names : List (List ℕ)) (at : ℕ) → PeersAsk names at B.ledger office.old office.new }
+{
+    let mut text = Vec::new(alloc);
+    match reply_voids(alloc, &mut text, office, meter) {
+        Ok(()) => PeerReply::Replied(text),
+        Err(_) => PeerReply::Failed,
+    }
+}
+
+// Answers with the energy of a register that earlier files do not have.
+#[tactic(auto, using(crate::proofs::PeersAsking::asks_energy))]
+fn answer_energy<B: Books>(
+    alloc: Global,
+    office: &mut Office<B>,
+    register: &Option<Name>,
+    form: &ReportForm,
+) -> PeerReply
+    ensures { (names : List (List ℕ)) (at : ℕ) → PeersAsk names at B.ledger office.old office.new }
+{
+    let mut text = Vec::new(alloc);
+    match reply_energy(alloc, &mut text, office, register, form) {
+        Ok(()) => PeerReply::Replied(text),
+        Err(_) => PeerReply::Failed,
+    }
+}
+
+// Answers with the energy of a register over earlier files and the office.
+#[tactic(auto, using(crate::proofs::PeersAsking::asks_energy_over))]
+fn answer_energy_over<B: Books>(
+    alloc: Global,
+    office: &mut Office<B>,
+    zone: Zone,
+    it: &EarlierRegister,
+    form: &ReportForm,
+) -> PeerReply
+    ensures { (names : List (List ℕ)) (at : ℕ) → PeersAsk names at B.ledger office.old office.new }
+{
+    let mut text = Vec::new(alloc);
+    match reply_energy_over(alloc, &mut text, office, zone, &it.days, &it.name, form) {
+        Ok(()) => PeerReply::Replied(text),
+        Err(_) => PeerReply::Failed,
+    }
+}
+
+/// Answers with the energy of a register, over earlier files where they have it.
+pub(crate) fn answer_days<B: Books>(
+    alloc: Global,
+    office: &mut Office<B>,
+    earlier: &EarlierFiles<'_>,
+    register: &Option<Name>,
+    form: &ReportForm,
+) -> PeerReply
+    ensures { (names : List (List ℕ)) (at : ℕ) → PeersAsk names at B.ledger office.old office.new }
+{
+    match place_among(earlier.registers, register) {
+        Some(place) => {
+            answer_energy_over(alloc, office, earlier.zone, &earlier.registers[place], form)
+        }
+        None => answer_energy(alloc, office, register, form),
+    }
+}
+
+/// Answers with the meters at a register, closed ones included.
+#[tactic(auto, using(crate::proofs::PeersAsking::asks_rows))]
+pub(crate) fn answer_meters<B: Books>(
+    alloc: Global,
+    office: &mut Office<B>,
+    register: &Option<Name>,
+) -> PeerReply
+    ensures { (names : List (List ℕ)) (at : ℕ) → PeersAsk names at B.ledger office.old office.new }
+{
+    let mut text = Vec::new(alloc);
+    match reply_meters(alloc, &mut text, office, register) {
+        Ok(()) => PeerReply::Replied(text),
+        Err(_) => PeerReply::Failed,
+    }
+}
