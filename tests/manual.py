@@ -59,7 +59,7 @@ def commands(program):
 def numbers(program, word):
     """Returns the numbers that stand behind a word, as the program tells them where it is given none."""
     run = subprocess.run([program, "explain", word, "none"], capture_output=True, text=True, stdin=subprocess.DEVNULL, timeout=60)
-    return [int(it) for it in re.search(r"the numbers of \w+ are([ \d]+)", run.stderr)[1].split()]
+    return [int(it) for it in re.search(r"has the numbers([ \d]+)", run.stderr)[1].split()]
 
 
 def meanings(program, word):
