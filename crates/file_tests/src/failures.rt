@@ -146,10 +146,7 @@ const SOCKETS: [(Failure<'static>, &str); 8] = [
         Failure::Host { host: "h" },
         "can't resolve h: check the host name and this machine's DNS",
     ),
-    (
-        Failure::Sockets,
-        "waiting for sockets failed",
-    ),
+    (Failure::Sockets, "waiting for sockets failed"),
 ];
 
 // What stands after the name of a file that was not audited.

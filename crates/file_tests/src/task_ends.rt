@@ -19,7 +19,11 @@ const REPORTS: [(ExitStatus, u8, &str); 3] = [
 const SERVED: [(ServeEnd, u8, &str); 5] = [
     (ServeEnd::Served, 0, ""),
     (ServeEnd::Unopened(ExitStatus::Refused), 1, ""),
-    (ServeEnd::Unopened(ExitStatus::Failed), 3, "can't read standard input"),
+    (
+        ServeEnd::Unopened(ExitStatus::Failed),
+        3,
+        "can't read standard input",
+    ),
     (ServeEnd::NoPort, 3, "can't listen on port 80 of h"),
     (ServeEnd::Broken, 3, "no more connections"),
 ];
@@ -47,7 +51,11 @@ const POLLED: [(PollEnd, u8, &str); 8] = [
         "port 80 of h sent on and on",
     ),
     (PollEnd::Unopened(ExitStatus::Refused), 1, ""),
-    (PollEnd::Unopened(ExitStatus::Failed), 3, "can't read standard input"),
+    (
+        PollEnd::Unopened(ExitStatus::Failed),
+        3,
+        "can't read standard input",
+    ),
     (PollEnd::Unconnected, 3, "port 80 of h isn't answered"),
 ];
 

@@ -36,8 +36,7 @@ const LOOKS: u32 = 30;
 
 const PAUSE: u64 = 100;
 
-const NOT_CARRIED: &str =
-    "not carried: it stays in use, and sunreg tries again at the next hour";
+const NOT_CARRIED: &str = "not carried: it stays in use, and sunreg tries again at the next hour";
 
 const NAMED: &str = "carried: the new file is in use now";
 

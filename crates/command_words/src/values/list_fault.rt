@@ -63,10 +63,7 @@ impl Error for DeviceFault {}
 impl<'a> Display for ListFault<'a> {
     fn fmt<W: fmt::Write>(&self, f: &mut Formatter<W>) -> fmt::Result {
         match self {
-            ListFault::Part { part, fault } => write!(
-                f,
-                "invalid device '{part}': {fault}"
-            ),
+            ListFault::Part { part, fault } => write!(f, "invalid device '{part}': {fault}"),
             ListFault::Memory => write!(f, "out of memory"),
         }
     }

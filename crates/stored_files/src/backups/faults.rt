@@ -41,8 +41,7 @@ impl Display for CopyFault {
                 "can't write it: check its folder's permissions and the free disk space",
             CopyFault::Changing =>
                 "its log was checkpointed during the copy, so no backup was made: try again",
-            CopyFault::Torn =>
-                "not an SQLite database, or damaged; no backup was made",
+            CopyFault::Torn => "not an SQLite database, or damaged; no backup was made",
             CopyFault::NotOurs => "not an office file, or made by a later version of sunreg",
             CopyFault::Memory => "out of memory",
         })

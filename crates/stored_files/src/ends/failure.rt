@@ -152,10 +152,7 @@ impl<'a> Display for Failure<'a> {
             }
             Failure::Undamaged { path } => {
                 let path = Named(*path);
-                write!(
-                    f,
-                    "{path}: its log isn't damaged: use sunreg backup"
-                )
+                write!(f, "{path}: its log isn't damaged: use sunreg backup")
             }
             Failure::Uncopied { path, fault } => {
                 let path = Named(*path);

@@ -53,8 +53,7 @@ impl Display for FileFault {
             FileFault::Unreadable =>
                 "can't open, read or write it: check its permissions, its folder's, and the free disk space",
             FileFault::Irregular => "not a regular file: use the office file",
-            FileFault::Log(_) =>
-                "its log is damaged: restore a backup, or run sunreg recover",
+            FileFault::Log(_) => "its log is damaged: restore a backup, or run sunreg recover",
             FileFault::Memory => "out of memory",
         })
     }
