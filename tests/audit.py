@@ -221,8 +221,8 @@ def no_books():
     same("no file", audit("none.db")[:2], (3, []))
     same("no file is made", pathlib.Path("none.db").exists(), False)
     for what, commands, wanted in (
-        ("an earlier program's", ("DROP TABLE voids", "UPDATE meta SET version = 2"), "its tables are an earlier program's"),
-        ("another table", ("CREATE TABLE other (it INTEGER) STRICT",), "it holds no office"),
+        ("an earlier program's", ("DROP TABLE voids", "UPDATE meta SET version = 2"), "made by an earlier version of sunreg"),
+        ("another table", ("CREATE TABLE other (it INTEGER) STRICT",), "not an office file"),
         ("no meter of the name", ("UPDATE entries SET meter = 'm9' WHERE place = 8",), "changed.db"),
     ):
         status, lines, said = changed(*commands)

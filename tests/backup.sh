@@ -215,7 +215,7 @@ for turn in $(seq "$many"); do
     before=$(cat booked)
     run backup --db office.db --to "beside$turn.db"
     after=$(cat asked)
-    if grep -q 'its log was moved into it' err; then
+    if grep -q 'its log was checkpointed' err; then
         busy=$((busy + 1))
         continue
     fi

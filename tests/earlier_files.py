@@ -175,7 +175,7 @@ def main():
         refused("a damaged file", [one, torn, three], 3, f"{torn}: ")
         zone = copy(two, "zone.db")
         site.write(zone, ["UPDATE meta SET zone = 'UTC0';"])
-        refused("another zone", [one, zone, three], 1, f"{zone}: its days are those of another zone")
+        refused("another zone", [one, zone, three], 1, f"{zone}: its time zone differs from that of")
         hold_periods(place, whole, parts)
     print(f"{counts['passed']} passed, {counts['failed']} failed")
     sys.exit(1 if counts["failed"] else 0)

@@ -366,7 +366,7 @@ def kills():
             same(f"kill {turn}: it has its meter", asked(new, "SELECT meter FROM installations"), [("m1",)])
         run = begin(path, "month", device, clock)
         holds(f"kill {turn}: it polls again", run.wait_for("round answered", 20), run.told())
-        same(f"kill {turn}: nobody has to remove what it left", run.count("remove the file with .part"), 0)
+        same(f"kill {turn}: nobody has to remove what it left", run.count("remove its .part file"), 0)
         if is_part and not is_new:
             holds(f"kill {turn}: the carry that was cut off is made again", run.wait_for("carried 1 meters into", 20), run.told())
         run.end()
@@ -386,7 +386,7 @@ def clock_set_back():
     clock.set(end - 60)
     run = begin(path, "month", device, clock)
     holds("set back: it polls", run.wait_for("round answered", 20), run.told())
-    same("set back: the later file is told", run.count(f"sunreg: {folder}/office-2026-12.db: its period is later than the clock says"), 1)
+    same("set back: the later file is told", run.count(f"sunreg: {folder}/office-2026-12.db: its period is later than the system clock"), 1)
     same("set back: nothing is carried backwards", files_of(path), ["office.db", "office-2026-12.db"])
     run.end()
     holds_energy("set back", path, clock)
@@ -431,7 +431,7 @@ def behind():
     same("behind: status", run.child.wait(20), 1)
     time.sleep(0.3)
     same("behind: files", files_of(path), ["office.db"])
-    same("behind: it is told", (run.count("the clock stands before its last entry"), run.count("refused 3")), (1, 1))
+    same("behind: it is told", (run.count("the system clock is before its last entry"), run.count("refused 3")), (1, 1))
 
 
 def unwritable(name, spoil, mend, wanted, user=None):
@@ -496,7 +496,7 @@ def full_disk(name, left, has_room_for_log):
     room = os.statvfs(folder)
     with open(f"{folder}/filling", "wb") as file:
         file.write(b"\0" * max(0, room.f_bavail * room.f_frsize - left))
-    holds(f"{name}: it isn't carried", run.wait_for("it was not carried: books go on in it", 20), run.told())
+    holds(f"{name}: it isn't carried", run.wait_for("not carried: it stays in use", 20), run.told())
     same(f"{name}: no new file", files_of(path), ["office.db", "office-2026-11.db"])
     same(f"{name}: and no part", [it for it in os.listdir(folder) if ".part" in it], [])
     before = len(run.rounds())

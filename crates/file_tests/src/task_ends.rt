@@ -25,7 +25,7 @@ const SERVED: [(ServeEnd, u8, &str); 5] = [
         "can't read standard input",
     ),
     (ServeEnd::NoPort, 3, "can't listen on port 80 of h"),
-    (ServeEnd::Broken, 3, "no more connections"),
+    (ServeEnd::Broken, 3, "can't accept more connections"),
 ];
 
 const POLLED: [(PollEnd, u8, &str); 8] = [
@@ -48,7 +48,7 @@ const POLLED: [(PollEnd, u8, &str); 8] = [
     (
         PollEnd::Polled(Err(RoundFault::TurnsUsed)),
         3,
-        "port 80 of h sent on and on",
+        "port 80 of h sent endless data",
     ),
     (PollEnd::Unopened(ExitStatus::Refused), 1, ""),
     (
@@ -56,7 +56,7 @@ const POLLED: [(PollEnd, u8, &str); 8] = [
         3,
         "can't read standard input",
     ),
-    (PollEnd::Unconnected, 3, "port 80 of h isn't answered"),
+    (PollEnd::Unconnected, 3, "nothing answers at port 80 of h"),
 ];
 
 const RAN: [(Result<(), RunFault>, u8, &str); 8] = [
