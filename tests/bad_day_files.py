@@ -142,7 +142,7 @@ def rename_file(path):
 
 
 CHANGES = {"removed": os.remove, "renamed": rename_file, "replaced": replace_file, "cut": cut_file}
-WORDS = {"removed": "removed or renamed", "renamed": "removed or renamed", "replaced": "another file", "cut": "cut short"}
+WORDS = {"removed": "removed or renamed", "renamed": "removed or renamed", "replaced": "another file replaced it", "cut": "cut short"}
 
 
 def hold_ending(what, run, path, words):
@@ -214,7 +214,7 @@ def few_descriptors():
         for stream in silent:
             stream.close()
         check(f"limit {limit}: the device is polled", polls_in(db) >= max(1, 6 // SLOW), (polls_in(db), printed(run)))
-        said = [line for line in printed(run, "err") if "few descriptors" in line]
+        said = [line for line in printed(run, "err") if "few file descriptors" in line]
         check(f"limit {limit}: it says so", len(said) == 1 and said[0].endswith("ulimit -n 144"), printed(run, "err"))
     db = make_office("enough")
     run, port = begin_run(db, "--for", "2", limit=144)
@@ -240,7 +240,7 @@ def clock_ahead():
         equal(f"{words[0]}: it is refused", command.wait(20 * SLOW), 1)
         equal(f"{words[0]}: as before on standard output", printed(command), ["refused 3"])
         said = [line for line in printed(command, "err") if "had no log" not in line]
-        times = [int(word.strip(",:")) for word in " ".join(said).split() if word.strip(",:").isdigit()]
+        times = [int(word.strip(",;")) for word in " ".join(said).split() if word.strip(",;").isdigit()]
         check(f"{words[0]}: both timestamps", times[:1] == [latest] and len(times) == 2 and abs(times[1] - time.time()) < 60, said)
         equal(f"{words[0]}: and nothing else", len(said), 1)
 

@@ -129,12 +129,12 @@ means() {
 }
 
 polled none 'area holding 0 1\n'
-is 'an unknown device' "$came" '1 refused 1 / sunreg: none: the office has no device of that name: POST /devices'
+is 'an unknown device' "$came" '1 refused 1 / sunreg: none: the office has no device with this name; add it with POST /devices'
 polled other 'area holding 0 1\n'
-is 'a device without a list' "$came" '1 ok;ok;refused 1 / sunreg: other: no point list yet: sunreg scan --list, or POST /devices/other/list;sunreg: other: it has no register, so nothing of it is booked: POST /registers'
+is 'a device without a list' "$came" '1 ok;ok;refused 1 / sunreg: other: no point list; create one with sunreg scan --list, then POST /devices/other/list;sunreg: other: no register, so its energy is not recorded; add one with POST /registers'
 sleep 1
 polled inv 'area holding 40094 3\nset holding 40095 60000\n'
-is 'a reading that is held' "$came" "0 ok;started 1 1 1 0000000000060103$(printf '%04x%04x' 40094 3);poll 1 answered;held m1 60000 cause 6;ok;ok / sunreg: register more: not in the list of inv (needs function 3, 40190 to 40191);sunreg: register more: no meter is open at it: POST /registers/more/install;sunreg: m1: held: $(means held 6)"
+is 'a reading that is held' "$came" "0 ok;started 1 1 1 0000000000060103$(printf '%04x%04x' 40094 3);poll 1 answered;held m1 60000 cause 6;ok;ok / sunreg: register more: missing from the point list of inv; add function 3, registers 40190 to 40191 to it;sunreg: register more: no open meter; install one with POST /registers/more/install;sunreg: m1: reading rejected: $(means held 6)"
 "$program" round --db office.db --device none --port "$port" > out 2> err
 is 'a round that fails says that alone' "$? $(cat out) $(grep -v 'it had no log' err | head -n 1) $(grep -c -v 'it had no log' err)" '3  failed 2'
 

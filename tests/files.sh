@@ -140,7 +140,7 @@ run report --db office.db --register main
 same 'the energy of the days' "$status $(awk '/^end/ { days = $2 } !/^end/ { sum += $3; lines += 1 } END { print sum, days == lines }' out)" '0 200000 1'
 stand_in 1 5200
 run round --db office.db --device other --port "$device"
-is 'an unknown device' 1 'refused 1' 'sunreg: other: the office has no device of that name: POST /devices'
+is 'an unknown device' 1 'refused 1' 'sunreg: other: the office has no device with this name; add it with POST /devices'
 
 stand_in 2 5300
 kill -STOP "$child"

@@ -50,13 +50,23 @@ def kwh(mwh, least=6):
     part = f"{mwh % 10**6:06}"
     while len(part) > least and part.endswith("0"):
         part = part[:-1]
-    return f"{mwh // 10**6}.{part}"
+    return f"{mwh // 10**6:,}.{part}"
+
+
+def plain_kwh(mwh):
+    """Exact kWh without commas, as files have it."""
+    return kwh(mwh).replace(",", "")
 
 
 def title(period):
     """A day as the page names it."""
     day = datetime.date.fromisoformat(period)
     return f"{day:%a} {day.day} {day:%b %Y}"
+
+
+def date_time(then):
+    """A time as the page shows it."""
+    return f"{then.day} {then:%b %Y, %H:%M}"
 
 
 def text_of(tab, selector):
@@ -203,30 +213,31 @@ def see_site(tab, office, origin):
     wanted += [this_year(it) for it in ("import", "main", "old", LONG)]
     same("what the first view asks, each once", sorted(office.log), sorted(wanted))
     same("of which the files are four", len([it for it in office.log if it not in page_office.PARTS]), 6)
-    holds("the office's moment", "14:05 on Thu 26 Nov 2026" in text_of(tab, "#moment"), text_of(tab, "#moment"))
+    holds("the office's moment", text_of(tab, "#moment") == "As of 26 Nov 2026, 14:05. Refreshes every minute.", text_of(tab, "#moment"))
     same("the browser's zone", text_of(tab, "#zone"), "Europe/Berlin")
     same("no trouble", tab.run("document.getElementById('trouble').hidden"), True)
     states = tab.run("[...document.querySelectorAll('#devices > h2')].map(it => [it.innerText, it.nextElementSibling.innerText])")
     same("the devices", dict(states), {
-        "barn": "last reading at 13:53 on Thu 26 Nov 2026, 12 minutes ago",
-        "attic": "no reading since this run began",
-        "grid": "silent since 09:14 on Thu 26 Nov 2026",
-        "inv": "answers: last reading at 14:04 on Thu 26 Nov 2026 It is being asked now.",
-        "roof-2": "no reading since this run began",
+        "barn": "Last reading 13:53 (12 minutes ago)",
+        "attic": "No reading since sunreg started",
+        "grid": "No reading since 09:14",
+        "inv": "Online. Last reading 14:04 Reading now...",
+        "roof-2": "No reading since sunreg started",
     })
     for register in ("main", "import", "old", LONG):
         it = next(row for row in office.site()["registers"] if row["register"] == register)
         about, *told = card_of(tab, register)
         then = datetime.datetime.fromtimestamp(it["at"], ZONE)
-        closed = ", closed" if it["ended"] else ""
-        shows = f"Meter {it['meter']}{closed}: showed {kwh(it['last'] * 1000 * 10 ** it['sf'], 3)} kWh at {then:%H:%M} on {title(then.date().isoformat())}; "
-        same(f"{register}: its meter", about, f"{shows}{kwh(int(it['total']), 3)} kWh since it was installed.")
+        closed = " (closed)" if it["ended"] else ""
+        when = f"{then:%H:%M}" if then.date().isoformat() == "2026-11-26" else date_time(then)
+        shows = f"Meter {it['meter']}{closed}: counter {kwh(it['last'] * 1000 * 10 ** it['sf'], 3)} kWh ({when}); "
+        same(f"{register}: its meter", about, f"{shows}{kwh(int(it['total']), 3)} kWh since installation.")
         same(f"{register}: its energy", told, [f"{kwh(mwh, 3)} kWh" for mwh in figures(office, register, "2026-11-26")])
     lines = tab.run("[...document.querySelectorAll('dd b')].map(it => it.getClientRects().length)")
     same("figures are on one line", lines, [1] * 12)
     names = tab.run("[...document.querySelectorAll('dl')][0].innerText.split('\\n').filter(it => !it.includes('kWh'))")
     same("what they are of", names, ["Today", "Thu 26 Nov 2026", "This month", "Nov 2026", "This year", "2026"])
-    holds("a register without a meter", "No meter was installed at it" in text_of(tab, "#devices"), text_of(tab, "#devices"))
+    holds("a register without a meter", "No meter installed, so no energy is recorded." in text_of(tab, "#devices"), text_of(tab, "#devices"))
     see_notes(tab)
     holds_quiet("the first view", tab, origin)
 
@@ -237,13 +248,13 @@ def see_notes(tab):
     held = words_of_tables("held")
     for number, count in ((6, "3 readings"), (8, "1 reading")):
         means, cause, remedy = held[number]
-        sentence = f"{count} held for cause {number}: {means}. Usual cause: {cause}. What to do: {remedy}."
+        sentence = f"{count} rejected (held {number}): {means}. Usual cause: {cause}. What to do: {remedy}."
         holds(f"held for {number}", sentence in notes, notes)
-    same("no other cause", notes.count("held for cause"), 2)
-    holds("refusals", "2 events of devices and rounds were refused" in notes, notes)
-    holds("a register that lacks a meter", "roof-2, register export: no meter is open at this register. What to do: POST /registers/export/install." in notes, notes)
-    holds("a device that the books don't have", "attic: the books have no device of that name." in notes, notes)
-    holds("polls", "40211 answered: " in notes and "290 silent: " in notes and "2 malformed: " in notes and " lost: " not in notes, notes)
+    same("no other cause", notes.count("rejected (held"), 2)
+    holds("refusals", "2 device events refused. " in notes, notes)
+    holds("a register that lacks a meter", "roof-2, register export: the register has no open meter. What to do: install one with POST /registers/export/install." in notes, notes)
+    holds("a device that the books don't have", "attic: the office has no device with this name." in notes, notes)
+    holds("polls", "40,211 polls answered\n290 polls timed out\n2 polls answered with an invalid response" in notes and " lost: " not in notes, notes)
 
 
 # ---- one register
@@ -273,10 +284,9 @@ def meters_told(office, register):
     for line in office.meter_lines(register):
         name, opened, at, raw, scale, total, state = line.split()
         begun, last = (datetime.datetime.fromtimestamp(int(it), ZONE) for it in (opened, at))
-        begun, last = (f"{it:%H:%M} on {title(it.date().isoformat())}" for it in (begun, last))
-        until = f"till {last}" if state == "ended" else f"on, last read at {last}"
-        shows = f"showed {kwh(int(raw) * 1000 * 10 ** int(scale), 3)} kWh; {kwh(int(total), 3)} kWh in all."
-        told.append(f"{name} from {begun} {until}: {shows}")
+        until = "closed" if state == "ended" else "last reading"
+        shows = f"counter {kwh(int(raw) * 1000 * 10 ** int(scale), 3)} kWh; total {kwh(int(total), 3)} kWh."
+        told.append(f"{name}: installed {date_time(begun)}; {until} {date_time(last)}; {shows}")
     return told
 
 
@@ -288,9 +298,9 @@ def see_day(tab, office, origin):
     holds("a click shows the day", tab.wait("document.getElementById('sum')"), text_of(tab, "#detail"))
     holds("which is today", text_of(tab, "#heading").startswith("Thu 26 Nov 2026 main, meter m2"), text_of(tab, "#heading"))
     rows = holds_day(tab, [second], "2026-11-26")
-    whole = f"Together {kwh(sum(mwh for _, mwh in rows), 3)} kWh, which is the office's figure of this day."
+    whole = f"Total {kwh(sum(mwh for _, mwh in rows), 3)} kWh, matching the recorded day."
     same("its sum", text_of(tab, "#sum"), whole)
-    holds("the zone is said", "by this browser's clock and zone, Europe/Berlin: 57 of 96 have a row." in text_of(tab, "#detail"), text_of(tab, "#detail"))
+    holds("the zone is said", "15-minute values, Europe/Berlin time. 57 of 96 available." in text_of(tab, "#detail"), text_of(tab, "#detail"))
     same("there is no day after", tab.run("document.getElementById('after')"), None)
     tab.run("document.getElementById('before').click()")
     holds("the day before", tab.wait("heading.innerText.startsWith('Wed 25 Nov 2026') && document.getElementById('sum')"), text_of(tab, "#heading"))
@@ -300,7 +310,7 @@ def see_day(tab, office, origin):
     same("what days ask", rows_asked(office), asked)
     same("its meters", meters_of(tab), meters_told(office, "main"))
     tab.run("document.getElementById('file').click()")
-    lines = [f"{datetime.datetime.fromtimestamp(start, ZONE).isoformat()},{kwh(mwh)}\r\n" for start, mwh in rows]
+    lines = [f"{datetime.datetime.fromtimestamp(start, ZONE).isoformat()},{plain_kwh(mwh)}\r\n" for start, mwh in rows]
     same("its file", downloaded("main-2026-11-25.csv"), ("start,energy_kwh\r\n" + "".join(lines)).encode())
     tab.run("document.getElementById('after').click()")
     holds("the day after", tab.wait("heading.innerText.startsWith('Thu 26 Nov 2026')"), text_of(tab, "#heading"))
@@ -317,11 +327,11 @@ def see_changes(tab, office, origin):
     rows = holds_day(tab, [second], "2026-10-25")
     same("a day of 25 hours", len(rows), 100)
     same("its hour that comes twice", [it[0] for it in table_of(tab)][8:13:4], ["02:00 to 02:15 (from +02:00)", "02:00 to 02:15 (from +01:00)"])
-    holds("is the office's day", "which is the office's figure" in text_of(tab, "#sum"), text_of(tab, "#sum"))
+    holds("is the office's day", "matching the recorded day" in text_of(tab, "#sum"), text_of(tab, "#sum"))
     long = office.of_register(LONG)[0]
     show(tab, f"#{LONG}/2026-03-29", "Sun 29 Mar 2026")
     same("a day of 23 hours", len(holds_day(tab, [long], "2026-03-29")), 92)
-    holds("is the office's day", "which is the office's figure" in text_of(tab, "#sum"), text_of(tab, "#sum"))
+    holds("is the office's day", "matching the recorded day" in text_of(tab, "#sum"), text_of(tab, "#sum"))
     see_exchange(tab, office)
     asked = [quarters("m-old", "2026-02-03"), *(quarters("m1", it) for it in ("2026-06-09", "2026-06-10"))]
     asked += [quarters("m2", it) for it in ("2026-06-10", "2026-06-11", "2026-10-25")] + [quarters(long.name, "2026-03-29")]
@@ -339,21 +349,21 @@ def see_exchange(tab, office):
         same(f"{day} is whole", len(rows), 96)
         office_mwh = office.days("main")[day][1]
         same(f"{day}: the office's figure", sum(mwh for _, mwh in rows), office_mwh)
-        same(f"{day}: its sum", text_of(tab, "#sum"), f"Together {kwh(office_mwh, 3)} kWh, which is the office's figure of this day.")
+        same(f"{day}: its sum", text_of(tab, "#sum"), f"Total {kwh(office_mwh, 3)} kWh, matching the recorded day.")
         same(f"{day}: all meters", meters_of(tab), meters_told(office, "main"))
         tab.run("document.getElementById('file').click()")
-        lines = [f"{datetime.datetime.fromtimestamp(start, ZONE).isoformat()},{kwh(mwh)}\r\n" for start, mwh in rows]
+        lines = [f"{datetime.datetime.fromtimestamp(start, ZONE).isoformat()},{plain_kwh(mwh)}\r\n" for start, mwh in rows]
         same(f"{day}: its file", downloaded(f"main-{day}.csv"), ("start,energy_kwh\r\n" + "".join(lines)).encode())
     both = {it[0]: it[2] for it in rows_shown(tab, "#main/2026-06-10", "Wed 10 Jun 2026")}
     named = [both[it] for it in ("11:15 to 11:30", "11:30 to 11:45", "11:45 to 12:00")]
     same("a quarter hour of both meters", named, ["m1", "m1, m2", "m2"])
     show(tab, "#old/2026-02-03", "Tue 3 Feb 2026")
     same("the last day of a register", len(holds_day(tab, office.of_register("old"), "2026-02-03")), 42)
-    holds("is the office's day", "which is the office's figure" in text_of(tab, "#sum"), text_of(tab, "#sum"))
+    holds("is the office's day", "matching the recorded day" in text_of(tab, "#sum"), text_of(tab, "#sum"))
     show(tab, "#old/2026-02-04", "Wed 4 Feb 2026")
     same("the day after it", text_of(tab, "#heading"), "Wed 4 Feb 2026 old")
-    holds("has nothing", "Nothing is booked here." in text_of(tab, "#detail"), text_of(tab, "#detail"))
-    same("by the office too", text_of(tab, "#sum"), "Together 0.000 kWh, which is the office's figure of this day.")
+    holds("has nothing", "No energy recorded in this period." in text_of(tab, "#detail"), text_of(tab, "#detail"))
+    same("by the office too", text_of(tab, "#sum"), "Total 0.000 kWh, matching the recorded day.")
     same("its meter was closed", meters_of(tab), meters_told(office, "old"))
 
 
@@ -372,9 +382,9 @@ def see_sums(tab, office, origin):
     same("the days of a month", table_of(tab), [[title(day), kwh(mwh), str(count)] for day, (count, mwh) in rows.items()])
     same("of which one has 100 quarter hours", rows["2026-10-25"][0], 100)
     holds_curve("a month", tab, [mwh for _, mwh in rows.values()])
-    same("its sum", text_of(tab, "#sum"), f"Together {kwh(sum(mwh for _, mwh in rows.values()), 3)} kWh, by the office's days.")
+    same("its sum", text_of(tab, "#sum"), f"Total {kwh(sum(mwh for _, mwh in rows.values()), 3)} kWh")
     tab.run("document.getElementById('file').click()")
-    lines = [f"{day},{kwh(mwh)}\r\n" for day, (_, mwh) in rows.items()]
+    lines = [f"{day},{plain_kwh(mwh)}\r\n" for day, (_, mwh) in rows.items()]
     same("its file", downloaded("main-2026-10.csv"), ("day,energy_kwh\r\n" + "".join(lines)).encode())
     for link, wanted in (("after", "Nov 2026"), ("before", "Oct 2026"), ("before", "Sep 2026")):
         tab.run(f"document.getElementById('{link}').click()")
@@ -421,7 +431,7 @@ def see_zone(tab, office, origin):
     rows = holds_day(tab, office.of_register("import"), "2026-11-24", zone)
     said = text_of(tab, "#sum")
     office_kwh, bars_kwh = kwh(office.days("import")["2026-11-24"][1], 3), kwh(sum(mwh for _, mwh in rows), 3)
-    holds("a day of another zone", office_kwh != bars_kwh and f"add up to {bars_kwh} kWh, but the office's figure of this day is {office_kwh} kWh" in said, said)
+    holds("a day of another zone", office_kwh != bars_kwh and f"add up to {bars_kwh} kWh, but {office_kwh} kWh are recorded for this day" in said, said)
     same("the zone is said", text_of(tab, "#zone"), "America/New_York")
     holds_quiet("another zone", tab, origin)
     see_today(tab, office)
@@ -460,32 +470,32 @@ def see_cut(tab, office, origin):
     tab.ask("Page.navigate", url="about:blank")
     tab.ask("Page.navigate", url=f"{origin}/")
     holds("all have come", tab.wait("document.querySelectorAll('dl, .card .warn').length === 4"), text_of(tab, "#devices"))
-    same("days that were cut", card_of(tab, "main")[1:], [f"The reply to {this_year('main')} was cut off, so that nothing of it is shown."])
-    same("days of which one lacks", card_of(tab, "old")[1:], [f"The reply to {this_year('old')} was cut off, so that nothing of it is shown."])
+    same("days that were cut", card_of(tab, "main")[1:], [f"The response to {this_year('main')} was incomplete or invalid, so it is not shown."])
+    same("days of which one lacks", card_of(tab, "old")[1:], [f"The response to {this_year('old')} was incomplete or invalid, so it is not shown."])
     means, _, remedy = words_of_tables("refused")[13]
-    same("days that were refused", card_of(tab, "import")[1:], [f"The office can't tell {this_year('import')}: refused 13: {means}. What to do: {remedy}."])
+    same("days that were refused", card_of(tab, "import")[1:], [f"The request for {this_year('import')} failed: refused 13: {means}. What to do: {remedy}."])
     holds("and others stand", len(card_of(tab, LONG)) == 4, card_of(tab, LONG))
     del office.failing[this_year("import")]
     tab.run("location.hash = '#import/2026-11-26'")
-    cut = f"The reply to {house} was cut off, so that nothing of it is shown."
+    cut = f"The response to {house} was incomplete or invalid, so it is not shown."
     holds("quarter hours that were cut", tab.wait(f"detail.innerText.includes({json.dumps(cut)})"), text_of(tab, "#detail"))
     same("no bar of it is drawn", tab.run("document.querySelectorAll('.curve').length"), 0)
     office.short.clear()
     office.failing["/registers/old/months"] = 503
     tab.run("location.hash = '#old/2026-02-03'")
-    told = f"The office can't tell /registers/old/months: refused 13: {means}. What to do: {remedy}."
+    told = f"The request for /registers/old/months failed: refused 13: {means}. What to do: {remedy}."
     holds("months that were refused", tab.wait(f"detail.innerText.includes({json.dumps(told)})"), text_of(tab, "#detail"))
     del office.failing["/registers/old/months"]
     meters = f"/registers/{LONG}/meters"
     office.cut.add(meters)
     tab.run(f"location.hash = '#{LONG}/2026-10'")
-    cut = f"The reply to {meters} was cut off, so that nothing of it is shown."
+    cut = f"The response to {meters} was incomplete or invalid, so it is not shown."
     holds("meters that were cut", tab.wait(f"detail.innerText.includes({json.dumps(cut)})"), text_of(tab, "#detail"))
     december = "/registers/main/days/2025-12-01/2026-01-01"
     office.cut.discard(this_year("main"))
     office.cut.add(december)
     tab.run("location.hash = '#main/2025-12'")
-    told = f"The reply to {december} was cut off, so that nothing of it is shown."
+    told = f"The response to {december} was incomplete or invalid, so it is not shown."
     holds("days of a month that were cut", tab.wait(f"detail.innerText.includes({json.dumps(told)})"), text_of(tab, "#detail"))
     office.cut.clear()
     office.short.clear()
@@ -501,7 +511,7 @@ def see_names(tab, office, origin):
     """A name that is none is shown as text, whatever stands in it; and a reply that is none is told."""
     office.great = {"last": 4294967295, "sf": 3, "total": "3999999999999999999"}
     tab.run("document.getElementById('again').click()")
-    whole = "showed 4294967295.000 kWh at 10:29 on Tue 3 Feb 2026; 3999999999999.999999 kWh since it was installed."
+    whole = "counter 4,294,967,295.000 kWh (3 Feb 2026, 10:29); 3,999,999,999,999.999999 kWh since installation."
     holds("the greatest numbers are exact", tab.wait(f"document.getElementById('devices').innerText.includes('{whole}')"), card_of(tab, "old"))
     office.great = {}
     office.strange = "<img src=/x onerror=alert(1)>'\"&<b>"
@@ -513,7 +523,7 @@ def see_names(tab, office, origin):
     tab.run("document.getElementById('again').click()")
     holds("it is gone", tab.wait(f"{shown} === 0"), text_of(tab, "#devices"))
     tab.run("location.hash = '#none/2026-11-26'")
-    none = "The office has no register none with a meter."
+    none = "There is no counter none with a meter."
     holds("a register that isn't there", tab.wait(f"detail.innerText.includes({json.dumps(none)})"), text_of(tab, "#detail"))
     tab.run("location.hash = '#<b>/2026'")
     holds("a place that is none", tab.wait("detail.hidden"), text_of(tab, "#detail"))
@@ -535,15 +545,15 @@ def see_refresh(tab, office, server, origin):
     holds("a reading comes by itself", tab.wait(f"JSON.stringify({card}) === {json.dumps(json.dumps(wanted, separators=(',', ':')))}"), card_of(tab, "main"))
     last = kwh(meter.rows[-1][1])
     holds("in the day too", tab.wait(f"[...document.querySelectorAll('#rows tr')].pop().innerText.includes('{last}')"), table_of(tab)[-1:])
-    holds("and it adds up", "which is the office's figure" in text_of(tab, "#sum"), text_of(tab, "#sum"))
+    holds("and it adds up", "matching the recorded day" in text_of(tab, "#sum"), text_of(tab, "#sum"))
     same("the focus stays", tab.run("document.activeElement.id"), "by-Day")
     same("and what was scrolled", tab.run("document.getElementById('rows').scrollTop"), 120)
     holds_quiet("a refresh", tab, origin)
 
     server.stop()
     holds("it says that none answers", tab.wait(f"!{TROUBLE}.hidden"), text_of(tab, "body"))
-    holds("in words", text_of(tab, "#trouble").startswith("The office doesn't answer. Does sunreg run still run there? What is shown is of "), text_of(tab, "#trouble"))
-    same("in the title", tab.run("document.title"), "sunreg: no answer")
+    holds("in words", text_of(tab, "#trouble").startswith("No response. Is sunreg still running? Showing data as of "), text_of(tab, "#trouble"))
+    same("in the title", tab.run("document.title"), "sunreg: not up to date")
     same("what it knew stays", card_of(tab, "main")[1:], wanted)
     holds("and looks old", tab.run("document.body.classList.contains('stale')"))
     server.start()
@@ -551,10 +561,10 @@ def see_refresh(tab, office, server, origin):
     same("with its place", text_of(tab, "#heading")[:15], "Thu 26 Nov 2026")
     tab.forget()
     office.failing["/site"] = 503
-    holds("it says that the office can't", tab.wait(f"{TROUBLE}.innerText.startsWith(\"The office can't tell /site: refused 13\")"), text_of(tab, "#trouble"))
+    holds("it says that the office can't", tab.wait(f"{TROUBLE}.innerText.startsWith(\"The request for /site failed: refused 13\")"), text_of(tab, "#trouble"))
     office.failing.clear()
     office.cut.add("/status")
-    holds("that a reply was cut", tab.wait(f"{TROUBLE}.innerText.startsWith('The reply to /status was cut off, or is none.')"), text_of(tab, "#trouble"))
+    holds("that a reply was cut", tab.wait(f"{TROUBLE}.innerText.startsWith('The response to /status was incomplete or invalid.')"), text_of(tab, "#trouble"))
     office.cut.clear()
     holds("until it can", tab.wait(f"{TROUBLE}.hidden"), text_of(tab, "#trouble"))
     tab.forget()
@@ -790,13 +800,13 @@ def see_program(sunreg, program):
     tab.ask("Page.navigate", url=f"{origin}/")
     holds("the register has figures", tab.wait("document.querySelectorAll('dl').length === 1"), text_of(tab, "body"))
     about, *told = card_of(tab, "main")
-    holds("its meter", about.startswith("Meter m1: showed 5.007 kWh at ") and about.endswith("; 0.007 kWh since it was installed."), about)
+    holds("its meter", about.startswith("Meter m1: counter 5.007 kWh (") and about.endswith("; 0.007 kWh since installation."), about)
     same("its energy", told, ["0.007 kWh"] * 3)
-    holds("the device answers", "answers: last reading at " in text_of(tab, "#devices"), text_of(tab, "#devices"))
-    holds("the other has no meter", "export: no meter is open at this register." in text_of(tab, "#notes"), text_of(tab, "#notes"))
+    holds("the device answers", "Online. Last reading " in text_of(tab, "#devices"), text_of(tab, "#devices"))
+    holds("the other has no meter", "export: the register has no open meter." in text_of(tab, "#notes"), text_of(tab, "#notes"))
     tab.run("document.getElementById('open-main').click()")
     holds("its day", tab.wait("document.getElementById('sum')"), text_of(tab, "#detail"))
-    same("adds up", text_of(tab, "#sum"), "Together 0.007 kWh, which is the office's figure of this day.")
+    same("adds up", text_of(tab, "#sum"), "Total 0.007 kWh, matching the recorded day.")
     holds_quiet("the program", tab, origin)
     exchanged(tab, origin)
     run.kill()
@@ -829,10 +839,10 @@ def exchanged(tab, origin):
         time.sleep(0.2)
     lines = [line.split() for line in fetched(f"{origin}/registers/main/meters")[2].decode().splitlines()]
     same("the meters of the register", [[it[0], *it[3:]] for it in lines], [["m1", "5007", "0", "7000", "ended"], ["m2", "5007", "0", "7000", "open"], ["end"]])
-    both = "document.getElementById('sum') && document.getElementById('sum').innerText.startsWith('Together 0.014 kWh, which is the office')"
+    both = "document.getElementById('sum') && document.getElementById('sum').innerText.startsWith('Total 0.014 kWh, matching')"
     holds("its day has both meters", tab.wait(both), text_of(tab, "#detail"))
     holds("which its heading names", text_of(tab, "#heading").endswith("main, meter m1, meter m2"), text_of(tab, "#heading"))
-    same("and the list", [it.split(" from ")[0] for it in meters_of(tab)], ["m1", "m2"])
+    same("and the list", [it.split(": ")[0] for it in meters_of(tab)], ["m1", "m2"])
     # (within one quarter hour, or two where one ended just now)
     names = {name for it in table_of(tab) for name in it[2].split(", ")}
     same("and the table", names, {"m1", "m2"})

@@ -119,7 +119,7 @@ run '' run --db "$office" --listen 65536 --every 1 --devices d=127.0.0.1:1
 is 'run: a port out of range' 2 '' "error: invalid value '65536' for '--listen <PORT>': not a number from 1 to 65535"
 port=${STATUSES_PORT:-18691}
 run '' run --db "$office" --listen "$port" --every 86400 --devices d=127.0.0.1:1 --for 1
-is 'run: for a second' 0 "$(printf 'books to 0 lost 0\nlistening %s' "$port")" 'sunreg: d: the office has no device of that name: POST /devices'
+is 'run: for a second' 0 "$(printf 'books to 0 lost 0\nlistening %s' "$port")" 'sunreg: d: the office has no device with this name; add it with POST /devices'
 
 other=$room/other.db
 run '' create --db "$other" --zone CET-1

@@ -364,9 +364,9 @@ NEXT_SITE = [
 # A device without a point list, and a register without a meter.
 UNMETERED = "1000 device inv 1 5 1\n1000 register main inv 3 40094 @40096\n"
 LACKS = [
-    ("none", ["sunreg: none: the office has no device of that name: POST /devices"]),
+    ("none", ["sunreg: none: the office has no device with this name; add it with POST /devices"]),
     ("inv", [
-        "sunreg: inv: no point list yet: sunreg scan --list, or POST /devices/inv/list",
-        "sunreg: register main: no meter is open at it: POST /registers/main/install",
+        "sunreg: inv: no point list; create one with sunreg scan --list, then POST /devices/inv/list",
+        "sunreg: register main: no open meter; install one with POST /registers/main/install",
     ]),
 ]

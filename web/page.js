@@ -1,70 +1,70 @@
 "use strict";
-// The page of an office that runs: it asks the office that serves it, and no other host. What comes
-// from there is put into the page as text alone. Energies are whole mWh, as BigInt.
+// The page of a running office. It sends requests only to the office that serves it, and shows the
+// responses as text alone. Energies are whole mWh, as BigInt.
 
 const MINUTE = 60000;
-const RETRY = 10000; // how soon it asks again where no answer came
-const PATIENCE = 30000; // how long it waits for an answer
-const KEPT = 10 * MINUTE; // how long a text is kept whose register did not change
-const LATELY = 300; // a device whose last reading is at most so many seconds old answers,
-const LONG_AGO = 1200; // and one is silent whose is more than so many old
+const RETRY = 10000; // delay of the next request after a failure
+const PATIENCE = 30000; // timeout of a request
+const KEPT = 10 * MINUTE; // how long the rows of an unchanged register are kept
+const LATELY = 300; // a device is online if its last reading is at most so many seconds old,
+const LONG_AGO = 1200; // and offline if it is more than so many seconds old
 const QUARTER = 900; // seconds
 const HALF_DAY = 43200;
 
 // What numbers mean, what usually causes them, and what to do: the words of `sunreg explain`.
 const HELD = {
-  not_accumulated: [1, "the device shows 0: not accumulated",
+  not_accumulated: [1, "the device reports 0: not accumulated",
     "a device that doesn't count this energy, or that has just started",
-    "nothing where it passes; else book another counter, since the device doesn't have this one"],
-  scale_changed: [2, "the scale is another one",
-    "a device whose settings or software were changed, or a wrong scale at installing",
-    "look at the device, and enter a rescale where its scale is another one for good"],
-  not_later: [3, "the moment is not later",
-    "two replies in one second, or a clock that was set back",
-    "nothing for one reading; else set the clock right"],
-  span_too_long: [4, "the step since the last entry would touch more than 3,000 quarter hours",
+    "nothing if it passes; otherwise book another counter, since the device doesn't have this " +
+    "one"],
+  scale_changed: [2, "the scale changed",
+    "changed settings or firmware of the device, or a wrong scale at installation",
+    "check the device, and enter a rescale if its scale has changed for good"],
+  not_later: [3, "the time is not later than the last entry",
+    "two responses in one second, or a clock that was set back",
+    "nothing for a single reading; otherwise correct the clock"],
+  span_too_long: [4, "the step since the last entry would span more than 3,000 quarter hours",
     "a device that wasn't reached for more than 31 days",
-    "enter readings by hand for moments between, each at most 31 days after the one before"],
-  gap_too_long: [5,
-    "so long since the last entry that the counter may have turned over unseen",
-    "a gap in which the greatest power could have counted the whole range",
-    "enter a reading by hand, with as many ROLLS as the counter turned over in the gap"],
+    "enter manual readings for times in between, at most 31 days apart"],
+  gap_too_long: [5, "the counter may have rolled over unnoticed since the last entry",
+    "a gap in which the maximum power could count through the whole range",
+    "enter a manual reading, and give the rollovers during the gap as ROLLS"],
   too_fast: [6, "more energy than the ceiling allows",
-    "a ceiling that is too low, a counter that was set or exchanged, or a false reading",
-    "compare the reading with the meter: enter a reset or an exchange where the counter was " +
-    "changed, and one by hand where it is right"],
-  total_full: [7, "the meter's energy would pass 4 * 10^18 mWh",
-    "a false reading, or a wrong scale",
-    "compare the reading and the scale with the meter"],
-  not_below_range: [8, "the counter is at or past its range",
-    "a RANGE at installing that is less than the counter's, or a false reading",
+    "a ceiling that is too low, a counter that was reset or exchanged, or a wrong reading",
+    "compare the reading with the meter: enter a reset or an exchange if the counter was " +
+    "changed, or a manual reading if it is right"],
+  total_full: [7, "the meter's total would exceed 4 * 10^18 mWh",
+    "a wrong reading, or a wrong scale", "compare the reading and the scale with the meter"],
+  not_below_range: [8, "the counter is at or above its range",
+    "a RANGE at installation that is below the counter's, or a wrong reading",
     "exchange the meter for itself under a new name, with the right RANGE"],
 };
 const REFUSED = {
-  1: ["no device, register, meter, list, entry or poll has that name, place or number, " +
-    "or no meter was ever installed at the register",
-    "compare the name with what was set up; give a device its point list before its first round"],
-  13: ["the store failed", "look at the disk's room and the file's rights, and start again: " +
-    "what was acknowledged stays"],
-  14: ["memory is wanting", "give the program more memory, and ask again"],
-  15: ["the office has stopped, since 13 or 14 came while polls were settled; " +
-    "it must be opened anew",
-    "look at the disk and at memory, and start the program again: what was acknowledged stays"],
+  1: ["no device, register, meter, list, entry or poll has that name or number, or the register " +
+    "never had a meter", "check the name; give a device its point list before its first round"],
+  13: ["the database failed",
+    "check the free disk space and the file's permissions, then restart: everything " +
+    "acknowledged is kept"],
+  14: ["out of memory", "give the program more memory, and retry"],
+  15: ["the office stopped after 13 or 14 while it settled polls, and must be reopened",
+    "check the disk and the memory, then restart the program: everything acknowledged is kept"],
 };
 const LACKS = {
-  no_device: ["the books have no device of that name", "POST /devices"],
-  no_list: ["the device has no point list", "sunreg scan --list, or POST /devices/NAME/list"],
-  no_register: ["it has no register, so nothing of it is booked", "POST /registers"],
-  not_in_list: ["no read of its list has the counter of this register and its scale",
-    "add both to the device's point list"],
-  no_meter: ["no meter is open at this register", "POST /registers/NAME/install"],
+  no_device: ["the office has no device with this name", "add it with POST /devices"],
+  no_list: ["the device has no point list",
+    "create one with sunreg scan --list, then POST /devices/NAME/list"],
+  no_register: ["the device has no register, so its energy is not recorded",
+    "add one with POST /registers"],
+  not_in_list: ["the device's point list lacks the counter of this register or its scale",
+    "add both to the list"],
+  no_meter: ["the register has no open meter", "install one with POST /registers/NAME/install"],
 };
 const POLLS = {
-  answered: "the device answered",
-  exception: "the device answered by an exception",
-  silent: "no answer came in time",
-  malformed: "the answer was no answer to it",
-  lost: "the connection was lost before an answer, or the stream was garbled",
+  answered: "answered",
+  exception: "answered with an exception",
+  silent: "timed out",
+  malformed: "answered with an invalid response",
+  lost: "lost: the connection failed before a response",
 };
 const WEEKDAYS = ["Sun", "Mon", "Tue", "Wed", "Thu", "Fri", "Sat"];
 const MONTHS = ["Jan", "Feb", "Mar", "Apr", "May", "Jun", "Jul", "Aug", "Sep", "Oct", "Nov", "Dec"];
@@ -87,7 +87,7 @@ class NoAnswer extends Fault {}
 
 function meaningOf(code, text) {
   const refused = /"refused":(\d+)/.exec(text);
-  if (!refused) return `it answered ${code}`;
+  if (!refused) return `HTTP status ${code}`;
   const words = REFUSED[refused[1]];
   const told = `refused ${refused[1]}`;
   return words ? `${told}: ${words[0]}. What to do: ${words[1]}` : told;
@@ -100,10 +100,10 @@ async function ask(path) {
     reply = await fetch(path, { cache: "no-store", signal: AbortSignal.timeout(PATIENCE) });
     text = await reply.text();
   } catch {
-    throw new NoAnswer("The office doesn't answer. Does sunreg run still run there?");
+    throw new NoAnswer("No response. Is sunreg still running?");
   }
   if (reply.ok) return text;
-  throw new Fault(`The office can't tell ${path}: ${meaningOf(reply.status, text)}.`);
+  throw new Fault(`The request for ${path} failed: ${meaningOf(reply.status, text)}.`);
 }
 
 async function askJson(path, member) {
@@ -114,7 +114,7 @@ async function askJson(path, member) {
   } catch {
     // told below
   }
-  throw new Fault(`The reply to ${path} was cut off, or is none.`);
+  throw new Fault(`The response to ${path} was incomplete or invalid.`);
 }
 
 // The rows of a text that is whole: its last line is `end N`, of N rows, each of the form.
@@ -123,7 +123,7 @@ async function askRows(path, form) {
   const end = lines.length > 1 && lines.pop() === "" && /^end (\d+)$/.exec(lines.pop());
   const rows = lines.map((line) => form.exec(line));
   if (!end || Number(end[1]) !== rows.length || rows.includes(null)) {
-    throw new Fault(`The reply to ${path} was cut off, so that nothing of it is shown.`);
+    throw new Fault(`The response to ${path} was incomplete or invalid, so it is not shown.`);
   }
   return rows;
 }
@@ -255,7 +255,7 @@ async function refresh() {
       await askAll();
     }
   } catch (fault) {
-    trouble = fault instanceof Fault ? fault.message : `This page failed: ${fault}`;
+    trouble = fault instanceof Fault ? fault.message : `Error in this page: ${fault}`;
     isDue = false;
   }
   isAsking = false;
@@ -265,12 +265,19 @@ async function refresh() {
 
 // ---- numbers and dates
 
-// Exact kWh with six decimals, of which those after the third go where they are 0 and may.
-function kwh(mwh, least = 6) {
+// Exact kWh with six decimals, without zeros at the end where fewer will do.
+function plainKwh(mwh, least = 6) {
   const digits = mwh.toString().padStart(7, "0");
   let part = digits.slice(-6);
   while (part.length > least && part.endsWith("0")) part = part.slice(0, -1);
   return `${digits.slice(0, -6)}.${part}`;
+}
+
+// The same with commas between the thousands, as all numbers that people read.
+const grouped = (text) => text.replace(/\B(?=(\d{3})+(?!\d))/g, ",");
+function kwh(mwh, least) {
+  const [whole, part] = plainKwh(mwh, least).split(".");
+  return part ? `${grouped(whole)}.${part}` : grouped(whole);
 }
 
 const shortKwh = (mwh) => `${kwh(mwh, 3)} kWh`;
@@ -327,9 +334,15 @@ function offsetOf(date) {
   return `${minutes < 0 ? "-" : "+"}${two(hour)}:${two(rest)}`;
 }
 
-function momentText(seconds) {
+function dateTime(seconds) {
   const date = dateOf(seconds);
-  return `${clockOf(date)} on ${titleOf(dayAt(date))}`;
+  return `${date.getDate()} ${titleOf(dayAt(date).slice(0, MONTH))}, ${clockOf(date)}`;
+}
+
+// Without the date where it is the date of the last refresh.
+function shortTime(seconds) {
+  const isToday = dayAt(dateOf(seconds)) === dayAt(dateOf(site.at));
+  return isToday ? clockOf(dateOf(seconds)) : dateTime(seconds);
 }
 
 // The office's day of now. Its zone isn't told, so it is the day by the browser's, but for this:
@@ -386,13 +399,13 @@ function placeOf(hash) {
 // ---- devices and registers
 
 function stateOf(device) {
-  if (!device) return ["faint", "this run doesn't ask it"];
+  if (!device) return ["faint", "Not being polled"];
   const last = device.last_reading;
-  if (last === null) return ["silent", "no reading since this run began"];
+  if (last === null) return ["silent", "No reading since sunreg started"];
   const old = site.at - last;
-  if (old > LONG_AGO) return ["silent", `silent since ${momentText(last)}`];
-  if (old <= LATELY) return ["answers", `answers: last reading at ${momentText(last)}`];
-  return ["faint", `last reading at ${momentText(last)}, ${Math.floor(old / 60)} minutes ago`];
+  if (old > LONG_AGO) return ["silent", `No reading since ${shortTime(last)}`];
+  if (old <= LATELY) return ["answers", `Online. Last reading ${shortTime(last)}`];
+  return ["faint", `Last reading ${shortTime(last)} (${Math.floor(old / 60)} minutes ago)`];
 }
 
 function figure(title, period, mwh) {
@@ -404,7 +417,7 @@ function figure(title, period, mwh) {
 
 function figures(register) {
   const kept = answers.get(yearPath(register.register));
-  if (!kept) return [make("p", {}, "Its days are being asked.")];
+  if (!kept) return [make("p", {}, "Loading days...")];
   if (kept.fault) return [make("p", { class: "warn" }, kept.fault)];
   const of = (title, period) =>
     figure(title, period, sumOf(kept.rows.filter((row) => row.name.startsWith(period))));
@@ -419,32 +432,32 @@ function card(register) {
   const name = register.register;
   if (register.meter === null) {
     return make("article", { class: "card" }, make("h3", {}, name),
-      make("p", {}, "No meter was installed at it, so nothing of it is booked."));
+      make("p", {}, "No meter installed, so no energy is recorded."));
   }
   const href = linkTo(name, today(register));
   return make("article", { class: "card" },
     make("h3", {}, make("a", { href, id: `open-${name}` }, name)),
-    make("p", {}, `Meter ${register.meter}${register.ended ? ", closed" : ""}: ` +
-      `showed ${shortKwh(counterOf(register))} at ${momentText(register.at)}; ` +
-      `${shortKwh(BigInt(register.total))} since it was installed.`),
+    make("p", {}, `Meter ${register.meter}${register.ended ? " (closed)" : ""}: ` +
+      `counter ${shortKwh(counterOf(register))} (${shortTime(register.at)}); ` +
+      `${shortKwh(BigInt(register.total))} since installation.`),
     ...figures(register));
 }
 
 function deviceParts() {
   const names = status.devices.map((it) => it.name);
   for (const it of site.registers) if (!names.includes(it.device)) names.push(it.device);
-  if (!names.length) return [make("p", {}, "The office has no device yet.")];
+  if (!names.length) return [make("p", {}, "No devices set up yet.")];
   return names.flatMap((name) => {
     const device = status.devices.find((it) => it.name === name);
     const [kind, text] = stateOf(device);
     const registers = site.registers.filter((it) => it.device === name);
-    const going = device && device.connected ? " It is being asked now." : "";
+    const going = device && device.connected ? " Reading now..." : "";
     return [
-      make("h2", {}, name || "a device without a name"),
+      make("h2", {}, name || "Device with an invalid name"),
       make("p", {}, make("span", { class: `state ${kind}` }, text), going),
       registers.length
         ? make("div", { class: "cards" }, ...registers.map(card))
-        : make("p", {}, "It has no register."),
+        : make("p", {}, "No counter set up."),
     ];
   });
 }
@@ -527,7 +540,7 @@ function gridOf(most) {
 const [LEFT, RIGHT, TOP, FOOT, UNDER] = [110, 960, 25, 275, 320];
 
 function barShape(bar, x, wide, high) {
-  const told = bar.mwh === null ? "no row" : `${kwh(bar.mwh)} kWh`;
+  const told = bar.mwh === null ? "no data" : `${kwh(bar.mwh)} kWh`;
   const kind = bar.mwh === null ? "none" : "bar";
   const parts = [
     shape("title", {}, `${bar.title}: ${told}`),
@@ -555,12 +568,12 @@ function curve({ room, bars }) {
     class: "curve",
     viewBox: `0 0 ${RIGHT} ${UNDER}`,
     role: "img",
-    "aria-label": `${titleOf(place.period)} as bars, in kWh; the numbers are in the table below`,
+    "aria-label": `Bar chart of ${titleOf(place.period)}, in kWh; the table below has the values`,
   });
   svg.append(shape("text", { x: 0, y: UNDER - 10 }, "kWh"));
   for (let mark = 0n; mark <= marks; mark += 1n) {
     const y = FOOT - heightOf(mark * grid);
-    const text = kwh(mark * grid, 0).replace(/\.$/, "");
+    const text = kwh(mark * grid, 0);
     svg.append(shape("line", { x1: LEFT, x2: RIGHT, y1: y, y2: y }),
       shape("text", { x: LEFT - 8, y: y + 5, "text-anchor": "end" }, text));
   }
@@ -575,7 +588,7 @@ function curve({ room, bars }) {
 
 function table(bars) {
   const isDay = place.period.length === DAY;
-  const first = { [DAY]: "Quarter hour", [MONTH]: "Day", [YEAR]: "Month" }[place.period.length];
+  const first = { [DAY]: "Time", [MONTH]: "Day", [YEAR]: "Month" }[place.period.length];
   const number = { class: "number" };
   const row = (bar) => make("tr", {},
     make("td", {}, bar.href
@@ -587,10 +600,10 @@ function table(bars) {
   const head = make("tr", {},
     make("th", { scope: "col" }, first),
     make("th", { scope: "col", ...number }, "kWh"),
-    ...(isDay ? [] : [make("th", { scope: "col", ...number }, "Quarter hours")]),
+    ...(isDay ? [] : [make("th", { scope: "col", ...number }, "15-minute values")]),
     ...(bars.some((bar) => bar.meters) ? [make("th", { scope: "col" }, "Meter")] : []));
   const rows = bars.filter((bar) => bar.mwh !== null).map(row);
-  const named = { role: "region", "aria-label": "The numbers" };
+  const named = { role: "region", "aria-label": "Values" };
   return make("div", { class: "rows", id: "rows", tabindex: 0, ...named },
     make("table", {}, make("thead", {}, head), make("tbody", {}, ...rows)));
 }
@@ -601,12 +614,12 @@ let fileUrl = "";
 function fileLink(bars) {
   const first = { [DAY]: "start", [MONTH]: "day", [YEAR]: "month" }[place.period.length];
   const lines = [`${first},energy_kwh\r\n`];
-  for (const bar of bars) if (bar.mwh !== null) lines.push(`${bar.name},${kwh(bar.mwh)}\r\n`);
+  for (const bar of bars) if (bar.mwh !== null) lines.push(`${bar.name},${plainKwh(bar.mwh)}\r\n`);
   URL.revokeObjectURL(fileUrl);
   fileUrl = URL.createObjectURL(new Blob(lines, { type: "text/csv" }));
   const download = `${place.register}-${place.period}.csv`;
   return make("p", {},
-    make("a", { id: "file", href: fileUrl, download }, `These numbers as CSV: ${download}`));
+    make("a", { id: "file", href: fileUrl, download }, "Download CSV"));
 }
 
 // Whether the bars of a day are all that the office has of it.
@@ -615,13 +628,13 @@ function comparison(sum, days, register) {
   const row = days.find((it) => it.name === place.period);
   const office = row ? row.mwh : 0n;
   if (sum === office) {
-    const told = `Together ${shortKwh(sum)}, which is the office's figure of this day.`;
+    const told = `Total ${shortKwh(sum)}, matching the recorded day.`;
     return make("p", { id: "sum" }, told);
   }
   return make("p", { id: "sum", class: "warn" },
-    `These quarter hours add up to ${shortKwh(sum)}, but the office's figure of this day is ` +
-    `${shortKwh(office)}. The office's days go by its own zone, and the quarter hours here by ` +
-    `that of this browser${isNow ? "; or a reading came just now" : ""}.`);
+    `These 15-minute values add up to ${shortKwh(sum)}, but ${shortKwh(office)} are recorded for ` +
+    "this day. They differ if this browser is in another time zone than the site, " +
+    `${isNow ? "if a reading has just arrived, " : ""}or if the day is in an earlier file.`);
 }
 
 function around(register, days) {
@@ -633,7 +646,7 @@ function around(register, days) {
   // (with which day its first month begins matters in that month alone, whose days are here)
   const rows = days.filter((row) => row.name.startsWith(begun));
   const first = rows.length ? rows[0].name : firstOf(begun);
-  const word = { [DAY]: "Day", [MONTH]: "Month", [YEAR]: "Year" }[size];
+  const word = { [DAY]: "day", [MONTH]: "month", [YEAR]: "year" }[size];
   const link = (id, text, to, isThere) => (isThere
     ? make("a", { class: "button", id, href: linkTo(register.register, to) }, text)
     : make("span", { class: "button off" }, text));
@@ -650,9 +663,9 @@ function around(register, days) {
     make("nav", { "aria-label": "Period" },
       kind("Day", DAY), kind("Month", MONTH), kind("Year", YEAR),
       make("a", { class: "button apart", id: "close", href: "#" }, "Close")),
-    make("nav", { "aria-label": "Before and after" },
-      link("before", `\u2190 ${word} before`, before, before >= first.slice(0, size)),
-      link("after", `${word} after \u2192`, after, after <= last.slice(0, size))),
+    make("nav", { "aria-label": "Previous and next" },
+      link("before", `\u2190 Previous ${word}`, before, before >= first.slice(0, size)),
+      link("after", `Next ${word} \u2192`, after, after <= last.slice(0, size))),
   ];
 }
 
@@ -665,20 +678,20 @@ function pathsOf() {
 }
 
 function meterItem(it) {
-  const last = `${it.ended ? "till" : "on, last read at"} ${momentText(it.at)}`;
-  return [make("b", {}, it.name), ` from ${momentText(it.opened)} ${last}: ` +
-    `showed ${shortKwh(counterOf(it))}; ${shortKwh(BigInt(it.total))} in all.`];
+  const last = `${it.ended ? "closed" : "last reading"} ${dateTime(it.at)}`;
+  return [make("b", {}, it.name), `: installed ${dateTime(it.opened)}; ${last}; ` +
+    `counter ${shortKwh(counterOf(it))}; total ${shortKwh(BigInt(it.total))}.`];
 }
 
 function periodParts(register) {
   const isDay = place.period.length === DAY;
   const there = isDay ? metersOf(place) : [];
   const names = there.map((it) => `, meter ${it.name}`);
-  const whose = isDay ? names.join("") : ", all of its meters";
+  const whose = isDay ? names.join("") : ", all meters";
   const heading = make("h2", { id: "heading", tabindex: -1 },
     `${titleOf(place.period)} `, make("small", {}, place.register, whose));
   const [year, months, meters, days, ...rows] = pathsOf().map((path) => answers.get(path));
-  const asked = [make("p", {}, "Its days are being asked.")];
+  const asked = [make("p", {}, "Loading days...")];
   const failed = (it) => [make("p", { class: "warn" }, it.fault)];
   for (const it of [year, months, meters]) {
     if (!it) return [heading, ...asked];
@@ -688,7 +701,7 @@ function periodParts(register) {
   if (!days) return [...parts, ...asked];
   if (days.fault) return [...parts, ...failed(days)];
   for (const it of rows) {
-    if (!it) return [...parts, make("p", {}, "Its quarter hours are being asked.")];
+    if (!it) return [...parts, make("p", {}, "Loading 15-minute values...")];
     if (it.fault) return [...parts, ...failed(it)];
   }
   const drawn = isDay ? quarters(there) : monthsOrDays(register, days.rows);
@@ -696,13 +709,12 @@ function periodParts(register) {
   const sum = sumOf(some);
   if (isDay) {
     parts.push(make("p", { class: "faint" },
-      `Quarter hours by this browser's clock and zone, ${zone()}: ` +
-      `${some.length} of ${drawn.room} have a row.`));
+      `15-minute values, ${zone()} time. ${some.length} of ${drawn.room} available.`));
   }
   const told = isDay
     ? comparison(sum, days.rows, register)
-    : make("p", { id: "sum" }, `Together ${shortKwh(sum)}, by the office's days.`);
-  if (!some.length) return [...parts, make("p", {}, "Nothing is booked here."), told];
+    : make("p", { id: "sum" }, `Total ${shortKwh(sum)}`);
+  if (!some.length) return [...parts, make("p", {}, "No energy recorded in this period."), told];
   return [...parts, curve(drawn), told, table(drawn.bars), fileLink(drawn.bars)];
 }
 
@@ -710,7 +722,7 @@ function detailParts(register) {
   const meters = answers.get(metersPath(place.register));
   if (!meters || meters.fault) return periodParts(register);
   const items = list(meters.rows.map(meterItem));
-  return [...periodParts(register), make("h3", {}, "Its meters"), items];
+  return [...periodParts(register), make("h3", {}, "Meters"), items];
 }
 
 function drawDetail() {
@@ -721,7 +733,7 @@ function drawDetail() {
   } else if (!register || register.meter === null) {
     fill("detail", place, () => [
       make("p", { id: "heading", tabindex: -1 },
-        `The office has no register ${place.register} with a meter.`),
+        `There is no counter ${place.register} with a meter.`),
       make("p", {}, make("a", { class: "button", id: "close", href: "#" }, "Close")),
     ]);
   } else {
@@ -735,12 +747,12 @@ function drawDetail() {
 // ---- what wants a look
 
 const list = (items) => make("ul", {}, ...items.map((it) => make("li", {}, ...it)));
-const count = (number, one, more) => `${number} ${number === 1 ? one : more}`;
+const count = (number, noun) => `${grouped(`${number}`)} ${noun}${number === 1 ? "" : "s"}`;
 
 function heldItem(name) {
   const [number, means, cause, remedy] = HELD[name];
-  const readings = count(status.held[name], "reading", "readings");
-  return [make("b", {}, `${readings} held for cause ${number}: ${means}.`),
+  const readings = count(status.held[name], "reading");
+  return [make("b", {}, `${readings} rejected (held ${number}): ${means}.`),
     ` Usual cause: ${cause}. What to do: ${remedy}.`];
 }
 
@@ -753,11 +765,9 @@ function lackItem(lack) {
 }
 
 function refusalText() {
-  if (!status.refusals) return "Nothing was refused.";
-  const one = "event of a device or a round was";
-  const more = "events of devices and rounds were";
-  return `${count(status.refusals, one, more)} refused: standard error of sunreg run says which, ` +
-    "and sunreg explain refused N what a number means.";
+  if (!status.refusals) return "No device events refused.";
+  return `${count(status.refusals, "device event")} refused. The log of sunreg run has each as ` +
+    "refused N; sunreg explain refused N says what to do.";
 }
 
 function noteParts() {
@@ -765,16 +775,16 @@ function noteParts() {
   const held = Object.keys(HELD).filter((name) => status.held[name] > 0);
   const polls = Object.keys(POLLS).filter((name) => name === "answered" || status.polls[name] > 0);
   const parts = [
-    title("What wants a look", "since this run began"),
-    held.length ? list(held.map(heldItem)) : make("p", {}, "No reading was held."),
+    title("Needs attention", "since sunreg started"),
+    held.length ? list(held.map(heldItem)) : make("p", {}, "No readings rejected."),
     make("p", {}, refusalText()),
   ];
   if (status.lacks.length) {
-    parts.push(title("What devices lack", "when this run began, so that not all is booked"),
+    parts.push(title("Incomplete set-up", "when sunreg started"),
       list(status.lacks.map(lackItem)));
   }
-  parts.push(title("Polls", "since this run began"),
-    list(polls.map((name) => [`${status.polls[name]} ${name}: ${POLLS[name]}.`])));
+  parts.push(title("Polls", "since sunreg started"),
+    list(polls.map((name) => [`${count(status.polls[name], "poll")} ${POLLS[name]}`])));
   return parts;
 }
 
@@ -784,16 +794,16 @@ const zone = () => Intl.DateTimeFormat().resolvedOptions().timeZone;
 
 function draw() {
   const box = document.getElementById("trouble");
-  const of = answeredAt && trouble ? ` What is shown is of ${momentText(answeredAt / 1000)}.` : "";
+  const of = answeredAt && trouble ? ` Showing data as of ${dateTime(answeredAt / 1000)}.` : "";
   box.hidden = !trouble;
   if (box.textContent !== trouble + of) box.textContent = trouble + of;
   document.body.classList.toggle("stale", Boolean(trouble));
   const title = place ? `${place.register} ${place.period}, sunreg` : "sunreg";
-  document.title = trouble ? "sunreg: no answer" : title;
+  document.title = trouble ? "sunreg: not up to date" : title;
   document.getElementById("zone").textContent = zone();
   if (!site || !status) return;
   document.getElementById("moment").textContent =
-    `The office's moment is ${momentText(site.at)}. It is asked anew each minute.`;
+    `As of ${dateTime(site.at)}. Refreshes every minute.`;
   const years = site.registers.map((it) => answers.get(yearPath(it.register)));
   fill("devices", [site, status.devices, years], deviceParts);
   drawDetail();

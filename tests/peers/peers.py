@@ -321,7 +321,7 @@ def try_round(db, name, words, turn):
         f"reading l1 {low} rolls 0 step {steps[2]}",
     ]
     printed = [line for line in done.stdout.splitlines() if line != "ok"]
-    said = "sunreg: register spare: not in the list of inv (needs function 3, 40500 to 40501)\nsunreg: register spare: no meter is open at it: POST /registers/spare/install\n"
+    said = "sunreg: register spare: missing from the point list of inv; add function 3, registers 40500 to 40501 to it\nsunreg: register spare: no open meter; install one with POST /registers/spare/install\n"
     same(f"a round over {name}", (done.returncode, sorted(printed), done.stderr), (0, sorted(wanted), said))
 
 

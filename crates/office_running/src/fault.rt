@@ -32,12 +32,12 @@ impl Display for RunFault {
     fn fmt<W: fmt::Write>(&self, f: &mut Formatter<W>) -> fmt::Result {
         match self {
             RunFault::Unopened(_) => write!(f, "the office was not opened"),
-            RunFault::Port => write!(f, "the port can't be listened on: is it taken?"),
-            RunFault::Sockets => write!(f, "the system can't tell which sockets are ready"),
-            RunFault::Output => write!(f, "standard output can't be written"),
+            RunFault::Port => write!(f, "can't listen on the port: is it in use?"),
+            RunFault::Sockets => write!(f, "can't wait for sockets"),
+            RunFault::Output => write!(f, "can't write to standard output"),
             RunFault::Stopped => write!(
                 f,
-                "the office has stopped, since its file or memory failed: look at the disk, and start again"
+                "the office has stopped, because its file failed or memory ran out; check the disk, and start again"
             ),
             RunFault::Memory => write!(f, "memory ran out"),
         }

@@ -61,7 +61,7 @@ pub fn say_ahead<E: Write>(latest: u64, now: u64, errors: &mut E) -> bool
     if is_ahead {
         let _said = writeln!(
             errors,
-            "sunreg: the books go to {latest}, and the clock says {now}: where the clock is wrong, set it right; where the books have an entry that was made at a false moment, wait until the clock has passed it, or go on from a copy made before"
+            "sunreg: the last record has the time {latest}, but the clock says {now}; if the clock is wrong, set it; if the time of the record is wrong, wait until the clock has passed it, or continue with an earlier backup"
         );
     }
     is_ahead

@@ -69,10 +69,9 @@ fn word_of(standing: Standing) -> &'static [u8] {
 // How a file of the office was lost. The text follows the file's path.
 fn how_lost(loss: FileLoss) -> &'static [u8] {
     match loss {
-        FileLoss::Missing => b"this file was removed or renamed while the office had it open",
-        FileLoss::Replaced =>
-            b"another file has taken the place of the one that the office has open",
-        FileLoss::Shortened => b"this file was cut short while the office had it open",
+        FileLoss::Missing => b"removed or renamed while in use",
+        FileLoss::Replaced => b"another file replaced it while in use",
+        FileLoss::Shortened => b"cut short while in use",
     }
 }
 
@@ -176,11 +175,11 @@ impl Voice {
         let _done = put_number(&mut self.lines, b"", moment);
         let _done = put_number(&mut self.lines, b" clock set back ", seconds);
         let _done = put(&mut self.lines, b"\n");
-        let _done = put_number(&mut self.said, b"sunreg: the clock stands ", seconds);
-        let _done = put_number(&mut self.said, b" seconds before ", moment);
+        let _done = put_number(&mut self.said, b"sunreg: the clock is ", seconds);
+        let _done = put_number(&mut self.said, b" seconds behind the last record, ", moment);
         let _done = put_number(
             &mut self.said,
-            b", up to which the books go; until it has caught up, all that comes is booked at ",
+            b"; until the clock catches up, new records get the time ",
             moment,
         );
         let _done = put(&mut self.said, b"\n");
@@ -188,11 +187,11 @@ impl Voice {
 
     /// Tells that the clock has gone from one moment to another, further than a run lets pass between two looks at it.
     pub(crate) fn tell_ahead(&mut self, before: u64, moment: u64) {
-        let _done = put_number(&mut self.said, b"sunreg: the clock went from ", before);
+        let _done = put_number(&mut self.said, b"sunreg: the clock jumped from ", before);
         let _done = put_number(&mut self.said, b" to ", moment);
         let _done = put(
             &mut self.said,
-            b" at once; if that is not the time, set the clock right and start again: what is booked now stays at that moment\n",
+            b"; if the new time is wrong, set the clock and restart run: records keep the time at which they are made\n",
         );
     }
 
@@ -202,7 +201,7 @@ impl Voice {
             self.is_full = true;
             let _done = put(
                 &mut self.said,
-                b"sunreg: commands over HTTP are answered 503: no room is left to keep them; start again with a larger --most-kept, or with a new file\n",
+                b"sunreg: HTTP commands are answered with 503, because the stored commands have reached the limit of --most-kept; restart run with a larger limit or a new file\n",
             );
         }
     }
@@ -211,12 +210,12 @@ impl Voice {
     pub(crate) fn say_few(&mut self, few: FewClients) {
         let _done = put_number(
             &mut self.said,
-            b"sunreg: few descriptors: HTTP is answered to ",
+            b"sunreg: few file descriptors: run serves only ",
             few.clients as u64,
         );
         let _done = put_number(
             &mut self.said,
-            b" clients at once, since the devices come first; for 64 devices and 64 clients start it with ulimit -n ",
+            b" HTTP clients at a time, because devices come first; for 64 devices and 64 clients, set ulimit -n ",
             few.limit as u64,
         );
         let _done = put(&mut self.said, b"\n");
@@ -237,7 +236,7 @@ impl Voice {
         let _done = put(&mut self.said, how_lost(loss));
         let _done = put(
             &mut self.said,
-            b": what is recorded now would be lost, so commands are answered 503 and the run ends: move the file back, or restore a backup\n",
+            b"; new records would be lost, so run answers commands with 503 and stops; move the file back, or restore a backup\n",
         );
     }
 
@@ -245,7 +244,7 @@ impl Voice {
     pub(crate) fn say_gone(&mut self) {
         let _done = put(
             &mut self.said,
-            b"sunreg: a file of the office was gone when a command was to be acknowledged, so the run ends: start it again once the files are in their places\n",
+            b"sunreg: a file of the office was missing when a command was committed, so run stops; put the files back, then start run again\n",
         );
     }
 

@@ -207,11 +207,12 @@ fn what_devices_lack_is_in_the_status(rt: HostRuntime) {
     assert!(rt; text.ends_with(LACKS.as_bytes()));
 }
 
-const SENTENCES: &str = "sunreg: none: the office has no device of that name: POST /devices
-sunreg: inv: no point list yet: sunreg scan --list, or POST /devices/inv/list
-sunreg: inv: it has no register, so nothing of it is booked: POST /registers
-sunreg: register import: not in the list of grid (needs function 3, 40117 to 40125)
-sunreg: register import: no meter is open at it: POST /registers/import/install
+const SENTENCES: &str =
+    "sunreg: none: the office has no device with this name; add it with POST /devices
+sunreg: inv: no point list; create one with sunreg scan --list, then POST /devices/inv/list
+sunreg: inv: no register, so its energy is not recorded; add one with POST /registers
+sunreg: register import: missing from the point list of grid; add function 3, registers 40117 to 40125 to it
+sunreg: register import: no open meter; install one with POST /registers/import/install
 ";
 
 #[test]

@@ -44,32 +44,35 @@ abbrev pub last_needed : Register → ℕ
 last_needed register = last_by register.address register.scale
 
 abbrev pub with_list_of : (device : Option (List ℕ)) → List ℕ → List ℕ
-with_list_of device text = text ++ codes ": not in the list of " ++ name_of device
+with_list_of device text = text ++ codes ": missing from the point list of " ++ name_of device
 
 abbrev pub with_unread : (device : Option (List ℕ)) → Register → List ℕ → List ℕ
 with_unread device register text =
     with_list_of device (text ++ codes "sunreg: register " ++ register.name)
-    ++ codes " (needs function " ++ decimal (code_of register.function) ++ codes ", "
+    ++ codes "; add function " ++ decimal (code_of register.function) ++ codes ", registers "
     ++ decimal (first_needed register)
-    ++ codes " to " ++ decimal (last_needed register) ++ codes ")\n"
+    ++ codes " to " ++ decimal (last_needed register) ++ codes " to it\n"
 
 abbrev pub with_unmetered : Register → List ℕ → List ℕ
 with_unmetered register text =
     text ++ codes "sunreg: register " ++ register.name
-    ++ codes ": no meter is open at it: POST /registers/" ++ register.name ++ codes "/install\n"
+    ++ codes ": no open meter; install one with POST /registers/" ++ register.name
+    ++ codes "/install\n"
 
 abbrev pub with_unlisted : (device : Option (List ℕ)) → List ℕ → List ℕ
 with_unlisted device text =
-    with_subject device text ++ codes ": no point list yet: sunreg scan --list, or POST /devices/"
+    with_subject device text
+    ++ codes ": no point list; create one with sunreg scan --list, then POST /devices/"
     ++ name_of device ++ codes "/list\n"
 
 abbrev pub with_lack_of : (device : Option (List ℕ)) → Lack → List ℕ → List ℕ
 with_lack_of device NoDevice text =
-    with_subject device text ++ codes ": the office has no device of that name: POST /devices\n"
+    with_subject device text
+    ++ codes ": the office has no device with this name; add it with POST /devices\n"
 with_lack_of device NoList text = with_unlisted device text
 with_lack_of device NoRegister text =
     with_subject device text
-    ++ codes ": it has no register, so nothing of it is booked: POST /registers\n"
+    ++ codes ": no register, so its energy is not recorded; add one with POST /registers\n"
 with_lack_of device (NotInList register) text = with_unread device register text
 with_lack_of device (NoMeter register) text = with_unmetered register text
 
@@ -113,5 +116,5 @@ abbrev pub PutsHeld : {E : Type 0} → (meter : List ℕ) → Cause → (old new
     → Result (Unit {0}) E → Type 0
 PutsHeld meter cause old new result =
     OnOk result
-    (MeansAfter kind.Held (cause_number cause) (codes ": held: ") (with_subject (Some meter) old)
-    new)
+    (MeansAfter kind.Held (cause_number cause) (codes ": reading rejected: ")
+    (with_subject (Some meter) old) new)

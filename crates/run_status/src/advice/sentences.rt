@@ -46,8 +46,8 @@ fn put_list_of(text: &mut Vec<u8>, device: &Option<Name>) -> Result<(), AllocErr
     ensures { OnOk result (text.new.items ≡ sentences.with_list_of device.now text.old.items) }
 {
     match device {
-        Some(name) => put_word(text, b": not in the list of ", name.as_bytes()),
-        None => put_word(text, b": not in the list of ", b"-"),
+        Some(name) => put_word(text, b": missing from the point list of ", name.as_bytes()),
+        None => put_word(text, b": missing from the point list of ", b"-"),
     }
 }
 
@@ -64,12 +64,12 @@ fn put_unread(
     put_list_of(text, device)?;
     put_number(
         text,
-        b" (needs function ",
+        b"; add function ",
         u64::from(register.function.code()),
     )?;
-    put_number(text, b", ", first_needed(register))?;
+    put_number(text, b", registers ", first_needed(register))?;
     put_number(text, b" to ", last_needed(register))?;
-    put(text, b")\n")
+    put(text, b" to it\n")
 }
 
 // Puts that no meter is open at a register.
@@ -79,7 +79,7 @@ fn put_unmetered(text: &mut Vec<u8>, register: &Register) -> Result<(), AllocErr
     put_word(text, b"sunreg: register ", register.name.as_bytes())?;
     put_word(
         text,
-        b": no meter is open at it: POST /registers/",
+        b": no open meter; install one with POST /registers/",
         register.name.as_bytes(),
     )?;
     put(text, b"/install\n")
@@ -93,12 +93,12 @@ fn put_unlisted(text: &mut Vec<u8>, device: &Option<Name>) -> Result<(), AllocEr
     match device {
         Some(name) => put_word(
             text,
-            b": no point list yet: sunreg scan --list, or POST /devices/",
+            b": no point list; create one with sunreg scan --list, then POST /devices/",
             name.as_bytes(),
         )?,
         None => put(
             text,
-            b": no point list yet: sunreg scan --list, or POST /devices/-",
+            b": no point list; create one with sunreg scan --list, then POST /devices/-",
         )?,
     }
     put(text, b"/list\n")
@@ -114,7 +114,7 @@ pub fn put_lack(text: &mut Vec<u8>, lack: &DeviceLack) -> Result<(), AllocError>
             put_subject(text, device)?;
             put(
                 text,
-                b": the office has no device of that name: POST /devices\n",
+                b": the office has no device with this name; add it with POST /devices\n",
             )
         }
         Lack::NoList => put_unlisted(text, device),
@@ -122,7 +122,7 @@ pub fn put_lack(text: &mut Vec<u8>, lack: &DeviceLack) -> Result<(), AllocError>
             put_subject(text, device)?;
             put(
                 text,
-                b": it has no register, so nothing of it is booked: POST /registers\n",
+                b": no register, so its energy is not recorded; add one with POST /registers\n",
             )
         }
         Lack::NotInList(register) => put_unread(text, device, register),
@@ -186,7 +186,7 @@ pub fn put_held(text: &mut Vec<u8>, meter: &Name, cause: Cause) -> Result<(), Al
     match meaning_of(Kind::Held, u32::from(cause.number())) {
         Some(meaning) => {
             put_word(text, b"sunreg: ", meter.as_bytes())?;
-            put_meaning(text, b": held: ", meaning)
+            put_meaning(text, b": reading rejected: ", meaning)
         }
         None => Ok(()),
     }

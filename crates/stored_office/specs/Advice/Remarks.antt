@@ -63,4 +63,4 @@ MayMean subject k before number old new =
 abbrev pub Says : (device : Option (List ℕ)) → Remark → (old new : List ℕ) → Type 0
 Says device (Refused number) old new = MayMean device kind.Refused (codes ": ") number old new
 Says device (Held meter number) old new =
-    MayMean (Some meter) kind.Held (codes ": held: ") number old new
+    MayMean (Some meter) kind.Held (codes ": reading rejected: ") number old new

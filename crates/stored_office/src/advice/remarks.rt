@@ -137,7 +137,7 @@ pub(crate) fn put_remark(
             text,
             &Some(meter),
             Kind::Held,
-            b": held: ",
+            b": reading rejected: ",
             number,
         ),
     }
