@@ -48,7 +48,7 @@ def audit(db, *words):
     begun = time.monotonic()
     done = subprocess.run([PROGRAM, "audit", "--db", db, *words], capture_output=True, stdin=subprocess.DEVNULL, timeout=60)
     took.append(time.monotonic() - begun)
-    said = [it for it in done.stderr.decode().splitlines() if "it had no log beside it" not in it]
+    said = [it for it in done.stderr.decode().splitlines() if "it had no log" not in it]
     return done.returncode, done.stdout.decode().splitlines(), said
 
 
@@ -221,8 +221,8 @@ def no_books():
     same("no file", audit("none.db")[:2], (3, []))
     same("no file is made", pathlib.Path("none.db").exists(), False)
     for what, commands, wanted in (
-        ("an earlier program's", ("DROP TABLE voids", "UPDATE meta SET version = 2"), "its tables are an earlier program's"),
-        ("another table", ("CREATE TABLE other (it INTEGER) STRICT",), "it holds no office"),
+        ("an earlier program's", ("DROP TABLE voids", "UPDATE meta SET version = 2"), "made by an earlier version of sunreg"),
+        ("another table", ("CREATE TABLE other (it INTEGER) STRICT",), "not an office file"),
         ("no meter of the name", ("UPDATE entries SET meter = 'm9' WHERE place = 8",), "changed.db"),
     ):
         status, lines, said = changed(*commands)
@@ -369,11 +369,11 @@ def seals(entries):
         same(f"{what} is no difference", held_to("changed.db", of_python), (0, ["sealed: fine"], []))
     same("tables that aren't fine have no seal", (changed("UPDATE installations SET total = total + 1")[1:], audit("changed.db", "--seal")[0]), (audit("changed.db", "--seal")[1:], 1))
     same("nor are they held to one", held_to("changed.db", of_python)[1][-1], "1 differences")
-    no_seal = ["error: invalid value 'seal.txt' for '--against <SEAL>': no seal, as sunreg audit --seal prints it"]
+    no_seal = ["error: invalid value 'seal.txt' for '--against <SEAL>': not a seal that sunreg audit --seal printed"]
     for what, text in (("nothing", b""), ("a line fewer", of_python.split(b"\n", 1)[1]), ("the last line fewer", of_python.rsplit(b"sha256", 1)[0]), ("a line behind it", of_python + b"\n"),
                        ("another number", of_python.replace(b" ceiling 1", b" ceiling 2")), ("one of an earlier program", of_python.replace(b"seal 2", b"seal 1", 1)), ("a pending poll fewer", of_python.replace(b"pending ", b"", 1)), ("no text", b"\xff" + of_python), ("ends of another kind", of_python.replace(b"\n", b"\r\n"))):
         same(f"{what} is no seal", held_to("python.db", text), (2, [], no_seal))
-    same("a seal that isn't there", audit("python.db", "--against", "none.txt"), (3, [], ["failed", "sunreg: none.txt: the seal can't be read: look at its name and its rights"]))
+    same("a seal that isn't there", audit("python.db", "--against", "none.txt"), (3, [], ["failed", "sunreg: none.txt: can't read the seal file: check its name and permissions"]))
     same("both at once", audit("python.db", "--seal", "--against", "seal.txt")[:2], (2, []))
 
 
@@ -436,10 +436,10 @@ def several(seed):
     holds("one is left out", FILES[::2], "2 differences between files")
     holds("one stands twice by other names", ["first.db", "./first.db"], "2 differences between files")
     status, lines, said = audit_all(["first.db", "second.db", "first.db"])
-    same("one stands twice", (status, lines, said), (2, [], ["error: invalid value 'first.db' for '--db <FILE>': it stands twice"]))
+    same("one stands twice", (status, lines, said), (2, [], ["error: invalid value 'first.db' for '--db <FILE>': given twice"]))
     for words in (("--seal",), ("--against", "seal.txt")):
         status, lines, said = audit_all(FILES, *words)
-        same(f"no seal of several: {words[0]}", (status, lines, said[:1]), (2, [], [f"error: the argument '{words[0]}' cannot be used with several '--db'"]))
+        same(f"no seal of several: {words[0]}", (status, lines, said[:1]), (2, [], [f"error: the argument '{words[0]}' cannot be used with more than one '--db'"]))
     # (a void of the last reading takes the meter back, one of a reading before it doesn't)
     for what, place, last in (("the last reading is voided after the carry", 3, "1 differences between files"), ("one before it is voided", 2, "joined: fine")):
         changed_old = copy_of("first.db", f"void{place}.db")

@@ -80,7 +80,7 @@ serve() {
 }
 
 no_log() {
-    echo "sunreg: $1: it had no log beside it, $1-wal: a backup needs none, and a file copied alone lacks what stood there"
+    echo "sunreg: $1: it had no log $1-wal: a backup needs none, but a file copied without its log lacks the latest entries"
 }
 
 run create --db office.db --zone UTC0
@@ -100,11 +100,11 @@ wait "$child"
 sqlite3 bare.db 'CREATE TABLE t (n); DROP TABLE t'
 before=$(sums bare.db bare.db-wal)
 run create --db bare.db --zone UTC0
-refused 'create over a file that is not empty' "bare.db: it isn't empty, though it has no tables: an office's may stand in its log: give a new file"
+refused 'create over a file that is not empty' "bare.db: not empty, but it has no tables; they may be in its log: choose a new file"
 run report --db bare.db --register main
-refused 'a file without tables' "bare.db: it has no tables: an office's may stand in the log that belongs to it, bare.db-wal: give both, or a backup"
+refused 'a file without tables' "bare.db: it has no tables; they may be in its log, bare.db-wal: use both files, or a backup"
 run create --db alone.db --zone UTC0
-refused 'create over a file copied alone' 'alone.db: it has tables already: give another file, or leave out create'
+refused 'create over a file copied alone' 'alone.db: already has tables: skip create, or choose another file'
 serve office.db 9
 same 'one more' "$(put /devices 3 '{"name":"two","unit":1,"timeout":60,"window":1}')" 200
 kill -9 "$child"
@@ -114,16 +114,16 @@ cp office.db-wal lost.db-wal
 before=$(sums lost.db-wal)
 for words in 'create --zone UTC0' 'report --register main' "serve --port $port --connections 1"; do
     run ${words%% *} --db lost.db ${words#* }
-    refused "${words%% *}: a log alone" 'lost.db: it is missing or empty, and its log lost.db-wal is not: give the file that belongs to it, or remove the log'
+    refused "${words%% *}: a log alone" 'lost.db: missing or empty, but its log lost.db-wal is not: restore the file of this log, or remove the log'
     same "${words%% *}: a log alone stays" "$(sums lost.db lost.db-wal)" "$before"
 done
 : > lost.db
 run create --db lost.db --zone UTC0
-refused 'create in an empty file beside a log' 'lost.db: it is missing or empty, and its log lost.db-wal is not: give the file that belongs to it, or remove the log'
+refused 'create in an empty file beside a log' 'lost.db: missing or empty, but its log lost.db-wal is not: restore the file of this log, or remove the log'
 same 'the log stays' "$(sums lost.db-wal)" "$before"
 : > empty.db
 run report --db empty.db --register main
-refused 'an empty file' "empty.db: it has no tables: an office's may stand in the log that belongs to it, empty.db-wal: give both, or a backup"
+refused 'an empty file' "empty.db: it has no tables; they may be in its log, empty.db-wal: use both files, or a backup"
 same 'it stays empty' "$(ls -s empty.db empty.db-wal 2> /dev/null)" '0 empty.db'
 run create --db empty.db --zone UTC0
 same 'create in an empty file' "$status $(cat out err)" '0 '
@@ -144,33 +144,33 @@ run backup --db link.db --to of-link.db
 same 'backup by a link' "$status $(dump of-link.db)" "0 $rows"
 before=$(sums copy.db)
 run backup --db office.db --to copy.db
-refused 'backup over a file' 'copy.db: there is a file of this name already, or one with -wal behind it: give another name'
+refused 'backup over a file' 'copy.db: this file, or its log (-wal), already exists: choose another name'
 run backup --db office.db --to office.db
-refused 'backup over itself' 'office.db: there is a file of this name already, or one with -wal behind it: give another name'
+refused 'backup over itself' 'office.db: this file, or its log (-wal), already exists: choose another name'
 : > beside.db-wal
 run backup --db office.db --to beside.db
-refused 'backup beside a log' 'beside.db: there is a file of this name already, or one with -wal behind it: give another name'
+refused 'backup beside a log' 'beside.db: this file, or its log (-wal), already exists: choose another name'
 : > cut.db.part
 run backup --db office.db --to cut.db
-refused 'backup where one was cut off' 'cut.db: a backup to it runs, or was cut off: then remove the file with .part behind this name'
+refused 'backup where one was cut off' 'cut.db: a backup to it is running, or was interrupted: then remove its .part file'
 run backup --db none.db --to new.db
-refused 'backup of no file' 'none.db: there is no such file: sunreg create makes it'
+refused 'backup of no file' 'none.db: file not found; make it with sunreg create'
 echo text > text.db
 run backup --db text.db --to new.db
-refused 'backup of a text' 'text.db: it is no SQLite database, or a damaged one, so there is no backup of it'
+refused 'backup of a text' 'text.db: not an SQLite database, or damaged; no backup was made'
 sqlite3 other.db 'CREATE TABLE other (n INTEGER)'
 run backup --db other.db --to new.db
-refused 'backup of the tables of another' 'other.db: it holds no office, or one of a later program'
+refused 'backup of the tables of another' 'other.db: not an office file, or made by a later version of sunreg'
 run backup --db bare.db --to new.db
-refused 'backup of no tables' 'bare.db: it holds no office, or one of a later program'
+refused 'backup of no tables' 'bare.db: not an office file, or made by a later version of sunreg'
 mkdir folder
 run backup --db folder --to new.db
 same 'backup of a folder' "$status $(head -n 1 err)" '3 failed'
 run backup --db office.db --to none/new.db
-refused 'backup into no folder' "none/new.db: it can't be written: look at its folder's rights and the disk's room"
+refused 'backup into no folder' "none/new.db: can't write it: check its folder's permissions and the free disk space"
 head -c 20000 copy.db > torn.db
 run backup --db torn.db --to new.db
-refused 'backup of a torn file' 'torn.db: it is no SQLite database, or a damaged one, so there is no backup of it'
+refused 'backup of a torn file' 'torn.db: not an SQLite database, or damaged; no backup was made'
 same 'nothing is left of those' "$(ls new.db* none 2> /dev/null)" ''
 same 'what was there stays' "$(sums copy.db)" "$before"
 
@@ -215,7 +215,7 @@ for turn in $(seq "$many"); do
     before=$(cat booked)
     run backup --db office.db --to "beside$turn.db"
     after=$(cat asked)
-    if grep -q 'its log was moved into it' err; then
+    if grep -q 'its log was checkpointed' err; then
         busy=$((busy + 1))
         continue
     fi

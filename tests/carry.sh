@@ -36,7 +36,7 @@ same() {
 run() {
     "$program" "$@" > out 2> said < /dev/null
     status=$?
-    grep -v 'it had no log beside it' said > err
+    grep -v 'it had no log' said > err
 }
 
 # refused WHAT TEXT: holds the last run to status 3 and a sentence, and nothing on standard output
@@ -180,30 +180,30 @@ same 'by HTTP' "$(cat asked-new)" "$(cat asked-meters)"
 # A new file that can't be made, and an old one that can't be read.
 sum=$(sums new.db)
 run carry --from old.db --to new.db
-refused 'a file that is there' 'new.db: there is a file of this name already, or one with -wal behind it: give another name'
+refused 'a file that is there' 'new.db: this file, or its log (-wal), already exists: choose another name'
 run carry --from old.db --to old.db
-refused 'into itself' 'old.db: there is a file of this name already, or one with -wal behind it: give another name'
+refused 'into itself' 'old.db: this file, or its log (-wal), already exists: choose another name'
 : > beside.db-wal
 run carry --from old.db --to beside.db
-refused 'beside a log' 'beside.db: there is a file of this name already, or one with -wal behind it: give another name'
+refused 'beside a log' 'beside.db: this file, or its log (-wal), already exists: choose another name'
 : > cut.db.part
 run carry --from old.db --to cut.db
 same 'where one was cut off' "$status $(sed -n 1p out)$(sed -n 1p err) $(ls cut.db*)" '3 failed cut.db.part'
 run carry --from none.db --to next.db
-refused 'no file' 'none.db: there is no such file: sunreg create makes it'
+refused 'no file' 'none.db: file not found; make it with sunreg create'
 echo text > text.db
 run carry --from text.db --to next.db
-refused 'a text' "text.db: it is no SQLite database, or a damaged one: give the office's file, or its copy"
+refused 'a text' "text.db: not an SQLite database, or damaged: use the office file or a backup"
 sqlite3 other.db 'CREATE TABLE other (n INTEGER)'
 run carry --from other.db --to next.db
-refused 'the tables of another' 'other.db: it holds no office, or one of a later program: sunreg create makes one in a new file'
+refused 'the tables of another' 'other.db: not an office file, or made by a later version of sunreg; sunreg create makes a new one'
 mkdir folder
 run carry --from folder --to next.db
 same 'a folder' "$status $(head -n 1 err)" '3 failed'
 run carry --from old.db --to none/next.db
-refused 'into no folder' "none/next.db: it can't be written: look at its folder's rights and the disk's room"
+refused 'into no folder' "none/next.db: can't write it: check its folder's permissions and the free disk space"
 run carry --from old.db --to next.db --until $((until_exchange - 1))
-same 'a meter that was installed later' "$status $(cat out)$(cat err)" '1 sunreg: old.db: the meter m3 was installed after the moment of --until: give a later one'
+same 'a meter that was installed later' "$status $(cat out)$(cat err)" '1 sunreg: old.db: meter m3 was installed after the time of --until: give a later time'
 same 'nothing is left of those' "$(ls next.db* none passing 2> /dev/null | grep -v -e '^passing:$' -e '^$')" ''
 same 'what was there stays' "$(sums new.db)" "$sum"
 same 'the old one too' "$(sums old.db old.db-wal)" "$before"

@@ -183,9 +183,9 @@ def bounds(office):
     for name in ("pipe", "zero"):
         for command, (words, text) in commands(name).items():
             ran = office.run(*words, text=text, limit=20)
-            check(f"{command} of {name}", refused(ran, f"{name}: it is no regular file"), ran)
+            check(f"{command} of {name}", refused(ran, f"{name}: not a regular file"), ran)
         ran = office.run("enter", "--db", "office.db", "--caller", "desk", text=f"9 list inv @{name}\n".encode(), limit=20)
-        check(f"enter of a list in {name}", ran.returncode == 1 and b"it is no regular file" in ran.stderr, ran)
+        check(f"enter of a list in {name}", ran.returncode == 1 and b"not a regular file" in ran.stderr, ran)
         ran = office.run("audit", "--db", "office.db", "--against", name, limit=20)
         check(f"a seal in {name}", ran.returncode == 3 and ran.stdout == b"", ran)
     with open(office.path("long.seal"), "wb") as it:

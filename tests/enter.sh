@@ -31,7 +31,7 @@ enter() {
     shift
     status=0
     printf "$lines" | "$program" enter --db office.db --caller desk "$@" > out 2> err || status=$?
-    came="$status $(paste -sd ';' out) / $(grep -v 'it had no log beside it' err | head -n 1)"
+    came="$status $(paste -sd ';' out) / $(grep -v 'it had no log' err | head -n 1)"
 }
 
 # facts: what the office has recorded
@@ -82,10 +82,10 @@ for line in 'device inv 1 5 1' '20 connect inv' '20 round inv 0' '20 start inv 3
     is "a bad line: $line" "${came% /*}" '1 bad line 1'
 done
 enter '20 list inv @none.csv\n'
-is 'a file that is not there' "$came" '1 bad line 1 / sunreg: none.csv: there is no such file'
+is 'a file that is not there' "$came" '1 bad line 1 / sunreg: none.csv: file not found'
 head -c 70000 /dev/zero > long.csv
 enter '20 list inv @long.csv\n'
-is 'a file that is too long' "$came" '1 bad line 1 / sunreg: long.csv: it has more than 65536 bytes'
+is 'a file that is too long' "$came" '1 bad line 1 / sunreg: long.csv: larger than 65536 bytes'
 printf 'name,function,area,address,type,scale\nwh,5,0,40094,acc32,\n' > faulty.csv
 enter '20 list inv @faulty.csv\n21 device seventh 6 5 1\n'
 is 'a list with faults' "$came" '1 row 2 fault 5;refused 12;ok / '
@@ -120,7 +120,7 @@ polled() {
     "$program" round --db office.db --device "$1" --port "$port" > out 2> err || status=$?
     kill "$peer" 2> /dev/null
     wait "$peer" 2> /dev/null
-    came="$status $(paste -sd ';' out) / $(grep -v 'it had no log beside it' err | paste -sd ';')"
+    came="$status $(paste -sd ';' out) / $(grep -v 'it had no log' err | paste -sd ';')"
 }
 
 # means KIND NUMBER: what a number means, and what to do
@@ -136,7 +136,7 @@ sleep 1
 polled inv 'area holding 40094 3\nset holding 40095 60000\n'
 is 'a reading that is held' "$came" "0 ok;started 1 1 1 0000000000060103$(printf '%04x%04x' 40094 3);poll 1 answered;held m1 60000 cause 6;ok;ok / sunreg: register more: missing from the point list of inv; add function 3, registers 40190 to 40191 to it;sunreg: register more: no open meter; install one with POST /registers/more/install;sunreg: m1: reading rejected: $(means held 6)"
 "$program" round --db office.db --device none --port "$port" > out 2> err
-is 'a round that fails says that alone' "$? $(cat out) $(grep -v 'it had no log beside it' err | head -n 1) $(grep -c -v 'it had no log beside it' err)" '3  failed 2'
+is 'a round that fails says that alone' "$? $(cat out) $(grep -v 'it had no log' err | head -n 1) $(grep -c -v 'it had no log' err)" '3  failed 2'
 
 # Counters that are read when their lines' turn comes.
 # beside BANK LINES: enters lines while the device live is a stand-in that these lines set up
@@ -158,19 +158,19 @@ bank() {
 }
 
 live='30 device live 1 1 1\n31 list live @inv.csv\n32 register live-wh live 3 40094 @40096\n33 install live-wh m5 @read 100000\n'
-untold="doesn't tell this counter: no reply, an exception, or no scale from -3 to 3: sunreg scan tells what it has"
+untold="didn't return this counter (no response, an exception, or a scale outside -3 to 3): sunreg scan lists what it has"
 enter "$live"
-is 'a device of which no place is told' "$came" '1 ok;ok;ok;unread / sunreg: live-wh: where live is was not told: give --devices live=HOST:PORT'
+is 'a device of which no place is told' "$came" '1 ok;ok;ok;unread / sunreg: live-wh: the address of live is not given: add --devices live=HOST:PORT'
 enter "$live" --devices "live=127.0.0.1:$port"
-is 'a device that is not there' "$came" "1 ok;ok;ok;unread / sunreg: live-wh: port $port of 127.0.0.1 isn't answered: does the device run, and is this its address?"
+is 'a device that is not there' "$came" "1 ok;ok;ok;unread / sunreg: live-wh: nothing answers at port $port of 127.0.0.1: is the device on, and is this its address?"
 enter "$live" --devices 'live=no host:502'
-is 'a host without an address' "$came" '1 ok;ok;ok;unread / sunreg: live-wh: no address is found for no host: is it right, and can names of hosts be looked up here?'
+is 'a host without an address' "$came" "1 ok;ok;ok;unread / sunreg: live-wh: can't resolve no host: check the host name and this machine's DNS"
 enter "$live" --devices live
 is 'a place that is none' "${came%% *} $(head -n 1 err | grep -c "'live'")" '2 1'
 beside "$(bank 50880 '1 cut 5')" "$live"
-is 'a connection that is cut' "$came" "1 ok;ok;ok;unread / sunreg: live-wh: port $port of 127.0.0.1 can't be read: the device closed the connection"
+is 'a connection that is cut' "$came" "1 ok;ok;ok;unread / sunreg: live-wh: can't read port $port of 127.0.0.1: the device closed the connection"
 beside "$(bank 50880 '1 garble')" "$live"
-is 'a stream that is garbled' "$came" "1 ok;ok;ok;unread / sunreg: live-wh: port $port of 127.0.0.1 can't be read: the device sent what is no Modbus"
+is 'a stream that is garbled' "$came" "1 ok;ok;ok;unread / sunreg: live-wh: can't read port $port of 127.0.0.1: the device sent what is no Modbus"
 beside "$(bank 50880 '1 drop' '2 drop')" "$live"
 is 'a device that is silent' "$came" "1 ok;ok;ok;unread / sunreg: live-wh: port $port of 127.0.0.1 $untold"
 enter "$live" -n --devices "live=127.0.0.1:$port"

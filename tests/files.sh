@@ -71,7 +71,7 @@ stand_in() {
 }
 
 run create --db office.db --zone nowhere
-is 'a text that is no zone' 2 '' "error: invalid value 'nowhere' for '--zone <TEXT>': no POSIX time zone, as UTC0 or CET-1CEST,M3.5.0,M10.5.0/3"
+is 'a text that is no zone' 2 '' "error: invalid value 'nowhere' for '--zone <TEXT>': not a POSIX time zone; Berlin is CET-1CEST,M3.5.0,M10.5.0/3"
 same 'no zone makes no file' "$(ls office.db 2> /dev/null)" ''
 for words in 'report --register main' "serve --port $port --connections 1" "round --device inv --port $device"; do
     run ${words%% *} --db none.db ${words#* }
@@ -160,7 +160,7 @@ started 3 1 1 00000000000601039c9e0002
 poll 3 answered
 reading m1 5300 rolls 0 step 100000
 ok
-ok' 'sunreg: office.db: it had no log beside it, office.db-wal: a backup needs none, and a file copied alone lacks what stood there'
+ok' 'sunreg: office.db: it had no log office.db-wal: a backup needs none, but a file copied without its log lacks the latest entries'
 same 'the poll that waited is lost' "$(sqlite3 office.db 'SELECT outcome, code FROM outcomes WHERE poll = 2')" '5|4'
 run report --db office.db --register main
 same 'the energy behind the stop' "$status $(awk '!/^end/ { sum += $3 } END { print sum }' out)" '0 300000'

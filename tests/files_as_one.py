@@ -151,7 +151,7 @@ def ask(db, question):
 def run(*words):
     """The status of a command, what it prints, and what it says, but that a file has no log beside it."""
     done = subprocess.run([PROGRAM, *words], capture_output=True, stdin=subprocess.DEVNULL)
-    said = [it for it in done.stderr.decode().splitlines() if "it had no log beside it" not in it]
+    said = [it for it in done.stderr.decode().splitlines() if "it had no log" not in it]
     return done.returncode, done.stdout.decode(), said
 
 
@@ -317,17 +317,17 @@ def hold_refusals(room, parts, carries):
     one, two, three = parts
     def at(meter, kind, db, place):
         moment, raw, sf = ask(db, f"SELECT moment, raw, sf FROM entries WHERE meter = '{meter}' AND place = {place}").split("|")
-        return f"the meter {meter} {kind} at moment {moment}, counter {raw}, scale {sf}"
-    unjoined("the wrong order", [two, one, three], f"{one}: {at('m1', 'begins there', one, 1)}; up to {two} the meter ")
-    unjoined("a file lacks", [one, three], f"{three}: {at('m2', 'begins there', three, 1)}; up to {one} the meter m1 stands at moment {carries[0]}, ")
-    unjoined("one twice", [one, one], f"{one}: {at('m1', 'begins there', one, 1)}; up to {one} the meter m1 stands at moment {carries[0]}, ")
+        return f"meter {meter} {kind} at time {moment}, counter {raw}, scale {sf}"
+    unjoined("the wrong order", [two, one, three], f"{one}: {at('m1', 'begins', one, 1)}; up to {two}, meter ")
+    unjoined("a file lacks", [one, three], f"{three}: {at('m2', 'begins', three, 1)}; up to {one}, meter m1 has its last entry at time {carries[0]}, ")
+    unjoined("one twice", [one, one], f"{one}: {at('m1', 'begins', one, 1)}; up to {one}, meter m1 has its last entry at time {carries[0]}, ")
     unjoined("a range before the carry", [two, one], f"{one}: ", "--till", "2024-01-02")
     later = copy(one, "later.db")
     last = int(ask(later, "SELECT max(place) FROM entries WHERE meter = 'm1'"))
     moment, raw = map(int, ask(later, f"SELECT moment, raw FROM entries WHERE meter = 'm1' AND place = {last}").split("|"))
     write(later, [f"INSERT INTO entries VALUES ('m1', {last + 1}, 2, {moment + 900}, {raw + 1}, 0, 0, 0);",
                   f"UPDATE installations SET last_moment = {moment + 900}, last_raw = {raw + 1} WHERE meter = 'm1';"])
-    unjoined("it went on after the carry", [later, two], f"{two}: {at('m1', 'begins there', two, 1)}; up to {later} the meter m1 stands at moment {moment + 900}, ")
+    unjoined("it went on after the carry", [later, two], f"{two}: {at('m1', 'begins', two, 1)}; up to {later}, meter m1 has its last entry at time {moment + 900}, ")
     write(later, [f"INSERT INTO voids VALUES ('m1', {last + 1}, {moment + 1000});",
                   f"UPDATE installations SET last_moment = {moment}, last_raw = {raw} WHERE meter = 'm1';"])
     same("and that was voided", over([later, two, three]), over(parts))
@@ -336,10 +336,10 @@ def hold_refusals(room, parts, carries):
     same("which is stated as a void", over([later, two, three], "--statement")[1].splitlines()[0], " ".join([name, *fields, held]))
     zone = copy(two, "zone.db")
     write(zone, ["UPDATE meta SET zone = 'UTC0';"])
-    unjoined("another zone", [one, zone], f"{zone}: its days are those of another zone than the days of {one}: ")
+    unjoined("another zone", [one, zone], f"{zone}: its time zone differs from that of {one}: ")
     none = str(room / "none.db")
     subprocess.run(["bash", str(HERE / "schema.sh"), none, ZONE], check=True)
-    unjoined("it is not recorded later", [one, none], f"{none}: a register is not recorded there, ")
+    unjoined("it is not recorded later", [one, none], f"{none}: a register of {one} or of an earlier file is missing here")
     same("but before", over([none, *parts]), over(parts))
     same("and a statement", over([none, *parts], "--statement"), over(parts, "--statement"))
     same("nowhere", run("report", "--db", one, "--db", two, "--register", "far")[:2], (1, "refused 1\n"))

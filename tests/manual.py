@@ -3,26 +3,26 @@ import functools
 import re
 import subprocess
 
-KINDS = {"refused": "Refused", "held": "Held readings", "lost": "Lost polls", "malformed": "Malformed replies", "exception": "Exceptions of devices", "fault": "Faults", "status": "Exit statuses"}
+KINDS = {"refused": "Refused", "held": "Rejected readings", "lost": "Lost polls", "malformed": "Malformed responses", "exception": "Device exceptions", "fault": "Faults", "status": "Exit statuses"}
 
-TOP = r"""With no command it is
+TOP = r"""Without a command, sunreg runs
 .BR replay .
-Moments are whole seconds since 1970-01-01 UTC, energies mWh, powers W. Books of an office are kept in one file and its log, FILE-wal.
-Nothing here is certified metering, and HTTP knows no users: it is answered on this machine alone."""
+Times are whole seconds since 1970-01-01 UTC, energies milliwatt-hours (mWh), powers watts (W). An office is stored in one file and its log, FILE-wal.
+sunreg is not certified for metering. Its HTTP has no users, and is served on this machine only."""
 
 END = r""".SH FILES
 .TP
 .IR FILE ", " FILE-wal
-The office and its log, a database of SQLite's format. What was accepted is in the two together; neither is whole without the other while a command has it.
+The office and its log, an SQLite database. Both files together hold the recorded data; while a command uses them, neither is complete without the other.
 .SH SEE ALSO
 .BR sqlite3 (1),
 .BR curl (1),
 .BR mbpoll (1).
-The pages
+The sources have
 .I README.md
 and
-.I docs/
-of the sources: SCRIPT.md on lines and numbers, HTTP.md on requests, SCHEMA.md on the file, INSTALL.md on running it as a service."""
+.IR docs/ :
+SCRIPT.md on script lines and numbers, HTTP.md on requests, SCHEMA.md on the file, INSTALL.md on the service."""
 
 
 @functools.cache
@@ -59,7 +59,7 @@ def commands(program):
 def numbers(program, word):
     """Returns the numbers that stand behind a word, as the program tells them where it is given none."""
     run = subprocess.run([program, "explain", word, "none"], capture_output=True, text=True, stdin=subprocess.DEVNULL, timeout=60)
-    return [int(it) for it in re.search(r"the numbers of \w+ are([ \d]+)", run.stderr)[1].split()]
+    return [int(it) for it in re.search(r"has the numbers([ \d]+)", run.stderr)[1].split()]
 
 
 def meanings(program, word):
@@ -90,7 +90,7 @@ def command_page(program, name, about):
 
 
 def numbers_page(program):
-    lines = [".SH NUMBERS", "What numbers mean that are printed. The program tells more of each, as by", ".BR \"sunreg explain refused 12\" ."]
+    lines = [".SH NUMBERS", "What the printed numbers mean. For the cause and the remedy of a number, run for example", ".BR \"sunreg explain refused 12\" ."]
     for word, name in KINDS.items():
         if word != "status":
             lines += [f".SS {name}"]
@@ -102,7 +102,7 @@ def numbers_page(program):
 def page(program):
     version = said(program, "--version").splitlines()[0].removeprefix("sunreg ")
     about = parts(said(program, "help"))["about"][0]
-    lines = ['.\\" Made of what the program tells of itself: tests/words.sh --manual > docs/sunreg.1', f'.TH SUNREG 1 "" "sunreg {version}" "User Commands"']
+    lines = ['.\\" Generated from the program by: tests/words.sh --manual > docs/sunreg.1', f'.TH SUNREG 1 "" "sunreg {version}" "User Commands"']
     lines += [".SH NAME", f"sunreg \\- {quoted(about[0].lower() + about[1:])}", ".SH SYNOPSIS", ".B sunreg", "[\\fICOMMAND\\fR [\\fIOPTIONS\\fR]]"]
     lines += [".SH DESCRIPTION", TOP, ".SH COMMANDS"]
     for name, told in commands(program):

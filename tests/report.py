@@ -70,7 +70,7 @@ def run(db, register, words):
     """The status of a report, and what it prints."""
     done = subprocess.run([PROGRAM, "report", "--db", db, "--register", register, *words], capture_output=True, stdin=subprocess.DEVNULL)
     # (the file is sqlite3's own, so it has no log beside it, which is told)
-    said = [it for it in done.stderr.decode().splitlines() if "it had no log beside it" not in it]
+    said = [it for it in done.stderr.decode().splitlines() if "it had no log" not in it]
     return done.returncode, done.stdout.decode(), said[:1]
 
 
@@ -204,12 +204,12 @@ def main():
     same("no meter to state", run(db, "spare", ["--statement"]), (0, "end 0\n", []))
     for word in ("2024-02-30", "2023-02-29", "24-02-01", "2024-2-1", "2024-02-01 ", "20240201", "2024-13-01", "2024-00-01"):
         for option in ("--from", "--till"):
-            refused(db, [option, word], f"error: invalid value '{word}' for '{option} <DAY>': no day, as 2026-11-25")
+            refused(db, [option, word], f"error: invalid value '{word}' for '{option} <DAY>': not a calendar date (like 2026-11-25)")
     refused(db, ["--from", "2024-02-02", "--till", "2024-02-01"], "error: '--till <DAY>' is before '--from <DAY>'")
-    refused(db, ["--unit", "wh"], "error: invalid value 'wh' for '--unit <UNIT>': none of mwh, kwh")
-    refused(db, ["--by", "week"], "error: invalid value 'week' for '--by <PERIOD>': none of day, month, year")
+    refused(db, ["--unit", "wh"], "error: invalid value 'wh' for '--unit <UNIT>': expected one of mwh, kwh")
+    refused(db, ["--by", "week"], "error: invalid value 'week' for '--by <PERIOD>': expected one of day, month, year")
     refused(db, ["--statement", "--by", "day"], "error: the argument '--statement' cannot be used with '--by'")
-    refused(db, ["--format", "xml"], "error: invalid value 'xml' for '--format <FORMAT>': none of text, csv, json")
+    refused(db, ["--format", "xml"], "error: invalid value 'xml' for '--format <FORMAT>': expected one of text, csv, json")
     entries_stand(db)
     room.cleanup()
     print(f"{counts['passed']} passed, {counts['failed']} failed")

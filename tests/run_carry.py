@@ -366,7 +366,7 @@ def kills():
             same(f"kill {turn}: it has its meter", asked(new, "SELECT meter FROM installations"), [("m1",)])
         run = begin(path, "month", device, clock)
         holds(f"kill {turn}: it polls again", run.wait_for("round answered", 20), run.told())
-        same(f"kill {turn}: nobody has to remove what it left", run.count("remove the file with .part"), 0)
+        same(f"kill {turn}: nobody has to remove what it left", run.count("remove its .part file"), 0)
         if is_part and not is_new:
             holds(f"kill {turn}: the carry that was cut off is made again", run.wait_for("carried 1 meters into", 20), run.told())
         run.end()
@@ -386,7 +386,7 @@ def clock_set_back():
     clock.set(end - 60)
     run = begin(path, "month", device, clock)
     holds("set back: it polls", run.wait_for("round answered", 20), run.told())
-    same("set back: the later file is told", run.count(f"sunreg: {folder}/office-2026-12.db: its period is later than the clock says"), 1)
+    same("set back: the later file is told", run.count(f"sunreg: {folder}/office-2026-12.db: its period is later than the system clock"), 1)
     same("set back: nothing is carried backwards", files_of(path), ["office.db", "office-2026-12.db"])
     run.end()
     holds_energy("set back", path, clock)
@@ -431,7 +431,7 @@ def behind():
     same("behind: status", run.child.wait(20), 1)
     time.sleep(0.3)
     same("behind: files", files_of(path), ["office.db"])
-    same("behind: it is told", (run.count("the clock stands before its last entry"), run.count("refused 3")), (1, 1))
+    same("behind: it is told", (run.count("the system clock is before its last entry"), run.count("refused 3")), (1, 1))
 
 
 def unwritable(name, spoil, mend, wanted, user=None):
@@ -446,7 +446,7 @@ def unwritable(name, spoil, mend, wanted, user=None):
     holds(f"{name}: it polls", run.wait_for("round answered", 20), run.told())
     spoil(folder)
     holds(f"{name}: why it isn't carried", run.wait_for(wanted, 20), run.told())
-    holds(f"{name}: where books go on", run.wait_for(f"sunreg: {folder}/office-2026-11.db: it was not carried: books go on in it, and it is tried again at the next hour"), run.told())
+    holds(f"{name}: where books go on", run.wait_for(f"sunreg: {folder}/office-2026-11.db: not carried: it stays in use, and sunreg tries again at the next hour"), run.told())
     before = len(run.rounds())
     time.sleep(3 * EVERY + 1)
     holds(f"{name}: polling goes on", len(run.rounds()) - before >= 2, run.told())
@@ -470,9 +470,9 @@ def without_part(folder):
 
 
 def nothing_can_be_made():
-    unwritable("part", left_part, without_part, "a backup to it runs, or was cut off: then remove the file with .part behind this name")
+    unwritable("part", left_part, without_part, "a backup to it is running, or was interrupted: then remove its .part file")
     user = NOBODY if os.geteuid() == 0 else None
-    unwritable("folder", lambda folder: os.chmod(folder, 0o555), lambda folder: os.chmod(folder, 0o755), "it can't be written: look at its folder's rights and the disk's room", user)
+    unwritable("folder", lambda folder: os.chmod(folder, 0o555), lambda folder: os.chmod(folder, 0o755), "can't write it: check its folder's permissions and the free disk space", user)
 
 
 def full_disk(name, left, has_room_for_log):
@@ -496,7 +496,7 @@ def full_disk(name, left, has_room_for_log):
     room = os.statvfs(folder)
     with open(f"{folder}/filling", "wb") as file:
         file.write(b"\0" * max(0, room.f_bavail * room.f_frsize - left))
-    holds(f"{name}: it isn't carried", run.wait_for("it was not carried: books go on in it", 20), run.told())
+    holds(f"{name}: it isn't carried", run.wait_for("not carried: it stays in use", 20), run.told())
     same(f"{name}: no new file", files_of(path), ["office.db", "office-2026-11.db"])
     same(f"{name}: and no part", [it for it in os.listdir(folder) if ".part" in it], [])
     before = len(run.rounds())
@@ -505,7 +505,7 @@ def full_disk(name, left, has_room_for_log):
         holds(f"{name}: polling goes on", len(run.rounds()) - before >= 1, run.told())
     else:
         holds(f"{name}: no round is answered", len(run.rounds()) == before, run.told())
-        holds(f"{name}: it is told why", any("inv: the store failed; look at the disk's room" in it for _, it in run.said), run.told())
+        holds(f"{name}: it is told why", any("inv: the database failed; check the free disk space" in it for _, it in run.said), run.told())
     os.unlink(f"{folder}/filling")
     clock.set(end + 3600 - 3)
     holds(f"{name}: it is carried once there is room", run.wait_for(f"carried 1 meters into {folder}/office-2026-12.db", 20), run.told())
@@ -545,7 +545,7 @@ def missing():
     path = f"{ROOM}/missing/office.db"
     for words in (("--carry", "month"), ()):
         ran = call("run", "--db", path, "--listen", str(free_port()), "--every", "2", "--devices", "inv=127.0.0.1:1", *words, clock=clock)
-        same(f"missing: {words}", (ran.returncode, ran.stdout, ran.stderr), (3, "", f"failed\nsunreg: {path}: there is no such file: sunreg create makes it\n"))
+        same(f"missing: {words}", (ran.returncode, ran.stdout, ran.stderr), (3, "", f"failed\nsunreg: {path}: file not found; make it with sunreg create\n"))
     same("missing: nothing is made", os.listdir(f"{ROOM}/missing"), [])
     with open(path, "w") as file:
         file.write("text")

@@ -73,9 +73,9 @@ for trick in '2 drop' '2 twice' '2 later' '2 id' '2 unit'; do
     is "the chain under trick $trick" "$status $out" "0 $chain"
 done
 scan "$(bank '2 cut 5')" --timeout 1
-is 'a connection that is cut' "$status $out $(tail -n 1 "$room/err")" "3  sunreg: port $port of 127.0.0.1 can't be scanned: the device closed the connection"
+is 'a connection that is cut' "$status $out $(tail -n 1 "$room/err")" "3  sunreg: can't scan port $port of 127.0.0.1: the device closed the connection"
 scan "$(bank '2 garble')" --timeout 1
-is 'a stream that is garbled' "$status $out $(tail -n 1 "$room/err")" "3  sunreg: port $port of 127.0.0.1 can't be scanned: the device sent what is no Modbus"
+is 'a stream that is garbled' "$status $out $(tail -n 1 "$room/err")" "3  sunreg: can't scan port $port of 127.0.0.1: the device sent what is no Modbus"
 scan 'area holding 0 1'
 is 'a device without a mark' "$status $out" '1 fault 1'
 
@@ -87,7 +87,7 @@ list=$(printf '%s\n' "$out" | od -An -v -tx1 | tr -d ' \n')
 scan "$(bank)" --setup inv
 is 'the lines of setup' "$status $out" "0 1 device inv 1 5 1
 2 list inv $list
-# An install line needs the greatest power that can flow, in W, in place of CEILING, and no # in front.
+# Install lines: remove the # and replace CEILING by the maximum power in watts.
 3 register inv-wh2 inv 3 40094 @40096
 # 4 install inv-wh2 inv-wh2 1572889 0 CEILING
 5 register inv-exp3 inv 3 40160 @40176
@@ -114,7 +114,7 @@ is 'a port that nobody listens on' "$? $(head -n 1 "$room/err")" '3 failed'
 "$program" scan --host 'no host' --port 502 > "$room/out" 2> "$room/err"
 is 'a host without an address' "$? $(head -n 1 "$room/err")" '3 failed'
 "$program" scan --port 502 --setup 1inv > "$room/out" 2> "$room/err"
-is 'a name that is none' "$? $(head -n 1 "$room/err")" "2 error: invalid value '1inv' for '--setup <DEVICE>': not 1 to 9 letters, digits, _ and -, a letter first"
+is 'a name that is none' "$? $(head -n 1 "$room/err")" "2 error: invalid value '1inv' for '--setup <DEVICE>': not 1 to 9 letters, digits, _ or -, starting with a letter"
 
 echo "$passed passed, $failed failed"
 [ "$failed" = 0 ]

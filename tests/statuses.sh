@@ -65,24 +65,24 @@ logic=$(sed -n 's/^const LOGIC: &str = "\(.*\)";$/\1/p' "$here/../crates/sunreg/
 run '' --version
 is 'version' 0 "$(printf 'sunreg %s\nproved by the Rattle kit, logic %s' "${version:-none}" "${logic:-none}")" ''
 run '' explain held 1
-is 'explain' 0 "$(printf '%s\n' 'held 1: the device shows 0: not accumulated' \
+is 'explain' 0 "$(printf '%s\n' 'held 1: the device reports 0: not accumulated' \
     "Usual cause: a device that doesn't count this energy, or that has just started." \
-    "What to do: nothing where it passes; else book another counter, since the device doesn't have this one.")" ''
+    "What to do: nothing if it passes; otherwise book another counter, since the device doesn't have this one.")" ''
 run '' explain held 9
-is 'explain: no such number' 2 '' "error: invalid value '9' for '<NUMBER>': the numbers of held are 1 2 3 4 5 6 7 8"
+is 'explain: no such number' 2 '' "error: invalid value '9' for '<NUMBER>': held has the numbers 1 2 3 4 5 6 7 8"
 run '' explain hold 1
 is 'explain: no such word' 2 '' \
-    "error: invalid value 'hold' for '<WHAT>': not refused, held, lost, malformed, exception, fault or status"
+    "error: invalid value 'hold' for '<WHAT>': expected refused, held, lost, malformed, exception, fault or status"
 run '' completions zsh
-is 'completions: another shell' 2 '' "error: invalid value 'zsh' for '<SHELL>': there are completions for bash alone"
+is 'completions: another shell' 2 '' "error: invalid value 'zsh' for '<SHELL>': only bash has completions"
 "$program" "$(printf '\377')" > "$room/out" 2> "$room/err"
 status=$?
-is 'a word that is not in UTF-8' 2 '' 'error: the words are not in UTF-8'
+is 'a word that is not in UTF-8' 2 '' 'error: the arguments are not valid UTF-8'
 
 office=$room/office.db
 run '' create --db "$office" --zone nowhere
 is 'create: a text that is no zone' 2 '' \
-    "error: invalid value 'nowhere' for '--zone <TEXT>': no POSIX time zone, as UTC0 or CET-1CEST,M3.5.0,M10.5.0/3"
+    "error: invalid value 'nowhere' for '--zone <TEXT>': not a POSIX time zone; Berlin is CET-1CEST,M3.5.0,M10.5.0/3"
 run '' report --db "$office" --register r
 is 'report: no such file' 3 '' 'failed'
 run '' create --db "$office" --zone UTC0
@@ -108,11 +108,11 @@ says() {
 # How a run ends at once, each by what it says: so none is taken for another.
 run '' run --db "$room/none.db" --listen 1 --every 1 --devices d=127.0.0.1:1 --for 1
 is 'run: no such file' 3 '' 'failed'
-says 'run: no such file' "$room/none.db: there is no such file: sunreg create makes it"
+says 'run: no such file' "$room/none.db: file not found; make it with sunreg create"
 run '' run --db "$office" --listen 1 --every 1 --devices d=no.such.invalid:1 --for 1
 is 'run: a host that has no address' 3 '' 'failed'
 says 'run: a host that has no address' \
-    'no address is found for no.such.invalid: is it right, and can names of hosts be looked up here?'
+    "can't resolve no.such.invalid: check the host name and this machine's DNS"
 run '' run --db "$room" --listen 1 --every 1 --devices d=127.0.0.1:1 --for 1
 is 'run: a folder' 3 '' 'failed'
 run '' run --db "$office" --listen 65536 --every 1 --devices d=127.0.0.1:1
@@ -124,10 +124,10 @@ is 'run: for a second' 0 "$(printf 'books to 0 lost 0\nlistening %s' "$port")" '
 other=$room/other.db
 run '' create --db "$other" --zone CET-1
 run '' run --db "$other" --db "$office" --listen "$port" --every 86400 --devices d=127.0.0.1:1 --for 1
-is 'run: an earlier file of another zone' 1 '' "sunreg: $office: its days are those of another zone than the days of $other: name the oldest first, each carried from the one before it, and void in that what it booked after the carry"
+is 'run: an earlier file of another zone' 1 '' "sunreg: $office: its time zone differs from that of $other: name the files oldest first, each carried from the one before, and void what the older one booked after the carry"
 run '' run --db "$room/none.db" --db "$office" --listen "$port" --every 86400 --devices d=127.0.0.1:1 --for 1
 is 'run: no such earlier file' 3 '' 'failed'
-says 'run: no such earlier file' "$room/none.db: there is no such file: sunreg create makes it"
+says 'run: no such earlier file' "$room/none.db: file not found; make it with sunreg create"
 head -c 8192 /dev/zero | tr '\0' 'x' > "$room/damaged.db"
 run '' run --db "$room/damaged.db" --db "$office" --listen "$port" --every 86400 --devices d=127.0.0.1:1 --for 1
 is 'run: an earlier file that is none' 3 '' 'failed'

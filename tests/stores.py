@@ -27,9 +27,9 @@ import stored_rows as data
 HERE = pathlib.Path(__file__).resolve().parent
 PORT = int(os.environ.get("PORT", "18711"))
 PROGRAM = pathlib.Path(sys.argv[1] if len(sys.argv) > 1 else HERE.parent / "out" / "sunreg").resolve()
-HAS_TABLES = "it has tables already: give another file, or leave out create"
-NOT_OURS = "it holds no office, or one of a later program: sunreg create makes one in a new file"
-NO_ZONE = "the zone in its table meta is no POSIX time zone: give a copy that is whole"
+HAS_TABLES = "already has tables: skip create, or choose another file"
+NOT_OURS = "not an office file, or made by a later version of sunreg; sunreg create makes a new one"
+NO_ZONE = "the zone in its table meta is not a POSIX time zone: use an intact copy"
 MADE = {}
 counts = {"passed": 0, "failed": 0}
 
@@ -45,7 +45,7 @@ def run(*words, text=""):
     """Returns the status of a command, what it printed, and what it said on standard error."""
     done = subprocess.run([str(PROGRAM), *words], input=text, capture_output=True, text=True, timeout=600)
     # (a file that sqlite3 closed has no log beside it, which the program says)
-    said = [it for it in done.stderr.splitlines() if "it had no log beside it" not in it]
+    said = [it for it in done.stderr.splitlines() if "it had no log" not in it]
     return done.returncode, done.stdout, "\n".join(said)
 
 

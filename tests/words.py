@@ -26,7 +26,7 @@ import manual
 SCRIPT = (HERE.parent / "docs/SCRIPT.md").read_text()
 HTTP = (HERE.parent / "docs/HTTP.md").read_text()
 HEADS = {"refused": "Refused", "held": "Held for", "lost": "Lost for", "malformed": "Malformed for", "row": "Row fault", "chain": "It prints | Since", "status": "Status | When"}
-PLACES = {"row": "fault {} of a row of a point list", "chain": "fault {} of a chain of models"}
+PLACES = {"row": "fault {} of a point list row", "chain": "fault {} of a model chain"}
 COUNTS = {"passed": 0, "failed": 0}
 
 
@@ -63,7 +63,7 @@ def check_numbers(program):
         holds(f"exception {number}", told["exception"].get(f"exception {number}", "").split(":")[0], name)
     _, tests = HTTP.split("\n| Test | Status where it fails |", 1)
     statuses = re.findall(r"\| (\d{3}) \|$", tests.split("\n\n")[0], re.M)
-    faults = sorted(it.split()[1] for it in told["fault"] if it.endswith("of a request by HTTP"))
+    faults = sorted(it.split()[1] for it in told["fault"] if it.endswith("of an HTTP request"))
     holds("the statuses of faults in HTTP.md", faults, sorted(set(statuses) - {"422"}))
     for word in told:
         numbers = manual.numbers(program, word)
@@ -75,11 +75,11 @@ def check_numbers(program):
 
 def check_wrong(program):
     for words, said in {
-        ("refuse", "12"): "error: invalid value 'refuse' for '<WHAT>': not refused, held, lost, malformed, exception, fault or status",
-        ("lost", "0"): "error: invalid value '0' for '<NUMBER>': the numbers of lost are 1 2 3 4",
-        ("lost", "five"): "error: invalid value 'five' for '<NUMBER>': the numbers of lost are 1 2 3 4",
-        ("status", "4294967296"): "error: invalid value '4294967296' for '<NUMBER>': the numbers of status are 0 1 2 3",
-        ("exception", "7"): "error: invalid value '7' for '<NUMBER>': the numbers of exception are 1 2 3 4 5 6 8 10 11; a device may have others, which its maker tells",
+        ("refuse", "12"): "error: invalid value 'refuse' for '<WHAT>': expected refused, held, lost, malformed, exception, fault or status",
+        ("lost", "0"): "error: invalid value '0' for '<NUMBER>': lost has the numbers 1 2 3 4",
+        ("lost", "five"): "error: invalid value 'five' for '<NUMBER>': lost has the numbers 1 2 3 4",
+        ("status", "4294967296"): "error: invalid value '4294967296' for '<NUMBER>': status has the numbers 0 1 2 3",
+        ("exception", "7"): "error: invalid value '7' for '<NUMBER>': exception has the numbers 1 2 3 4 5 6 8 10 11; a device may have others: see its manual",
     }.items():
         it = run(program, "explain", *words)
         holds(f"explain {words}", (it.returncode, it.stdout, it.stderr.splitlines()[0]), (2, "", said))
@@ -88,11 +88,11 @@ def check_wrong(program):
 def check_run(program):
     begun = ["run", "--db", "a.db", "--listen", "1", "--every", "1", "--devices", "d=127.0.0.1:1"]
     for words, said in {
-        ("--carry", "month", "--earlier", "3", "--db", "b.db"): "error: the argument '--earlier' cannot be used with several '--db'",
+        ("--carry", "month", "--earlier", "3", "--db", "b.db"): "error: the argument '--earlier' cannot be used with more than one '--db'",
         ("--earlier", "3"): "error: the argument '--earlier' cannot be used without '--carry'",
         ("--carry", "month", "--earlier", "0"): "error: invalid value '0' for '--earlier <COUNT>': not a number from 1 to 1200",
         ("--carry", "month", "--earlier", "1201"): "error: invalid value '1201' for '--earlier <COUNT>': not a number from 1 to 1200",
-        ("--carry", "day", "--earlier", "3"): "error: invalid value 'day' for '--carry <PERIOD>': none of month, year",
+        ("--carry", "day", "--earlier", "3"): "error: invalid value 'day' for '--carry <PERIOD>': expected one of month, year",
     }.items():
         it = run(program, *begun, *words)
         holds(f"run {words}", (it.returncode, it.stdout, it.stderr.splitlines()[0]), (2, "", said))
@@ -149,7 +149,7 @@ def check_completions(program, room):
     holds("words of explain", completed(script, "explain", "re"), ["refused"])
     holds("shells", completed(script, "completions", "b"), ["bash"])
     it = run(program, "completions", "zsh")
-    holds("another shell", (it.returncode, it.stderr.splitlines()[0]), (2, "error: invalid value 'zsh' for '<SHELL>': there are completions for bash alone"))
+    holds("another shell", (it.returncode, it.stderr.splitlines()[0]), (2, "error: invalid value 'zsh' for '<SHELL>': only bash has completions"))
 
 
 def check_examples(program, room):
@@ -178,7 +178,7 @@ def check_terminal(program):
     over, under = pty.openpty()
     os.write(over, b"\x04")
     it = run(program, stdin=under)
-    holds("no word at a terminal", (it.returncode, it.stdout, it.stderr), (0, "", "sunreg: reads a script from this terminal, up to Ctrl-D; help is at: sunreg --help\n"))
+    holds("no word at a terminal", (it.returncode, it.stdout, it.stderr), (0, "", "sunreg: reading a script from this terminal; end it with Ctrl-D, or see sunreg --help\n"))
     os.write(over, b"\x04")
     it = run(program, "replay", stdin=under)
     holds("replay at a terminal", (it.returncode, it.stdout, it.stderr), (0, "", ""))

@@ -68,7 +68,7 @@ def stand_in(connections, text=None):
 
 def said_in(text):
     """What was said, but that a log lacks: sqlite3 removes that of a file which it closes."""
-    return "".join(line for line in text.splitlines(keepends=True) if "it had no log beside it" not in line)
+    return "".join(line for line in text.splitlines(keepends=True) if "it had no log" not in line)
 
 
 def has_ended(what, child):

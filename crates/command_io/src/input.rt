@@ -32,8 +32,8 @@ impl Display for ReadFault {
     fn fmt<W: fmt::Write>(&self, f: &mut Formatter<W>) -> fmt::Result {
         match self {
             ReadFault::TooLong => write!(f, "the input has more than {MOST_BYTES} bytes"),
-            ReadFault::Failed => write!(f, "a read of the input failed, or was interrupted"),
-            ReadFault::Memory => write!(f, "memory ran out"),
+            ReadFault::Failed => write!(f, "reading the input failed or was interrupted"),
+            ReadFault::Memory => write!(f, "out of memory"),
         }
     }
 }

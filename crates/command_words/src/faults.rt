@@ -106,18 +106,18 @@ impl<'a> Display for ValueFault<'a> {
             } => {
                 write!(
                     f,
-                    "error: invalid value '{word}' for '--{option} <{value}>': none of"
+                    "error: invalid value '{word}' for '--{option} <{value}>': expected one of"
                 )?;
                 write_words(f, choices)?
             }
             ValueFault::Command { name } => write!(f, "error: unrecognized subcommand '{name}'")?,
             ValueFault::Shell { word } => write!(
                 f,
-                "error: invalid value '{word}' for '<SHELL>': there are completions for bash alone"
+                "error: invalid value '{word}' for '<SHELL>': only bash has completions"
             )?,
             ValueFault::Alone { option, other } => write!(
                 f,
-                "error: the argument '--{option}' cannot be used with several '--{other}'"
+                "error: the argument '--{option}' cannot be used with more than one '--{other}'"
             )?,
             ValueFault::Without { option, other } => write!(
                 f,
@@ -131,9 +131,9 @@ impl<'a> Display for ValueFault<'a> {
             }
             ValueFault::HostName { word } => write!(
                 f,
-                "error: invalid value '{word}' for '--host-name <NAME>': not the name of a host"
+                "error: invalid value '{word}' for '--host-name <NAME>': not a host name"
             )?,
-            ValueFault::Memory => write!(f, "error: no memory is left")?,
+            ValueFault::Memory => write!(f, "error: out of memory")?,
         }
         write!(f, "\n\nFor more information, try '--help'.\n")
     }
@@ -145,8 +145,8 @@ impl Display for WordsFault {
         match self {
             WordsFault::Wrong(text) => write!(f, "{text}"),
             WordsFault::Help(text) => write!(f, "{text}"),
-            WordsFault::Version => write!(f, "the version was asked for"),
-            WordsFault::Memory => write!(f, "memory ran out"),
+            WordsFault::Version => write!(f, "the version was requested"),
+            WordsFault::Memory => write!(f, "out of memory"),
         }
     }
 }

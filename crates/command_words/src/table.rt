@@ -102,43 +102,43 @@ pub const PATIENCE: u32 = 5;
 const DB: OptionText<'static> = OptionText {
     name: "db",
     value: Value::Required("FILE"),
-    help: "The office's file",
+    help: "Office file",
 };
 
 const DBS: OptionText<'static> = OptionText {
     name: "db",
     value: Value::Several("FILE"),
-    help: "The office's file; of an office that was carried several, oldest first",
+    help: "Office file; repeat for carried files, oldest first",
 };
 
 const RUN_DBS: OptionText<'static> = OptionText {
     name: "db",
     value: Value::Several("FILE"),
-    help: "The office's file; of an office that was carried several, books go on in the last",
+    help: "Office file; repeat for carried files, oldest first; run continues the last",
 };
 
 const NEW_DB: OptionText<'static> = OptionText {
     name: "db",
     value: Value::Required("FILE"),
-    help: "File that gets the tables; it must have none yet",
+    help: "File to create; it must have no tables yet",
 };
 
 const SCRIPT_DB: OptionText<'static> = OptionText {
     name: "db",
     value: Value::Optional("FILE"),
-    help: "Runs it over this office's file instead, which has its own zone",
+    help: "Office file to run the script on; it has its own time zone",
 };
 
 const SCRIPT_ZONE: OptionText<'static> = OptionText {
     name: "zone",
     value: Value::Optional("TEXT"),
-    help: "POSIX time zone of the days; UTC0 where it is left out",
+    help: "POSIX time zone for days; default UTC0",
 };
 
 const NEW_ZONE: OptionText<'static> = OptionText {
     name: "zone",
     value: Value::Required("TEXT"),
-    help: "POSIX time zone of the days, as CET-1CEST,M3.5.0,M10.5.0/3",
+    help: "POSIX time zone for days, like CET-1CEST,M3.5.0,M10.5.0/3",
 };
 
 const HTTP_PORT: OptionText<'static> = OptionText {
@@ -150,19 +150,19 @@ const HTTP_PORT: OptionText<'static> = OptionText {
 const DEVICE_PORT: OptionText<'static> = OptionText {
     name: "port",
     value: Value::Required("N"),
-    help: "Port of the device, 1 to 65535",
+    help: "Device port, 1 to 65535",
 };
 
 const DEVICE_HOST: OptionText<'static> = OptionText {
     name: "host",
     value: Value::Optional("HOST"),
-    help: "Name or address of the device; 127.0.0.1 where it is left out",
+    help: "Device host name or IP address; default 127.0.0.1",
 };
 
 const OWN_HOST: OptionText<'static> = OptionText {
     name: "host",
     value: Value::Optional("HOST"),
-    help: "Name or address to listen on; 127.0.0.1 where it is left out",
+    help: "Host name or IP address to listen on; default 127.0.0.1",
 };
 
 const OWN_PORT: OptionText<'static> = OptionText {
@@ -174,70 +174,70 @@ const OWN_PORT: OptionText<'static> = OptionText {
 const SERVED: OptionText<'static> = OptionText {
     name: "connections",
     value: Value::Required("N"),
-    help: "Ends after this many connections, 1 to 1000000",
+    help: "Exits after this many connections, 1 to 1000000",
 };
 
 const ASKED_NAME: OptionText<'static> = OptionText {
     name: HOST_NAME,
     value: Value::Repeated("NAME"),
-    help: "Another name that Host may say; may stand several times",
+    help: "Additional accepted Host name (repeatable)",
 };
 
 const COPY: OptionText<'static> = OptionText {
     name: "to",
     value: Value::Required("COPY"),
-    help: "File that gets the copy; there must be none of that name yet",
+    help: "Copy to create; it must not exist yet",
 };
 
 const CALLER: OptionText<'static> = OptionText {
     name: "caller",
     value: Value::Required("NAME"),
-    help: "Who asks: a line's number acts once for a caller",
+    help: "Caller; each line number acts once per caller",
 };
 
 const DEVICE: OptionText<'static> = OptionText {
     name: "device",
     value: Value::Required("NAME"),
-    help: "Device, as the office knows it",
+    help: "Device name in the office",
 };
 
 const REGISTER: OptionText<'static> = OptionText {
     name: "register",
     value: Value::Required("NAME"),
-    help: "Register, as the office knows it",
+    help: "Register name in the office",
 };
 
 const REPLAY: CommandText<'static> = CommandText {
     name: "replay",
-    about: "Runs a script over books in memory or in a file (the default)",
+    about: "Runs a script on an office in memory or in a file (default)",
     after: "Example: sunreg replay --zone UTC0 < script.txt",
     options: &[SCRIPT_DB, SCRIPT_ZONE],
 };
 
 const PLAN: CommandText<'static> = CommandText {
     name: "plan",
-    about: "Prints the reads that a point list from standard input needs",
+    about: "Plans the Modbus reads for a point list from standard input",
     after: "Example: sunreg plan < points.csv",
     options: &[],
 };
 
 const CHAIN: CommandText<'static> = CommandText {
     name: "chain",
-    about: "Lists the SunSpec models of an image from standard input",
+    about: "Lists the SunSpec models in an image from standard input",
     after: "Example: sunreg chain < image.txt",
     options: &[],
 };
 
 const CREATE: CommandText<'static> = CommandText {
     name: "create",
-    about: "Makes the tables of a new office in a file",
+    about: "Creates a new office in a file",
     after: "Example: sunreg create --db office.db --zone UTC0",
     options: &[NEW_DB, NEW_ZONE],
 };
 
 const ENTER: CommandText<'static> = CommandText {
     name: "enter",
-    about: "Sets an office up by lines of standard input, which act once",
+    about: "Sets up an office from lines on standard input; each acts once",
     after: "Example: sunreg enter --db office.db --caller site < site.txt",
     options: &[
         DB,
@@ -245,33 +245,33 @@ const ENTER: CommandText<'static> = CommandText {
         OptionText {
             name: "devices",
             value: Value::Optional("LIST"),
-            help: "For @read: 1 to 64 of NAME=HOST:PORT, joined by commas",
+            help: "Devices for @read: 1 to 64 NAME=HOST:PORT, comma-separated",
         },
         OptionText {
             name: "only-read",
             value: Value::Letter('n'),
-            help: "Only tells which lines are bad, and which would repeat",
+            help: "Only reports bad lines and lines already entered",
         },
     ],
 };
 
 const SERVE: CommandText<'static> = CommandText {
     name: "serve",
-    about: "Answers HTTP on 127.0.0.1, one connection after the other",
+    about: "Serves HTTP on 127.0.0.1, one connection at a time",
     after: "Example: sunreg serve --db office.db --port 8080 --connections 100",
     options: &[DB, HTTP_PORT, SERVED, ASKED_NAME],
 };
 
 const ROUND: CommandText<'static> = CommandText {
     name: "round",
-    about: "Polls the whole plan of one device once",
+    about: "Polls all planned reads of one device once",
     after: "Example: sunreg round --db office.db --device inv --host 192.0.2.7 --port 502",
     options: &[DB, DEVICE, DEVICE_HOST, DEVICE_PORT],
 };
 
 const REPORT: CommandText<'static> = CommandText {
     name: "report",
-    about: "Prints a register's energy by days, months or years",
+    about: "Prints a register's energy by day, month or year",
     after: "Example:\n  sunreg report --db office.db --register main --by month --unit kwh --format csv",
     options: &[
         DBS,
@@ -279,12 +279,12 @@ const REPORT: CommandText<'static> = CommandText {
         OptionText {
             name: "from",
             value: Value::Optional("DAY"),
-            help: "First day, as 2026-11-25; from the beginning where it is left out",
+            help: "First day, like 2026-11-25; default: no lower limit",
         },
         OptionText {
             name: "till",
             value: Value::Optional("DAY"),
-            help: "Day behind the last; up to the end where it is left out",
+            help: "End day, not included; default: no upper limit",
         },
         OptionText {
             name: "by",
@@ -292,7 +292,7 @@ const REPORT: CommandText<'static> = CommandText {
                 shown: "PERIOD",
                 choices: PERIODS,
             },
-            help: "Period of a row: day, month or year; day where it is left out",
+            help: "Period of each row: day, month or year; default day",
         },
         OptionText {
             name: "unit",
@@ -300,7 +300,7 @@ const REPORT: CommandText<'static> = CommandText {
                 shown: "UNIT",
                 choices: UNITS,
             },
-            help: "Unit of energies: mwh or kwh; mwh where it is left out",
+            help: "Energy unit: mwh or kwh; default mwh (milliwatt-hours)",
         },
         OptionText {
             name: "format",
@@ -308,86 +308,86 @@ const REPORT: CommandText<'static> = CommandText {
                 shown: "FORMAT",
                 choices: FORMATS,
             },
-            help: "How rows are written: text, csv or json; text where it is left out",
+            help: "Output format: text, csv or json; default text",
         },
         OptionText {
             name: "statement",
             value: Value::Absent,
-            help: "A row for each meter instead, which a bill is checked by",
+            help: "Prints one row per meter instead, to check a bill",
         },
     ],
 };
 
 const BACKUP: CommandText<'static> = CommandText {
     name: "backup",
-    about: "Makes one whole file of an office",
+    about: "Copies an office into one complete file",
     after: "Example: sunreg backup --db office.db --to copy.db",
     options: &[DB, COPY],
 };
 
 const RECOVER: CommandText<'static> = CommandText {
     name: "recover",
-    about: "Makes a new file of what a damaged log still holds",
+    about: "Recovers what a damaged log still holds into a new file",
     after: "Example: sunreg recover --db office.db --to recovered.db",
     options: &[
         OptionText {
             name: "db",
             value: Value::Required("FILE"),
-            help: "The office's file, whose log is damaged; both stay as they are",
+            help: "Office file with a damaged log; both stay unchanged",
         },
         OptionText {
             name: "to",
             value: Value::Required("FILE"),
-            help: "File that is made; there must be none of that name yet",
+            help: "File to create; it must not exist yet",
         },
     ],
 };
 
 const CARRY: CommandText<'static> = CommandText {
     name: "carry",
-    about: "Begins a new file where an office's meters stand",
+    about: "Starts a new file from the last entries of an office's meters",
     after: "Example: sunreg carry --from office.db --to 2027.db",
     options: &[
         OptionText {
             name: "from",
             value: Value::Required("FILE"),
-            help: "The office's file so far; it is only read",
+            help: "Current office file; it is only read",
         },
         OptionText {
             name: "to",
             value: Value::Required("FILE"),
-            help: "File that is made; there must be none of that name yet",
+            help: "File to create; it must not exist yet",
         },
         OptionText {
             name: "until",
             value: Value::Optional("MOMENT"),
-            help: "Takes nothing after this moment, in seconds since 1970-01-01 UTC",
+            help: "Ignores records after this time, in seconds since 1970-01-01 UTC",
         },
     ],
 };
 
 const AUDIT: CommandText<'static> = CommandText {
     name: "audit",
-    about: "Checks an office's rows against one another; it only reads",
+    about: "Checks the consistency of an office's rows; it only reads",
     after: "Example: sunreg audit --db office.db --seal > seal.txt",
     options: &[
         DBS,
         OptionText {
             name: "seal",
             value: Value::Absent,
-            help: "Prints a seal of what is recorded instead, where all is fine",
+            help: "Prints a seal of all records instead, if they are consistent",
         },
         OptionText {
             name: "against",
             value: Value::Optional("SEAL"),
-            help: "Checks too that all is still there of which this file is the seal",
+            help: "Also checks that all records of this seal file are unchanged",
         },
     ],
 };
 
 const SCAN: CommandText<'static> = CommandText {
     name: "scan",
-    about: "Lists the SunSpec models of a live device, which it only reads",
+    about: "Lists the SunSpec models of a live device; it only reads",
     after: "Example: sunreg scan --host 192.0.2.7 --port 502 --setup inv > inv.txt",
     options: &[
         DEVICE_HOST,
@@ -395,65 +395,65 @@ const SCAN: CommandText<'static> = CommandText {
         OptionText {
             name: "unit",
             value: Value::Optional("U"),
-            help: "Modbus unit, 1 to 255; 1 where it is left out",
+            help: "Modbus unit identifier, 1 to 255; default 1",
         },
         OptionText {
             name: "timeout",
             value: Value::Optional("SECONDS"),
-            help: "How long a reply may take, 1 to 60; 5 where it is left out",
+            help: "Response timeout, 1 to 60; default 5",
         },
         OptionText {
             name: "list",
             value: Value::Absent,
-            help: "Prints the point list of the models instead",
+            help: "Prints the models' point list instead",
         },
         OptionText {
             name: "setup",
             value: Value::Optional("DEVICE"),
-            help: "Prints the lines that set the device up instead",
+            help: "Prints the lines that set up the device instead",
         },
     ],
 };
 
 const STAND_IN: CommandText<'static> = CommandText {
     name: "stand-in",
-    about: "Plays a Modbus device, with a bank from standard input",
+    about: "Simulates a Modbus device, set up from standard input",
     after: "Example: sunreg stand-in --port 1502 --connections 10 < bank.txt",
     options: &[OWN_HOST, OWN_PORT, SERVED],
 };
 
 const LOOP: CommandText<'static> = CommandText {
     name: "loop",
-    about: "Runs a script whose devices are a stand-in in this process",
+    about: "Runs a script against a simulated device in this process",
     after: "Example: sunreg loop < script.txt",
     options: &[SCRIPT_ZONE],
 };
 
 const RUN: CommandText<'static> = CommandText {
     name: "run",
-    about: "Polls devices on a schedule and answers HTTP, until it is ended",
+    about: "Polls devices on a schedule and serves HTTP until stopped",
     after: "Example:\n  sunreg run --db office.db --listen 8080 --every 60 --devices inv=192.0.2.7:502",
     options: &[
         RUN_DBS,
         OptionText {
             name: "listen",
             value: Value::Required("PORT"),
-            help: "Port of HTTP on 127.0.0.1, 1 to 65535",
+            help: "HTTP port on 127.0.0.1, 1 to 65535",
         },
         OptionText {
             name: "every",
             value: Value::Required("SECONDS"),
-            help: "From one round of a device to its next, 1 to 86400",
+            help: "Polling interval of each device, 1 to 86400",
         },
         OptionText {
             name: "devices",
             value: Value::Required("LIST"),
-            help: "1 to 64 of NAME=HOST:PORT, joined by commas",
+            help: "1 to 64 NAME=HOST:PORT, comma-separated",
         },
         OptionText {
             name: "for",
             value: Value::Optional("SECONDS"),
-            help: "Ends after this long, 1 to 4000000000",
+            help: "Exits after this time, 1 to 4000000000",
         },
         OptionText {
             name: "carry",
@@ -461,30 +461,30 @@ const RUN: CommandText<'static> = CommandText {
                 shown: "PERIOD",
                 choices: CARRIES,
             },
-            help: "Begins a new file each month or year: month or year",
+            help: "Starts a new file every PERIOD: month or year",
         },
         OptionText {
             name: "earlier",
             value: Value::Optional("COUNT"),
-            help: "Tells energy over so many earlier ones of these files too, 1 to 1200",
+            help: "Includes this many earlier files in energy figures, 1 to 1200",
         },
         ASKED_NAME,
         OptionText {
             name: "most-kept",
             value: Value::Optional("MB"),
-            help: "Answers commands 503 past so many megabytes of kept ones, 1 to 1000000",
+            help: "Limit for stored commands, in MB, 1 to 1000000; then status 503",
         },
         OptionText {
             name: "verbose",
             value: Value::Absent,
-            help: "Prints more of what goes on",
+            help: "Prints more details",
         },
     ],
 };
 
 const EXPLAIN: CommandText<'static> = CommandText {
     name: "explain",
-    about: "Tells what a printed number means, its cause, and what to do",
+    about: "Explains a printed number: its meaning, cause and remedy",
     after: "Example: sunreg explain refused 12",
     options: &[
         OptionText {
@@ -509,14 +509,14 @@ const EXPLAIN: CommandText<'static> = CommandText {
                 shown: "NUMBER",
                 choices: &[],
             },
-            help: "The number that stands behind it",
+            help: "The number after that word",
         },
     ],
 };
 
 const COMPLETIONS: CommandText<'static> = CommandText {
     name: "completions",
-    about: "Prints what a shell completes the words of sunreg by",
+    about: "Prints shell completions for sunreg",
     after: "Example: sunreg completions bash > sunreg.bash",
     options: &[OptionText {
         name: "shell",
@@ -565,8 +565,8 @@ pub fn program() -> ProgramText<'static>
     ProgramText {
         name: "sunreg",
         version: "1.0",
-        about: "Polls SunSpec meters by Modbus TCP; keeps their energy by quarter hours and days",
-        after: "Exit status: 0 fine, 1 refused, 2 wrong words, 3 a file, stream or socket failed",
+        about: "Polls SunSpec meters over Modbus TCP and books their energy by quarter hour and day",
+        after: "Exit status: 0 success, 1 refused, 2 invalid arguments, 3 a file, stream or socket failed",
         commands: commands(),
         later: later_commands(),
     }

@@ -143,7 +143,7 @@ fn write_not_yet<W: Write>(errors: &mut W, path: &str, meter: &Name) -> io::Resu
     let path = Named(path);
     write!(
         errors,
-        "sunreg: {path}: the meter {name} was installed after the moment of --until: give a later one\n"
+        "sunreg: {path}: meter {name} was installed after the time of --until: give a later time\n"
     )
 }
 

@@ -100,7 +100,7 @@ fn say_earlier<E: Write>(errors: &mut E, current: &str, paths: &[&str]) {
         let count = paths.len();
         let _said = write!(
             errors,
-            "sunreg: {current}: energy is told over earlier files too: {count}, from {} on\n",
+            "sunreg: {current}: energy figures include earlier files: {count}, from {} on\n",
             *first
         );
     }

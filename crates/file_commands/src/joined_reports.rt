@@ -20,7 +20,7 @@ use stored_files::{
 
 // What to do where files don't join.
 const REMEDY: &str =
-    "name the oldest first, each carried from the one before it, and void in that what it booked after the carry";
+    "name the files oldest first, each carried from the one before, and void what the older one booked after the carry";
 
 // The name of a meter.
 fn name_of(row: &Installation) -> &str {
@@ -35,11 +35,11 @@ fn say_apart<E: Write>(errors: &mut E, before: &str, path: &str, apart: &Apart) 
     let state = if apart.stands.ended {
         "was closed"
     } else {
-        "stands"
+        "has its last entry"
     };
     let _said = write!(
         errors,
-        "sunreg: {path}: the meter {} begins there at moment {}, counter {}, scale {}; ",
+        "sunreg: {path}: meter {} begins at time {}, counter {}, scale {}; ",
         name_of(&apart.begins),
         begins.at,
         begins.raw,
@@ -47,7 +47,7 @@ fn say_apart<E: Write>(errors: &mut E, before: &str, path: &str, apart: &Apart) 
     );
     let _said = write!(
         errors,
-        "up to {before} the meter {} {state} at moment {}, counter {}, scale {}: {}\n",
+        "up to {before}, meter {} {state} at time {}, counter {}, scale {}: {}\n",
         name_of(&apart.stands),
         stands.at,
         stands.raw,
@@ -67,14 +67,14 @@ fn say_unjoined<E: Write>(errors: &mut E, before: &str, path: &str, why: &Unjoin
         Unjoined::NotRecorded => {
             let _said = write!(
                 errors,
-                "sunreg: {path}: a register is not recorded there, but is in {before} or before it: {}\n",
+                "sunreg: {path}: a register of {before} or of an earlier file is missing here: {}\n",
                 REMEDY
             );
         }
         Unjoined::OutOfTurn => {
             let _said = write!(
                 errors,
-                "sunreg: {path}: it has a quarter hour from before the last of {before}: {}\n",
+                "sunreg: {path}: it has a quarter hour before the last one of {before}: {}\n",
                 REMEDY
             );
         }
@@ -86,7 +86,7 @@ fn say_other_zone<E: Write>(errors: &mut E, before: &str, path: &str) {
     let (before, path) = (Named(before), Named(path));
     let _said = write!(
         errors,
-        "sunreg: {path}: its days are those of another zone than the days of {before}: {}\n",
+        "sunreg: {path}: its time zone differs from that of {before}: {}\n",
         REMEDY
     );
 }

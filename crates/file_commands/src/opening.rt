@@ -14,7 +14,7 @@ fn say_no_log<E: Write>(errors: &mut E, path: &str) {
     let path = Named(path);
     let _said = write!(
         errors,
-        "sunreg: {path}: it had no log beside it, {path}-wal: a backup needs none, and a file copied alone lacks what stood there\n"
+        "sunreg: {path}: it had no log {path}-wal: a backup needs none, but a file copied without its log lacks the latest entries\n"
     );
 }
 
@@ -25,7 +25,7 @@ fn say_opening<E: Write>(rt: &HostRuntime, errors: &mut E, path: &str, bytes: u6
         let megabytes = bytes / 1_000_000;
         let _said = write!(
             errors,
-            "sunreg: {path}: opens {megabytes} MB, all of which is read\n"
+            "sunreg: {path}: opening: reads all {megabytes} MB\n"
         );
     }
 }

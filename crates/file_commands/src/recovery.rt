@@ -31,7 +31,7 @@ fn say_lost(rt: &HostRuntime, db: &str) {
     let db = Named(db);
     let _said = write!(
         errors,
-        "sunreg: {db}: the header of its log {db}-wal can't be mended, so all commits in the log are lost\n"
+        "sunreg: {db}: the header of its log {db}-wal can't be repaired; all commits in the log are lost\n"
     );
 }
 

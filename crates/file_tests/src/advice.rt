@@ -7,7 +7,7 @@ static PRINTED: &[u8] =
     b"ok\nheld m1 60000 cause 6\nreading m1 60000 rolls 0 step 1\nheld m1 60000 cause 9\nheld m1 60000\nrefused 1\nrefused 13\n";
 
 static SAID: &[u8] =
-    b"sunreg: m1: reading rejected: more energy than the ceiling allows; compare the reading with the meter: enter a reset or an exchange where the counter was changed, and one by hand where it is right\nsunreg: inv: the store failed; look at the disk's room and the file's rights, and start again: what was acknowledged stays\n";
+    b"sunreg: m1: reading rejected: more energy than the ceiling allows; compare the reading with the meter: enter a reset or an exchange if the counter was changed, or a manual reading if it is right\nsunreg: inv: the database failed; check the free disk space and the file's permissions, then restart: everything acknowledged is kept\n";
 
 #[test]
 fn what_numbers_mean_is_said(rt: HostRuntime) {

@@ -10,97 +10,97 @@ use stored_files::{AuditFault, CopyFault, Failure, FileFault};
 const UNMADE: [(OpenFault, &str); 4] = [
     (
         OpenFault::NotOurs,
-        "it has tables already: give another file, or leave out create",
+        "already has tables: skip create, or choose another file",
     ),
     (
         OpenFault::Zone,
-        "the zone is no POSIX time zone, such as UTC0 or CET-1CEST,M3.5.0,M10.5.0/3",
+        "the zone is not a POSIX time zone; Berlin is CET-1CEST,M3.5.0,M10.5.0/3",
     ),
     (
         OpenFault::Store,
-        "the tables can't be written: look at its rights and the disk's room",
+        "can't write the tables: check its permissions and the free disk space",
     ),
-    (OpenFault::Memory, "memory ran out"),
+    (OpenFault::Memory, "out of memory"),
 ];
 
 const UNOPENED: [(OpenFault, &str); 4] = [
     (
         OpenFault::NotOurs,
-        "it holds no office, or one of a later program: sunreg create makes one in a new file",
+        "not an office file, or made by a later version of sunreg; sunreg create makes a new one",
     ),
     (
         OpenFault::Zone,
-        "the zone in its table meta is no POSIX time zone: give a copy that is whole",
+        "the zone in its table meta is not a POSIX time zone: use an intact copy",
     ),
     (
         OpenFault::Store,
-        "the database in it failed: look at its rights and the disk's room",
+        "the database failed: check its permissions and the free disk space",
     ),
-    (OpenFault::Memory, "memory ran out"),
+    (OpenFault::Memory, "out of memory"),
 ];
 
 // What stands after the name of a file of which there is no backup, or of its copy.
 const UNCOPIED: [(CopyFault, &str); 7] = [
     (
         CopyFault::Exists,
-        "there is a file of this name already, or one with -wal behind it: give another name",
+        "this file, or its log (-wal), already exists: choose another name",
     ),
     (
         CopyFault::Unfinished,
-        "a backup to it runs, or was cut off: then remove the file with .part behind this name",
+        "a backup to it is running, or was interrupted: then remove its .part file",
     ),
     (
         CopyFault::Unwritable,
-        "it can't be written: look at its folder's rights and the disk's room",
+        "can't write it: check its folder's permissions and the free disk space",
     ),
     (
         CopyFault::Changing,
-        "its log was moved into it while it was copied, so there is no backup: try again",
+        "its log was checkpointed during the copy, so no backup was made: try again",
     ),
     (
         CopyFault::Torn,
-        "it is no SQLite database, or a damaged one, so there is no backup of it",
+        "not an SQLite database, or damaged; no backup was made",
     ),
     (
         CopyFault::NotOurs,
-        "it holds no office, or one of a later program",
+        "not an office file, or made by a later version of sunreg",
     ),
-    (CopyFault::Memory, "memory ran out"),
+    (CopyFault::Memory, "out of memory"),
 ];
 
 // Files whose log is missed, or alone.
 const LOGS: [(Failure<'static>, &str); 3] = [
     (
         Failure::Occupied { path: "a.db" },
-        "a.db: it isn't empty, though it has no tables: an office's may stand in its log: give a new file",
+        "a.db: not empty, but it has no tables; they may be in its log: choose a new file",
     ),
     (
         Failure::Bare { path: "a.db" },
-        "a.db: it has no tables: an office's may stand in the log that belongs to it, a.db-wal: give both, or a backup",
+        "a.db: it has no tables; they may be in its log, a.db-wal: use both files, or a backup",
     ),
     (
         Failure::LogAlone { path: "a.db" },
-        "a.db: it is missing or empty, and its log a.db-wal is not: give the file that belongs to it, or remove the log",
+        "a.db: missing or empty, but its log a.db-wal is not: restore the file of this log, or remove the log",
     ),
 ];
 
 const STREAMS: [(Failure<'static>, &str); 5] = [
-    (Failure::Memory, "memory ran out"),
+    (Failure::Memory, "out of memory"),
     (
         Failure::Streams,
-        "standard input can't be read, standard output can't be written, or memory ran out",
+        "can't read standard input, can't write standard output, or out of memory",
     ),
-    (Failure::Loopback, "127.0.0.1 can't be listened on"),
+    (Failure::Loopback, "can't listen on 127.0.0.1"),
     (
         Failure::File {
             path: "a.db",
             fault: FileFault::Missing,
         },
-        "a.db: there is no such file: sunreg create makes it",
+        "a.db: file not found; make it with sunreg create",
     ),
     (
         Failure::Stopped,
-        "the office has stopped, since its file or memory failed: look at the disk, and start again",
+        "the office stopped because its file failed or memory ran out: check the disk, then restart",
     ),
 ];
 
@@ -110,15 +110,15 @@ const SOCKETS: [(Failure<'static>, &str); 8] = [
             host: "h",
             port: 80,
         },
-        "port 80 of h can't be listened on: is it taken, or is the host another's?",
+        "can't listen on port 80 of h: in use, or not an address of this machine",
     ),
-    (Failure::Listening, "no more connections can be accepted"),
+    (Failure::Listening, "can't accept more connections"),
     (
         Failure::Unconnected {
             host: "h",
             port: 80,
         },
-        "port 80 of h isn't answered: does the device run, and is this its address?",
+        "nothing answers at port 80 of h: is the device on, and is this its address?",
     ),
     (
         Failure::Unscanned {
@@ -126,64 +126,61 @@ const SOCKETS: [(Failure<'static>, &str); 8] = [
             port: 80,
             fault: ScanFault::Gone,
         },
-        "port 80 of h can't be scanned: the device closed the connection",
+        "can't scan port 80 of h: the device closed the connection",
     ),
     (
         Failure::Broken {
             host: "h",
             port: 80,
         },
-        "the connection to port 80 of h failed in the round; what was booked stays",
+        "the connection to port 80 of h failed during the round; booked energy is kept",
     ),
     (
         Failure::Endless {
             host: "h",
             port: 80,
         },
-        "port 80 of h sent on and on without answering; what was booked stays",
+        "port 80 of h sent endless data, but no valid response; booked energy is kept",
     ),
     (
         Failure::Host { host: "h" },
-        "no address is found for h: is it right, and can names of hosts be looked up here?",
+        "can't resolve h: check the host name and this machine's DNS",
     ),
-    (
-        Failure::Sockets,
-        "the system can't tell which sockets are ready",
-    ),
+    (Failure::Sockets, "waiting for sockets failed"),
 ];
 
 // What stands after the name of a file that was not audited.
 const UNAUDITED: [(AuditFault, &str); 9] = [
     (
         AuditFault::NotOurs,
-        "it holds no office, or one of a later program: give the office's file, or its copy",
+        "not an office file, or made by a later version of sunreg: use the office file or a backup",
     ),
     (
         AuditFault::Earlier,
-        "its tables are an earlier program's: let sunreg report open it once, or a copy that sunreg backup made",
+        "made by an earlier version of sunreg: open it, or a backup of it, once with sunreg report",
     ),
     (
         AuditFault::Unsealable,
-        "a row has a value or a name that no seal can have: sunreg audit without --seal tells which",
+        "a row has a value or a name that a seal can't contain: sunreg audit without --seal shows which",
     ),
     (
         AuditFault::NoText,
-        "a name in it, or its zone, is no text: give the office's file, or its copy",
+        "a name in it, or its zone, is not text: use the office file or a backup",
     ),
     (
         AuditFault::NoSeal,
-        "it is no seal: give what sunreg audit --seal printed",
+        "not a seal: use the output of sunreg audit --seal",
     ),
     (
         AuditFault::Unread,
-        "the seal can't be read: look at its name and its rights",
+        "can't read the seal file: check its name and permissions",
     ),
     (
         AuditFault::Store,
-        "the database in it failed: look at its rights and the disk's room",
+        "the database failed: check its permissions and the free disk space",
     ),
-    (AuditFault::Memory, "memory ran out"),
-    (AuditFault::Output, "standard output can't be written"),
+    (AuditFault::Memory, "out of memory"),
+    (AuditFault::Output, "can't write standard output"),
 ];
 
 // A failure says this text.

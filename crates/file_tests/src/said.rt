@@ -21,13 +21,13 @@ fn wrong_words_are_said(rt: HostRuntime) -> Result<(), Fail> {
     let text = String::from_str(rt.alloc(), "error: x\n")?;
     let endings = [
         (Ending::Wrong(text), "error: x\n"),
-        (Ending::NoText, "error: the words are not in UTF-8\n"),
+        (Ending::NoText, "error: the arguments are not valid UTF-8\n"),
         (
             Ending::NoDay {
                 option: "from",
                 word: "2023-02-29",
             },
-            "error: invalid value '2023-02-29' for '--from <DAY>': no day, as 2026-11-25\n",
+            "error: invalid value '2023-02-29' for '--from <DAY>': not a calendar date (like 2026-11-25)\n",
         ),
         (
             Ending::Backward,
@@ -35,15 +35,15 @@ fn wrong_words_are_said(rt: HostRuntime) -> Result<(), Fail> {
         ),
         (
             Ending::NoSeal("seal.txt"),
-            "error: invalid value 'seal.txt' for '--against <SEAL>': no seal, as sunreg audit --seal prints it\n",
+            "error: invalid value 'seal.txt' for '--against <SEAL>': not a seal that sunreg audit --seal printed\n",
         ),
         (
             Ending::Twice("o.db"),
-            "error: invalid value 'o.db' for '--db <FILE>': it stands twice\n",
+            "error: invalid value 'o.db' for '--db <FILE>': given twice\n",
         ),
         (
             Ending::NoZone("nowhere"),
-            "error: invalid value 'nowhere' for '--zone <TEXT>': no POSIX time zone, as UTC0 or CET-1CEST,M3.5.0,M10.5.0/3\n",
+            "error: invalid value 'nowhere' for '--zone <TEXT>': not a POSIX time zone; Berlin is CET-1CEST,M3.5.0,M10.5.0/3\n",
         ),
     ];
     for (ending, text) in &endings {
@@ -58,7 +58,7 @@ fn a_failure_is_said(rt: HostRuntime) -> Result<(), Fail> {
     let text = said(&rt, &Ending::Failed(Failure::Host { host }))?;
     assert!(rt;
         text.as_str()
-            == "failed\nsunreg: no address is found for no.such.invalid: is it right, and can names of hosts be looked up here?\n"
+            == "failed\nsunreg: can't resolve no.such.invalid: check the host name and this machine's DNS\n"
     );
     Ok(())
 }

@@ -13,15 +13,19 @@ use stored_office::{Done, ending_of_done};
 const REPORTS: [(ExitStatus, u8, &str); 3] = [
     (ExitStatus::Fine, 0, ""),
     (ExitStatus::Refused, 1, ""),
-    (ExitStatus::Failed, 3, "standard input"),
+    (ExitStatus::Failed, 3, "can't read standard input"),
 ];
 
 const SERVED: [(ServeEnd, u8, &str); 5] = [
     (ServeEnd::Served, 0, ""),
     (ServeEnd::Unopened(ExitStatus::Refused), 1, ""),
-    (ServeEnd::Unopened(ExitStatus::Failed), 3, "standard input"),
-    (ServeEnd::NoPort, 3, "port 80 of h can't be listened on"),
-    (ServeEnd::Broken, 3, "no more connections"),
+    (
+        ServeEnd::Unopened(ExitStatus::Failed),
+        3,
+        "can't read standard input",
+    ),
+    (ServeEnd::NoPort, 3, "can't listen on port 80 of h"),
+    (ServeEnd::Broken, 3, "can't accept more connections"),
 ];
 
 const POLLED: [(PollEnd, u8, &str); 8] = [
@@ -39,16 +43,20 @@ const POLLED: [(PollEnd, u8, &str); 8] = [
     (
         PollEnd::Polled(Err(RoundFault::Output)),
         3,
-        "standard input",
+        "can't read standard input",
     ),
     (
         PollEnd::Polled(Err(RoundFault::TurnsUsed)),
         3,
-        "port 80 of h sent on and on",
+        "port 80 of h sent endless data",
     ),
     (PollEnd::Unopened(ExitStatus::Refused), 1, ""),
-    (PollEnd::Unopened(ExitStatus::Failed), 3, "standard input"),
-    (PollEnd::Unconnected, 3, "port 80 of h isn't answered"),
+    (
+        PollEnd::Unopened(ExitStatus::Failed),
+        3,
+        "can't read standard input",
+    ),
+    (PollEnd::Unconnected, 3, "nothing answers at port 80 of h"),
 ];
 
 const RAN: [(Result<(), RunFault>, u8, &str); 8] = [
@@ -57,13 +65,13 @@ const RAN: [(Result<(), RunFault>, u8, &str); 8] = [
     (
         Err(RunFault::Unopened(ExitStatus::Failed)),
         3,
-        "standard input",
+        "can't read standard input",
     ),
-    (Err(RunFault::Port), 3, "port 80 of h can't be listened on"),
-    (Err(RunFault::Sockets), 3, "the system can't tell"),
-    (Err(RunFault::Output), 3, "standard input"),
-    (Err(RunFault::Stopped), 3, "the office has stopped"),
-    (Err(RunFault::Memory), 3, "memory ran out"),
+    (Err(RunFault::Port), 3, "can't listen on port 80 of h"),
+    (Err(RunFault::Sockets), 3, "waiting for sockets failed"),
+    (Err(RunFault::Output), 3, "can't read standard input"),
+    (Err(RunFault::Stopped), 3, "the office stopped"),
+    (Err(RunFault::Memory), 3, "out of memory"),
 ];
 
 // A failure's text begins so.
@@ -123,6 +131,6 @@ fn tasks_that_were_not_begun(rt: HostRuntime) -> Result<(), Fail> {
         rt.alloc(),
         Err(Failure::Host { host }),
         3,
-        "no address is found for h",
+        "can't resolve h",
     )
 }

@@ -27,9 +27,9 @@ const INPUTS: [(ReadFault, &str); 3] = [
     (ReadFault::TooLong, "the input has more than 4194304 bytes"),
     (
         ReadFault::Failed,
-        "a read of the input failed, or was interrupted",
+        "reading the input failed or was interrupted",
     ),
-    (ReadFault::Memory, "memory ran out"),
+    (ReadFault::Memory, "out of memory"),
 ];
 
 const DEVICES: [(DeviceFault, &str); 3] = [
@@ -37,8 +37,8 @@ const DEVICES: [(DeviceFault, &str); 3] = [
         DeviceFault::Malformed,
         "not NAME=HOST:PORT with a PORT from 1 to 65535",
     ),
-    (DeviceFault::Repeated, "its NAME stands twice"),
-    (DeviceFault::TooMany, "one more than 64 devices"),
+    (DeviceFault::Repeated, "its NAME is used twice"),
+    (DeviceFault::TooMany, "more than 64 devices"),
 ];
 
 const PARTS: [(ListFault, &str); 2] = [
@@ -47,9 +47,9 @@ const PARTS: [(ListFault, &str); 2] = [
             part: "b=:5020",
             fault: DeviceFault::Malformed,
         },
-        "'b=:5020' is no device of the list: not NAME=HOST:PORT with a PORT from 1 to 65535",
+        "invalid device 'b=:5020': not NAME=HOST:PORT with a PORT from 1 to 65535",
     ),
-    (ListFault::Memory, "memory ran out"),
+    (ListFault::Memory, "out of memory"),
 ];
 
 #[test]
@@ -67,7 +67,7 @@ fn faults_of_words_say_their_texts(rt: HostRuntime) {
     let texts = [
         (WordsFault::Wrong(wrong), "error: x\n"),
         (WordsFault::Help(help), "Usage: x\n"),
-        (WordsFault::Memory, "memory ran out"),
+        (WordsFault::Memory, "out of memory"),
     ];
     assert_texts(&rt, rt.alloc(), &texts)
 }

@@ -25,61 +25,61 @@ fn each_form_of_help_is_help(rt: HostRuntime) {
 }
 
 const PROGRAM: &str = "\
-help: Polls SunSpec meters by Modbus TCP; keeps their energy by quarter hours and days
+help: Polls SunSpec meters over Modbus TCP and books their energy by quarter hour and day
 
 Usage: sunreg [COMMAND]
 
 Commands:
-  replay       Runs a script over books in memory or in a file (the default)
-  plan         Prints the reads that a point list from standard input needs
-  chain        Lists the SunSpec models of an image from standard input
-  scan         Lists the SunSpec models of a live device, which it only reads
-  create       Makes the tables of a new office in a file
-  enter        Sets an office up by lines of standard input, which act once
-  serve        Answers HTTP on 127.0.0.1, one connection after the other
-  round        Polls the whole plan of one device once
-  report       Prints a register's energy by days, months or years
-  backup       Makes one whole file of an office
-  recover      Makes a new file of what a damaged log still holds
-  carry        Begins a new file where an office's meters stand
-  audit        Checks an office's rows against one another; it only reads
-  stand-in     Plays a Modbus device, with a bank from standard input
-  loop         Runs a script whose devices are a stand-in in this process
-  run          Polls devices on a schedule and answers HTTP, until it is ended
-  explain      Tells what a printed number means, its cause, and what to do
-  completions  Prints what a shell completes the words of sunreg by
+  replay       Runs a script on an office in memory or in a file (default)
+  plan         Plans the Modbus reads for a point list from standard input
+  chain        Lists the SunSpec models in an image from standard input
+  scan         Lists the SunSpec models of a live device; it only reads
+  create       Creates a new office in a file
+  enter        Sets up an office from lines on standard input; each acts once
+  serve        Serves HTTP on 127.0.0.1, one connection at a time
+  round        Polls all planned reads of one device once
+  report       Prints a register's energy by day, month or year
+  backup       Copies an office into one complete file
+  recover      Recovers what a damaged log still holds into a new file
+  carry        Starts a new file from the last entries of an office's meters
+  audit        Checks the consistency of an office's rows; it only reads
+  stand-in     Simulates a Modbus device, set up from standard input
+  loop         Runs a script against a simulated device in this process
+  run          Polls devices on a schedule and serves HTTP until stopped
+  explain      Explains a printed number: its meaning, cause and remedy
+  completions  Prints shell completions for sunreg
   help         Print this message or the help of the given subcommand(s)
 
 Options:
   -h, --help     Print help
   -V, --version  Print version
 
-Exit status: 0 fine, 1 refused, 2 wrong words, 3 a file, stream or socket failed
+Exit status: 0 success, 1 refused, 2 invalid arguments, 3 a file, stream or socket failed
 ";
 
 const SERVE: &str = "\
-help: Answers HTTP on 127.0.0.1, one connection after the other
+help: Serves HTTP on 127.0.0.1, one connection at a time
 
 Usage: sunreg serve [OPTIONS] --db <FILE> --port <N> --connections <N>
 
 Options:
-      --db <FILE>         The office's file
+      --db <FILE>         Office file
       --port <N>          Port on 127.0.0.1, 1 to 65535
-      --connections <N>   Ends after this many connections, 1 to 1000000
-      --host-name <NAME>  Another name that Host may say; may stand several times
+      --connections <N>   Exits after this many connections, 1 to 1000000
+      --host-name <NAME>  Additional accepted Host name (repeatable)
   -h, --help              Print help
 
 Example: sunreg serve --db office.db --port 8080 --connections 100
 ";
 
 const EXPLAIN: &str = "\
-help: Tells what a printed number means, its cause, and what to do
+help: Explains a printed number: its meaning, cause and remedy
 
 Usage: sunreg explain <WHAT> <NUMBER>
 
 Arguments:
   <WHAT>    refused, held, lost, malformed, exception, fault or status
-  <NUMBER>  The number that stands behind it
+  <NUMBER>  The number after that word
 
 Options:
   -h, --help  Print help
@@ -88,21 +88,21 @@ Example: sunreg explain refused 12
 ";
 
 const RUN: &str = "\
-help: Polls devices on a schedule and answers HTTP, until it is ended
+help: Polls devices on a schedule and serves HTTP until stopped
 
 Usage: sunreg run [OPTIONS] --db <FILE> --listen <PORT> --every <SECONDS> --devices <LIST>
 
 Options:
-      --db <FILE>         The office's file; of an office that was carried several, books go on in the last
-      --listen <PORT>     Port of HTTP on 127.0.0.1, 1 to 65535
-      --every <SECONDS>   From one round of a device to its next, 1 to 86400
-      --devices <LIST>    1 to 64 of NAME=HOST:PORT, joined by commas
-      --for <SECONDS>     Ends after this long, 1 to 4000000000
-      --carry <PERIOD>    Begins a new file each month or year: month or year
-      --earlier <COUNT>   Tells energy over so many earlier ones of these files too, 1 to 1200
-      --host-name <NAME>  Another name that Host may say; may stand several times
-      --most-kept <MB>    Answers commands 503 past so many megabytes of kept ones, 1 to 1000000
-      --verbose           Prints more of what goes on
+      --db <FILE>         Office file; repeat for carried files, oldest first; run continues the last
+      --listen <PORT>     HTTP port on 127.0.0.1, 1 to 65535
+      --every <SECONDS>   Polling interval of each device, 1 to 86400
+      --devices <LIST>    1 to 64 NAME=HOST:PORT, comma-separated
+      --for <SECONDS>     Exits after this time, 1 to 4000000000
+      --carry <PERIOD>    Starts a new file every PERIOD: month or year
+      --earlier <COUNT>   Includes this many earlier files in energy figures, 1 to 1200
+      --host-name <NAME>  Additional accepted Host name (repeatable)
+      --most-kept <MB>    Limit for stored commands, in MB, 1 to 1000000; then status 503
+      --verbose           Prints more details
   -h, --help              Print help
 
 Example:

@@ -91,14 +91,14 @@ For more information, try '--help'.
     ),
     (
         "completions|Bash",
-        "wrong: error: invalid value 'Bash' for '<SHELL>': there are completions for bash alone
+        "wrong: error: invalid value 'Bash' for '<SHELL>': only bash has completions
 
 For more information, try '--help'.
 ",
     ),
     (
         "audit|--db|x|--db|y|--seal",
-        "wrong: error: the argument '--seal' cannot be used with several '--db'
+        "wrong: error: the argument '--seal' cannot be used with more than one '--db'
 
 For more information, try '--help'.
 ",
@@ -112,7 +112,7 @@ For more information, try '--help'.
     ),
     (
         "report|--db|x|--register|r|--by|week",
-        "wrong: error: invalid value 'week' for '--by <PERIOD>': none of day, month, year
+        "wrong: error: invalid value 'week' for '--by <PERIOD>': expected one of day, month, year
 
 For more information, try '--help'.
 ",
@@ -143,14 +143,14 @@ For more information, try '--help'.
     ),
     (
         "run|--db|x|--listen|1|--every|1|--devices|a=h:1,b=h:2,a=g:3",
-        "wrong: error: invalid value 'a=h:1' for '--devices <LIST>': its NAME stands twice
+        "wrong: error: invalid value 'a=h:1' for '--devices <LIST>': its NAME is used twice
 
 For more information, try '--help'.
 ",
     ),
     (
         TOO_LONG,
-        "wrong: error: invalid value 'd65=h:65' for '--devices <LIST>': one more than 64 devices
+        "wrong: error: invalid value 'd65=h:65' for '--devices <LIST>': more than 64 devices
 
 For more information, try '--help'.
 ",

@@ -41,17 +41,17 @@ impl<'a> Display for Unread<'a> {
                 let name = from_utf8(device.as_bytes()).unwrap_or("NAME");
                 write!(
                     f,
-                    "where {name} is was not told: give --devices {name}=HOST:PORT"
+                    "the address of {name} is not given: add --devices {name}=HOST:PORT"
                 )
             }
             Unread::Unconnected(failure) => write!(f, "{failure}"),
             Unread::Broken { host, port, fault } => write!(
                 f,
-                "port {port} of {host} can't be read: {fault}"
+                "can't read port {port} of {host}: {fault}"
             ),
             Unread::Untold { host, port } => write!(
                 f,
-                "port {port} of {host} doesn't tell this counter: no reply, an exception, or no scale from -3 to 3: sunreg scan tells what it has"
+                "port {port} of {host} didn't return this counter (no response, an exception, or a scale outside -3 to 3): sunreg scan lists what it has"
             ),
         }
     }

@@ -43,7 +43,7 @@ fn read_within(rt: &HostRuntime, alloc: Global, name: &str) -> io::Result<Vec<u8
 impl NamedFiles for Surroundings<'_> {
     fn read(&self, alloc: Global, name: &[u8]) -> Result<Option<Vec<u8>>, AllocError> {
         let Ok(name) = from_utf8(name) else {
-            say_unread(self.rt, "a list", &"the name of its file is no text");
+            say_unread(self.rt, "a list", &"its file name is not text");
             return Ok(None);
         };
         match read_within(self.rt, alloc, name) {
@@ -51,21 +51,21 @@ impl NamedFiles for Surroundings<'_> {
                 if bytes.len() <= MOST_FILE {
                     return Ok(Some(bytes));
                 }
-                say_unread(self.rt, name, &"it has more than 65536 bytes");
+                say_unread(self.rt, name, &"larger than 65536 bytes");
                 Ok(None)
             }
             Err(error) => match error.kind() {
                 ErrorKind::OutOfMemory => Err(AllocError),
                 ErrorKind::NotFound => {
-                    say_unread(self.rt, name, &"there is no such file");
+                    say_unread(self.rt, name, &"file not found");
                     Ok(None)
                 }
                 ErrorKind::InvalidInput => {
-                    say_unread(self.rt, name, &"it is no regular file");
+                    say_unread(self.rt, name, &"not a regular file");
                     Ok(None)
                 }
                 _ => {
-                    say_unread(self.rt, name, &"it can't be read: look at its rights");
+                    say_unread(self.rt, name, &"can't read it: check its permissions");
                     Ok(None)
                 }
             },

@@ -10,9 +10,9 @@ const MOST_NUMBER: u32 = 999;
 // What a number is of, where its word alone doesn't tell.
 fn owner(kind: Kind) -> &'static str {
     match kind {
-        Kind::RowFault => " of a row of a point list",
-        Kind::ChainFault => " of a chain of models",
-        Kind::HttpFault => " of a request by HTTP",
+        Kind::RowFault => " of a point list row",
+        Kind::ChainFault => " of a model chain",
+        Kind::HttpFault => " of an HTTP request",
         Kind::Refused
         | Kind::Held
         | Kind::Lost
@@ -89,16 +89,16 @@ fn write_fault<W: Write>(what: &str, number: &str, output: &mut W) -> io::Result
     if is_word(what) {
         write!(
             output,
-            "error: invalid value '{number}' for '<NUMBER>': the numbers of {what} are"
+            "error: invalid value '{number}' for '<NUMBER>': {what} has the numbers"
         )?;
         write_numbers(what, output)?;
         if what == Kind::Exception.word() {
-            output.write_all(b"; a device may have others, which its maker tells")?;
+            output.write_all(b"; a device may have others: see its manual")?;
         }
     } else {
         write!(
             output,
-            "error: invalid value '{what}' for '<WHAT>': not refused, held, lost, malformed, exception, fault or status"
+            "error: invalid value '{what}' for '<WHAT>': expected refused, held, lost, malformed, exception, fault or status"
         )?;
     }
     output.write_all(b"\n\nFor more information, try '--help'.\n")

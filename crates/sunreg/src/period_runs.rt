@@ -36,10 +36,9 @@ const LOOKS: u32 = 30;
 
 const PAUSE: u64 = 100;
 
-const NOT_CARRIED: &str =
-    "it was not carried: books go on in it, and it is tried again at the next hour";
+const NOT_CARRIED: &str = "not carried: it stays in use, and sunreg tries again at the next hour";
 
-const NAMED: &str = "it was carried: books go on in the new file";
+const NAMED: &str = "carried: the new file is in use now";
 
 // Standard error, as far as nobody has to be waited for who reads it.
 #[derive(Clone, Copy)]
@@ -78,7 +77,7 @@ fn say_carried(rt: &HostRuntime, from: &str, to: &str, count: u64) {
 
 fn say_later(rt: &HostRuntime, path: &str) {
     if let Ok(line) = format!(in rt.alloc();
-        "sunreg: {}: its period is later than the clock says: books go on in it\n",
+        "sunreg: {}: its period is later than the system clock: it stays in use\n",
         Named(path)
     ) {
         say(rt, line.as_bytes());
@@ -87,7 +86,7 @@ fn say_later(rt: &HostRuntime, path: &str) {
 
 fn say_behind(rt: &HostRuntime, path: &str) {
     if let Ok(line) = format!(in rt.alloc();
-        "sunreg: {}: the clock stands before its last entry, so it is not carried yet: books go on in it until the next hour\n",
+        "sunreg: {}: the system clock is before its last entry: it is not carried yet, and stays in use until the next hour\n",
         Named(path)
     ) {
         say(rt, line.as_bytes());
@@ -96,7 +95,7 @@ fn say_behind(rt: &HostRuntime, path: &str) {
 
 fn say_alone(rt: &HostRuntime, path: &str) {
     if let Ok(line) = format!(in rt.alloc();
-        "sunreg: {}: energy is told of this file alone\n",
+        "sunreg: {}: energy figures cover this file only\n",
         Named(path)
     ) {
         say(rt, line.as_bytes());

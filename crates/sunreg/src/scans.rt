@@ -113,7 +113,7 @@ pub(crate) fn scan<'a>(
 
 fn wrong_name<'a>(rt: &HostRuntime, device: &str) -> Ending<'a> {
     match format!(in rt.alloc();
-        "error: invalid value '{device}' for '--setup <DEVICE>': not 1 to 9 letters, digits, _ and -, a letter first\n\nFor more information, try '--help'.\n"
+        "error: invalid value '{device}' for '--setup <DEVICE>': not 1 to 9 letters, digits, _ or -, starting with a letter\n\nFor more information, try '--help'.\n"
     ) {
         Ok(text) => Ending::Wrong(text),
         Err(_) => Ending::Failed(Failure::Memory),

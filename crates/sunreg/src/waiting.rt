@@ -2,7 +2,7 @@
 use std::io::{IsTerminal, Write};
 
 const WAITS: &[u8] =
-    b"sunreg: reads a script from this terminal, up to Ctrl-D; help is at: sunreg --help\n";
+    b"sunreg: reading a script from this terminal; end it with Ctrl-D, or see sunreg --help\n";
 
 /// Says that a script is read, where standard input is a terminal.
 pub(crate) fn say_waiting(rt: &HostRuntime) {

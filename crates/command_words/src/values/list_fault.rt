@@ -52,8 +52,8 @@ impl Display for DeviceFault {
             DeviceFault::Malformed => {
                 write!(f, "not NAME=HOST:PORT with a PORT from 1 to {MOST_PORT}")
             }
-            DeviceFault::Repeated => write!(f, "its NAME stands twice"),
-            DeviceFault::TooMany => write!(f, "one more than {MOST_DEVICES} devices"),
+            DeviceFault::Repeated => write!(f, "its NAME is used twice"),
+            DeviceFault::TooMany => write!(f, "more than {MOST_DEVICES} devices"),
         }
     }
 }
@@ -63,11 +63,8 @@ impl Error for DeviceFault {}
 impl<'a> Display for ListFault<'a> {
     fn fmt<W: fmt::Write>(&self, f: &mut Formatter<W>) -> fmt::Result {
         match self {
-            ListFault::Part { part, fault } => write!(
-                f,
-                "'{part}' is no device of the list: {fault}"
-            ),
-            ListFault::Memory => write!(f, "memory ran out"),
+            ListFault::Part { part, fault } => write!(f, "invalid device '{part}': {fault}"),
+            ListFault::Memory => write!(f, "out of memory"),
         }
     }
 }

@@ -8,32 +8,32 @@ use crate::meaning::Meaning;
 static NO_MARK: Meaning = Meaning {
     kind: Kind::ChainFault,
     number: 1,
-    means: "none of the bases 40000, 50000 and 0 has the mark SunS",
-    cause: "a device without SunSpec models, or one where they must be switched on",
-    remedy: "look in the device's settings for SunSpec, and at its unit; else write its point list by hand",
+    means: "no SunSpec models found: no mark SunS at 40000, 50000 or 0",
+    cause: "a device without SunSpec models, or one where they must be enabled",
+    remedy: "check the device's settings for SunSpec, and its unit identifier; otherwise write its point list by hand",
 };
 
 static UNREADABLE: Meaning = Meaning {
     kind: Kind::ChainFault,
     number: 2,
-    means: "the word at that address was not given",
+    means: "the word at that address is missing",
     cause: "an image that ends too early, or a device that didn't answer for that address",
-    remedy: "scan once more with a greater --timeout; of an image, give the words from that address on",
+    remedy: "scan again with a longer --timeout; in an image, add the words from that address on",
 };
 
 static PAST_END: Meaning = Meaning {
     kind: Kind::ChainFault,
     number: 3,
-    means: "the chain goes on past 65535",
-    cause: "a length of a model that is wrong",
+    means: "the chain extends past 65535",
+    cause: "a wrong length of a model",
     remedy: "compare the words at the last model with the device",
 };
 
 static TOO_MANY_MODELS: Meaning = Meaning {
     kind: Kind::ChainFault,
     number: 4,
-    means: "it has more than 64 models",
-    cause: "a chain without an end mark, whose words are taken for models",
+    means: "more than 64 models",
+    cause: "a chain without an end mark, whose next words are read as models",
     remedy: "compare the words at the last models with the device",
 };
 

@@ -8,40 +8,40 @@ use crate::meaning::Meaning;
 static ILLEGAL_FUNCTION: Meaning = Meaning {
     kind: Kind::Exception,
     number: 1,
-    means: "illegal function: the device doesn't have the request's function",
-    cause: "function 4 at a device that has only 3, or the other way round",
-    remedy: "give the other function, 3 or 4, in the point list and at the register",
+    means: "illegal function: the device doesn't support the request's function",
+    cause: "function 4 for a device that has only 3, or the other way round",
+    remedy: "use the other function, 3 or 4, in the point list and for the register",
 };
 
 static ILLEGAL_DATA_ADDRESS: Meaning = Meaning {
     kind: Kind::Exception,
     number: 2,
     means: "illegal data address: the device doesn't have all of the registers",
-    cause: "an address of another model, or counted from 1 in the maker's table",
-    remedy: "have the device scanned, and compare addresses; take 1 from those that are counted from 1",
+    cause: "an address of another model, or one that the manufacturer's table counts from 1",
+    remedy: "scan the device and compare addresses; subtract 1 from those that are counted from 1",
 };
 
 static ILLEGAL_DATA_VALUE: Meaning = Meaning {
     kind: Kind::Exception,
     number: 3,
-    means: "illegal data value: the device doesn't take so many registers",
-    cause: "a device that answers fewer registers at a time than the standard allows",
-    remedy: "have it asked for fewer at a time, by areas of its point list",
+    means: "illegal data value: the device doesn't return that many registers",
+    cause: "a device that returns fewer registers at a time than the standard allows",
+    remedy: "poll fewer registers at a time, by areas in the point list",
 };
 
 static DEVICE_FAILURE: Meaning = Meaning {
     kind: Kind::Exception,
     number: 4,
-    means: "server device failure: the device failed at it",
+    means: "server device failure: the device failed to process the request",
     cause: "a device that is starting, or out of order",
-    remedy: "wait for the next round; else look at the device",
+    remedy: "wait for the next round; otherwise check the device",
 };
 
 static ACKNOWLEDGE: Meaning = Meaning {
     kind: Kind::Exception,
     number: 5,
-    means: "acknowledge: the device will need long for it",
-    cause: "a device that is busy with what another program asked of it",
+    means: "acknowledge: the device needs a long time for the request",
+    cause: "a device that is busy with another program's request",
     remedy: "wait for the next round",
 };
 
@@ -49,8 +49,8 @@ static DEVICE_BUSY: Meaning = Meaning {
     kind: Kind::Exception,
     number: 6,
     means: "server device busy",
-    cause: "a device that is asked by several programs, or too often",
-    remedy: "have it asked less often, or by fewer programs",
+    cause: "a device that is polled by several programs, or too often",
+    remedy: "poll it less often, or from fewer programs",
 };
 
 static PARITY_ERROR: Meaning = Meaning {
@@ -58,15 +58,15 @@ static PARITY_ERROR: Meaning = Meaning {
     number: 8,
     means: "memory parity error",
     cause: "a device whose memory fails",
-    remedy: "look at the device",
+    remedy: "check the device",
 };
 
 static PATH_UNAVAILABLE: Meaning = Meaning {
     kind: Kind::Exception,
     number: 10,
-    means: "gateway path unavailable: the gateway doesn't reach that unit",
-    cause: "a wrong unit identifier, or a gateway that is set up wrongly",
-    remedy: "compare the unit of the device with the gateway's settings",
+    means: "gateway path unavailable: the gateway can't reach that unit",
+    cause: "a wrong unit identifier, or a misconfigured gateway",
+    remedy: "compare the device's unit identifier with the gateway's settings",
 };
 
 static TARGET_SILENT: Meaning = Meaning {
@@ -74,7 +74,7 @@ static TARGET_SILENT: Meaning = Meaning {
     number: 11,
     means: "gateway target device failed to respond",
     cause: "a device behind the gateway that is off, or a wrong unit identifier",
-    remedy: "see that the device is on, and compare its unit with the gateway's settings",
+    remedy: "check that the device is on, and compare its unit identifier with the gateway's settings",
 };
 
 /// What a device answers in place of registers, by the Modbus standard.

@@ -8,64 +8,64 @@ use crate::meaning::Meaning;
 static NOT_ACCUMULATED: Meaning = Meaning {
     kind: Kind::Held,
     number: 1,
-    means: "the device shows 0: not accumulated",
+    means: "the device reports 0: not accumulated",
     cause: "a device that doesn't count this energy, or that has just started",
-    remedy: "nothing where it passes; else book another counter, since the device doesn't have this one",
+    remedy: "nothing if it passes; otherwise book another counter, since the device doesn't have this one",
 };
 
 static SCALE_CHANGED: Meaning = Meaning {
     kind: Kind::Held,
     number: 2,
-    means: "the scale is another one",
-    cause: "a device whose settings or software were changed, or a wrong scale at installing",
-    remedy: "look at the device, and enter a rescale where its scale is another one for good",
+    means: "the scale changed",
+    cause: "changed settings or firmware of the device, or a wrong scale at installation",
+    remedy: "check the device, and enter a rescale if its scale has changed for good",
 };
 
 static READ_NOT_LATER: Meaning = Meaning {
     kind: Kind::Held,
     number: 3,
-    means: "the moment is not later",
-    cause: "two replies in one second, or a clock that was set back",
-    remedy: "nothing for one reading; else set the clock right",
+    means: "the time is not later than the last entry",
+    cause: "two responses in one second, or a clock that was set back",
+    remedy: "nothing for a single reading; otherwise correct the clock",
 };
 
 static READ_AFTER_TOO_LONG: Meaning = Meaning {
     kind: Kind::Held,
     number: 4,
-    means: "the step since the last entry would touch more than 3,000 quarter hours",
+    means: "the step since the last entry would span more than 3,000 quarter hours",
     cause: "a device that wasn't reached for more than 31 days",
-    remedy: "enter readings by hand for moments between, each at most 31 days after the one before",
+    remedy: "enter manual readings for times in between, at most 31 days apart",
 };
 
 static GAP_TOO_LONG: Meaning = Meaning {
     kind: Kind::Held,
     number: 5,
-    means: "so long since the last entry that the counter may have turned over unseen",
-    cause: "a gap in which the greatest power could have counted the whole range",
-    remedy: "enter a reading by hand, with as many ROLLS as the counter turned over in the gap",
+    means: "the counter may have rolled over unnoticed since the last entry",
+    cause: "a gap in which the maximum power could count through the whole range",
+    remedy: "enter a manual reading, and give the rollovers during the gap as ROLLS",
 };
 
 static TOO_FAST: Meaning = Meaning {
     kind: Kind::Held,
     number: 6,
     means: "more energy than the ceiling allows",
-    cause: "a ceiling that is too low, a counter that was set or exchanged, or a false reading",
-    remedy: "compare the reading with the meter: enter a reset or an exchange where the counter was changed, and one by hand where it is right",
+    cause: "a ceiling that is too low, a counter that was reset or exchanged, or a wrong reading",
+    remedy: "compare the reading with the meter: enter a reset or an exchange if the counter was changed, or a manual reading if it is right",
 };
 
 static READ_PAST_TOTAL: Meaning = Meaning {
     kind: Kind::Held,
     number: 7,
-    means: "the meter's energy would pass 4 * 10^18 mWh",
-    cause: "a false reading, or a wrong scale",
+    means: "the meter's total would exceed 4 * 10^18 mWh",
+    cause: "a wrong reading, or a wrong scale",
     remedy: "compare the reading and the scale with the meter",
 };
 
 static NOT_BELOW_RANGE: Meaning = Meaning {
     kind: Kind::Held,
     number: 8,
-    means: "the counter is at or past its range",
-    cause: "a RANGE at installing that is less than the counter's, or a false reading",
+    means: "the counter is at or above its range",
+    cause: "a RANGE at installation that is below the counter's, or a wrong reading",
     remedy: "exchange the meter for itself under a new name, with the right RANGE",
 };
 

@@ -8,17 +8,17 @@ use crate::meaning::Meaning;
 static BAD_REQUEST: Meaning = Meaning {
     kind: Kind::HttpFault,
     number: 400,
-    means: "the head, a header of it or the body is not well formed",
-    cause: "a body that is no JSON, a member that is missing, or no Office-Caller or Office-Request",
+    means: "the head, one of its headers or the body is malformed",
+    cause: "a body that is not JSON, a missing member, or no Office-Caller or Office-Request",
     remedy: "compare the request with the table in docs/HTTP.md",
 };
 
 static OTHER_SITE: Meaning = Meaning {
     kind: Kind::HttpFault,
     number: 403,
-    means: "a page of another site had a browser ask",
-    cause: "a link or a form of another site, or a page that tries to read this one's data",
-    remedy: "open the page of the office itself, and ask from there",
+    means: "the request comes from a page of another site",
+    cause: "a link or a form of another site, or a page that tries to read this site's data",
+    remedy: "open the office's own page, and use that",
 };
 
 static NO_ROUTE: Meaning = Meaning {
@@ -32,15 +32,15 @@ static NO_ROUTE: Meaning = Meaning {
 static OTHER_METHOD: Meaning = Meaning {
     kind: Kind::HttpFault,
     number: 405,
-    means: "the route has another method",
-    cause: "a GET of a command, or a POST of a question",
-    remedy: "post commands, and get questions",
+    means: "wrong method for this route",
+    cause: "a GET of a command, or a POST of a query",
+    remedy: "use POST for commands and GET for queries",
 };
 
 static NO_LENGTH: Meaning = Meaning {
     kind: Kind::HttpFault,
     number: 411,
-    means: "a command has no Content-Length",
+    means: "a command without Content-Length",
     cause: "a client that sends its body in chunks",
     remedy: "send the body with its length",
 };
@@ -50,21 +50,21 @@ static BODY_TOO_LARGE: Meaning = Meaning {
     number: 413,
     means: "the body is larger than 65,536 bytes",
     cause: "a point list with many points",
-    remedy: "leave the points out that aren't needed",
+    remedy: "remove the points that aren't needed",
 };
 
 static OTHER_HOST: Meaning = Meaning {
     kind: Kind::HttpFault,
     number: 421,
-    means: "its Host is none that may ask",
-    cause: "a name of this machine or of a proxy that was not told, or a page of the internet that tries to ask",
-    remedy: "ask by 127.0.0.1 or localhost, or give the name by --host-name",
+    means: "its Host is not accepted",
+    cause: "a name of this machine or of a proxy that is not configured, or a web page that tries to reach the office",
+    remedy: "use 127.0.0.1 or localhost, or add the name with --host-name",
 };
 
 static HEAD_TOO_LARGE: Meaning = Meaning {
     kind: Kind::HttpFault,
     number: 431,
-    means: "the head passes its limits",
+    means: "the head exceeds its limits",
     cause: "a head of more than 8,192 bytes or 64 headers, such as cookies of another page",
     remedy: "send fewer headers",
 };
@@ -72,9 +72,9 @@ static HEAD_TOO_LARGE: Meaning = Meaning {
 static TAKES_NO_COMMAND: Meaning = Meaning {
     kind: Kind::HttpFault,
     number: 503,
-    means: "no command is carried out: there is no room to keep it, or a file of the office is gone",
-    cause: "--most-kept is reached, or somebody moved or removed a file under a run",
-    remedy: "read what the run said on standard error, and start it again with a larger --most-kept, or with its files in place",
+    means: "no command is accepted: the space for stored commands is used up, or an office file is gone",
+    cause: "--most-kept is reached, or a file was moved or removed during a run",
+    remedy: "read what the run printed on standard error, then restart it with a larger --most-kept, or with its files in place",
 };
 
 /// What is wrong with a request by HTTP; its number is the reply's status.

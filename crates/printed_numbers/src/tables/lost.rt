@@ -9,31 +9,31 @@ static GONE: Meaning = Meaning {
     kind: Kind::Lost,
     number: 1,
     means: "the device closed the connection",
-    cause: "a device that restarted, or that takes fewer connections than it has",
-    remedy: "nothing where it answers again; else see which other programs are connected to it",
+    cause: "a device that restarted, or that accepts fewer connections than it has",
+    remedy: "nothing if it answers again; otherwise check which other programs are connected to it",
 };
 
 static GARBLED: Meaning = Meaning {
     kind: Kind::Lost,
     number: 2,
     means: "the stream was garbled",
-    cause: "a gateway or device whose frames are no Modbus TCP",
-    remedy: "see that the port speaks Modbus TCP; the device is connected anew at its next round",
+    cause: "a gateway or device whose frames are not Modbus TCP",
+    remedy: "check that the port speaks Modbus TCP; the device is reconnected at its next round",
 };
 
 static CONNECTION_FAILED: Meaning = Meaning {
     kind: Kind::Lost,
     number: 3,
     means: "the connection failed",
-    cause: "a network, gateway or device that was cut off",
-    remedy: "nothing where it answers again; else look at the cables, the gateway and the device",
+    cause: "an interrupted network, gateway or device",
+    remedy: "nothing if it answers again; otherwise check the cables, the gateway and the device",
 };
 
 static RESTART: Meaning = Meaning {
     kind: Kind::Lost,
     number: 4,
-    means: "the office was opened anew",
-    cause: "a program that was ended and started while the poll was pending",
+    means: "the office was reopened",
+    cause: "a program that was stopped and restarted while the poll was pending",
     remedy: "nothing: the next round polls again",
 };
 

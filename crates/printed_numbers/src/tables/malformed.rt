@@ -8,41 +8,41 @@ use crate::meaning::Meaning;
 static WRONG_FUNCTION: Meaning = Meaning {
     kind: Kind::Malformed,
     number: 1,
-    means: "the reply's function code is neither the request's nor that with its top bit set",
-    cause: "a gateway that mixes up the replies of its devices",
-    remedy: "look at the gateway, and see that no other program shares its connection",
+    means: "the response's function code doesn't match the request",
+    cause: "a gateway that mixes up the responses of its devices",
+    remedy: "check the gateway, and that no other program shares its connection",
 };
 
 static WRONG_LENGTH: Meaning = Meaning {
     kind: Kind::Malformed,
     number: 2,
-    means: "the reply is empty, or not as long as its function and byte count say",
-    cause: "a gateway or device that cuts its replies",
-    remedy: "have the device asked for fewer registers at a time, by areas of its point list, and look for newer software of it",
+    means: "the response is empty, or its length doesn't match its function and byte count",
+    cause: "a gateway or device that truncates its responses",
+    remedy: "poll fewer registers at a time, by areas in the point list, and update the device's firmware",
 };
 
 static WRONG_BYTE_COUNT: Meaning = Meaning {
     kind: Kind::Malformed,
     number: 3,
-    means: "its byte count is not what was asked for",
-    cause: "a device that answers with fewer registers than were asked for",
-    remedy: "have the device asked for fewer registers at a time, by areas of its point list",
+    means: "the response's byte count doesn't match the request",
+    cause: "a device that returns fewer registers than requested",
+    remedy: "poll fewer registers at a time, by areas in the point list",
 };
 
 static WRONG_ECHO: Meaning = Meaning {
     kind: Kind::Malformed,
     number: 4,
-    means: "the reply to a write does not repeat it; no poll writes",
+    means: "the response to a write doesn't repeat it; no poll writes",
     cause: "nothing that this program does, since no poll writes",
-    remedy: "see which program writes to the device",
+    remedy: "find out which program writes to the device",
 };
 
 static WRONG_UNIT: Meaning = Meaning {
     kind: Kind::Malformed,
     number: 5,
-    means: "it comes from another unit, which is looked at first",
-    cause: "a wrong unit identifier of the device, or a gateway that answers for another one",
-    remedy: "compare the unit of the device with its settings: often it is 1, 126 or 255",
+    means: "the response comes from another unit (checked first)",
+    cause: "a wrong unit identifier, or a gateway that answers for another device",
+    remedy: "compare the unit identifier with the device's settings: it is often 1, 126 or 255",
 };
 
 /// What is wrong with a reply.

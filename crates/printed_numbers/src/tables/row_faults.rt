@@ -8,73 +8,73 @@ use crate::meaning::Meaning;
 static NOT_SIX_FIELDS: Meaning = Meaning {
     kind: Kind::RowFault,
     number: 1,
-    means: "it has not six fields",
-    cause: "a comma or a quote too many, or semicolons in place of commas",
-    remedy: "give each row name,function,area,address,type,scale, where scale may be empty",
+    means: "the row doesn't have six fields",
+    cause: "an extra comma or quote, or semicolons instead of commas",
+    remedy: "write name,function,area,address,type,scale in each row, where scale may be empty",
 };
 
 static OTHER_HEADER: Meaning = Meaning {
     kind: Kind::RowFault,
     number: 2,
-    means: "it is the header, and another one: no more is read",
-    cause: "a list without a header, or with one of a spreadsheet's own",
+    means: "wrong header; the other rows are not read",
+    cause: "a list without a header, or with another one",
     remedy: "let row 1 be name,function,area,address,type,scale",
 };
 
 static BAD_NAME: Meaning = Meaning {
     kind: Kind::RowFault,
     number: 3,
-    means: "the name is none",
-    cause: "a blank, a sign, or more than 32 characters",
-    remedy: "let it have 1 to 32 letters, digits, _ and ., a letter first",
+    means: "invalid name",
+    cause: "a space, another sign, or more than 32 characters",
+    remedy: "use 1 to 32 letters, digits, _ and ., starting with a letter",
 };
 
 static DOUBLE_NAME: Meaning = Meaning {
     kind: Kind::RowFault,
     number: 4,
-    means: "an earlier row has the name",
+    means: "an earlier row has the same name",
     cause: "a point that is listed twice",
-    remedy: "take one of the two out, or give it another name",
+    remedy: "remove one of the two, or rename it",
 };
 
 static BAD_FUNCTION: Meaning = Meaning {
     kind: Kind::RowFault,
     number: 5,
-    means: "the function is none",
-    cause: "a register's number, as 40001, in place of its function",
-    remedy: "write 3 for holding registers and 4 for input registers",
+    means: "invalid function",
+    cause: "a register number, like 40001, instead of a function",
+    remedy: "write 3 for holding registers, or 4 for input registers",
 };
 
 static BAD_AREA: Meaning = Meaning {
     kind: Kind::RowFault,
     number: 6,
-    means: "the area is none",
+    means: "invalid area",
     cause: "an empty field",
-    remedy: "write a number from 0 to 255; 0 does where all points may be read together",
+    remedy: "write a number from 0 to 255; use 0 if all points may be read together",
 };
 
 static BAD_ADDRESS: Meaning = Meaning {
     kind: Kind::RowFault,
     number: 7,
-    means: "the address is none, or the point reaches past 65535",
-    cause: "an address in hex, or one that the maker counts from 400001",
+    means: "invalid address, or the point extends past 65535",
+    cause: "a hexadecimal address, or one that the manufacturer counts from 400001",
     remedy: "write the address as in the request, from 0 to 65535",
 };
 
 static BAD_TYPE: Meaning = Meaning {
     kind: Kind::RowFault,
     number: 8,
-    means: "the type is none",
-    cause: "a type of the maker's table, as float32 or U32",
+    means: "invalid type",
+    cause: "a type of the manufacturer's table, like float32 or U32",
     remedy: "write int16, uint16, enum16, int32, uint32, bitfield32, acc32, sunssf or string1 to string125",
 };
 
 static ROW_SCALE: Meaning = Meaning {
     kind: Kind::RowFault,
     number: 9,
-    means: "the scale is none",
-    cause: "a factor, as 0.1, in place of a power of ten, or a scale where the type takes none",
-    remedy: "leave it empty, or write -10 to 10 or the name of a sunssf point; only numbers that count or measure have one",
+    means: "invalid scale",
+    cause: "a factor, like 0.1, instead of a power of ten, or a scale for a type that has none",
+    remedy: "leave it empty, or write -10 to 10 or the name of a sunssf point; only int16, uint16, int32, uint32 and acc32 have one",
 };
 
 static NO_SUCH_SCALE: Meaning = Meaning {
@@ -88,7 +88,7 @@ static NO_SUCH_SCALE: Meaning = Meaning {
 static GROUP_TOO_WIDE: Meaning = Meaning {
     kind: Kind::RowFault,
     number: 11,
-    means: "it and its scale point differ in function or area, or span more than 125 registers",
+    means: "the point and its scale point differ in function or area, or span more than 125 registers",
     cause: "a scale point of another model",
     remedy: "name the scale point of the same model",
 };
@@ -96,9 +96,9 @@ static GROUP_TOO_WIDE: Meaning = Meaning {
 static TOO_MANY_ROWS: Meaning = Meaning {
     kind: Kind::RowFault,
     number: 12,
-    means: "it is the 513th below the header",
-    cause: "a list of all that a device has",
-    remedy: "leave the points out that aren't needed",
+    means: "more than 512 points",
+    cause: "a list of all the points of a device",
+    remedy: "remove the points that aren't needed",
 };
 
 /// What a row of a point list lacks.

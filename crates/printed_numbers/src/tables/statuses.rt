@@ -8,32 +8,32 @@ use crate::meaning::Meaning;
 static FINE: Meaning = Meaning {
     kind: Kind::Status,
     number: 0,
-    means: "all was carried out",
-    cause: "words and input that are right",
-    remedy: "nothing; a script may yet have lines that were refused, which its output tells",
+    means: "success",
+    cause: "valid arguments and valid input",
+    remedy: "nothing; a script may still have refused lines, which its output shows",
 };
 
 static REFUSED_INPUT: Meaning = Meaning {
     kind: Kind::Status,
     number: 1,
-    means: "a line fits no form, the input is too long, a point list or a chain has a fault, also of a device that was scanned, enter doubts a line or reads none, an audit tells differences, files that are told of as one don't join, or the office refused: its opening, or what round, report and carry asked (refused N)",
+    means: "a line is invalid, the input is too long, a point list or the chain of an image or device has a fault, enter doubts a line or can't read its counter, an audit finds differences, files named together don't join, or the office refused (refused N): its opening, or a request of round, report or carry",
     cause: "a mistyped line, or a name that the office doesn't have",
-    remedy: "look at the last line of standard output, and ask for its number here; where nothing is printed, at standard error",
+    remedy: "pass the number on the last line of standard output to sunreg explain; if nothing is printed, read standard error",
 };
 
 static WRONG_WORDS: Meaning = Meaning {
     kind: Kind::Status,
     number: 2,
-    means: "wrong words, or a text that is no POSIX time zone",
-    cause: "a misspelt command or option, or a value out of its range",
+    means: "invalid arguments, or a text that is not a POSIX time zone",
+    cause: "a misspelt command or option, or a value that is out of range",
     remedy: "read the message on standard error, and sunreg help COMMAND",
 };
 
 static FAILED: Meaning = Meaning {
     kind: Kind::Status,
     number: 3,
-    means: "a file, stream or socket failed, or memory outside the office (failed on standard error, and a line that says more)",
-    cause: "a file that isn't there, a port that is taken, or a device that isn't reached",
+    means: "a file, stream or socket failed, or memory ran out outside the office (failed on standard error, and a line that says more)",
+    cause: "a missing file, a port in use, or a device that can't be reached",
     remedy: "read the second line on standard error",
 };
 

@@ -32,19 +32,18 @@ impl Display for CopyFault {
     fn fmt<W: fmt::Write>(&self, f: &mut Formatter<W>) -> fmt::Result {
         f.write_str(match self {
             CopyFault::Exists =>
-                "there is a file of this name already, or one with -wal behind it: give another name",
+                "this file, or its log (-wal), already exists: choose another name",
             CopyFault::Unfinished =>
-                "a backup to it runs, or was cut off: then remove the file with .part behind this name",
+                "a backup to it is running, or was interrupted: then remove its .part file",
             CopyFault::Reserved =>
-                "names that end in -wal, -journal, -shm or .part belong to other files: give another name",
+                "names that end in -wal, -journal, -shm or .part are reserved: choose another name",
             CopyFault::Unwritable =>
-                "it can't be written: look at its folder's rights and the disk's room",
+                "can't write it: check its folder's permissions and the free disk space",
             CopyFault::Changing =>
-                "its log was moved into it while it was copied, so there is no backup: try again",
-            CopyFault::Torn =>
-                "it is no SQLite database, or a damaged one, so there is no backup of it",
-            CopyFault::NotOurs => "it holds no office, or one of a later program",
-            CopyFault::Memory => "memory ran out",
+                "its log was checkpointed during the copy, so no backup was made: try again",
+            CopyFault::Torn => "not an SQLite database, or damaged; no backup was made",
+            CopyFault::NotOurs => "not an office file, or made by a later version of sunreg",
+            CopyFault::Memory => "out of memory",
         })
     }
 }

@@ -65,24 +65,24 @@ pub fn say<W: Write>(ending: &Ending<'_>, errors: &mut W)
     let _said = match ending {
         Ending::Fine | Ending::Refused => Ok(()),
         Ending::Wrong(text) => errors.write_all(text.as_bytes()),
-        Ending::NoText => errors.write_all(b"error: the words are not in UTF-8\n"),
+        Ending::NoText => errors.write_all(b"error: the arguments are not valid UTF-8\n"),
         Ending::NoZone(zone) => write!(
             errors,
-            "error: invalid value '{zone}' for '--zone <TEXT>': no POSIX time zone, as UTC0 or CET-1CEST,M3.5.0,M10.5.0/3\n"
+            "error: invalid value '{zone}' for '--zone <TEXT>': not a POSIX time zone; Berlin is CET-1CEST,M3.5.0,M10.5.0/3\n"
         ),
         Ending::NoDay { option, word } => write!(
             errors,
-            "error: invalid value '{word}' for '--{option} <DAY>': no day, as 2026-11-25\n"
+            "error: invalid value '{word}' for '--{option} <DAY>': not a calendar date (like 2026-11-25)\n"
         ),
         Ending::Backward => errors.write_all(b"error: '--till <DAY>' is before '--from <DAY>'\n"),
         Ending::NoSeal(file) => write!(
             errors,
-            "error: invalid value '{}' for '--against <SEAL>': no seal, as sunreg audit --seal prints it\n",
+            "error: invalid value '{}' for '--against <SEAL>': not a seal that sunreg audit --seal printed\n",
             Named(*file)
         ),
         Ending::Twice(file) => write!(
             errors,
-            "error: invalid value '{}' for '--db <FILE>': it stands twice\n",
+            "error: invalid value '{}' for '--db <FILE>': given twice\n",
             Named(*file)
         ),
         Ending::Failed(failure) => write!(errors, "failed\nsunreg: {failure}\n"),

@@ -99,17 +99,17 @@ pub enum Failure<'a> {
 impl<'a> Display for Failure<'a> {
     fn fmt<W: fmt::Write>(&self, f: &mut Formatter<W>) -> fmt::Result {
         match self {
-            Failure::Memory => write!(f, "memory ran out"),
+            Failure::Memory => write!(f, "out of memory"),
             Failure::Streams => write!(
                 f,
-                "standard input can't be read, standard output can't be written, or memory ran out"
+                "can't read standard input, can't write standard output, or out of memory"
             ),
             Failure::Port { host, port } => write!(
                 f,
-                "port {port} of {host} can't be listened on: is it taken, or is the host another's?"
+                "can't listen on port {port} of {host}: in use, or not an address of this machine"
             ),
-            Failure::Loopback => write!(f, "127.0.0.1 can't be listened on"),
-            Failure::Listening => write!(f, "no more connections can be accepted"),
+            Failure::Loopback => write!(f, "can't listen on 127.0.0.1"),
+            Failure::Listening => write!(f, "can't accept more connections"),
             Failure::File {
                 path,
                 fault: FileFault::Log(fault),
@@ -117,7 +117,7 @@ impl<'a> Display for Failure<'a> {
                 let path = Named(*path);
                 write!(
                     f,
-                    "{path}: its log {path}-wal {fault}, so commits would be lost, and nothing was changed: restore a backup, or run sunreg recover --db {path} --to NEW"
+                    "{path}: its log {path}-wal {fault}. Opening it would lose commits, so nothing was changed: restore a backup, or run sunreg recover --db {path} --to NEW"
                 )
             }
             Failure::File { path, fault } => {
@@ -133,29 +133,26 @@ impl<'a> Display for Failure<'a> {
                 let path = Named(*path);
                 write!(
                     f,
-                    "{path}: it isn't empty, though it has no tables: an office's may stand in its log: give a new file"
+                    "{path}: not empty, but it has no tables; they may be in its log: choose a new file"
                 )
             }
             Failure::Bare { path } => {
                 let path = Named(*path);
                 write!(
                     f,
-                    "{path}: it has no tables: an office's may stand in the log that belongs to it, {path}-wal: give both, or a backup"
+                    "{path}: it has no tables; they may be in its log, {path}-wal: use both files, or a backup"
                 )
             }
             Failure::LogAlone { path } => {
                 let path = Named(*path);
                 write!(
                     f,
-                    "{path}: it is missing or empty, and its log {path}-wal is not: give the file that belongs to it, or remove the log"
+                    "{path}: missing or empty, but its log {path}-wal is not: restore the file of this log, or remove the log"
                 )
             }
             Failure::Undamaged { path } => {
                 let path = Named(*path);
-                write!(
-                    f,
-                    "{path}: its log isn't damaged: sunreg backup copies it whole"
-                )
+                write!(f, "{path}: its log isn't damaged: use sunreg backup")
             }
             Failure::Uncopied { path, fault } => {
                 let path = Named(*path);
@@ -173,28 +170,28 @@ impl<'a> Display for Failure<'a> {
             }
             Failure::Unconnected { host, port } => write!(
                 f,
-                "port {port} of {host} isn't answered: does the device run, and is this its address?"
+                "nothing answers at port {port} of {host}: is the device on, and is this its address?"
             ),
             Failure::Unscanned { host, port, fault } => write!(
                 f,
-                "port {port} of {host} can't be scanned: {fault}"
+                "can't scan port {port} of {host}: {fault}"
             ),
             Failure::Broken { host, port } => write!(
                 f,
-                "the connection to port {port} of {host} failed in the round; what was booked stays"
+                "the connection to port {port} of {host} failed during the round; booked energy is kept"
             ),
             Failure::Endless { host, port } => write!(
                 f,
-                "port {port} of {host} sent on and on without answering; what was booked stays"
+                "port {port} of {host} sent endless data, but no valid response; booked energy is kept"
             ),
             Failure::Host { host } => write!(
                 f,
-                "no address is found for {host}: is it right, and can names of hosts be looked up here?"
+                "can't resolve {host}: check the host name and this machine's DNS"
             ),
-            Failure::Sockets => write!(f, "the system can't tell which sockets are ready"),
+            Failure::Sockets => write!(f, "waiting for sockets failed"),
             Failure::Stopped => write!(
                 f,
-                "the office has stopped, since its file or memory failed: look at the disk, and start again"
+                "the office stopped because its file failed or memory ran out: check the disk, then restart"
             ),
         }
     }
@@ -205,11 +202,11 @@ impl<'a> Error for Failure<'a> {}
 // Why the tables of an office were not made, and what to do.
 fn why_unmade(fault: OpenFault) -> &'static str {
     match fault {
-        OpenFault::NotOurs => "it has tables already: give another file, or leave out create",
+        OpenFault::NotOurs => "already has tables: skip create, or choose another file",
         OpenFault::Zone =>
-            "the zone is no POSIX time zone, such as UTC0 or CET-1CEST,M3.5.0,M10.5.0/3",
-        OpenFault::Store => "the tables can't be written: look at its rights and the disk's room",
-        OpenFault::Memory => "memory ran out",
+            "the zone is not a POSIX time zone; Berlin is CET-1CEST,M3.5.0,M10.5.0/3",
+        OpenFault::Store => "can't write the tables: check its permissions and the free disk space",
+        OpenFault::Memory => "out of memory",
     }
 }
 
@@ -217,11 +214,11 @@ fn why_unmade(fault: OpenFault) -> &'static str {
 fn why_unopened(fault: OpenFault) -> &'static str {
     match fault {
         OpenFault::NotOurs =>
-            "it holds no office, or one of a later program: sunreg create makes one in a new file",
+            "not an office file, or made by a later version of sunreg; sunreg create makes a new one",
         OpenFault::Zone =>
-            "the zone in its table meta is no POSIX time zone: give a copy that is whole",
-        OpenFault::Store => "the database in it failed: look at its rights and the disk's room",
-        OpenFault::Memory => "memory ran out",
+            "the zone in its table meta is not a POSIX time zone: use an intact copy",
+        OpenFault::Store => "the database failed: check its permissions and the free disk space",
+        OpenFault::Memory => "out of memory",
     }
 }
 
@@ -229,17 +226,17 @@ fn why_unopened(fault: OpenFault) -> &'static str {
 fn why_unaudited(fault: AuditFault) -> &'static str {
     match fault {
         AuditFault::NotOurs =>
-            "it holds no office, or one of a later program: give the office's file, or its copy",
+            "not an office file, or made by a later version of sunreg: use the office file or a backup",
         AuditFault::Earlier =>
-            "its tables are an earlier program's: let sunreg report open it once, or a copy that sunreg backup made",
+            "made by an earlier version of sunreg: open it, or a backup of it, once with sunreg report",
         AuditFault::Unsealable =>
-            "a row has a value or a name that no seal can have: sunreg audit without --seal tells which",
+            "a row has a value or a name that a seal can't contain: sunreg audit without --seal shows which",
         AuditFault::NoText =>
-            "a name in it, or its zone, is no text: give the office's file, or its copy",
-        AuditFault::NoSeal => "it is no seal: give what sunreg audit --seal printed",
-        AuditFault::Unread => "the seal can't be read: look at its name and its rights",
-        AuditFault::Store => "the database in it failed: look at its rights and the disk's room",
-        AuditFault::Memory => "memory ran out",
-        AuditFault::Output => "standard output can't be written",
+            "a name in it, or its zone, is not text: use the office file or a backup",
+        AuditFault::NoSeal => "not a seal: use the output of sunreg audit --seal",
+        AuditFault::Unread => "can't read the seal file: check its name and permissions",
+        AuditFault::Store => "the database failed: check its permissions and the free disk space",
+        AuditFault::Memory => "out of memory",
+        AuditFault::Output => "can't write standard output",
     }
 }

@@ -46,16 +46,15 @@ impl FileFault {
 impl Display for FileFault {
     fn fmt<W: fmt::Write>(&self, f: &mut Formatter<W>) -> fmt::Result {
         f.write_str(match self {
-            FileFault::Missing => "there is no such file: sunreg create makes it",
-            FileFault::Busy => "another process has it open: end that one first",
+            FileFault::Missing => "file not found; make it with sunreg create",
+            FileFault::Busy => "in use by another process: stop that process first",
             FileFault::NoDatabase =>
-                "it is no SQLite database, or a damaged one: give the office's file, or its copy",
+                "not an SQLite database, or damaged: use the office file or a backup",
             FileFault::Unreadable =>
-                "it can't be opened, read or written: look at its rights, its folder's, and the disk's room",
-            FileFault::Irregular => "it is no regular file: give the office's file",
-            FileFault::Log(_) =>
-                "the log beside it is damaged: restore a backup, or run sunreg recover",
-            FileFault::Memory => "memory ran out",
+                "can't open, read or write it: check its permissions, its folder's, and the free disk space",
+            FileFault::Irregular => "not a regular file: use the office file",
+            FileFault::Log(_) => "its log is damaged: restore a backup, or run sunreg recover",
+            FileFault::Memory => "out of memory",
         })
     }
 }

@@ -43,7 +43,7 @@ impl Display for LogFault {
             LogFault::Header => write!(f, "has a damaged header"),
             LogFault::Count => write!(f, "is damaged"),
             LogFault::Commits { at } => write!(f, "is damaged at byte {at}"),
-            LogFault::Memory => write!(f, "can't be checked: memory ran out"),
+            LogFault::Memory => write!(f, "can't be checked: out of memory"),
         }
     }
 }

@@ -42,7 +42,7 @@ static COUNTERS: [Counter; 9] = counters![
 ];
 
 const HINT: &str =
-    "# An install line needs the greatest power that can flow, in W, in place of CEILING, and no # in front.\n";
+    "# Install lines: remove the # and replace CEILING by the maximum power in watts.\n";
 
 /// The lines `N device ..`, `N list ..`, and for each present energy counter `N register ..` and, as a comment, `N install ..`
 /// with what it shows. N is counted from 1. A counter of one phase stands in comments alone. The list's text is in hex.
