@@ -221,7 +221,7 @@ def see_site(tab, office, origin):
         "barn": "Last reading 13:53 (12 minutes ago)",
         "attic": "No reading since sunreg started",
         "grid": "No reading since 09:14",
-        "inv": "Online. Last reading 14:04 Reading now...",
+        "inv": "Online. Last reading 14:04. Reading now...",
         "roof-2": "No reading since sunreg started",
     })
     for register in ("main", "import", "old", LONG):

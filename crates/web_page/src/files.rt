@@ -612,7 +612,7 @@ function deviceParts() {
     const device = status.devices.find((it) => it.name === name);
     const [kind, text] = stateOf(device);
     const registers = site.registers.filter((it) => it.device === name);
-    const going = device && device.connected ? " Reading now..." : "";
+    const going = device && device.connected ? ". Reading now..." : "";
     return [
       make("h2", {}, name || "Device with an invalid name"),
       make("p", {}, make("span", { class: `state ${kind}` }, text), going),
