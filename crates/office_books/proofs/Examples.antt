@@ -51,7 +51,7 @@ all_rows : rows_within All (rows_of_meter facts m1) ≡ in_first ∷ in_second �
 unfolding unit_of
 all_rows = refl
 
--- The quarter hour that starts at `from` is included, and a quarter hour that starts at `till` is not.
+-- A quarter hour that starts at `from` is included, and one at `till` is not.
 from_the_start : rows_within (Between 900 1800) (rows_of_meter facts m1) ≡ in_first ∷ []
 unfolding unit_of
 from_the_start = refl
