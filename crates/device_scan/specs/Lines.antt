@@ -135,8 +135,7 @@ abbrev pub OnlyInquires : {X E : Type 0} → (unit : ℕ) → Result X E
 OnlyInquires unit result old new =
     (inquiries : List Inquiry) × GotText result (flat_map (inquiry_frame unit) inquiries) old new
 
--- Whether a scan failed because of its connection. `is_gone`, below: because the device closed the
--- connection.
+-- The scan ended because a read or a write of the link failed.
 abbrev pub has_failed : {X : Type 0} → Result X ScanFault → Bool
 has_failed (Ok x) = false
 has_failed (Err Gone) = false
@@ -144,6 +143,7 @@ has_failed (Err Failed) = true
 has_failed (Err Garbled) = false
 has_failed (Err Memory) = false
 
+-- The scan ended because the device closed the connection.
 abbrev pub is_gone : {X : Type 0} → Result X ScanFault → Bool
 is_gone (Ok x) = false
 is_gone (Err Gone) = true

@@ -8,8 +8,8 @@ use std::alloc::Global;
 use std::process::Abort;
 use sun_points::{PointType, Scale};
 
-// A point at address 0, whose type may or may not have a scale. Then the name of its scale point, and
-// the address of the sunssf point `s`.
+// A point at address 0, whose type may or may not have a scale. Then the name of its scale point,
+// and the address of the sunssf point `s`.
 struct Group {
     takes_scale: bool,
     scale: &'static str,

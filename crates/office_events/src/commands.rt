@@ -133,6 +133,7 @@ pub struct VoidEntry {
     pub place: u64,
 }
 
+/// A command for the office.
 #[derive(Drop)]
 pub enum Command {
     AddDevice(AddDevice),

@@ -62,8 +62,8 @@ reaches_past _ _ = false
 abbrev pub is_fixed_scale : List ℕ → Bool
 is_fixed_scale field = is_some (fixed_scale_of field)
 
--- A scale that is not empty, not a number from -10 to 10 and not a name, or that belongs to a type
--- without a scale.
+-- An invalid scale: a text that is no number from -10 to 10 and no name, or any text for a type
+-- without a scale. An empty field is valid.
 abbrev pub is_bad_scale : List ℕ → Option PointType → Bool
 is_bad_scale [] kind = false
 is_bad_scale (first ∷ rest) kind =

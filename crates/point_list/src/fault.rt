@@ -118,18 +118,21 @@ impl Model for FaultyRows {
 }
 
 impl FaultyRows {
+    /// Creates the list of faulty rows.
     pub fn new(rows: Vec<FaultyRow>) -> Self
         ensures { result ≡ rows.items }
     {
         FaultyRows { rows }
     }
 
+    /// Returns the faulty rows.
     pub fn rows(&self) -> &[FaultyRow]
         ensures { result.now ≡ self.now }
     {
         self.rows.as_slice()
     }
 
+    /// Returns the faulty rows as a vector.
     pub fn into_rows(self) -> Vec<FaultyRow>
         ensures { result.items ≡ self }
     {

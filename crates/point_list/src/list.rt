@@ -49,6 +49,7 @@ impl PointList {
         PointList { points }
     }
 
+    /// Returns the points, in the order of the list.
     pub fn points(&self) -> &[ListedPoint]
         ensures points { result.now ≡ self.now }
         ensures lawful { IsPointList self.now }
@@ -56,6 +57,7 @@ impl PointList {
         self.points.as_slice()
     }
 
+    /// Returns the points, and consumes the list.
     pub fn into_points(self) -> Vec<ListedPoint>
         ensures points { result.items ≡ self }
         ensures lawful { IsPointList self }

@@ -68,6 +68,7 @@ impl PointName {
         PointName { bytes }
     }
 
+    /// Returns the bytes of the name.
     pub fn as_bytes(&self) -> &[u8]
         ensures bytes { result.now ≡ self.now }
         ensures lawful { IsTrue (is_name self.now) }
@@ -75,6 +76,7 @@ impl PointName {
         self.bytes.as_slice()
     }
 
+    /// Returns the bytes of the name, and consumes it.
     pub fn into_bytes(self) -> Vec<u8>
         ensures bytes { result.items ≡ self }
         ensures lawful { IsTrue (is_name self) }

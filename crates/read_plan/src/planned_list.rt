@@ -39,6 +39,7 @@ impl PlannedList {
         Ok(PlannedList { list, reads })
     }
 
+    /// Returns the points, in the order of the list.
     pub fn points(&self) -> &[ListedPoint]
         ensures points { result.now ≡ self.now.points }
         ensures planned { IsPlanned self.now }

@@ -28,6 +28,7 @@ pub struct NamedPoint<'a> {
 }
 
 impl<'a> NamedPoint<'a> {
+    /// Returns the name of the point in its model.
     pub fn name(&self) -> &'a str
         ensures { result.now ≡ (seen self.now).name }
     {
@@ -41,12 +42,14 @@ impl<'a> NamedPoint<'a> {
         self.address
     }
 
+    /// Returns the type of the point.
     pub fn ty(&self) -> PointType
         ensures { result ≡ (seen self.now).ty }
     {
         self.ty.point_type()
     }
 
+    /// Returns the value of the point, without its scale.
     pub fn value(&self) -> Point<'a>
         ensures { point_seen result ≡ (seen self.now).value }
     {

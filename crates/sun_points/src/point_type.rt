@@ -23,10 +23,13 @@ impl Model for TextLength {
 }
 
 impl TextLength {
+    /// A text of 8 registers.
     pub const EIGHT: TextLength = TextLength { registers: 8 };
 
+    /// A text of 16 registers.
     pub const SIXTEEN: TextLength = TextLength { registers: 16 };
 
+    /// Creates a length of 1 to 125 registers.
     pub fn new(registers: u16) -> Option<Self>
         ensures lawful { IsSome result ↔ ((1 ≤ registers) × (registers ≤ 125)) }
         ensures value { IfSome result (λ length. length ≡ registers) }
@@ -38,6 +41,7 @@ impl TextLength {
         }
     }
 
+    /// Returns the number of registers.
     pub fn registers(self) -> u16
         ensures value { result ≡ self }
         ensures some { 1 ≤ result }

@@ -38,6 +38,7 @@ impl Scale {
         }
     }
 
+    /// Returns the power of ten, -10 to 10.
     pub fn exponent(self) -> i8
         ensures value { result ≡ self }
         ensures low { negsuc 9 ≤ℤ result }
