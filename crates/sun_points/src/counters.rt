@@ -10,8 +10,8 @@ pub fn acc32(high: u16, low: u16) -> u32
     u32::from(high) * 65536 + u32::from(low)
 }
 
-/// Returns the power of ten in a sunssf register, which may be any of 16 bits. The word 0x8000 ("not
-/// implemented") counts as 0.
+/// Returns the power of ten in a sunssf register, which may be any of 16 bits. The word 0x8000
+/// ("not implemented") counts as 0.
 pub fn sunssf(word: u16) -> i16
     ensures { result ≡ scale_value word }
 {
