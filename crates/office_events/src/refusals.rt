@@ -56,7 +56,7 @@ pub enum Refusal {
     ClockBack,
     /// A scale is not from -3 to 3.
     BadScale,
-    /// The count is lower than the last one, without a rollover.
+    /// The count is lower than the last one, also with its rollovers.
     NegativeStep,
     /// The last entry has the same timestamp or a later one.
     NotLater,

@@ -156,11 +156,11 @@ fn too_many(alloc: Global) -> Result<FaultyRows, AllocError>
     Ok(FaultyRows::new(rows))
 }
 
-/// Returns the list of all points that the models of a chain have, model by model. The list
+/// Returns the list of the points of a chain's models that were read, model by model. The list
 /// includes points without a value (`Absent`).
 /// A point is named `m`, the model's number in the chain from 1, `.` and the point's name in the
-/// model. It is read with function 3, in area 0. Its scale is the scale point of its model, if the
-/// model has that point, else empty. More than 512 points are reported as `TooMany` on row 514.
+/// model. It is read with function 3, in area 0. Its scale is its scale point, if that was read
+/// too, else empty. More than 512 points are reported as `TooMany` on row 514.
 pub fn from_chain(alloc: Global, chain: &Chain<'_>) -> Result<PointList, ListFault>
     ensures list { IfOk result (λ list. list ≡ points_of_chain chain.now) }
     ensures faults { IfErr result (ExplainsList (chain_faults (points_of_chain chain.now))) }

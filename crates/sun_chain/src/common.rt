@@ -8,7 +8,8 @@ use crate::chain::Chain;
 use crate::model::Model;
 use sun_points::{Point, PointType, Text, TextLength, read_point};
 
-/// The fields of a device's first common model. A text that is absent or was not read is empty.
+/// The fields of a device's first common model. A text that is absent, outside the model or not
+/// read is empty.
 #[derive(Clone, Copy, Debug, PartialEq, Eq)]
 pub struct Common<'a> {
     pub manufacturer: Text<'a>,

@@ -23,7 +23,8 @@ impl Model for Scale {
 }
 
 impl Scale {
-    /// Returns the scale factor of a sunssf register. The word 0x8000 ("not implemented") gives 0.
+    /// Returns the scale factor of a sunssf register, or `None` if it is not from -10 to 10. The
+    /// word 0x8000 ("not implemented") gives 0.
     pub fn new(word: u16) -> Option<Self>
         ensures { result ≡ scale_of word }
     {
