@@ -1,4 +1,5 @@
-//! Figures that are updated with each record, so that no query reads all records.
+//! Figures that are updated with each record, so that the queries for them need not read all
+//! records.
 ghost use Rattle.std.specs.Prelude.{◌<◌, ◌∷◌, List, [], length};
 ghost use Rattle.office_events.specs.declared.facts.Fact.{Fact};
 ghost use Rattle.memory_books.specs.Figures.{AreFigures, CountOn, most_facts};

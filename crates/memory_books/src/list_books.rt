@@ -18,8 +18,8 @@ use office_events::{
 use std::alloc::{AllocError, Global};
 
 /// A store in memory: a list of the records in the order in which they were added, with tables and
-/// figures. The store has no storage, so it never returns `BooksFault::Store`. A call fails only
-/// for lack of memory. It then changes nothing but notes the failure.
+/// figures. It has no file or database, so it never returns `BooksFault::Store`. A call fails only
+/// for lack of memory. It then changes no record, and notes the failure.
 #[derive(Drop)]
 pub struct ListBooks {
     facts: Vec<Fact>,

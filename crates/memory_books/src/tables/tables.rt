@@ -67,8 +67,8 @@ impl Tables {
         }
     }
 
-    /// Adds the records that the tables have not reached. If memory runs out, each table has
-    /// reached some of them.
+    /// Adds the records that the tables have not reached. If memory runs out, a table may still
+    /// lack some of them.
     pub fn catch_up(&mut self, facts: &[Fact]) -> Result<(), AllocError>
         ensures kept { AreLawful (latest_first facts.now) → HaveCome self.old facts.now
             → HaveCome self.new facts.now }
