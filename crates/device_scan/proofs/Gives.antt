@@ -1,4 +1,4 @@
--- Texts that a link was given, one after the other.
+-- Texts that a link received, one after another.
 use Rattle.std.proofs.Common.{ℕ, List, [], ◌++◌, Option, None, Some, Result, Ok, Err, sym, ap, ◌∙◌, append-nil, append_assoc}
 use Rattle.std.proofs.KnownBytes.{Appends-trans, Appends-kept}
 use Rattle.std.specs.Io.KnownBytes.{Appends, Keeps}
@@ -13,12 +13,12 @@ part_after a b c x y first second = (
   Appends-trans a b c x second.0 first second.3,
 )
 
--- a text was got, and then another or a part of it
+-- The link received a text, and then another text or a part of it.
 pub got_both : {X E : Type 0} (result : Result X E) (a b c : Option (List ℕ)) (x y : List ℕ) → Appends a b x → GotText result y b c → GotText result (x ++ y) a c
 got_both (Ok done) a b c x y first second = Appends-trans a b c x y first second
 got_both (Err error) a b c x y first second = part_after a b c x y first second
 
--- what was given whole was got, and of what was not, a part
+-- Of a failed write the link received a part, of any other write everything.
 pub got_of : {X E : Type 0} (result : Result X E) (a b : Option (List ℕ)) (bytes : List ℕ) → Gives result a b bytes → GotText result bytes a b
 got_of (Ok done) a b bytes gives = gives
 got_of (Err error) a b bytes gives = (gives.part, gives.unsent, gives.whole, gives.given)
@@ -28,7 +28,7 @@ kept_nothing None b kept = tt
 kept_nothing (Some xs) None kept = absurd kept
 kept_nothing (Some xs) (Some ys) kept = kept ∙ sym (append-nil xs)
 
--- nothing more was given
+-- The link received nothing more.
 pub got_kept : {X E : Type 0} (result : Result X E) (a b c : Option (List ℕ)) (x : List ℕ) → Appends a b x → Keeps b c → GotText result x a c
 got_kept (Ok done) a b c x got kept = Appends-kept a b c x got kept
 got_kept (Err error) a b c x got kept = (x, [], sym (append-nil x), Appends-kept a b c x got kept)

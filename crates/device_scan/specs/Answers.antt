@@ -1,4 +1,4 @@
--- What a device answers to a read that is asked for once: a try.
+-- The result of a try: one request for registers, and the frames that follow.
 use Rattle.std.specs.Prelude.{ℕ, ◌==◌, ◌&&◌, Bool, if◌then◌else◌, List, [], ◌∷◌, Vec, find, Ok, Err, Some, None, option_map}
 use Rattle.std.specs.declared.option.Option.{Option}
 use Rattle.std.specs.declared.result.Result.{Result}
@@ -10,24 +10,25 @@ use Rattle.mb_wire.specs.Spans.{Span, request_of, span_view}
 use Rattle.mb_wire.specs.declared.replies.ReplyFault.{ReplyFault}
 use Rattle.device_scan.specs.declared.tries.Try.{Try}
 
--- a transaction identifier, the unit that is asked, and the registers that are asked for
+-- A request: its transaction identifier, the unit identifier, and the requested registers.
 pub record Ask : Type 0 where
   pub id : ℕ
   pub unit : ℕ
   pub span : Span
 
+-- The request that a `Try` of the program represents.
 abbrev pub ask_of : Try → Ask
 ask_of attempt = record { id = attempt.id; unit = attempt.unit; span = span_view attempt.span }
 
--- the frame of its request
+-- The frame of the request.
 abbrev pub request_frame : Ask → List ℕ
 request_frame ask = spelling ask.id ask.unit (request_bytes (request_of ask.span))
 
--- a frame of Modbus that has the identifier
+-- A Modbus frame (protocol identifier 0) with the request's transaction identifier.
 abbrev pub is_reply : Ask → List ℕ → Bool
 is_reply ask frame = protocol_of frame == 0 && tid_of frame == ask.id
 
--- registers: an exception brings none, nor does what is no reply to the request
+-- The registers of a decoded response. An exception has none, and neither has a fault.
 abbrev pub brought : Result Answer ReplyFault → Option (List ℕ)
 brought (Ok (Bits bits)) = None
 brought (Ok (Words words)) = Some words
@@ -35,34 +36,36 @@ brought (Ok Echo) = None
 brought (Ok (Exception code)) = None
 brought (Err fault) = None
 
--- what a reply brings, from the unit that was asked
+-- The registers that a response brings, if the requested unit sent it.
 abbrev pub words_in : Ask → Fields → Option (List ℕ)
 words_in ask fields =
     if fields.unit == ask.unit
     then brought (answer_in (query_of (request_of ask.span)) fields.pdu)
     else None
 
--- the first reply among frames settles the try: it brings words, or none
+-- The first response among frames settles the try, with words or without.
 abbrev pub settled : Ask → List (List ℕ) → Option (Option (List ℕ))
 settled ask frames =
     option_map (λ frame. words_in ask (fields_of frame)) (find (is_reply ask) frames)
 
--- what was heard first
+-- The first of two results that exists.
 abbrev pub first_of : {X : Type 0} → Option X → Option X → Option X
 first_of None next = next
 first_of (Some x) next = Some x
 
--- what the types of the program stand for
+-- The model of the program's types: the items of a vector.
 abbrev pub items_of : {Z : Type 0} → Vec ℕ Z → List ℕ
 items_of words = words.items
 
+-- The words of a result, as a list.
 abbrev pub words_seen : {Z : Type 0} → Option (Vec ℕ Z) → Option (List ℕ)
 words_seen words = option_map items_of words
 
+-- The words of a result that may not exist yet.
 abbrev pub seen : {Z : Type 0} → Option (Option (Vec ℕ Z)) → Option (Option (List ℕ))
 seen heard = option_map words_seen heard
 
--- the frame that a reader holds, if it holds one
+-- The frame that a reader holds, if any.
 abbrev pub frames_held : Option (List ℕ) → List (List ℕ)
 frames_held None = []
 frames_held (Some frame) = frame ∷ []

@@ -1,4 +1,4 @@
--- What a counter of a device shows, by one read.
+-- The count and the scale that one read of a device's counter shows.
 use Rattle.std.specs.Prelude.{◌≡◌, ℕ, ℤ, pos, negsuc, ◌+◌, ◌-◌, ◌==◌, ◌&&◌, nat_le, int_le, min, max, Bool, if◌then◌else◌, List, slice_index, Some, None, option_and_then}
 use Rattle.std.specs.Option.{option_map}
 use Rattle.std.specs.declared.option.Option.{Option}
@@ -13,63 +13,66 @@ use Rattle.device_scan.specs.declared.counter.CounterScale.{CounterScale}
 use Rattle.device_scan.specs.declared.counter.CounterScale.TheVariants.{Fixed, Register}
 use Rattle.device_scan.specs.declared.counter.Shown.{Shown}
 
--- the first of a counter's two registers and that of its scale, and the address after the last of them
+-- The first address of the registers of a counter and its scale.
 abbrev pub first_register : (address : ℕ) → CounterScale → ℕ
 first_register address (Fixed sf) = address
 first_register address (Register at) = min address at
 
+-- The address after the last register of a counter and its scale.
 abbrev pub end_register : (address : ℕ) → CounterScale → ℕ
 end_register address (Fixed sf) = address + 2
 end_register address (Register at) = max (address + 2) (at + 1)
 
--- all registers from one address up to another, where one read can bring them
+-- All registers from `first` to before `end`, if one read can bring them.
 abbrev pub span_between : ReadFunction → (first end : ℕ) → Option Span
 span_between function first end =
     if nat_le (end - first) MAX_READ_REGISTERS && nat_le end ADDRESSES
     then Some (record { function = function; address = first; count = end - first })
     else None
 
--- the registers that are asked for
+-- The registers that a read of the counter requests, if one read can bring them.
 abbrev pub counter_span : ReadFunction → (address : ℕ) → CounterScale → Option Span
 counter_span function address scale =
     span_between function (first_register address scale) (end_register address scale)
 
--- the word at an address, among those from the first address on
+-- The word at an address, among words that begin at address `first`.
 abbrev pub word_at : (first : ℕ) → List ℕ → (address : ℕ) → ℕ
 word_at first words address = slice_index words (address - first)
 
--- a counter's scale is from -3 to 3
+-- The scales that a counter may have, -3 to 3.
 abbrev pub is_allowed : ℤ → Bool
 is_allowed sf = int_le (negsuc 2) sf && int_le sf (pos 3)
 
+-- The scale, if a counter may have it.
 abbrev pub allowed : ℤ → Option ℤ
 allowed sf = if is_allowed sf then Some sf else None
 
--- the register of a scale that is not implemented tells none
+-- The scale in a sunssf register. A register that is not implemented gives no scale.
 abbrev pub told : (word : ℕ) → Option ℤ
 told word = if word == 0x8000 then None else allowed (scale_value word)
 
+-- The scale of a counter, if it is allowed.
 abbrev pub scale_in : (first : ℕ) → List ℕ → CounterScale → Option ℤ
 scale_in first words (Fixed sf) = allowed sf
 scale_in first words (Register at) = told (word_at first words at)
 
--- the count in the counter's two words, of which the high one comes first
+-- The count in the counter's two words, the high word first.
 abbrev pub count_in : (first : ℕ) → List ℕ → (address : ℕ) → ℕ
 count_in first words address =
     acc32_value (word_at first words address) (word_at first words (address + 1))
 
--- what words show of a counter: nothing where they tell no scale
+-- The count and the scale in words that were read. Without a scale there is no result.
 abbrev pub shown_in : (first : ℕ) → List ℕ → (address : ℕ) → CounterScale → Option Shown
 shown_in first words address scale =
     option_map (λ sf. record { raw = count_in first words address; sf = sf })
     (scale_in first words scale)
 
--- what is shown where a read brought these words, or none
+-- The count and the scale by the words of a read, if the read brought words.
 abbrev pub shown_by : (first : ℕ) → Option (List ℕ) → (address : ℕ) → CounterScale → Option Shown
 shown_by first words address scale =
     option_and_then (λ all. shown_in first all address scale) words
 
--- the registers were read over a link that was just made, and their words show the counter
+-- The registers were read over a new link, and their words show the counter.
 pub record ReadsCounter (unit : ℕ) (span : Span)
     (old_bytes old_given new_bytes new_given : Option (List ℕ))
     (address : ℕ) (scale : CounterScale) (shown : Option Shown)
@@ -81,7 +84,7 @@ pub record ReadsCounter (unit : ℕ) (span : Span)
   pub given : end.given ≡ new_given
   pub shows : shown ≡ shown_by span.address words address scale
 
--- without registers that one read can bring nothing is asked, nor shown
+-- If no single read can bring all registers, nothing is requested and nothing shown.
 abbrev pub ShowsCounter : (unit : ℕ) → Option Span
     → (old_bytes old_given new_bytes new_given : Option (List ℕ))
     → (address : ℕ) → CounterScale → Option Shown → Type 0
@@ -90,7 +93,7 @@ ShowsCounter unit None old_bytes old_given new_bytes new_given address scale sho
 ShowsCounter unit (Some span) old_bytes old_given new_bytes new_given address scale shown =
     ReadsCounter unit span old_bytes old_given new_bytes new_given address scale shown
 
--- nothing is given but requests for the registers
+-- Only requests for the counter's registers are written to the link.
 abbrev pub AsksCounter : {X E : Type 0} → (unit : ℕ) → Option Span → Result X E
     → (old new : Option (List ℕ)) → Type 0
 AsksCounter unit None result old new = new ≡ old

@@ -1,4 +1,4 @@
--- A scan: its exchanges with the device, one after the other, and the words that they give.
+-- A scan: its exchanges with the device in order, and the words that they give.
 use Rattle.std.specs.Prelude.{◌≡◌, ℕ, ◌≤◌, List, [], ◌∷◌, length, Some, None}
 use Rattle.std.specs.declared.option.Option.{Option}
 use Rattle.mb_wire.specs.Spans.{Span}
@@ -9,36 +9,38 @@ use Rattle.device_scan.specs.declared.scan.Scan.{Scan}
 use Rattle.device_scan.specs.declared.stage.Stage.{Stage}
 use Rattle.device_scan.specs.declared.scanning.TheConstants.{MOST_READS}
 
--- the words that a scan was answered, and what it asks for next
+-- The words that a scan has received.
 abbrev pub words_of : Scan → Words
 words_of scan = word_in scan.image
 
+-- The stage of a scan, which determines the next read.
 abbrev pub stage_of : Scan → Stage
 stage_of scan = scan.stage
 
--- registers that were asked for, and what was answered: as many words, or none
+-- A read of a scan: the requested registers, and their words, if the device sent them.
 pub record Exchange : Type 0 where
   pub span : Span
   pub words : Option (List ℕ)
 
--- no word was answered
+-- No words.
 abbrev pub nothing : Words
 nothing address = None
 
--- an answer's words stand at their addresses, in place of what stood there
+-- The words of a response replace any earlier words at their addresses.
 abbrev pub put_answer : Words → ℕ → Option (List ℕ) → Words
 put_answer word address None = word
 put_answer word address (Some words) = put_words word address words
 
+-- The words after one more exchange.
 abbrev pub words_after : Words → Exchange → Words
 words_after word exchange = put_answer word exchange.span.address exchange.words
 
--- the words that the answers give
+-- The words that all exchanges give.
 abbrev pub words_told : Words → List Exchange → Words
 words_told word [] = word
 words_told word (exchange ∷ exchanges) = words_told (words_after word exchange) exchanges
 
--- each read was next, the device having shown these words before it, and nothing is next after the last
+-- Each read was the next by the stage and the words so far, and after the last none is next.
 abbrev pub AsksInTurn : Words → Stage → List Exchange → Type 0
 AsksInTurn word stage [] = wanted stage ≡ None
 AsksInTurn word stage (exchange ∷ exchanges) =
@@ -47,17 +49,17 @@ AsksInTurn word stage (exchange ∷ exchanges) =
     (stage_after (words_after word exchange) stage)
     exchanges
 
--- what passed over the link, read by read
+-- The traffic of the link, read by read.
 abbrev pub Talks : (unit : ℕ) → Line → List Exchange → Line → Type 0
 Talks unit old [] new = old ≡ new
 Talks unit old (exchange ∷ exchanges) new =
     (mid : Line) × Reads unit old mid exchange.span exchange.words × Talks unit mid exchanges new
 
--- a link on which nothing came before, and nothing was asked
+-- A new link: no bytes arrived, and nothing was requested.
 abbrev pub fresh : (bytes given : Option (List ℕ)) → Line
 fresh bytes given = record { bytes = bytes; given = given; open_bytes = []; next = 1 }
 
--- a scan of a unit over a link that was just made: its exchanges, and the words that they give
+-- A scan of a unit over a new link: its exchanges, and the words that they give.
 pub record Scans (unit : ℕ) (old_bytes old_given new_bytes new_given : Option (List ℕ))
     (word : Words) : Type 0 where
   pub exchanges : List Exchange

@@ -1,4 +1,4 @@
--- What a scan asks of a device next: the mark, the head of each model, and the registers of the models whose points are known.
+-- The next read of a scan: the mark, the head of each model, and the registers of the known models.
 use Rattle.std.specs.Prelude.{ℕ, ◌+◌, ◌-◌, ◌==◌, ◌&&◌, ◌||◌, not, nat_le, nat_lt, min, Bool, true, if◌then◌else◌, Some, None, option_and_then}
 use Rattle.std.specs.Option.{option_map_or}
 use Rattle.std.specs.declared.option.Option.{Option}
@@ -11,13 +11,14 @@ use Rattle.sun_chain.specs.declared.model.Model.{Model}
 use Rattle.device_scan.specs.declared.stage.Stage.{Stage}
 use Rattle.device_scan.specs.declared.stage.Stage.TheVariants.{Mark, Head, Ending, Registers, Over}
 
--- holding registers, which function 3 reads
+-- Holding registers, which function 3 reads.
 abbrev pub holding : (address count : ℕ) → Span
 holding address count =
     record { function = HoldingRegisters; address = address; count = count }
 
--- the two registers of a mark; an ID and a length, of which the last address has no second; the end's ID alone; and of a model's
--- registers at most as many as one read may ask for
+-- The next read of each stage, if any. A mark has two registers. A head is an ID and a length, or
+-- only one register at the last address. The end's ID may be read alone. Registers of a model are
+-- read up to 125 at once.
 abbrev pub wanted : Stage → Option Span
 wanted (Mark address) = Some (holding address 2)
 wanted (Head address models) = Some (holding address (min 2 (ADDRESSES - address)))
@@ -26,7 +27,7 @@ wanted (Registers model asked models) =
     Some (holding (model.address + 2 + asked) (min MAX_READ_REGISTERS (model.length - asked)))
 wanted Over = None
 
--- the model whose registers are asked for next
+-- The model whose registers are read next.
 abbrev pub model_of : Stage → Option Model
 model_of (Mark address) = None
 model_of (Head address models) = None
@@ -34,57 +35,61 @@ model_of (Ending address) = None
 model_of (Registers model asked models) = Some model
 model_of Over = None
 
--- models 1, 101 to 103, and 201 to 204 have a table
+-- The models with a table: 1, 101 to 103, and 201 to 204.
 abbrev pub is_known : ℕ → Bool
 is_known id = id == 1 || (nat_le 101 id && nat_le id 103) || (nat_le 201 id && nat_le id 204)
 
--- first the mark is looked for at 40000
+-- The first stage: the mark at 40000.
 abbrev pub begun : Stage
 begun = Mark 40000
 
--- then at 50000, and at last at 0
+-- The stage after an address without a mark: 50000, then 0, then the end of the scan.
 abbrev pub other_mark : ℕ → Stage
 other_mark address =
     if address == 40000 then Mark 50000 else if address == 50000 then Mark 0 else Over
 
--- after so many models another one may stand, or the end, up to the last address
+-- The stage after `models` models: another head up to the last address, else the end of the scan.
 abbrev pub head_at : (models address : ℕ) → Stage
 head_at models address = if nat_le address 65535 then Head address models else Over
 
--- the registers of a model that is known; of any other none is asked for
+-- The stage after a head. Only the registers of known models are read.
 abbrev pub in_model : (models : ℕ) → Model → Stage
 in_model models model =
     if is_known model.id && nat_lt 0 model.length then Registers model 0 models
     else head_at models (next_after model)
 
--- no model has the end's ID, is the 65th, or reaches past the last address
+-- A valid model: not the end's ID, not a 65th model, and not past the last address.
 abbrev pub may_stand : (models : ℕ) → Model → Bool
 may_stand models model =
     not (model.id == 0xFFFF) && nat_lt models 64 && nat_le (next_after model) ADDRESSES
 
+-- The model, if it is valid.
 abbrev pub checked : (models : ℕ) → Model → Option Model
 checked models model = if may_stand models model then Some model else None
 
+-- A model with its address, its ID and its length.
 abbrev pub model_at : (address id length : ℕ) → Model
 model_at address id length = record { address = address; id = id; length = length }
 
--- the model after so many others whose ID and length stand at an address
+-- The valid model at an address after `models` others, if its ID and its length were read.
 abbrev pub model_in : Words → (models address : ℕ) → Option Model
 model_in word models address =
     option_and_then (λ id. option_and_then (λ length. checked models (model_at address id length))
     (word (address + 1)))
     (word address)
 
--- after an ID that was not answered with its length: the ID alone, since the end may be the last register of a device
+-- The stage after a head that was not read: the ID alone, because the end may be the last register
+-- of a device.
 abbrev pub ending_at : (address : ℕ) → Stage
 ending_at address = if nat_lt address 65535 then Ending address else Over
 
+-- The stage after the read of a head, with its ID if it was read.
 abbrev pub after_head : Words → (models address : ℕ) → Option ℕ → Stage
 after_head word models address None = ending_at address
 after_head word models address (Some id) =
     option_map_or (in_model (models + 1)) (model_in word models address) Over
 
--- what comes after what was asked, the device having shown these words so far
+-- The stage after a read, by the words that the device has shown so far.
 abbrev pub stage_after : Words → Stage → Stage
 stage_after word (Mark address) =
     if is_marked word address then Head (address + 2) 0 else other_mark address
@@ -96,7 +101,7 @@ stage_after word (Registers model asked models) =
     else head_at models (next_after model)
 stage_after word Over = Over
 
--- registers that are asked for are inside those of a device
+-- The registers of the next read lie inside the addresses of a device.
 abbrev pub fits : Stage → Bool
 fits (Mark address) = nat_le address 50000
 fits (Head address models) = nat_le models 64

@@ -1,4 +1,4 @@
-//! One who reads a device's registers, each read being asked for twice at most.
+//! A client that reads a device's registers, with at most two requests for each read.
 ghost use Rattle.std.specs.Prelude.{◌≡◌, ◌≤◌, ◌+◌, ◌*◌, [], Err, IfOk};
 ghost use Rattle.mb_wire.specs.Frames.{IsOpen};
 ghost use Rattle.mb_wire.specs.Links.{risen};
@@ -13,7 +13,8 @@ use crate::tries::Try;
 use mb_wire::{FrameReader, Link, LinkFailed, ReadSpan};
 use std::alloc::Global;
 
-/// The bytes since the last frame's end, the unit that is asked, and the next transaction identifier.
+/// The bytes since the end of the last frame, the unit identifier, and the next transaction
+/// identifier.
 #[derive(Drop)]
 pub(crate) struct Client {
     reader: FrameReader,
@@ -38,7 +39,7 @@ impl Client {
         }
     }
 
-    // Asks for registers once.
+    // The transaction identifier wraps from 65535 to 0.
     fn try_once<L: Link>(
         &mut self,
         alloc: Global,
@@ -70,7 +71,7 @@ impl Client {
         }
     }
 
-    /// Asks for registers, and once more where no words came.
+    /// Reads registers. If the first request brings no words, the client sends one more.
     pub(crate) fn read<L: Link>(
         &mut self,
         alloc: Global,

@@ -1,4 +1,4 @@
-//! A counter of a device, read once.
+//! Reads a counter of a device once.
 ghost use Rattle.std.specs.Prelude.{◌≡◌, ◌≤◌, ◌+◌, ◌*◌, [], Err, Some, IfOk};
 ghost use Rattle.std.specs.Option.{option_map};
 ghost use Rattle.mb_wire.specs.Links.{risen};
@@ -14,23 +14,22 @@ use mb_wire::{ADDRESSES, Link, MAX_READ_REGISTERS, ReadFunction, ReadSpan};
 use std::alloc::Global;
 use sun_points::{acc32, sunssf};
 
-/// Where the scale of a counter comes from.
+/// The source of a counter's scale.
 #[derive(Clone, Copy, Debug, PartialEq, Eq)]
 pub enum CounterScale {
-    /// It is this one.
+    /// A fixed power of ten.
     Fixed(i16),
-    /// The device tells it in the `sunssf` register at this address.
+    /// The `sunssf` register at this address of the device.
     Register(u16),
 }
 
-/// What a counter shows: a count, and the power of ten that it is of.
+/// The state of a counter: its count, and the power of ten of its unit.
 #[derive(Clone, Copy, Debug, PartialEq, Eq)]
 pub struct Shown {
     pub raw: u32,
     pub sf: i16,
 }
 
-// The first of the registers of a counter and of its scale.
 fn first_register(address: u16, scale: CounterScale) -> u16
     ensures { result ≡ specs.first_register address scale }
 {
@@ -40,7 +39,6 @@ fn first_register(address: u16, scale: CounterScale) -> u16
     }
 }
 
-// The address after the last of them.
 fn end_register(address: u16, scale: CounterScale) -> u32
     ensures { result ≡ specs.end_register address scale }
 {
@@ -51,7 +49,6 @@ fn end_register(address: u16, scale: CounterScale) -> u32
     }
 }
 
-// The registers that have to be read.
 fn span_of(function: ReadFunction, address: u16, scale: CounterScale) -> Option<ReadSpan>
     ensures { option_map span_view result ≡ counter_span function address scale }
 {
@@ -69,7 +66,7 @@ fn span_of(function: ReadFunction, address: u16, scale: CounterScale) -> Option<
     }
 }
 
-// The word at an address, among those from the first address on; 0 where there is none.
+// An address without a word gives 0. The caller's span holds all addresses that it needs.
 fn word_at(first: u16, words: &[u16], address: u32) -> u16
     ensures { result ≡ specs.word_at first words.now address }
 {
@@ -77,14 +74,13 @@ fn word_at(first: u16, words: &[u16], address: u32) -> u16
     words.get(place as usize).copied().unwrap_or(0)
 }
 
-// The scale, if a counter may have it.
 fn allowed(sf: i16) -> Option<i16>
     ensures { result ≡ specs.allowed sf }
 {
     if -3 <= sf && sf <= 3 { Some(sf) } else { None }
 }
 
-// The scale that a sunssf register tells.
+// A register that is not implemented gives no scale.
 fn told(word: u16) -> Option<i16>
     ensures { result ≡ specs.told word }
 {
@@ -95,7 +91,6 @@ fn told(word: u16) -> Option<i16>
     }
 }
 
-// The scale of a counter.
 fn scale_in(first: u16, words: &[u16], scale: CounterScale) -> Option<i16>
     ensures { result ≡ specs.scale_in first words.now scale }
 {
@@ -105,7 +100,6 @@ fn scale_in(first: u16, words: &[u16], scale: CounterScale) -> Option<i16>
     }
 }
 
-// What the words from an address on show of a counter.
 fn shown_in(first: u16, words: &[u16], address: u16, scale: CounterScale) -> Option<Shown>
     ensures { result ≡ specs.shown_in first words.now address scale }
 {
@@ -120,10 +114,15 @@ fn shown_in(first: u16, words: &[u16], address: u16, scale: CounterScale) -> Opt
     }
 }
 
-/// What a counter shows now, asked of a unit over a link to it that was just made: two registers from an address on, the high
-/// word first, and its scale. They are asked for together, and once more where no words came. `None`: no words came at
-/// either try, the register of the scale is not implemented, the scale is not from -3 to 3, or no read can bring all
-/// registers, and then nothing is asked.
+/// Reads a counter of a unit over a new link: two registers from `address`, the high word first,
+/// and the register of its scale. One read requests all of them, and is repeated once if it brings
+/// no words.
+///
+/// Returns `None` in these cases:
+/// - Neither try brought words.
+/// - The scale's register is not implemented.
+/// - The scale is not from -3 to 3.
+/// - No single read can bring all registers. In this case nothing is requested.
 pub fn read_counter<L: Link>(
     alloc: Global,
     link: &mut L,

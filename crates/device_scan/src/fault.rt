@@ -1,16 +1,16 @@
-//! Why a scan, or the read of a counter, was broken off.
+//! Faults that end a scan or the read of a counter.
 use std::error::Error;
 use std::fmt;
 use std::fmt::{Display, Formatter};
 
-/// Why a scan, or the read of a counter, was broken off.
+/// The reason why a scan or the read of a counter ended early.
 #[derive(Clone, Copy, Debug, PartialEq, Eq)]
 pub enum ScanFault {
     /// The device closed the connection.
     Gone,
-    /// A take or a give failed, or a give took nothing.
+    /// A read or a write of the link failed, or a write accepted no bytes.
     Failed,
-    /// A length field of what the device sent is out of its range.
+    /// A length field in the device's bytes is out of range.
     Garbled,
     Memory,
 }

@@ -1,4 +1,4 @@
-//! What a device answers to a try.
+//! Reads a device's response to a try.
 ghost use Rattle.std.specs.Prelude.{◌≡◌, ◌≤◌, ◌+◌, ◌++◌, length, true, false, Err, IfOk, IfSome};
 ghost use Rattle.std.specs.Option.{option_map};
 ghost use Rattle.mb_wire.specs.Bytes.{words_of};
@@ -19,24 +19,23 @@ use mb_wire::{
 };
 use std::alloc::{AllocError, Global};
 
-/// How often bytes are taken for one try at most.
+/// The maximum number of reads of the link for one try.
 pub const MOST_TAKES: u64 = 1000;
 
-/// What a device answered: words, or none.
+/// The words that a device sent, if any.
 pub(crate) type Answer = Option<Vec<u16>>;
 
-/// What one take brought for a try.
+/// The result of one read of the link.
 #[derive(Drop)]
 pub(crate) enum Turn {
-    /// Nothing came for as long as the link waits.
+    /// The read timed out.
     Idle,
-    /// No reply to the try.
+    /// Bytes without a response to the try.
     More,
-    /// The reply.
+    /// The response to the try.
     Settled(Answer),
 }
 
-// The bytes of the registers that a reply brings.
 fn registers<'a>(read: Result<Reply<'a>, ReplyFault>) -> Option<&'a [u8]>
     ensures { option_map (λ bytes. words_of bytes.now) result ≡ brought (read_as read.entry) }
 {
@@ -49,7 +48,7 @@ fn registers<'a>(read: Result<Reply<'a>, ReplyFault>) -> Option<&'a [u8]>
     }
 }
 
-// What a reply to a try brings.
+// A response of another unit brings no words.
 fn answer(alloc: Global, frame: &Frame<'_>, attempt: &Try) -> Result<Answer, AllocError>
     ensures { IfOk result
         (λ answer. words_seen answer ≡ words_in (ask_of attempt.now) (spelled frame.now)) }
@@ -63,7 +62,7 @@ fn answer(alloc: Global, frame: &Frame<'_>, attempt: &Try) -> Result<Answer, All
     }
 }
 
-// What was heard, or else what the frame that the reader holds settles.
+// A result that exists already has precedence over the frame.
 fn hear_frame(
     alloc: Global,
     reader: &FrameReader,
@@ -80,7 +79,6 @@ fn hear_frame(
     }
 }
 
-// What the frame that the reader holds settles.
 fn hear_held(
     alloc: Global,
     reader: &FrameReader,
@@ -99,7 +97,7 @@ fn hear_held(
     Ok(Some(answer(alloc, &frame, attempt)?))
 }
 
-// What was heard, or else what the frames that end in a piece settle.
+// A result that exists already has precedence over the frames of the piece.
 fn hear_piece(
     alloc: Global,
     reader: &mut FrameReader,
@@ -128,7 +126,6 @@ fn hear_piece(
     }
 }
 
-// One take, and what it brought.
 fn hear_turn<L: Link>(
     alloc: Global,
     link: &mut L,
@@ -158,7 +155,7 @@ fn hear_turn<L: Link>(
     }
 }
 
-/// Takes what comes, until a reply to the try is among it, nothing comes, or bytes were taken `MOST_TAKES` times.
+/// Reads bytes until a response to the try arrives or a read times out, at most `MOST_TAKES` times.
 pub(crate) fn hear<L: Link>(
     alloc: Global,
     link: &mut L,

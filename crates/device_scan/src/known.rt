@@ -2,7 +2,7 @@
 ghost use Rattle.std.specs.Prelude.{◌≡◌};
 ghost use Rattle.device_scan.specs.Stages.{is_known};
 
-/// Whether points of a model with this ID are known.
+/// Returns whether the points of a model with this ID are known.
 pub(crate) fn is_known(id: u16) -> bool
     ensures { result ≡ is_known id }
 {

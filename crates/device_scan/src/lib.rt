@@ -1,4 +1,5 @@
-//! A scan: the words of a device in which its chain of SunSpec models stands, read over a live link; and what one counter shows.
+//! A scan: reads the words of a device's chain of SunSpec models over a live link, and reads a
+//! single counter.
 #![tactic(auto)]
 
 mod asking;

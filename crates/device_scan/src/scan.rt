@@ -1,4 +1,4 @@
-//! What a scan asks for next, and the image that the answers give.
+//! Chooses the next read of a scan, and collects the responses in an image.
 ghost use Rattle.std.specs.Prelude.{◌≡◌, ◌<◌, ◌≤◌, ◌+◌, ◌-◌, ℕ, length, min, Some, None, IfSome, IsSome, IsTrue, OnOk, OnErr};
 ghost use Rattle.std.specs.Option.{option_map};
 ghost use Rattle.mb_wire.specs.Spans.{span_view};
@@ -13,16 +13,17 @@ use mb_wire::{ADDRESSES, MAX_READ_REGISTERS, ReadFunction, ReadSpan};
 use std::alloc::{AllocError, Global};
 use sun_chain::{Image, Model};
 
-/// The ID that ends a chain.
+/// The ID of the model that ends a chain.
 const END_ID: u16 = 0xFFFF;
 
-/// Where the mark is looked for first.
+/// The first base address of the search for the mark.
 const FIRST_MARK: u16 = 40000;
 
-/// The most models of a chain.
+/// The maximum number of models in a chain.
 const MOST_MODELS: u8 = 64;
 
-/// A scan of a device. The caller asks for what `next` answers, and tells what came of it, until nothing is next.
+/// The state of a scan. The caller executes the read that `next` returns and reports its result,
+/// until `next` returns `None`.
 #[derive(Drop)]
 pub struct Scan {
     image: Image,
@@ -33,7 +34,7 @@ pub struct Scan {
 impl Scan {
     ghost use Rattle.device_scan.specs.Scans.{stage_of, words_of};
 
-    /// No read was asked for.
+    /// Creates a scan before its first read.
     pub fn new(alloc: Global) -> Self
         ensures words { (address : ℕ) → words_of result address ≡ None }
         ensures stage { stage_of result ≡ begun }
@@ -44,7 +45,7 @@ impl Scan {
         }
     }
 
-    /// The registers that are asked for next.
+    /// Returns the registers of the next read, or `None` at the end of the scan.
     pub fn next(&self) -> Option<ReadSpan>
         ensures { option_map span_view result ≡ wanted (stage_of self.now) }
     {
@@ -60,7 +61,7 @@ impl Scan {
         }
     }
 
-    /// The model whose registers are asked for next.
+    /// Returns the model whose registers are read next.
     pub fn model(&self) -> Option<Model>
         ensures { result ≡ model_of (stage_of self.now) }
     {
@@ -70,7 +71,8 @@ impl Scan {
         }
     }
 
-    /// The device answered what was next with these words.
+    /// Records the words of a response to the next read. On an error the scan is unchanged, and the
+    /// same read is next.
     pub fn answered(&mut self, span: ReadSpan, words: &[u16]) -> Result<(), AllocError>
         requires next { wanted (stage_of self.old) ≡ Some (span_view span) }
         requires all { length words.now ≡ span.count }
@@ -91,7 +93,7 @@ impl Scan {
         }
     }
 
-    /// What was next was not answered.
+    /// Records that the next read brought no words.
     pub fn unread(&mut self)
         ensures words { (address : ℕ) → words_of self.new address ≡ words_of self.old address }
         ensures stage { stage_of self.new ≡ stage_after (words_of self.new) (stage_of self.old) }
@@ -99,7 +101,7 @@ impl Scan {
         self.go_on();
     }
 
-    /// The words that were answered.
+    /// Returns the words that the device sent.
     pub fn into_image(self) -> Image
         ensures { word_in result ≡ words_of self }
     {
@@ -119,7 +121,6 @@ impl Scan {
     }
 }
 
-// Holding registers.
 fn holding(address: u16, count: u16) -> ReadSpan
     requires some { 1 ≤ count }
     requires few { count ≤ MAX_READ_REGISTERS }
@@ -133,7 +134,7 @@ fn holding(address: u16, count: u16) -> ReadSpan
     }
 }
 
-// An ID and a length; the last address has no second register.
+// The last address has no second register for the length.
 fn head_count(address: u16) -> u16
     ensures { result ≡ min 2 (ADDRESSES - address) }
 {
@@ -152,7 +153,7 @@ fn after_mark(image: &Image, address: u16) -> Stage
     }
 }
 
-// Where the mark is looked for after an address.
+// The search ends after address 0.
 fn other_mark(address: u16) -> Stage
     ensures stage { result ≡ other_mark address }
     ensures inside { IsTrue (fits result) }
@@ -180,7 +181,8 @@ fn after_head(image: &Image, address: u16, models: u8) -> Stage
     }
 }
 
-// Where the end's ID is asked for alone: at the last address that was done already.
+// The end's ID is requested alone, except at the last address, where the head had one register
+// already.
 fn ending_at(address: u16) -> Stage
     ensures stage { result ≡ ending_at address }
     ensures inside { IsTrue (fits result) }
@@ -192,7 +194,7 @@ fn ending_at(address: u16) -> Stage
     }
 }
 
-// The model after so many others that stands at an address.
+// A 65th model, the end's ID and a model past the last address are no models.
 fn model_in(image: &Image, address: u16, models: u8) -> Option<Model>
     ensures model { result ≡ model_in (word_in image.now) models address }
     ensures inside { IfSome result (λ model. next_after model ≤ ADDRESSES) }
@@ -212,7 +214,7 @@ fn model_in(image: &Image, address: u16, models: u8) -> Option<Model>
     }
 }
 
-// What is asked for after the head of the last of so many models.
+// Only the registers of known models are requested.
 fn in_model(model: Model, models: u8) -> Stage
     requires inside { next_after model ≤ ADDRESSES }
     requires few { models ≤ 64 }
@@ -241,7 +243,6 @@ fn after_registers(model: Model, asked: u16, models: u8) -> Stage
     }
 }
 
-// The head of the next of so many models.
 fn head_at(address: u32, models: u8) -> Stage
     requires { models ≤ 64 }
     ensures stage { result ≡ head_at models address }

@@ -1,4 +1,4 @@
-//! A device scanned over a link.
+//! Scans a device over a link.
 ghost use Rattle.std.specs.Prelude.{◌≡◌, ℕ, ◌≤◌, ◌+◌, ◌*◌, [], Err, Some, IfOk, IfSome, OnOk, length};
 ghost use Rattle.mb_wire.specs.Spans.{span_view};
 ghost use Rattle.mb_wire.specs.Links.{risen};
@@ -17,23 +17,21 @@ use mb_wire::{Link, ReadSpan};
 use std::alloc::{AllocError, Global};
 use sun_chain::{Image, Model};
 
-/// How many reads a scan has at most: three of the mark, 65 of heads, one of the end's ID, and those of the registers
-/// of 64 models.
+/// The maximum number of reads of a scan: three for the mark, 65 for heads, one for the end's ID,
+/// and the reads of the registers of 64 models.
 pub const MOST_READS: u64 = 657;
 
-/// Who is shown which model is read.
+/// An observer of a scan's progress.
 pub trait ScanObserver {
     fn reads(&mut self, model: Model);
 }
 
-// Shows which model is read.
 fn show<W: ScanObserver>(scan: &Scan, observer: &mut W) {
     if let Some(model) = scan.model() {
         observer.reads(model);
     }
 }
 
-// Takes into a scan what came of the read that was next.
 fn take_in(scan: &mut Scan, span: ReadSpan, answer: Answer) -> Result<(), AllocError>
     requires next { wanted (stage_of scan.old) ≡ Some (span_view span) }
     requires all { IfSome answer (λ words. length words.items ≡ span.count) }
@@ -51,9 +49,9 @@ fn take_in(scan: &mut Scan, span: ReadSpan, answer: Answer) -> Result<(), AllocE
     }
 }
 
-/// Scans a unit over a link to it that was just made: asks for the mark, for the head of each model, and for the registers of the
-/// models that have a table, one read at a time. A read that brings no words is asked for once more. What was answered is
-/// the image; nothing else is in it.
+/// Scans a unit over a new link. The scan reads the mark, the head of each model, and the registers
+/// of the models with a table. A read that brings no words is repeated once. The image holds
+/// exactly the words of the responses.
 pub fn scan_over<L: Link, W: ScanObserver>(
     alloc: Global,
     link: &mut L,

@@ -1,17 +1,18 @@
-//! Where a scan has come to.
+//! The stages of a scan.
 use sun_chain::Model;
 
-/// What a scan asks for next.
+/// The next read of a scan.
 #[derive(Clone, Copy, Debug, PartialEq, Eq)]
 pub(crate) enum Stage {
     /// The mark, at this address.
     Mark(u16),
-    /// The ID and the length of a model, or the end, at this address after so many models.
+    /// The head of the next model at this address, or the end, after this many models.
     Head(u16, u8),
     /// The end's ID alone, at this address.
     Ending(u16),
-    /// The registers of the last of so many models, so many of which were asked for.
+    /// The registers of a model, after this many of its registers. The last number counts the
+    /// models so far.
     Registers(Model, u16, u8),
-    /// Nothing more.
+    /// The scan is over.
     Over,
 }

@@ -1,7 +1,7 @@
 //! A try of a read.
 use mb_wire::ReadSpan;
 
-/// A read that is asked for once: its transaction identifier, the unit that is asked, and the registers.
+/// A single request of a read: its transaction identifier, the unit identifier, and the registers.
 #[derive(Clone, Copy, Debug, PartialEq, Eq)]
 pub(crate) struct Try {
     pub(crate) id: u16,

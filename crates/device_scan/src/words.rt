@@ -1,10 +1,11 @@
-//! Words in bytes.
+//! Converts bytes to words.
 ghost use Rattle.std.specs.Prelude.{◌≡◌, IfOk};
 ghost use Rattle.mb_wire.specs.Bytes.{words_of};
 
 use std::alloc::{AllocError, Global};
 
-/// The words in bytes, two bytes each, the high one first, as Modbus sends registers. A last byte alone is left out.
+/// Converts bytes to 16-bit words, the high byte first, as Modbus sends registers. An odd last byte
+/// is dropped.
 pub fn words_of_bytes(alloc: Global, bytes: &[u8]) -> Result<Vec<u16>, AllocError>
     ensures { IfOk result (λ words. words.items ≡ words_of bytes.now) }
 {

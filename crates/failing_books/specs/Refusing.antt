@@ -1,10 +1,10 @@
--- What is known of books some of whose calls are refused before the books beneath are asked.
+-- The model of a store that refuses some calls before the store below is queried.
 use Rattle.std.specs.Prelude.{List, Contains}
 use Rattle.office_events.specs.declared.facts.Fact.{Fact}
 use Rattle.office_books.specs.declared.failures.Failures.{Failures}
 use Rattle.office_books.specs.Ledgers.{Ledger}
 
--- They hold what the books beneath hold, and have failed so.
+-- The store holds the records of the store below, with its failures counted here.
 abbrev pub refusing : Ledger → Failures → Ledger
 refusing beneath failures = record {
   holds = beneath.holds;

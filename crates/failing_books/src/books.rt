@@ -1,4 +1,4 @@
-//! Books of which one call is refused.
+//! A store in memory that refuses one call.
 ghost use Rattle.std.specs.Prelude.{◌≡◌, IfErr};
 ghost use Rattle.office_books.specs.Faults.{faults_after, no_failures};
 ghost use Rattle.office_books.specs.declared.faults.BooksFault.TheVariants.{Store};
@@ -12,14 +12,15 @@ use office_events::{
     Device, EntryPlace, Fact, HeldReading, Installation, Name, PlannedList, Poll, PollRow, Register,
 };
 
-/// Books in memory. The call of one number is refused, as by a store; no other fails but for want of memory.
+/// A store in memory that refuses the call with one number as a failed store does. Any other call
+/// fails only if memory runs out.
 #[derive(Drop)]
 pub struct FailingBooks {
     pub(crate) books: ListBooks,
     pub(crate) calls: u64,
     pub(crate) failing: u64,
     pub(crate) failures: Failures,
-    /// Whether a call that hands rows on is refused only when all of them were handed on.
+    /// Whether a call that passes rows to a sink is refused only after all rows.
     pub(crate) rows_come_first: bool,
 }
 
@@ -28,7 +29,8 @@ impl FailingBooks {
     ghost use Rattle.office_events.specs.declared.facts.Fact.{Fact};
     ghost use Rattle.memory_books.specs.Listed.{ledger_of};
 
-    /// Nothing was called yet. Calls are counted from 1, but for those that can't fail and for the booking of no facts.
+    /// Creates a store that refuses call number `failing`. Calls count from 1. Calls that cannot
+    /// fail are not counted, and adding no records is not counted.
     pub fn new(books: ListBooks, failing: u64) -> FailingBooks
         ensures holds { (known : List Fact) → (ledger_of books).holds known
             → (⟦<FailingBooks as Books>⟧.ledger result).holds known }
@@ -44,7 +46,7 @@ impl FailingBooks {
         }
     }
 
-    /// Counts a call, and refuses it where it is the one that fails.
+    /// Counts a call, and refuses the call with the failing number.
     fn called(&mut self) -> Result<(), BooksFault>
         ensures books { self.new.books ≡ self.old.books }
         ensures holds { (known : List Fact) → (ledger_of self.old.books).holds known

@@ -1,4 +1,4 @@
-//! Books that fail after the last row.
+//! A store that fails after the last row.
 ghost use Rattle.std.specs.Prelude.{◌≡◌};
 ghost use Rattle.office_books.specs.Faults.{no_failures};
 
@@ -11,7 +11,8 @@ impl FailingBooks {
     ghost use Rattle.office_events.specs.declared.facts.Fact.{Fact};
     ghost use Rattle.memory_books.specs.Listed.{ledger_of};
 
-    /// As `new`, but where the call that fails hands rows on, it does so before it is refused.
+    /// Creates a store as `new` does. If the failing call passes rows to a sink, it passes all of
+    /// them before it is refused.
     pub fn after_rows(books: ListBooks, failing: u64) -> FailingBooks
         ensures holds { (known : List Fact) → (ledger_of books).holds known
             → (⟦<FailingBooks as Books>⟧.ledger result).holds known }

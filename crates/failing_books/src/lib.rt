@@ -1,4 +1,4 @@
-//! Books in memory one of whose calls is refused: for tests of what stands on books.
+//! A store in memory that refuses one call, for tests of the crates above a store.
 #![tactic(auto)]
 
 mod books;

@@ -1,4 +1,4 @@
--- Books that keep answers stand as those beneath.
+-- A store with a cache is in the state of the store below.
 use Rattle.std.proofs.Common.{List, refl}
 use Rattle.office_events.specs.declared.facts.Fact.{Fact}
 use Rattle.office_books.specs.Ledgers.{Ledger}

@@ -1,4 +1,4 @@
--- What may not be kept.
+-- Results that must not be cached.
 use Rattle.std.proofs.Common.{◌≡◌, ◌≢◌, ℕ, List, Some, None, sym, ◌∙◌}
 use Rattle.office_events.specs.declared.facts.Fact.{Fact}
 use Rattle.office_events.specs.declared.questions.Installation.{Installation}
@@ -10,17 +10,17 @@ use Rattle.kept_books.specs.Answers.{answer_to}
 use Rattle.kept_books.specs.Known.{AreTrue}
 use Rattle.kept_books.proofs.Answering.{none_and_some, some_one}
 
--- a list of a device that has none
+-- A list of a device without one.
 no_list : (kept : Known) (facts : List Fact) (device : List ℕ) (list : Planned) → list_of facts device ≡ None
     → answer_to kept.lists device ≡ Some list → AreTrue kept facts → ⊥
 no_list kept facts device list none there are = none_and_some (list_of facts device) list none (are.lists device list there)
 
--- the list that a device had, where it got another
+-- The earlier list of a device with a later one.
 other_list : (kept : Known) (facts : List Fact) (device : List ℕ) (list later : Planned) → later ≢ list → list_of facts device ≡ Some later
     → answer_to kept.lists device ≡ Some list → AreTrue kept facts → ⊥
 other_list kept facts device list later apart is there are = apart (some_one later list (sym is ∙ are.lists device list there))
 
--- an installation as it stood before a later entry
+-- The state of an installation before a later entry.
 earlier : (kept : Known) (facts : List Fact) (meter : List ℕ) (row : Installation) → row ≢ installation_of facts row.opening
     → answer_to kept.standing meter ≡ Some row → AreTrue kept facts → ⊥
 earlier kept facts meter row apart there are = apart (are.standing meter row there).stands

@@ -1,4 +1,4 @@
--- Installations that are the latest at their register, and one more fact.
+-- The latest installations at their registers, and one more record.
 use Rattle.std.proofs.Common.{◌≡◌, ℕ, List, ◌∷◌, Option, Some, None, refl, sym, ap, subst, ◌∙◌, Result, Ok, Bor, IfSome}
 use Rattle.std.specs.Option.{option_map, option_copied}
 use Rattle.energy_core.specs.declared.entries.Last.{Last}
@@ -22,7 +22,7 @@ use Rattle.kept_books.specs.declared.answers.Answers.{Answers}
 use Rattle.kept_books.specs.Answers.{answer_to, EachIs}
 use Rattle.kept_books.specs.Known.{IsLatest}
 
--- a fact that is no line of its meter and no opening at its register
+-- A record that is no line of the meter, and no opening at its register.
 pub latest_stays : OtherMetersStay → (f : Fact) (facts : List Fact) (meter : List ℕ) (row : Installation) → line_of row.opening.meter f ≡ None
     → installed_at (f ∷ facts) row.opening.register ≡ installed_at facts row.opening.register
     → IsLatest facts meter row → IsLatest (f ∷ facts) meter row
@@ -32,20 +32,20 @@ latest_stays law f facts meter row none same_one is = record {
   stands = is.stands ∙ sym (law f facts row.opening none).installation;
 }
 
--- it is what is found at its register
+-- It is the installation at its register.
 pub at_register : (facts : List Fact) (meter : List ℕ) (row : Installation) → IsLatest facts meter row
     → installation_at facts row.opening.register ≡ Some row
 at_register facts meter row is =
     ap (option_map (installation_of facts)) is.there ∙ ap (λ (r : Installation). let o : Option Installation = Some r in o) (sym is.stands)
 
--- what is kept of a meter is found at its register
+-- A cached installation of a meter is the one at its register.
 pub at_its_register : (facts : List Fact) (rows : Answers Installation) (meter : List ℕ) (row : Option (Bor Installation))
     → option_copied row ≡ answer_to rows meter → EachIs (IsLatest facts) rows
     → IfSome row (λ r. installation_at facts r.now.opening.register ≡ Some r.now)
 at_its_register facts rows meter None is are = tt
 at_its_register facts rows meter (Some row) is are = at_register facts meter row.now (are meter row.now (sym is))
 
--- what is found at a register is the latest there
+-- The installation at a register is the latest there.
 found_so : (facts : List Fact) (register : List ℕ) (row : Installation) (found : Option Opening) → installed_at facts register ≡ found
     → option_map (installation_of facts) found ≡ Some row → IsLatest facts row.opening.meter row
 found_so facts register row None at is = absurd (cc)
@@ -63,7 +63,7 @@ pub found_latest : (facts : List Fact) (register : List ℕ) (row : Installation
     → IsLatest facts row.opening.meter row
 found_latest facts register row is = found_so facts register row (installed_at facts register) refl is
 
--- an entry
+-- An entry.
 sound_so : (row : Installation) → IsSound row → IsSound row
 sound_so row h = record { range = h.range; ceiling = h.ceiling; raw = h.raw; scale = h.scale; total = h.total }
 

@@ -1,4 +1,4 @@
--- Look-ups, asked of the books beneath or answered by what is kept.
+-- Lookups in the store below, or in the cache.
 use Rattle.std.proofs.Common.{refl, Result, Ok, List}
 use Rattle.office_events.specs.declared.facts.Fact.{Fact}
 use Rattle.office_books.specs.declared.faults.BooksFault.{BooksFault}
@@ -7,7 +7,7 @@ use Rattle.kept_books.specs.declared.known.Known.{Known}
 use Rattle.kept_books.specs.Known.{AreTrue}
 use Rattle.kept_books.specs.Keeping.{keeping}
 
--- the books beneath were asked, and what is kept stays so or is true of what they hold
+-- The store below was queried. The cache is unchanged, or agrees with the records of that store.
 pub asked : {T : Type 0} (old new : Ledger) (kept after : Known) (result : Result T BooksFault)
     → ((facts : List Fact) → old.holds facts → new.is_clean → AreTrue kept facts → AreTrue after facts)
     → OnlyReads old new result → OnlyReads (keeping kept old) (keeping after new) result
@@ -24,14 +24,14 @@ pub passed_on : {T : Type 0} (old new : Ledger) (kept : Known) (result : Result 
     → OnlyReads old new result → OnlyReads (keeping kept old) (keeping kept new) result
 passed_on old new kept result reads = asked old new kept kept result (λ facts holds clean are. are) reads
 
--- what was found is answered in part
+-- A part of the result is returned.
 pub answered_with : {T S : Type 0} (old new : Ledger) (x : T) (y : S) → OnlyReads old new (Ok x) → OnlyReads old new (Ok y)
 answered_with old new x y reads = record {
   goes = record { clean = reads.goes.clean; faults = reads.goes.faults; zone = reads.goes.zone };
   keeps = reads.keeps;
 }
 
--- nothing was asked
+-- The store below was not queried.
 pub unasked : {T : Type 0} (ledger : Ledger) (x : T) → OnlyReads ledger ledger (Ok x)
 unasked ledger x = record {
   goes = record { clean = λ clean. clean; faults = refl; zone = refl };

@@ -1,4 +1,4 @@
--- Answers that are kept, by the name that was asked for.
+-- Cached results of one kind of lookup, by the name in the query.
 use Rattle.std.specs.Prelude.{◌≡◌, ◌⊎◌, ℕ, false, List, Option, Some, None}
 use Rattle.std.specs.BTreeMap.{get}
 use Rattle.std.specs.Cmp.Lexicographic.{slice_cmp}
@@ -8,25 +8,25 @@ use Rattle.office_rules.specs.Facts.{same}
 use Rattle.kept_books.specs.declared.keys.Key.{Key}
 use Rattle.kept_books.specs.declared.answers.Answers.{Answers}
 
--- the order of the names' bytes
+-- The order of the names' bytes.
 abbrev pub key_cmp : Key → Key → Ordering
 key_cmp = on (λ k. k.name) (slice_cmp nat_cmp)
 
--- what is kept for a name
+-- The cached result for a name.
 abbrev pub answer_to : {T : Type 0} → Answers T → List ℕ → Option T
 answer_to answers name = get key_cmp answers.rows (record { name = name })
 
--- each answer that is kept is so
+-- Each cached result has this property.
 abbrev pub EachIs : {T : Type 0} → (List ℕ → T → Type 0) → Answers T → Type 0
 EachIs {T} so answers = (name : List ℕ) (x : T) → answer_to answers name ≡ Some x → so name x
 
--- for each name is kept what was, or this answer for its name
+-- Each name has the result that it had. One name may have this result instead.
 abbrev pub MayAnswer : {T : Type 0} → (name : List ℕ) → T → (before after : Answers T) → Type 0
 MayAnswer name x before after = (other : List ℕ)
     → (answer_to after other ≡ answer_to before other)
     ⊎ ((other ≡ name) × (answer_to after other ≡ Some x))
 
--- for a name nothing is kept any more, for the others what was
+-- The result for a name is removed, and the results for the other names are unchanged.
 pub record Forgets {T : Type 0} (name : List ℕ) (before after : Answers T) : Type 0 where
   pub gone : answer_to after name ≡ None
   pub others : (other : List ℕ) → same name other ≡ false

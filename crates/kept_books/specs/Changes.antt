@@ -1,4 +1,4 @@
--- What facts change of what is kept.
+-- The changes of the cache by records.
 use Rattle.std.specs.Prelude.{◌≡◌, ℕ, false, List, Some, None}
 use Rattle.office_events.specs.declared.facts.BookedEntry.{BookedEntry}
 use Rattle.office_events.specs.declared.facts.Fact.{Fact}
@@ -12,7 +12,8 @@ use Rattle.kept_books.specs.declared.answers.Answers.{Answers}
 use Rattle.kept_books.specs.declared.known.Known.{Known}
 use Rattle.kept_books.specs.Answers.{answer_to, Forgets}
 
--- An installation that is kept of the meter of an entry is one that was and went on by it; the others stay.
+-- The cached installation of the entry's meter, if any, advanced by the entry. The other
+-- installations are unchanged.
 pub record EntryKeepsAnswers (booked : BookedEntry) (old new : Answers Installation) : Type 0 where
   pub own : (row : Installation) → answer_to new booked.meter ≡ Some row
       → (before : Installation) × (answer_to old booked.meter ≡ Some before)
@@ -21,24 +22,27 @@ pub record EntryKeepsAnswers (booked : BookedEntry) (old new : Answers Installat
   pub others : (other : List ℕ) → same booked.meter other ≡ false
       → answer_to new other ≡ answer_to old other
 
--- the lists, the registers and the installations that are kept
+-- The cached lists are unchanged.
 abbrev pub SameLists : (old new : Known) → Type 0
 SameLists old new = new.lists ≡ old.lists
 
+-- The cached registers are unchanged.
 abbrev pub SameRegisters : (old new : Known) → Type 0
 SameRegisters old new = new.registers ≡ old.registers
 
+-- The cached installations are unchanged.
 abbrev pub SameStanding : (old new : Known) → Type 0
 SameStanding old new = new.standing ≡ old.standing
 
--- nothing changes of them
+-- Lists, registers and installations in the cache are unchanged.
 pub record StaysKept (old new : Known) : Type 0 where
   pub lists : SameLists old new
   pub registers : SameRegisters old new
   pub standing : SameStanding old new
 
--- What a fact changes: a list that is put drops that of its device; a register drops those of its device; a meter that is
--- installed drops all installations, and a void that of its meter; an entry moves that of its meter on.
+-- The changes of the cache by a record. A list removes that of its device, and a register those of
+-- its device. An opening removes all installations, and a void that of its meter. An entry advances
+-- the installation of its meter.
 abbrev pub Changes : Fact → (old new : Known) → Type 0
 Changes (fact.List put) old new =
     Forgets put.device old.lists new.lists × SameRegisters old new × SameStanding old new

@@ -1,4 +1,4 @@
--- What is known of books that keep answers.
+-- The model of a store with a cache.
 use Rattle.std.specs.Prelude.{◌≡◌, ◌↔◌, List}
 use Rattle.office_events.specs.declared.facts.Fact.{Fact}
 use Rattle.office_books.specs.Ledgers.{Ledger}
@@ -6,7 +6,8 @@ use Rattle.kept_books.specs.declared.known.Known.{Known}
 use Rattle.kept_books.specs.declared.kept.KeptBooks.{KeptBooks}
 use Rattle.kept_books.specs.Known.{AreTrue}
 
--- They hold what the books beneath hold, of which, while those are clean, what is kept is true. All else is as beneath.
+-- The store holds the records of the store below, and the cache is true while that store is clean.
+-- All else is as in the store below.
 abbrev pub keeping : Known → Ledger → Ledger
 keeping kept under = record {
   holds = λ facts. under.holds facts × (under.is_clean → AreTrue kept facts);
@@ -17,15 +18,16 @@ keeping kept under = record {
   zone = under.zone;
 }
 
--- the books beneath
+-- The store below.
 abbrev pub beneath : {B : Type 0} → KeptBooks B → B
 beneath kept = kept.books
 
--- what is known of books over those of which this is known
+-- The model of a store with a cache, by the model of the store below.
 abbrev pub ledger_over : {B : Type 0} → (B → Ledger) → KeptBooks B → Ledger
 ledger_over ledger kept = keeping kept.known (ledger kept.books)
 
--- Books stand as others stood: they hold what those held, a stop leaves no more, and all else is the same.
+-- A store in the same state as another. It holds the same records, a crash leaves at most the same,
+-- and all else is the same.
 pub record StandsAs (before after : Ledger) : Type 0 where
   pub facts : (facts : List Fact) → before.holds facts → after.holds facts
   pub left : (left : List (List Fact)) → before.may_leave left → after.may_leave left

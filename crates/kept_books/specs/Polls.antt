@@ -1,4 +1,4 @@
--- Polls that are known to wait, and what facts change of them.
+-- The cached pending polls, and the changes of them by records.
 use Rattle.std.specs.Prelude.{◌≡◌, ◌⊎◌, ◌+◌, ◌==◌, ℕ, false, List, length, Option, Some, None}
 use Rattle.std.specs.BTreeMap.{get}
 use Rattle.std.specs.Ordering.{nat_cmp}
@@ -10,38 +10,40 @@ use Rattle.office_rules.specs.Facts.{polls_in}
 use Rattle.office_rules.specs.Readings.{poll_row_of}
 use Rattle.kept_books.specs.declared.polls.Polls.{Polls}
 
--- the poll of a number that is known to wait
+-- The cached pending poll with a number, if any.
 abbrev pub waiting_at : Polls → ℕ → Option Poll
 waiting_at polls number = get nat_cmp polls.waiting number
 
--- a poll that waits
+-- A pending poll.
 abbrev pub waits : Poll → PollRow
 waits poll = record { poll = poll; ended = None }
 
--- Each poll that is known to wait does so by these facts, and as many polls are among them as were started.
+-- Each cached pending poll is pending by these records, and the cached count is the number of
+-- started polls.
 pub record PollsAreTrue (polls : Polls) (facts : List Fact) : Type 0 where
   pub waiting : (number : ℕ) (poll : Poll) → waiting_at polls number ≡ Some poll
       → poll_row_of facts number ≡ Some (waits poll)
   pub started : (count : ℕ) → polls.started ≡ Some count → count ≡ length (polls_in facts)
 
--- for each number is known what was, or that this poll waits under its number
+-- The cached pending polls are unchanged, except that this poll may be added.
 abbrev pub MayWait : Poll → (before after : Polls) → Type 0
 MayWait poll before after = (number : ℕ)
     → (waiting_at after number ≡ waiting_at before number)
     ⊎ ((number ≡ poll.number) × (waiting_at after number ≡ Some poll))
 
--- the poll of a number is no longer known to wait, the others are as they were
+-- The poll with a number is not cached as pending, and the other polls are unchanged.
 pub record WaitsNoMore (number : ℕ) (before after : Polls) : Type 0 where
   pub gone : waiting_at after number ≡ None
   pub others : (other : ℕ) → (number == other) ≡ false
       → waiting_at after other ≡ waiting_at before other
 
--- a count that is known is one more than it was
+-- A cached count is one more than before.
 abbrev pub GoesUp : (before after : Option ℕ) → Type 0
 GoesUp before after = (count : ℕ) → after ≡ Some count
     → (less : ℕ) × (before ≡ Some less) × (count ≡ less + 1)
 
--- A poll that starts waits, and one more was started; a poll that ends waits no more. Other facts change nothing.
+-- A started poll is pending and counts as one more. An ended poll is not pending. Other records
+-- change nothing.
 abbrev pub PollsChange : Fact → (before after : Polls) → Type 0
 PollsChange (fact.Poll poll) before after =
     MayWait poll before after × GoesUp before.started after.started

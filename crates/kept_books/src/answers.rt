@@ -1,4 +1,4 @@
-//! Answers of one kind, by the name that was asked for.
+//! Caches results of one kind of lookup, by the name in the query.
 ghost use Rattle.std.specs.Prelude.{◌≡◌, ℕ, None, List};
 ghost use Rattle.std.specs.Option.{option_copied};
 
@@ -7,7 +7,7 @@ use office_events::Name;
 use std::alloc::Global;
 use std::collections::BTreeMap;
 
-/// What was answered for each of some names, at most so many.
+/// The cached results by name. `most` is the maximum number of names.
 #[derive(Drop)]
 pub(crate) struct Answers<T> {
     rows: BTreeMap<Key, T>,
@@ -17,7 +17,7 @@ pub(crate) struct Answers<T> {
 impl<T: Drop> Answers<T> {
     ghost use Rattle.kept_books.specs.Answers.{answer_to, Forgets, MayAnswer};
 
-    /// No answers yet.
+    /// Creates an empty cache.
     pub(crate) fn new(alloc: Global, most: usize) -> Answers<T>
         ensures { (name : List ℕ) → answer_to result name ≡ None }
     {
@@ -27,7 +27,7 @@ impl<T: Drop> Answers<T> {
         }
     }
 
-    /// The answer that is kept for a name.
+    /// Returns the cached result for a name.
     pub(crate) fn get(&self, name: &Name) -> Option<&T>
         ensures { option_copied result ≡ answer_to self.now name.now }
     {
@@ -35,7 +35,7 @@ impl<T: Drop> Answers<T> {
         self.rows.get(&key)
     }
 
-    /// Keeps an answer, if there is room for it.
+    /// Caches a result, unless the cache is full or memory runs out.
     pub(crate) fn put(&mut self, name: &Name, answer: T)
         ensures { MayAnswer name.now answer self.old self.new }
     {
@@ -45,7 +45,7 @@ impl<T: Drop> Answers<T> {
         }
     }
 
-    /// Takes out the answer that is kept for a name.
+    /// Removes the cached result for a name, and returns it.
     pub(crate) fn take(&mut self, name: &Name) -> Option<T>
         ensures taken { result ≡ answer_to self.old name.now }
         ensures forgets { Forgets name.now self.old self.new }
@@ -54,7 +54,7 @@ impl<T: Drop> Answers<T> {
         self.rows.remove(&key)
     }
 
-    /// Takes out all answers.
+    /// Removes all cached results.
     pub(crate) fn clear(&mut self)
         ensures { (name : List ℕ) → answer_to self.new name ≡ None }
     {

@@ -1,4 +1,4 @@
-//! Books that keep what look-ups answered.
+//! A store that caches the results of lookups.
 ghost use Rattle.std.specs.Prelude.{◌≡◌};
 ghost use Rattle.kept_books.specs.Keeping.{StandsAs, beneath, ledger_over};
 
@@ -11,8 +11,9 @@ use office_events::{
 };
 use std::alloc::Global;
 
-/// Books over others. What a look-up answered is kept, and the books beneath are not asked for it again; what is booked
-/// changes what is kept with it, or drops it. A booking that fails drops all.
+/// A store over another store. It caches the results of lookups, and answers repeated lookups
+/// without the store below. New records update the cache, or remove results from it. A booking that
+/// fails empties the cache.
 #[derive(Drop)]
 pub struct KeptBooks<B> {
     alloc: Global,
@@ -21,7 +22,7 @@ pub struct KeptBooks<B> {
 }
 
 impl<B: Books> KeptBooks<B> {
-    /// Nothing is kept yet.
+    /// Creates a store with an empty cache.
     pub fn new(alloc: Global, books: B) -> KeptBooks<B>
         ensures books { beneath result ≡ books }
         ensures stands { StandsAs (B.ledger books) (ledger_over B.ledger result) }
@@ -33,7 +34,7 @@ impl<B: Books> KeptBooks<B> {
         }
     }
 
-    /// The books beneath.
+    /// Returns the store below.
     pub fn into_books(self) -> B
         ensures books { result ≡ beneath self }
         ensures stands { StandsAs (ledger_over B.ledger self) (B.ledger result) }

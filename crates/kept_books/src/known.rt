@@ -1,4 +1,4 @@
-//! What is kept, and how facts change it.
+//! The cache, and its changes by records.
 ghost use Rattle.std.specs.Prelude.{◌≡◌, ◌∷◌, List, length, IfSome, Some};
 ghost use Rattle.std.specs.List.{filter};
 ghost use Rattle.office_events.specs.declared.facts.Fact.{Fact};
@@ -24,7 +24,7 @@ use office_rules::{
 };
 use std::alloc::Global;
 
-/// What look-ups answered.
+/// The cached results of lookups.
 #[derive(Drop)]
 pub(crate) struct Known {
     alloc: Global,
@@ -34,9 +34,9 @@ pub(crate) struct Known {
     registers: Answers<Vec<Register>>,
     /// Installations that are the latest at their register, by their meter.
     standing: Answers<Installation>,
-    /// Which meter was the latest at a register. It may no longer be.
+    /// The meter that was the latest at a register. A later meter may have replaced it.
     meters: Answers<Name>,
-    /// Polls that wait, and how many were started.
+    /// Pending polls, and the number of started polls.
     polls: Polls,
 }
 
@@ -44,7 +44,7 @@ impl Known {
     ghost use Rattle.kept_books.specs.Changes.{Changes};
     ghost use Rattle.kept_books.specs.Known.{AreTrue};
 
-    /// Nothing yet.
+    /// Creates an empty cache.
     pub(crate) fn new(alloc: Global) -> Known
         ensures { (known : List Fact) → AreTrue result known }
     {
@@ -58,7 +58,7 @@ impl Known {
         }
     }
 
-    /// The point list of a device, if it is kept, and there is memory for a copy.
+    /// Returns the cached point list of a device, if there is memory for a copy.
     pub(crate) fn list(&self, device: &Name) -> Option<PlannedList>
         ensures { (known : List Fact) → AreTrue self.now known
             → IfSome result (λ list. list_of known device.now ≡ Some list) }
@@ -72,7 +72,7 @@ impl Known {
         }
     }
 
-    /// How many reads the plan of a device has, if its point list is kept.
+    /// Returns the number of reads in the plan of a device, if its point list is cached.
     pub(crate) fn read_count(&self, device: &Name) -> Option<usize>
         ensures { (known : List Fact) → AreTrue self.now known
             → IfSome result (λ n. read_count_of (list_of known device.now) ≡ Some n) }
@@ -83,7 +83,8 @@ impl Known {
         }
     }
 
-    /// The registers of its reads from one on, so many at most, if its point list is kept, and there is memory for them.
+    /// Returns the registers of at most `most` reads from index `from`, if the point list is cached
+    /// and memory suffices.
     pub(crate) fn reads(&self, device: &Name, from: u64, most: usize) -> Option<Vec<ReadSpan>>
         ensures { (known : List Fact) → AreTrue self.now known
             → IfSome result (λ v. v.items ≡ reads_from from most (list_of known device.now)) }
@@ -97,7 +98,7 @@ impl Known {
         }
     }
 
-    /// Keeps the point list that was found of a device, if there is one and memory for it.
+    /// Caches the point list of a device, if it exists and memory suffices.
     pub(crate) fn keep_list(&mut self, device: &Name, found: &Option<PlannedList>)
         ensures { (known : List Fact) → found.now ≡ list_of known device.now
             → AreTrue self.old known → AreTrue self.new known }
@@ -110,7 +111,7 @@ impl Known {
         }
     }
 
-    /// The registers of a device, if they are kept, and there is memory for a copy.
+    /// Returns the cached registers of a device, if there is memory for a copy.
     pub(crate) fn registers(&self, device: &Name) -> Option<Vec<Register>>
         ensures { (known : List Fact) → AreTrue self.now known
             → IfSome result (λ v. v.items ≡ registers_of known device.now) }
@@ -124,7 +125,8 @@ impl Known {
         }
     }
 
-    /// Those of them of which a read of the span gives a reading. The others are not copied.
+    /// Returns the cached registers of a device that a read of the span covers. The others are not
+    /// copied.
     pub(crate) fn registers_read(&self, device: &Name, span: ReadSpan) -> Option<Vec<Register>>
         ensures { (known : List Fact) → AreTrue self.now known
             → IfSome result (λ v.
@@ -139,7 +141,7 @@ impl Known {
         }
     }
 
-    /// How many registers a device has, if they are kept.
+    /// Returns the number of registers of a device, if they are cached.
     pub(crate) fn register_count(&self, device: &Name) -> Option<usize>
         ensures { (known : List Fact) → AreTrue self.now known
             → IfSome result (λ n. n ≡ length (registers_of known device.now)) }
@@ -150,7 +152,7 @@ impl Known {
         }
     }
 
-    /// Keeps the registers that were found of a device, if there are some and memory for them.
+    /// Caches the registers of a device, if there are any and memory suffices.
     pub(crate) fn keep_registers(&mut self, device: &Name, found: &[Register])
         ensures { (known : List Fact) → found.now ≡ registers_of known device.now
             → AreTrue self.old known → AreTrue self.new known }
@@ -163,7 +165,8 @@ impl Known {
         }
     }
 
-    /// The installation that is kept of the meter at a register.
+    /// Returns the cached installation of the meter that was the latest at a register. The caller
+    /// must check its register.
     fn standing_at(&self, register: &Name) -> Option<&Installation>
         ensures { (known : List Fact) → AreTrue self.now known
             → IfSome result (λ row. installation_at known row.now.opening.register ≡ Some row.now) }
@@ -174,7 +177,7 @@ impl Known {
         }
     }
 
-    /// The latest installation at a register, if it is kept.
+    /// Returns the latest installation at a register, if it is cached.
     pub(crate) fn installation(&self, register: &Name) -> Option<Installation>
         ensures found { (known : List Fact) → AreTrue self.now known
             → IfSome result (λ row. installation_at known register.now ≡ Some row) }
@@ -192,7 +195,7 @@ impl Known {
         }
     }
 
-    /// Keeps the latest installation that was found at a register, if there is one and memory for it.
+    /// Caches the latest installation at a register, if it exists and memory suffices.
     pub(crate) fn keep_installation(&mut self, register: &Name, found: &Option<Installation>)
         ensures { (known : List Fact) → found.now ≡ installation_at known register.now
             → AreTrue self.old known → AreTrue self.new known }
@@ -204,7 +207,7 @@ impl Known {
         }
     }
 
-    /// The poll of a number, if it is known to wait.
+    /// Returns the poll with a number, if it is cached as pending.
     pub(crate) fn poll(&self, number: u64) -> Option<PollRow>
         ensures { (known : List Fact) → AreTrue self.now known
             → IfSome result (λ row. poll_row_of known number ≡ Some row) }
@@ -218,7 +221,7 @@ impl Known {
         }
     }
 
-    /// How many polls were started, if that is kept.
+    /// Returns how many polls were started, if the count is cached.
     pub(crate) fn poll_count(&self) -> Option<u64>
         ensures { (known : List Fact) → AreTrue self.now known
             → IfSome result (λ n. n ≡ length (polls_in known)) }
@@ -226,7 +229,7 @@ impl Known {
         self.polls.started()
     }
 
-    /// Keeps how many polls were found to be started.
+    /// Caches the number of started polls.
     pub(crate) fn keep_poll_count(&mut self, found: u64)
         ensures { (known : List Fact) → found ≡ length (polls_in known)
             → AreTrue self.old known → AreTrue self.new known }
@@ -234,7 +237,7 @@ impl Known {
         self.polls.keep_started(found);
     }
 
-    /// Changes what one more fact changes, or drops it, but for the polls.
+    /// Updates the cache for one more record, except the polls.
     fn change(&mut self, fact: &Fact)
         ensures changes { Changes fact.now self.old self.new }
         ensures polls { self.new.polls ≡ self.old.polls }
@@ -256,7 +259,6 @@ impl Known {
         }
     }
 
-    /// One more fact.
     fn add(&mut self, fact: &Fact)
         ensures { (known : List Fact) → AreLawful (fact.now ∷ known)
             → AreTrue self.old known → AreTrue self.new (fact.now ∷ known) }
@@ -269,7 +271,7 @@ impl Known {
         self.polls.go_on(fact);
     }
 
-    /// Facts are added to those that are known.
+    /// Updates the cache for records that are added to the known ones.
     pub(crate) fn add_all(&mut self, facts: &[Fact])
         ensures { (known : List Fact) → AreLawful (with_facts facts.now known)
             → AreTrue self.old known → AreTrue self.new (with_facts facts.now known) }

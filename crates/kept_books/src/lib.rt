@@ -1,4 +1,4 @@
-//! Books that stand over any books, and keep what look-ups answered.
+//! A store over any store that caches the results of lookups.
 #![tactic(auto)]
 
 mod answers;

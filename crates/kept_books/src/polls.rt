@@ -1,4 +1,4 @@
-//! Polls that wait, by their numbers, and how many polls were started.
+//! Caches pending polls by their numbers, and the number of started polls.
 ghost use Rattle.std.specs.Prelude.{◌≡◌, ℕ, None, Some};
 ghost use Rattle.std.specs.Option.{option_copied};
 ghost use Rattle.kept_books.specs.Polls.{waiting_at, MayWait, WaitsNoMore, GoesUp, PollsChange};
@@ -8,7 +8,7 @@ use poll_core::MAX_WINDOW;
 use std::alloc::Global;
 use std::collections::BTreeMap;
 
-/// The polls that are known to wait, and how many were started, if that is known.
+/// The cached pending polls, and the number of started polls, if known.
 #[derive(Drop)]
 pub(crate) struct Polls {
     waiting: BTreeMap<u64, Poll>,
@@ -16,7 +16,7 @@ pub(crate) struct Polls {
 }
 
 impl Polls {
-    /// Nothing is known of them.
+    /// Creates an empty cache.
     pub(crate) fn new(alloc: Global) -> Polls
         ensures waiting { (number : ℕ) → waiting_at result number ≡ None }
         ensures started { result.started ≡ None }
@@ -27,21 +27,21 @@ impl Polls {
         }
     }
 
-    /// The poll of a number, if it is known to wait.
+    /// Returns the poll with a number, if it is cached as pending.
     pub(crate) fn get(&self, number: u64) -> Option<&Poll>
         ensures { option_copied result ≡ waiting_at self.now number }
     {
         self.waiting.get(&number)
     }
 
-    /// How many were started, if that is known.
+    /// Returns the number of started polls, if known.
     pub(crate) fn started(&self) -> Option<u64>
         ensures { result ≡ self.now.started }
     {
         self.started
     }
 
-    /// So many were started.
+    /// Caches the number of started polls.
     pub(crate) fn keep_started(&mut self, count: u64)
         ensures waiting { self.new.waiting ≡ self.old.waiting }
         ensures started { self.new.started ≡ Some count }
@@ -49,7 +49,7 @@ impl Polls {
         self.started = Some(count);
     }
 
-    /// One more is started. It is not known to wait where there is no room for it.
+    /// A full cache, or lack of memory, leaves the poll uncached. The count still rises.
     fn start(&mut self, poll: &Poll)
         ensures waiting { MayWait poll.now self.old self.new }
         ensures started { GoesUp self.old.started self.new.started }
@@ -63,7 +63,6 @@ impl Polls {
         }
     }
 
-    /// One ends.
     fn end(&mut self, number: u64)
         ensures waiting { WaitsNoMore number self.old self.new }
         ensures started { self.new.started ≡ self.old.started }
@@ -71,7 +70,7 @@ impl Polls {
         let _ = self.waiting.remove(&number);
     }
 
-    /// Changes what one more fact changes.
+    /// Updates the cache for one more record.
     pub(crate) fn go_on(&mut self, fact: &Fact)
         ensures { PollsChange fact.now self.old self.new }
     {

@@ -1,11 +1,11 @@
-//! Installations that go on by their entries.
+//! Advances cached installations by their entries.
 ghost use Rattle.kept_books.specs.Changes.{EntryKeepsAnswers};
 
 use crate::answers::Answers;
 use office_books::moved;
 use office_events::{BookedEntry, Installation};
 
-/// The installation of the meter, if it is kept, goes on by an entry.
+/// Advances the cached installation of the entry's meter, if any.
 pub(crate) fn go_on(rows: &mut Answers<Installation>, booked: &BookedEntry)
     ensures { EntryKeepsAnswers booked.now rows.old rows.new }
 {

@@ -1,4 +1,4 @@
-//! Lists, to writers that fail, take nothing, or are interrupted.
+//! Point lists, written to writers that fail, accept nothing, or are interrupted.
 
 use crate::given::list_of;
 use crate::narrow::Narrow;
@@ -7,13 +7,15 @@ use std::alloc::Global;
 
 static TEXT: &[u8] = b"name,function,area,address,type,scale\na,3,0,5,int16,0\n";
 
-// Whether a writer that has room for a part of the text gets that part, and the fault is told.
+// Returns whether the writer received exactly the first `room` bytes, and the fault is `Write`.
 fn is_told(alloc: Global, list: &PointList, room: usize, fails: bool) -> bool {
     let mut output = Narrow::new(alloc, room, fails);
     write_list(alloc, list, &mut output) == Err(WriteListFault::Write)
         && Some(output.taken.as_slice()) == TEXT.get(..room)
 }
 
+// A writer that fails, or accepts nothing, after any number of bytes has received exactly those
+// bytes.
 #[test]
 fn fails_at_each_byte(rt: HostRuntime) {
     let list = list_of(&rt, rt.alloc(), TEXT);
@@ -26,6 +28,7 @@ fn fails_at_each_byte(rt: HostRuntime) {
     }
 }
 
+// A list is written completely though each write is interrupted once.
 #[test]
 fn a_list_is_written_after_an_interruption(rt: HostRuntime) {
     let list = list_of(&rt, rt.alloc(), TEXT);

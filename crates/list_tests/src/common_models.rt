@@ -1,4 +1,4 @@
-//! What devices say of themselves.
+//! The identity of devices, by their model 1.
 use crate::given::{Line, assert_same, chain_of, image_of, put};
 use std::alloc::Global;
 use std::io::{self, Write};
@@ -53,7 +53,7 @@ const ABSENT: [Line; 3] = [
     },
 ];
 
-// The device with a model 1 of this length, whose end follows.
+// The device has a model 1 of this length, followed by the end.
 fn device(rt: &impl Abort, alloc: Global, lines: &[Line], length: u16) -> Image {
     let mut image = image_of(rt, alloc, lines);
     put(rt, &mut image, 3, &[length]);
@@ -61,7 +61,7 @@ fn device(rt: &impl Abort, alloc: Global, lines: &[Line], length: u16) -> Image 
     image
 }
 
-// What a device says of itself: its texts, each after how many registers it has, and its address.
+// Prints the texts, each after its number of registers, and the device address.
 fn print_common(common: &Common<'_>, output: &mut Vec<u8>) -> io::Result<()> {
     let texts = [
         common.manufacturer,
@@ -89,7 +89,8 @@ fn said(rt: &impl Abort, alloc: Global, image: &Image) -> Vec<u8> {
     output
 }
 
-// The lines of a device, the length of its model 1, and what the device says: one register more is for padding.
+// The lines of a device, the length of its model 1, and its identity. The additional register of
+// length 66 is padding.
 static SAYINGS: [(&[Line], u16, &str); 4] = [
     (&LINES, 66, "16 AB/16 CD/8 EF/8 GH/0 /3"),
     (&LINES, 65, "16 AB/16 CD/8 EF/8 GH/0 /3"),
@@ -97,6 +98,8 @@ static SAYINGS: [(&[Line], u16, &str); 4] = [
     (&ABSENT, 65, "0 /0 /0 /0 /0 /none"),
 ];
 
+// The identity of a device has each text and the device address. A missing or absent field is
+// empty.
 #[test]
 fn a_device_says_what_it_is(rt: HostRuntime) {
     for (lines, length, want) in &SAYINGS {

@@ -11,6 +11,8 @@ static COUNTS: [(u16, u16, u32); 3] = [
 // The register of a scale, and its power of ten.
 static POWERS: [(u16, i16); 3] = [(0xFFFD, -3), (2, 2), (0x8000, 0)];
 
+// A counter's high word is first, and powers of ten are signed. A scale that is not implemented is
+// 0.
 #[test]
 fn the_high_word_comes_first_and_powers_have_a_sign(rt: HostRuntime) {
     for (high, low, count) in &COUNTS {

@@ -1,11 +1,13 @@
-//! Points and texts, to writers that take a few bytes at a time, are interrupted, and then fail or take nothing.
+//! Points and texts, written to writers that accept a few bytes at a time, are interrupted, and
+//! then fail or accept nothing.
 use crate::narrow::Narrow;
 use std::alloc::Global;
 use std::io::{self, ErrorKind};
 use std::process::Abort;
 use sun_points::{Point, Scale, Text, write_scaled};
 
-// Whether a writer got as much of the text as it had room for, and the right error was told where that is not all.
+// Returns whether the writer received as much of the text as it had room for, and the error is
+// right if the text is cut.
 fn is_cut(output: &Narrow, outcome: io::Result<()>, room: usize, text: &str) -> bool {
     let all = text.as_bytes();
     let told = match outcome {
@@ -23,6 +25,7 @@ fn cut_value(rt: &impl Abort, alloc: Global, room: usize, fails: bool) -> bool {
     is_cut(&output, outcome, room, "-12.34")
 }
 
+// A scaled value is written up to the room of the writer, and the rest is reported as an error.
 #[test]
 fn a_scaled_value_is_cut(rt: HostRuntime) {
     for room in 0..8usize {
@@ -32,7 +35,7 @@ fn a_scaled_value_is_cut(rt: HostRuntime) {
     }
 }
 
-// Points at a tenth.
+// Points at scale -1.
 static POINTS: [(Point<'static>, &str); 6] = [
     (Point::Absent, "absent"),
     (Point::Signed(-15), "-1.5"),
@@ -47,7 +50,7 @@ static POINTS: [(Point<'static>, &str); 6] = [
     (Point::Text(Text { words: &[0, 0, 0] }), ""),
 ];
 
-// Whether a writer gets as much of a point as it has room for.
+// Returns whether a writer received as much of a point as it had room for.
 fn cut_point(
     rt: &impl Abort,
     alloc: Global,
@@ -62,6 +65,8 @@ fn cut_point(
     is_cut(&output, outcome, room, text)
 }
 
+// A point of each kind is written up to the room of the writer, and the rest is reported as an
+// error.
 #[test]
 fn a_point_is_cut(rt: HostRuntime) {
     for (point, text) in &POINTS {

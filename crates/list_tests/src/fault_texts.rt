@@ -1,4 +1,4 @@
-//! Faults of images, chains and point lists.
+//! The texts and numbers of faults of images, scans, chains and point lists.
 use crate::texts::assert_texts;
 use device_scan::ScanFault;
 use point_list::{FaultyRow, FaultyRows, ListFault, RowFault, WriteListFault};
@@ -76,6 +76,7 @@ const WRITES: [(WriteListFault, &str); 2] = [
     (WriteListFault::Memory, "memory ran out"),
 ];
 
+// Each fault has its text.
 #[test]
 fn faults_say_their_texts(rt: HostRuntime) {
     assert_texts(&rt, rt.alloc(), &IMAGES);
@@ -96,7 +97,7 @@ const FAULTY: [FaultyRow; 2] = [
     },
 ];
 
-// The first so many of them.
+// The first `count` faulty rows.
 fn faulty(rt: &impl Abort, alloc: Global, count: usize) -> FaultyRows {
     let mut rows = Vec::new(alloc);
     for row in FAULTY.iter().take(count) {
@@ -105,6 +106,7 @@ fn faulty(rt: &impl Abort, alloc: Global, count: usize) -> FaultyRows {
     FaultyRows::new(rows)
 }
 
+// The text of a list's faults shows the first faulty row and the number of faulty rows.
 #[test]
 fn lists_tell_their_first_row(rt: HostRuntime) {
     let lists = [
@@ -125,7 +127,7 @@ fn lists_tell_their_first_row(rt: HostRuntime) {
     assert_texts(&rt, rt.alloc(), &lists)
 }
 
-// The numbers that no golden case shows.
+// The faults have the numbers that no golden test shows.
 #[test]
 fn faults_have_numbers(rt: HostRuntime) {
     assert!(rt; ImageFault::PastEnd.number() == 1);

@@ -4,8 +4,9 @@ use std::alloc::Global;
 use std::process::Abort;
 use sun_chain::Image;
 
-// The mark, full models 1, 103 and 203, and the end. A register of model 1 has the two digits of its offset, and one of the others
-// has its offset, but for the scale points. The golden case `full_models` has the same words.
+// The mark, full models 1, 103 and 203, and the end. A register of model 1 has the two digits of
+// its offset. A register of the other models has its offset, except the scale points. The golden
+// test `full_models` has the same words.
 static LINES: [Line; 5] = [
     Line {
         address: 40000,

@@ -1,4 +1,4 @@
-//! Words that are put into images.
+//! Words that are written into images.
 use crate::given::put;
 use sun_chain::{Image, ImageFault};
 
@@ -9,7 +9,8 @@ static WORDS: [(u16, Option<u16>); 4] = [
     (65535, Some(5)),
 ];
 
-// Two words at the end, of which the last is put again; words past the last address change nothing.
+// The last two addresses can be written, and the last word replaced. Words past the last address
+// change nothing.
 #[test]
 fn words_are_put_up_to_the_last_address(rt: HostRuntime) {
     let mut image = Image::new(rt.alloc());

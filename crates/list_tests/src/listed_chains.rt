@@ -1,4 +1,4 @@
-//! Lists of chains of models.
+//! Point lists of chains of models.
 
 use crate::full_models::full_image;
 use crate::given::{Line, assert_same, chain_of, image_of, put, written};
@@ -7,7 +7,7 @@ use std::alloc::Global;
 use std::process::Abort;
 use sun_chain::Image;
 
-// Lines of an image, and the list of its chain.
+// The lines of an image, and the list of its chain.
 struct Listed {
     lines: &'static [Line],
     text: &'static str,
@@ -36,7 +36,7 @@ const INVERTER_AND_METER: [Line; 5] = [
     },
 ];
 
-// An absent point, and one whose scale point was not read.
+// An absent point, and a point whose scale point was not read.
 const METER: [Line; 5] = [
     Line {
         address: 40000,
@@ -89,6 +89,8 @@ fn assert_listed(rt: &impl Abort, alloc: Global, image: &Image, text: &str) {
     assert_same(rt, written(rt, alloc, &list).as_slice(), text);
 }
 
+// A chain's list has the points that were read, absent ones too. A scale point that was not read
+// leaves the scale empty.
 #[test]
 fn lists_of_chains(rt: HostRuntime) {
     for chain in &CHAINS {
@@ -98,7 +100,8 @@ fn lists_of_chains(rt: HostRuntime) {
     assert_listed(&rt, rt.alloc(), &full_image(&rt, rt.alloc()), FULL);
 }
 
-// The list of the full models: the name, address, type and scale point of each point of SunSpec models 1, 103 and 203.
+// The list of the full models: the name, address, type and scale point of each point of SunSpec
+// models 1, 103 and 203.
 static FULL: &str = "\
 name,function,area,address,type,scale
 m1.Mn,3,0,40004,string16,
@@ -224,7 +227,7 @@ m3.TotVArh_SF,3,0,40226,sunssf,
 m3.Evt,3,0,40227,bitfield32,
 ";
 
-// An image of so many meters, all of whose words were read, and of one more, if any words of it were read.
+// An image of `count` meters with all words. The words `more`, if any, begin one more meter.
 fn meters(rt: &impl Abort, alloc: Global, count: u16, more: &[u16]) -> Image {
     let mut image = Image::new(alloc);
     put(rt, &mut image, 0, &[0x5375, 0x6E53]);
@@ -254,8 +257,9 @@ fn put_meter(rt: &impl Abort, image: &mut Image, model: u16, words: &[u16]) {
     put(rt, image, address_of(model).saturating_add(2), words)
 }
 
-// How many full meters an image has, and the words that were read of one more; and how many points their list has, if they
-// are not too many. Each meter has 72 points, and each of its first nine registers is one.
+// The number of full meters in an image, and the words that were read of one more. Last the number
+// of points in the list, unless there are too many. Each meter has 72 points, and each of its first
+// nine registers is a point.
 static COUNTS: [(u16, &[u16], Option<usize>); 4] = [
     (7, &[], Some(504)),
     (7, &[0; 8], Some(512)),
@@ -277,6 +281,7 @@ fn count_in(rt: &impl Abort, alloc: Global, image: &Image) -> Option<usize> {
     }
 }
 
+// The list of a chain has at most 512 points.
 #[test]
 fn chains_have_512_points_at_most(rt: HostRuntime) {
     for (count, more, points) in COUNTS {
@@ -286,7 +291,7 @@ fn chains_have_512_points_at_most(rt: HostRuntime) {
     }
 }
 
-// The names of the first and the last point of the list of an image's chain.
+// The names of the first and the last point in the list of an image's chain.
 fn ends_of(rt: &impl Abort, alloc: Global, image: &Image) -> Vec<u8> {
     let list = list_in(rt, alloc, image);
     let mut names = Vec::new(alloc);
@@ -301,6 +306,7 @@ fn ends_of(rt: &impl Abort, alloc: Global, image: &Image) -> Vec<u8> {
     names
 }
 
+// The list of a long chain has the points of its first and its last model.
 #[test]
 fn many_points(rt: HostRuntime) {
     let image = meters(&rt, rt.alloc(), 7, &[]);

@@ -18,7 +18,7 @@ static TEXTS: [(&str, bool); 11] = [
     ("a23456789.123456789_123456789.123", false),
 ];
 
-// Asserts that a text is a name or isn't. Its bytes are handed back.
+// Asserts whether a text is a name. Its bytes are returned in either case.
 fn assert_name(rt: &impl Abort, alloc: Global, text: &str, is_name: bool) {
     let bytes = text.as_bytes().to_vec(alloc).expect(rt, "no memory");
     let back = match PointName::new(bytes) {
@@ -34,6 +34,7 @@ fn assert_name(rt: &impl Abort, alloc: Global, text: &str, is_name: bool) {
     assert!(rt; back.as_slice() == text.as_bytes(), "{text}");
 }
 
+// A name has 1 to 32 letters, digits, `_` and `.`, with a letter first.
 #[test]
 fn names_are_told_from_other_texts(rt: HostRuntime) {
     for (text, is_name) in &TEXTS {

@@ -1,11 +1,11 @@
-//! A writer that takes a few bytes at a time, is interrupted, and then fails or takes nothing.
+//! A writer that accepts a few bytes at a time, is interrupted, and then fails or accepts nothing.
 ghost use Rattle.std.specs.Prelude.{◌≤◌, IfOk, length};
 
 use std::alloc::Global;
 use std::io::{self, ErrorKind};
 
-/// Takes up to three bytes at a time, while there is room, and is interrupted before each time. With no room left it
-/// fails, or takes nothing.
+/// A writer that accepts up to three bytes at a time while it has room. Each write is interrupted
+/// once before it succeeds. Without room the writer fails, or accepts nothing.
 #[derive(Drop)]
 pub struct Narrow {
     pub taken: Vec<u8>,

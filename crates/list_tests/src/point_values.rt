@@ -4,7 +4,7 @@ use std::alloc::Global;
 use std::test::Fail;
 use sun_points::{Point, PointType, Scale, read_point};
 
-// Registers of a type, what they say, and how that is shown: a type that takes one register reads the first.
+// A type, two registers, the value and its text. A type with one register reads the first.
 static READINGS: [(&[u8], u16, u16, Point<'static>, &str); 33] = [
     (b"int16", 0xFFFF, 0, Point::Signed(-1), "-1"),
     (b"int16", 0x8001, 0, Point::Signed(-32767), "-32767"),
@@ -83,7 +83,7 @@ static READINGS: [(&[u8], u16, u16, Point<'static>, &str); 33] = [
     (b"sunssf", 0x8000, 0, Point::Absent, "absent"),
 ];
 
-// Whether registers of a type say a value, which is shown so.
+// Returns whether registers of a type give this value and this text.
 fn is_read(
     alloc: Global,
     ty: PointType,
@@ -98,6 +98,7 @@ fn is_read(
     Ok(point == value && text.as_slice() == shown.as_bytes())
 }
 
+// Registers of each type give the value at both ends of its range, and `absent`.
 #[test]
 fn registers_are_read_by_type(rt: HostRuntime) -> Result<(), Fail> {
     for (i, (name, high, low, value, shown)) in READINGS.iter().enumerate() {

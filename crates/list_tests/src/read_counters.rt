@@ -1,4 +1,4 @@
-//! What a counter shows over a link.
+//! Counters that are read over a link.
 use crate::stand_in_link::StandInLink;
 use device_scan::{CounterScale, ScanFault, Shown, read_counter};
 use mb_device::{Area, Bank, Kind, Trick};
@@ -19,7 +19,8 @@ static AREAS: [Area; 2] = [
     },
 ];
 
-// A counter of input registers with scales after and before it, one of holding registers, and scales that no counter has.
+// A counter of input registers with scales after and before it, a counter of holding registers, and
+// scales that no counter has.
 static WORDS: [(Kind, u16, u16); 9] = [
     (Kind::Holding, 40000, 1),
     (Kind::Holding, 40001, 2),
@@ -44,10 +45,10 @@ const HOLDING: ReadFunction = ReadFunction::HoldingRegisters;
 
 const INPUT: ReadFunction = ReadFunction::InputRegisters;
 
-// What a counter shows, if it shows anything.
+// The count and the scale of a counter, if it can be read.
 type Count = Option<(u32, i16)>;
 
-// How a counter is read, what it shows, and how many requests that takes.
+// The read of a counter, its result, and the number of requests.
 static COUNTERS: [(ReadFunction, u16, CounterScale, Count, u64); 13] = [
     (HOLDING, 40000, CounterScale::Fixed(0), Some((65538, 0)), 1),
     (
@@ -73,24 +74,24 @@ static COUNTERS: [(ReadFunction, u16, CounterScale, Count, u64); 13] = [
         1,
     ),
     (INPUT, 40005, CounterScale::Register(40129), Some((0, 0)), 1),
-    // a scale that is not implemented, and scales out of range
+    // A scale that is not implemented, and scales out of range.
     (INPUT, 40010, CounterScale::Register(40015), None, 1),
     (INPUT, 40010, CounterScale::Register(40016), None, 1),
     (INPUT, 40010, CounterScale::Register(40017), None, 1),
     (INPUT, 40010, CounterScale::Fixed(4), None, 1),
-    // registers that the device doesn't have
+    // Registers that the device does not have.
     (HOLDING, 40129, CounterScale::Fixed(0), None, 2),
-    // 126 registers, and half a counter at the last address
+    // 126 registers, and half a counter at the last address.
     (INPUT, 40004, CounterScale::Register(40129), None, 0),
     (INPUT, 65535, CounterScale::Fixed(0), None, 0),
 ];
 
-// What a counter shows.
 fn shown(count: Count) -> Option<Shown> {
     let (raw, sf) = count?;
     Some(Shown { raw, sf })
 }
 
+// A counter is read together with its scale in one request, and once more if no words arrive.
 #[test]
 fn a_counter_is_read_with_its_scale(rt: HostRuntime) {
     let mut link = StandInLink::new(meter(&rt, rt.alloc()), &[]);
@@ -105,7 +106,7 @@ fn a_counter_is_read_with_its_scale(rt: HostRuntime) {
     }
 }
 
-// The counter with the scale after it, under tricks.
+// Reads the counter with the scale after it, from a simulator with injected faults.
 fn tricked(
     rt: &impl Abort,
     alloc: Global,
@@ -124,6 +125,8 @@ static ONCE: [Trick; 5] = [
     Trick::Unit,
 ];
 
+// A response that fails once is requested again. Two timeouts give no count, and a broken
+// connection is a fault.
 #[test]
 fn a_counter_is_asked_for_twice(rt: HostRuntime) {
     for trick in &ONCE {
@@ -143,12 +146,13 @@ static EXCEPTION_THEN_WORDS: [u8; 22] = [
     0, 1, 0, 0, 0, 3, 7, 0x84, 6, 0, 2, 0, 0, 0, 7, 7, 4, 4, 0, 1, 0, 2,
 ];
 
-// Both requests: two input registers from 40010 on, of unit 7.
+// Both requests: two input registers from 40010, of unit 7.
 static REQUESTS: [u8; 24] = [
     0, 1, 0, 0, 0, 6, 7, 4, 0x9C, 0x4A, 0, 2, 0, 2, 0, 0, 0, 6, 7, 4, 0x9C, 0x4A, 0, 2,
 ];
 
-// Asserts what is read over a link, one of whose calls may fail. Returns the bytes that were written.
+// Asserts the result of a read over a link that may fail at one call. Returns the bytes that were
+// written.
 fn assert_read(
     rt: &impl Abort,
     alloc: Global,
@@ -163,7 +167,7 @@ fn assert_read(
     link.given().to_vec(alloc).expect(rt, "no memory")
 }
 
-// Words may come after an exception. The first write, the second, and the first read fail in turn.
+// Words may follow an exception. The first write, the second write and the first read fail in turn.
 #[test]
 fn words_may_come_after_an_exception(rt: HostRuntime) {
     let wanted = Ok(shown(Some((65538, -1))));

@@ -9,7 +9,8 @@ fn length(rt: &impl Abort, alloc: Global, words: &[u16]) -> usize {
     output.len()
 }
 
-// How many bytes texts of 125 and 126 registers are printed in.
+// The longest text has 1,000 bytes when printed. A text of 126 registers is printed up to register
+// 125.
 #[test]
 fn the_longest_text(rt: HostRuntime) {
     assert!(rt; length(&rt, rt.alloc(), &[0xFFFF; 125]) == 1000);

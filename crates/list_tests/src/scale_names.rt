@@ -12,6 +12,7 @@ static NAMES: [(u16, &str, Option<&str>); 8] = [
     (104, "WH", None),
 ];
 
+// A scaled point of a known model has the name of its scale point. Other points have none.
 #[test]
 fn points_name_their_scale_points(rt: HostRuntime) {
     for (id, name, scale) in &NAMES {

@@ -1,4 +1,4 @@
-//! Scaled values: the texts come from decimal arithmetic in another language.
+//! Scaled values. The texts come from decimal arithmetic in another language.
 
 use crate::given::assert_same;
 use std::alloc::Global;
@@ -107,6 +107,7 @@ fn assert_scaled(rt: &impl Abort, alloc: Global, values: &[i64], exponent: i16, 
     assert_same(rt, line.as_slice(), want);
 }
 
+// Values are written exactly at each scale from -10 to 10.
 #[test]
 fn values_are_written_at_each_scale(rt: HostRuntime) {
     for (exponent, want) in &SCALED {

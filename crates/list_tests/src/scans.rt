@@ -1,4 +1,4 @@
-//! Scans of a stand-in, truly and with each trick.
+//! Scans of a simulator, without faults and with each injected fault.
 use crate::full_models::full_image;
 use crate::stand_in_link::StandInLink;
 use device_scan::{ScanFault, ScanObserver, scan_over};
@@ -7,7 +7,7 @@ use std::alloc::Global;
 use std::process::Abort;
 use sun_chain::{ChainFault, Image, Model, walk};
 
-// Counts how often it is shown a model.
+// Counts the models that it is shown.
 #[derive(Drop)]
 struct Shown(u64);
 
@@ -23,7 +23,7 @@ static WHOLE: [Area; 1] = [Area {
     count: 230,
 }];
 
-// A bank with the words of the full models; its last register is the end's ID.
+// A register map with the words of the full models. Its last register is the end's ID.
 fn full_bank(rt: &impl Abort, alloc: Global) -> Bank {
     let image = full_image(rt, alloc);
     let mut bank = Bank::new(alloc, &WHOLE).ok().expect(rt, "no bank");
@@ -33,7 +33,7 @@ fn full_bank(rt: &impl Abort, alloc: Global) -> Bank {
     bank
 }
 
-// Checks that an image has the words of the full models and no others.
+// Asserts that an image has the words of the full models and no others.
 fn assert_full(rt: &impl Abort, alloc: Global, found: &Image) {
     let image = full_image(rt, alloc);
     for address in 39990..40240u16 {
@@ -41,7 +41,7 @@ fn assert_full(rt: &impl Abort, alloc: Global, found: &Image) {
     }
 }
 
-// How a scan ended, how many requests it sent, and how many models it showed.
+// The result of a scan, its number of requests, and the number of models that it showed.
 #[derive(Drop)]
 struct Scanned {
     found: Result<Image, ScanFault>,
@@ -49,7 +49,7 @@ struct Scanned {
     models: u64,
 }
 
-// Scans a bank under tricks.
+// Scans a register map with injected faults.
 fn scan_bank(alloc: Global, bank: Bank, tricks: &[(u64, Trick)]) -> Scanned {
     let mut link = StandInLink::new(bank, tricks);
     let mut shown = Shown(0);
@@ -61,7 +61,7 @@ fn scan_bank(alloc: Global, bank: Bank, tricks: &[(u64, Trick)]) -> Scanned {
     }
 }
 
-// Scans the full models under tricks.
+// Scans the full models with injected faults.
 fn scanned_full(
     rt: &impl Abort,
     alloc: Global,
@@ -70,14 +70,15 @@ fn scanned_full(
     scan_bank(alloc, full_bank(rt, alloc), tricks).found
 }
 
-// Scans a bank, which takes so many requests.
+// Scans a register map, and asserts the number of requests.
 fn assert_image(rt: &impl Abort, alloc: Global, bank: Bank, requests: u64) -> Image {
     let scanned = scan_bank(alloc, bank, &[]);
     assert!(rt; scanned.requests == requests, "{requests}");
     scanned.found.ok().expect(rt, "no scan")
 }
 
-// The mark, four heads, of which the last is asked for twice and then its ID alone, and three models take ten requests.
+// Full models are read in ten requests: one for the mark, and three for the models. The first three
+// heads need one each. The last head is requested twice, and then its ID alone.
 #[test]
 fn full_models_are_read(rt: HostRuntime) {
     let scanned = scan_bank(rt.alloc(), full_bank(&rt, rt.alloc()), &[]);
@@ -86,7 +87,7 @@ fn full_models_are_read(rt: HostRuntime) {
     assert_full(&rt, rt.alloc(), &scanned.found.ok().expect(&rt, "no scan"));
 }
 
-// On any of these frames a reply is lost or wrong, and comes at the second try.
+// On any of these frames a response is lost or wrong, and arrives at the second try.
 static ONCE: [Trick; 5] = [
     Trick::Drop,
     Trick::Twice,
@@ -95,6 +96,7 @@ static ONCE: [Trick; 5] = [
     Trick::Unit,
 ];
 
+// A response that fails once is requested again, for each fault on each frame.
 #[test]
 fn a_reply_that_fails_once_is_asked_for_again(rt: HostRuntime) {
     for trick in &ONCE {
@@ -105,6 +107,7 @@ fn a_reply_that_fails_once_is_asked_for_again(rt: HostRuntime) {
     }
 }
 
+// A connection that breaks, and a garbled frame, end the scan.
 #[test]
 fn a_connection_that_breaks_ends_the_scan(rt: HostRuntime) {
     let cut = scanned_full(&rt, rt.alloc(), &[(3, Trick::Cut(5))]);
@@ -113,7 +116,7 @@ fn a_connection_that_breaks_ends_the_scan(rt: HostRuntime) {
     assert!(rt; garbled.err() == Some(ScanFault::Garbled));
 }
 
-// A read that is dropped twice is unread: here the registers of the inverter.
+// A read that is dropped twice is missing from the image: here the registers of the inverter.
 #[test]
 fn what_fails_twice_is_unread(rt: HostRuntime) {
     let tricks = [(5, Trick::Drop), (6, Trick::Drop)];
@@ -132,7 +135,7 @@ static UPPER: [Area; 1] = [Area {
     count: 15536,
 }];
 
-// A bank above 50000 with these words.
+// A register map above 50000 with these words.
 fn upper_bank(rt: &impl Abort, alloc: Global, words: &[(u16, u16)]) -> Bank {
     let mut bank = Bank::new(alloc, &UPPER).ok().expect(rt, "no bank");
     for (address, word) in words {
@@ -141,7 +144,7 @@ fn upper_bank(rt: &impl Abort, alloc: Global, words: &[(u16, u16)]) -> Bank {
     bank
 }
 
-// The mark, a model that isn't known, and the end at the last address.
+// The mark, an unknown model, and the end at the last address.
 static TO_THE_LAST: [(u16, u16); 5] = [
     (50000, 0x5375),
     (50001, 0x6E53),
@@ -150,7 +153,8 @@ static TO_THE_LAST: [(u16, u16); 5] = [
     (65535, 0xFFFF),
 ];
 
-// 40000 twice, 50000, and two heads take five requests: the registers of the model aren't read.
+// A chain may end at the last address. The scan needs five requests: 40000 twice, 50000, and two
+// heads. It does not read the registers of an unknown model.
 #[test]
 fn a_chain_may_end_at_the_last_address(rt: HostRuntime) {
     let bank = upper_bank(&rt, rt.alloc(), &TO_THE_LAST);
@@ -170,7 +174,8 @@ static LONG: [(u16, u16); 6] = [
     (50130, 0xFFFF),
 ];
 
-// 40000 twice, 50000, two heads, 125 registers and one more take seven requests.
+// A long model needs several reads. The scan needs seven requests: 40000 twice, 50000, two heads,
+// 125 registers, and one more register.
 #[test]
 fn a_long_model_takes_several_reads(rt: HostRuntime) {
     let image = assert_image(&rt, rt.alloc(), upper_bank(&rt, rt.alloc(), &LONG), 7);
@@ -178,7 +183,7 @@ fn a_long_model_takes_several_reads(rt: HostRuntime) {
     assert!(rt; image.word(50129) == Some(7));
 }
 
-// So many models without registers, and the end after them.
+// Scans `count` models without registers, and the end after them.
 fn many_models(rt: &impl Abort, alloc: Global, count: u16) -> Image {
     let mut bank = upper_bank(rt, alloc, &TO_THE_LAST);
     for place in 0..count {
@@ -191,6 +196,7 @@ fn many_models(rt: &impl Abort, alloc: Global, count: u16) -> Image {
     scan_bank(alloc, bank, &[]).found.ok().expect(rt, "no scan")
 }
 
+// A chain has at most 64 models.
 #[test]
 fn a_chain_has_at_most_64_models(rt: HostRuntime) {
     let most = many_models(&rt, rt.alloc(), 64);

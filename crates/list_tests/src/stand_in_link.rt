@@ -1,20 +1,20 @@
-//! A link to a stand-in in the same process.
+//! A link to a simulator in the same process.
 ghost use Rattle.std.specs.Prelude.{◌≤◌, ◌<◌, length};
 
 use mb_device::{Bank, Server, Trick};
 use mb_wire::{LastTake, Link, LinkFailed, MemoryLink, Took};
 
-/// How many bytes of answers may wait.
+/// The maximum number of response bytes that wait to be read.
 const ROOM: usize = 1024;
 
-/// A link to a stand-in that answers at once what it is given. It brings nothing more until it is given more, and ends once a
-/// trick has cut it off.
+/// A link to a simulator that answers each write at once. It times out until the next write, and
+/// ends after a fault has closed the connection.
 #[derive(Drop)]
 pub(crate) struct StandInLink<'t> {
     server: Server<'t>,
     bank: Bank,
     answers: [u8; ROOM],
-    // The answers that were not taken stand from here to here.
+    // The range of the response bytes that were not read.
     start: usize,
     end: usize,
     is_over: bool,
@@ -42,13 +42,14 @@ impl<'t> StandInLink<'t> {
         }
     }
 
-    /// How often something was given: once a request.
+    /// Returns the number of writes, one for each request.
     pub(crate) fn gives(&self) -> u64 {
         self.gives
     }
 }
 
-// What a stand-in answers to bytes, in front of `answers`; how many bytes that are, and whether it is over.
+// Returns the number of response bytes, which are at the front of `answers`, and whether the
+// connection is closed.
 fn answer_to(
     server: &mut Server<'_>,
     bank: &mut Bank,
@@ -66,7 +67,7 @@ fn answer_to(
     (link.given().len().min(ROOM), is_over)
 }
 
-// Copies bytes to the front of a piece, and says how many.
+// Copies bytes to the front of a piece, and returns how many.
 fn copy(bytes: &[u8], piece: &mut [u8]) -> usize
     ensures within { result ≤ length bytes.now }
     ensures fits { result ≤ length piece.new }

@@ -1,9 +1,9 @@
-//! What a fault says.
+//! The texts of faults.
 use std::alloc::Global;
 use std::fmt::Display;
 use std::process::Abort;
 
-/// Each fault says its text, which has no full stop.
+/// Asserts the text of each fault. No text ends with a full stop.
 pub(crate) fn assert_texts<F: Display>(rt: &impl Abort, alloc: Global, texts: &[(F, &str)]) {
     for (fault, text) in texts {
         let said = format!(in alloc; "{fault}").expect(rt, "no memory");

@@ -1,8 +1,8 @@
-//! Lists that are written.
+//! Point lists that are written.
 
 use crate::given::{list_of, written};
 
-// A text that spells a list, and what is written of the list.
+// A text of a list, and the written text of the list.
 struct Rewritten {
     text: &'static [u8],
     written: &'static [u8],
@@ -26,9 +26,10 @@ wh,3,0,40094,acc32,whsf
 whsf,3,0,40096,sunssf,
 ";
 
-// Each kind of point; a text as a spreadsheet writes it; a header alone; a counter and its scale point with a byte order mark and
-// carriage returns, with quoted fields, blank lines and a last line without its end, and with leading zeros up to ten digits; the
-// ends of ranges.
+// Each kind of point; a text as a spreadsheet writes it; a header alone. Four texts of a counter
+// and its scale point: plain; with a byte order mark and carriage returns; with quoted fields,
+// blank lines and a last line without its end; with leading zeros up to ten digits. Last the ends
+// of ranges.
 static TEXTS: [Rewritten; 8] = [
     Rewritten {
         text: EVERY_KIND,
@@ -64,6 +65,7 @@ static TEXTS: [Rewritten; 8] = [
     },
 ];
 
+// A list is written in one form, for each form of its text.
 #[test]
 fn lists_are_written(rt: HostRuntime) {
     for (i, case) in TEXTS.iter().enumerate() {

@@ -1,4 +1,4 @@
--- Facts that are added after the others.
+-- Records that are added after the others.
 use Rattle.std.proofs.Common.{◌≡◌, true, false, List, [], ◌∷◌, ◌++◌, reverse, inl, inr, refl, sym, ap, subst, ◌∙◌, Result, Ok, Err}
 use Rattle.std.proofs.lemmas.List.{append-nil, reverse-append, reverse-reverse}
 use Rattle.std.specs.declared.alloc.AllocError.{AllocError}
@@ -38,7 +38,7 @@ listed_still old new known same tables figures listed = record {
   figures = figures;
 }
 
--- books that hold what others held
+-- A store that holds the records that another store held.
 pub one_still : (old new : ListBooks) → ((known : List Fact) → AreListed old known → AreListed new known) → (left : List (List Fact)) → HasOne old left → HasOne new left
 one_still old new still [] may = may
 one_still old new still (known ∷ left) (inl listed) = inl (still known listed)
@@ -49,12 +49,12 @@ one_among books [] more may = absurd may
 one_among books (known ∷ left) more (inl listed) = inl listed
 one_among books (known ∷ left) more (inr may) = inr (one_among books left more may)
 
--- figures after no facts
+-- The figures after no records.
 figures_after_none : (old new : ListBooks) (facts known : List Fact) → facts ≡ [] → FiguresFollow facts old new → AreListed old known → AreFigures new.figures known
 figures_after_none old new facts known none figures listed =
     subst (λ (fs : List Fact). AreFigures new.figures (with_facts fs known)) none (figures known listed.facts listed.figures)
 
--- the facts were added, and the tables came further
+-- The records were added, and the tables were updated.
 pub added : (old mid new : ListBooks) (facts : List Fact) → mid.facts.items ≡ old.facts.items ++ facts → mid.zone ≡ old.zone → mid.tables ≡ old.tables
     → FiguresFollow facts old mid → KeepsFacts (ledger_of mid) (ledger_of new) → new.zone ≡ mid.zone → new.last_failure ≡ old.last_failure
     → Books (ledger_of old) (ledger_of new) facts (Ok tt)
@@ -71,7 +71,7 @@ added old mid new facts is zone tables figures keeps still_zone none_failed = re
   goes = record { clean = λ c. c; faults = ap failures_in none_failed; zone = still_zone ∙ zone };
 }
 
--- there was no room for them
+-- The records had no room.
 pub not_added : (old new : ListBooks) (facts : List Fact) (lacks : AllocError) (result : Result (Unit {0}) BooksFault) → result ≡ told (Err lacks)
     → new.facts.items ≡ old.facts.items → new.zone ≡ old.zone → new.tables ≡ old.tables → new.figures ≡ old.figures
     → failures_in new.last_failure ≡ faults_after result (failures_in old.last_failure) → (facts ≡ [] → false ≡ true)

@@ -1,4 +1,4 @@
--- Readings that were held, handed on fact by fact.
+-- Rejected readings that are passed to a sink, record by record.
 use Rattle.std.proofs.Common.{◌≡◌, ℕ, ◌+◌, ◌<◌, ◌&&◌, Bool, true, false, cond, List, [], ◌∷◌, ◌++◌, reverse, take, length, get_or, Option, Some, None, refl, sym, ap, subst, ◌∙◌}
 use Rattle.std.specs.List.{filter, cons_option}
 use Rattle.std.proofs.lemmas.Bool.{cond-true, cond-false}
@@ -29,11 +29,11 @@ module _ (span : Span) (meter : List ℕ) where
   abbrev asked : List Fact → List HeldReading
   asked facts = holds_within span (holds_of facts meter)
 
-  -- what one fact holds
+  -- The rejected reading of one record, if it is one.
   abbrev among : Option HeldReading → List HeldReading
   among held = holds_within span (reverse (filter is_own (cons_option held [])))
 
-  -- one more fact
+  -- One more record.
   asked_more : (f : Fact) (known : List Fact) → asked (f ∷ known) ≡ asked known ++ asked (f ∷ [])
   asked_more f known =
       ap (λ (hs : List HeldReading). holds_within span (reverse (filter is_own hs))) (filter_map-append as_hold (f ∷ []) known)
@@ -42,27 +42,27 @@ module _ (span : Span) (meter : List ℕ) where
       ∙ filter-append (λ (held : HeldReading). is_within span held.at) (reverse (filter is_own (holds_in known))) (reverse (filter is_own (holds_in (f ∷ []))))
 
   module _ {S : Type 0} (takes : S → HeldReading → S → Type 0) (before : S) where
-    -- a reading that is asked for was taken
+    -- The sink received a reading in the span.
     pub hold_taken : (after : S) (f : Fact) (held : HeldReading) → as_hold f ≡ Some held → (same held.meter meter && is_within span held.at) ≡ true → takes before held after
         → TakesAll takes before (asked (f ∷ [])) after
     hold_taken after f held is so took =
         let P : List HeldReading → Type 0 = λ rows. TakesAll takes before rows after in
         subst P (sym (ap among is ∙ one_passes (is_own held) (λ (h : HeldReading). is_within span h.at) held so)) (after, took, refl)
 
-    -- one that isn't left the sink as it was
+    -- A reading outside the span left the sink unchanged.
     pub hold_left : (f : Fact) (held : HeldReading) → as_hold f ≡ Some held → (same held.meter meter && is_within span held.at) ≡ false
         → TakesAll takes before (asked (f ∷ [])) before
     hold_left f held is so =
         let P : List HeldReading → Type 0 = λ rows. TakesAll takes before rows before in
         subst P (sym (ap among is ∙ none_passes (is_own held) (λ (h : HeldReading). is_within span h.at) held so)) refl
 
-    -- and so did a fact that holds none
+    -- A record of another kind left the sink unchanged.
     pub none_left : (f : Fact) → as_hold f ≡ None → TakesAll takes before (asked (f ∷ [])) before
     none_left f is =
         let P : List HeldReading → Type 0 = λ rows. TakesAll takes before rows before in
         subst P (sym (ap among is)) refl
 
-    -- those of the facts so far, and what one more holds
+    -- The readings of the records so far, and that of one more.
     pub holds_more : (now after : S) (facts : List Fact) (i : ℕ) (f : Fact) → i < length facts → f ≡ get_or facts i f
         → TakesAll takes before (asked (reverse (take i facts))) now → TakesAll takes now (asked (f ∷ [])) after
         → TakesAll takes before (asked (reverse (take (i + 1) facts))) after

@@ -1,4 +1,4 @@
--- What books of a list hold.
+-- The content of a store in memory.
 use Rattle.std.specs.Prelude.{◌≡◌, ◌⊎◌, List, [], ◌∷◌, reverse}
 use Rattle.memory_books.specs.Tables.Whole.{HaveCome}
 use Rattle.office_books.specs.Ledgers.{Ledger, with_facts}
@@ -8,27 +8,28 @@ use Rattle.memory_books.specs.Looking.{failures_in}
 use Rattle.memory_books.specs.declared.list_books.ListBooks.{ListBooks}
 use Rattle.office_rules.specs.Lawful.{AreLawful}
 
--- The facts are lawful, the list has them, the earliest first, the tables say what they say, as far as they have come, and
--- the figures are theirs.
+-- The records are lawful, and the list holds them, the earliest first. Each table agrees with the
+-- records that it has reached, and the figures agree with all records.
 pub record AreListed (books : ListBooks) (known : List Fact) : Type 0 where
   pub lawful : AreLawful known
   pub facts : books.facts.items ≡ reverse known
   pub tables : HaveCome books.tables books.facts.items
   pub figures : AreFigures books.figures known
 
--- with these facts after the others, figures that were those of the list are so again
+-- If the figures agreed with the records of the list, they agree again after these records are
+-- added.
 abbrev pub FiguresFollow : (facts : List Fact) → (old new : ListBooks) → Type 0
 FiguresFollow facts old new = (known : List Fact) → old.facts.items ≡ reverse known
     → AreFigures old.figures known
     → AreFigures new.figures (with_facts facts known)
 
--- one of these lists of facts is known
+-- One of these lists of records is known.
 abbrev pub HasOne : ListBooks → List (List Fact) → Type 0
 HasOne books [] = ⊥
 HasOne books (known ∷ left) = AreListed books known ⊎ HasOne books left
 
--- Books in memory are always clean and open, and have no store that could fail: they note want of memory. A stop leaves what
--- they hold.
+-- The model of a store in memory. It is always clean and open, and has no storage that can fail.
+-- Only lack of memory is noted as a failure. A crash leaves the records that the store holds.
 abbrev pub ledger_of : ListBooks → Ledger
 ledger_of books = record {
   holds = AreListed books;

@@ -1,4 +1,4 @@
--- Facts as a list keeps them, the earliest first, and how books fail that have no store.
+-- Records in a list, the earliest first, and the failures of a store without storage.
 use Rattle.std.specs.Prelude.{List, reverse, Option, Result, Ok, Err}
 use Rattle.std.specs.declared.alloc.AllocError.{AllocError}
 use Rattle.office_events.specs.declared.facts.Fact.{Fact}
@@ -6,14 +6,15 @@ use Rattle.office_books.specs.declared.failures.Failures.{Failures}
 use Rattle.office_books.specs.declared.faults.BooksFault.{BooksFault}
 use Rattle.office_books.specs.declared.faults.BooksFault.TheVariants.{Memory}
 
+-- The records, the latest first.
 abbrev pub latest_first : List Fact → List Fact
 latest_first facts = reverse facts
 
--- what a call answers that takes memory
+-- The result of a call that allocates memory.
 abbrev pub told : {T : Type 0} → Result T AllocError → Result T BooksFault
 told (Ok answer) = Ok answer
 told (Err lacks) = Err Memory
 
--- No store ever failed. This was the last failure, of those for want of memory.
+-- The failures of a store in memory: none is counted, and the last one, if any, was lack of memory.
 abbrev pub failures_in : (last : Option BooksFault) → Failures
 failures_in last = record { count = 0; last = last }

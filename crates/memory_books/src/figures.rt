@@ -1,4 +1,5 @@
-//! Figures that go on with the facts, so that nobody has to walk these.
+//! Figures that are updated with each record, so that the queries for them need not read all
+//! records.
 ghost use Rattle.std.specs.Prelude.{◌<◌, ◌∷◌, List, [], length};
 ghost use Rattle.office_events.specs.declared.facts.Fact.{Fact};
 ghost use Rattle.memory_books.specs.Figures.{AreFigures, CountOn, most_facts};
@@ -6,7 +7,7 @@ ghost use Rattle.memory_books.specs.Figures.{AreFigures, CountOn, most_facts};
 use crate::kinds::{moment, openings};
 use office_events::Fact;
 
-/// How many meters were installed, and the greatest moment.
+/// The number of installed meters, and the greatest timestamp.
 #[derive(Clone, Copy)]
 pub(crate) struct Figures {
     pub(crate) installations: usize,
@@ -14,7 +15,7 @@ pub(crate) struct Figures {
 }
 
 impl Figures {
-    /// The figures of no facts.
+    /// Creates the figures of an empty list.
     pub(crate) fn new() -> Figures
         ensures { AreFigures result [] }
     {
@@ -24,7 +25,6 @@ impl Figures {
         }
     }
 
-    /// The figures after one fact more.
     fn after(&self, fact: &Fact) -> Figures
         ensures { (known : List Fact) → AreFigures self.now known → length known < most_facts
             → AreFigures result (fact.now ∷ known) }
@@ -35,7 +35,7 @@ impl Figures {
         }
     }
 
-    /// The figures after these facts.
+    /// Returns the figures after these records.
     pub(crate) fn after_all(&self, facts: &[Fact]) -> Figures
         ensures { CountOn facts.now self.now result }
     {

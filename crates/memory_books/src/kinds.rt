@@ -1,4 +1,4 @@
-//! Each kind of fact.
+//! Selects records by kind.
 ghost use Rattle.std.specs.Prelude.{◌≡◌, ◌∷◌, [], length};
 ghost use Rattle.office_rules.specs.Facts.{as_device, as_hold, openings_in, moment_in};
 
@@ -23,7 +23,7 @@ pub(crate) fn hold_in(fact: &Fact) -> Option<HeldReading>
     }
 }
 
-/// How many installations a fact opens: one or none.
+/// Returns the number of installations that a record opens, 0 or 1.
 pub(crate) fn openings(fact: &Fact) -> usize
     ensures { result ≡ length (openings_in (fact.now ∷ [])) }
 {
@@ -33,7 +33,7 @@ pub(crate) fn openings(fact: &Fact) -> usize
     }
 }
 
-/// The moment of a fact; those that have none count as 0.
+/// Returns the timestamp of a record, or 0 if its kind has none.
 pub(crate) fn moment(fact: &Fact) -> u64
     ensures { result ≡ moment_in fact.now }
 {

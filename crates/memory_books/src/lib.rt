@@ -1,4 +1,4 @@
-//! Books in memory: facts in lists, with tables in which they are looked up.
+//! A store in memory: records in a list, with tables for lookups.
 #![tactic(auto)]
 
 mod figures;

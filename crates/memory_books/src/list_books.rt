@@ -1,4 +1,4 @@
-//! Books in memory.
+//! A store in memory.
 ghost use Rattle.std.specs.Prelude.{◌≡◌, List, [], ◌++◌, OnOk, OnErr, IsOk};
 ghost use Rattle.office_books.specs.Faults.{faults_after};
 ghost use Rattle.office_events.specs.declared.facts.Fact.{Fact};
@@ -17,16 +17,16 @@ use office_events::{
 };
 use std::alloc::{AllocError, Global};
 
-/// Books in memory: a list of the facts, in the order in which they came, tables of what they say, and figures. They have no
-/// store, and so never answer `BooksFault::Store`: a call fails only for want of memory, and then changes nothing but that it
-/// notes it.
+/// A store in memory: a list of the records in the order in which they were added, with tables and
+/// figures. It has no file or database, so it never returns `BooksFault::Store`. A call fails only
+/// for lack of memory. It then changes no record, and notes the failure.
 #[derive(Drop)]
 pub struct ListBooks {
     facts: Vec<Fact>,
     zone: Zone,
     tables: Tables,
     figures: Figures,
-    /// What the last failure was. It was want of memory, if there was any.
+    /// The last failure, if any. It is always lack of memory.
     last_failure: Option<BooksFault>,
 }
 
@@ -35,7 +35,7 @@ impl ListBooks {
     ghost use Rattle.office_books.specs.Ledgers.{KeepsFacts, OnlyReads};
     ghost use Rattle.memory_books.specs.Listed.{ledger_of, FiguresFollow};
 
-    /// Books that hold nothing yet.
+    /// Creates an empty store.
     pub fn new(alloc: Global, zone: Zone) -> ListBooks
         ensures empty { AreListed result [] }
         ensures zone { result.zone ≡ zone }
@@ -50,7 +50,7 @@ impl ListBooks {
         }
     }
 
-    /// Adds to the tables what they lack. For want of memory they lack some yet.
+    /// Updates the tables with all records. If memory runs out, some tables are still incomplete.
     fn catch_up(&mut self) -> Result<(), AllocError>
         ensures keeps { KeepsFacts (ledger_of self.old) (ledger_of self.new) }
         ensures whole { (known : List Fact) → AreListed self.old known
@@ -63,7 +63,7 @@ impl ListBooks {
         self.tables.catch_up(&self.facts)
     }
 
-    /// The same for a look-up, which fails where memory is wanting.
+    /// Updates the tables for a lookup, which fails if memory runs out.
     fn ready(&mut self) -> Result<(), BooksFault>
         ensures reads { OnlyReads (ledger_of self.old) (ledger_of self.new) result }
         ensures whole { (known : List Fact) → AreListed self.old known
@@ -75,7 +75,7 @@ impl ListBooks {
         told(&mut self.last_failure, done)
     }
 
-    /// Adds facts after the others: all of them or, where memory is wanting, none.
+    /// Adds all of the records, or none if memory runs out.
     fn add(&mut self, facts: Vec<Fact>) -> Result<(), AllocError>
         ensures ok { OnOk result (self.new.facts.items ≡ self.old.facts.items ++ facts.items) }
         ensures figures { OnOk result (FiguresFollow facts.items self.old self.new) }
@@ -94,7 +94,7 @@ impl ListBooks {
     }
 }
 
-/// What a call answers that takes memory. Want of it is noted.
+/// Returns the result of a call that allocates memory, and notes lack of memory.
 fn told<T>(
     last_failure: &mut Option<BooksFault>,
     done: Result<T, AllocError>,
@@ -294,7 +294,7 @@ impl Books for ListBooks {
     fn book(&mut self, facts: Vec<Fact>) -> Result<(), BooksFault> {
         match self.add(facts) {
             Ok(()) => {
-                // Where room is wanting for the tables, the look-ups ask for it again.
+                // The records are stored. A table without room is updated by the next lookup.
                 let _ = self.catch_up();
                 Ok(())
             }

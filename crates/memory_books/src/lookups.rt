@@ -1,4 +1,4 @@
-//! What stands in a list of facts, the earliest first.
+//! Lookups that read the whole list of records, the earliest first.
 ghost use Rattle.std.specs.Prelude.{◌≡◌, ◌∷◌, ◌&&◌, [], reverse, IfOk};
 ghost use Rattle.std.specs.List.{filter_map};
 ghost use Rattle.office_rules.specs.Facts.{as_device, devices_in, same};
@@ -12,7 +12,6 @@ use office_books::{RowSink, Span};
 use office_events::{Device, Fact, HeldReading, Name};
 use std::alloc::{AllocError, Global};
 
-/// All devices of these facts.
 fn all_devices(alloc: Global, facts: &[Fact]) -> Result<Vec<Device>, AllocError>
     ensures { IfOk result (λ v. v.items ≡ filter_map as_device facts.now) }
 {
@@ -22,7 +21,7 @@ fn all_devices(alloc: Global, facts: &[Fact]) -> Result<Vec<Device>, AllocError>
         .collect(alloc)
 }
 
-/// The devices, in the order in which they were added.
+/// Returns the devices, in the order in which they were added.
 pub(crate) fn devices(alloc: Global, facts: &[Fact]) -> Result<Vec<Device>, AllocError>
     ensures { IfOk result (λ v. v.items ≡ reverse (devices_in (latest_first facts.now))) }
 {
@@ -30,14 +29,12 @@ pub(crate) fn devices(alloc: Global, facts: &[Fact]) -> Result<Vec<Device>, Allo
     Ok(devices)
 }
 
-/// Whether a held reading is one of the meter, and its moment is asked for.
 fn is_asked(held: &HeldReading, meter: &Name, span: Span) -> bool
     ensures { result ≡ (same held.now.meter meter.now && is_within span held.now.at) }
 {
     held.meter.is(meter) && span.contains(held.at)
 }
 
-/// Hands on the reading that a fact holds, where it is asked for.
 fn hand_hold<K: RowSink<HeldReading>>(fact: &Fact, meter: &Name, span: Span, sink: &mut K)
     ensures { TakesAll K.takes sink.old (holds_within span (holds_of (fact.now ∷ []) meter.now))
         sink.new }
@@ -52,8 +49,8 @@ fn hand_hold<K: RowSink<HeldReading>>(fact: &Fact, meter: &Name, span: Span, sin
     }
 }
 
-/// Hands on the readings of a meter that were held and whose moments are asked for, in the order in which they were recorded.
-/// This takes no memory.
+/// Passes the rejected readings of a meter in the span to the sink, in the order in which they were
+/// recorded. Allocates no memory.
 pub(crate) fn hand_holds<K: RowSink<HeldReading>>(
     facts: &[Fact],
     meter: &Name,

@@ -1,4 +1,4 @@
-//! Tables in memory: what facts say, ready to be looked up.
+//! Tables in memory for lookups of records.
 
 mod interval_rows;
 mod keys;

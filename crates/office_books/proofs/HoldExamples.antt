@@ -1,4 +1,4 @@
--- Which held readings are asked for: two of a meter, and one of another between them.
+-- Rejected readings by range: two of a meter, and one of another meter between them.
 use Rattle.std.proofs.Common.{◌≡◌, ℕ, pos, List, [], ◌∷◌, refl}
 use Rattle.energy_core.specs.declared.verdicts.Cause.TheVariants as cause
 use Rattle.office_events.specs.declared.facts.HeldReading.{HeldReading}
@@ -22,14 +22,14 @@ another = record { meter = m2; poll = 2; at = 1500; raw = 9; sf = pos 1; cause =
 abbrev second : HeldReading
 second = record { meter = m1; poll = 3; at = 2000; raw = 8; sf = pos 0; cause = cause.TooFast }
 
--- the latest fact stands first
+-- The latest record is first.
 abbrev facts : List Fact
 facts = fact.Hold second ∷ fact.Hold another ∷ fact.Hold first ∷ []
 
 all_of_a_meter : holds_within All (holds_of facts m1) ≡ first ∷ second ∷ []
 all_of_a_meter = refl
 
--- one at `from` is asked for, and one at `till` is not
+-- A reading at `from` is included, and one at `till` is not.
 from_the_first : holds_within (Between 1000 2000) (holds_of facts m1) ≡ first ∷ []
 from_the_first = refl
 

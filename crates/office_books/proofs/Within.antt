@@ -1,4 +1,4 @@
--- Before no entry has a meter more energy than in whole.
+-- The energy of a meter before an entry is at most its total energy.
 use Rattle.std.proofs.Common.{◌≡◌, ℕ, ◌≤◌, ◌==◌, List, [], ◌∷◌, refl, sym, ap, subst, ◌∙◌, inl, inr, Option, Some, None, arith}
 use Rattle.std.specs.Prelude.{sum_by}
 use Rattle.std.specs.Option.{option_map, option_and_then}
@@ -29,7 +29,7 @@ module _ (range : ℕ) (opening : Last) where
   abbrev energy : List Entry → ℕ
   energy es = sum_by (λ (s : Step). s.mwh) (steps_of range opening es)
 
-  -- one more row takes no energy away
+  -- One more row never lowers the energy.
   one_more : (row : EntryRow) (rows : List EntryRow) → energy (entries_in rows) ≤ energy (entries_in (row ∷ rows))
   one_more row rows = elim (cases_Bool row.stands) [
     | inl on ↦
@@ -73,11 +73,11 @@ module _ (kept : JournalsAreKept) (places : PlacesWereKept) (facts : List Fact) 
       let less = of_opening o place around.0 (installed_so facts meter o named) around.1 in
       subst (λ (w : Installation). p.before.total ≤ w.total) (same_Some _ whole is) (subst (λ (q : EntryPlace). q.before.total ≤ (installation_of facts o).total) around.2 less)
 
-  -- a meter had no more energy before an entry than in whole
+  -- The energy before an entry is at most the total energy.
   pub within_whole : (meter : List ℕ) (place : ℕ) → IsWithinWhole facts meter place
   within_whole meter place = λ whole p is at. by_opening meter place (opening_of facts meter) whole p refl is at
 
--- what is told of a meter and its entry
+-- The result of a lookup of an entry of an installed meter.
 pub tells_near : (facts : List Fact) (meter : List ℕ) (place : ℕ) (whole : Installation) (found : Option EntryPlace) → Some whole ≡ meter_of facts meter → found ≡ entry_at facts meter place
     → IsWithinWhole facts meter place → TellsNear facts meter place (option_map (with_energy whole.total) found)
 tells_near facts meter place whole found is at within = record {
@@ -85,7 +85,7 @@ tells_near facts meter place whole found is at within = record {
   within = within;
 }
 
--- where no meter is, nothing is told
+-- Without the meter a lookup finds nothing.
 pub tells_none : (facts : List Fact) (meter : List ℕ) (place : ℕ) → None ≡ meter_of facts meter → IsWithinWhole facts meter place → TellsNear facts meter place None
 tells_none facts meter place is within = record {
   near = ap (option_and_then (λ (w : Installation). option_map (with_energy w.total) (entry_at facts meter place))) is;

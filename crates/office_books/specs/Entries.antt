@@ -1,4 +1,4 @@
--- The entries of a meter in order, from a place on, and the installations at a register.
+-- The entries of a meter in order, from a sequence number, and the installations at a register.
 use Rattle.std.specs.Prelude.{ℕ, ℤ, nat_le, List, [], ◌∷◌, map, reverse, take, Option, Some, None}
 use Rattle.std.specs.List.{filter}
 use Rattle.energy_core.specs.Account.{last_of}
@@ -13,12 +13,12 @@ use Rattle.office_rules.specs.Meters.{opened, rows_of, installation_of}
 use Rattle.office_books.specs.declared.entries.MeterEntry.{MeterEntry}
 use Rattle.office_books.specs.declared.entries.MeterEntry.TheVariants as entry
 
--- the opening has the place 1, and the others are numbered from 2 on
+-- The sequence number of an entry: 1 for the opening, then 2 and above.
 abbrev pub place_of : MeterEntry → ℕ
 place_of (entry.Opening last) = 1
 place_of (entry.Later row sf) = row.place
 
--- the scale after the entries that stand
+-- The scale after the valid entries.
 abbrev pub scale_after : Opening → List EntryRow → ℤ
 scale_after opening rows = (last_of (opened opening) (entries_in rows)).sf
 
@@ -28,22 +28,24 @@ listed_rows opening [] = entry.Opening (opened opening) ∷ []
 listed_rows opening (row ∷ rows) =
     entry.Later row (scale_after opening (row ∷ rows)) ∷ listed_rows opening rows
 
--- All entries of a meter, voided ones too, in their order.
+-- All entries of a meter, with the voided ones, in order.
 abbrev pub entries_at : List Fact → Option Opening → List MeterEntry
 entries_at facts None = []
 entries_at facts (Some opening) = reverse (listed_rows opening (rows_of facts opening))
 
+-- All entries of the meter with a name.
 abbrev pub all_entries : List Fact → (meter : List ℕ) → List MeterEntry
 all_entries facts meter = entries_at facts (opening_of facts meter)
 
--- Those at a place or after it, the first so many of them.
+-- The first `most` entries from a sequence number.
 abbrev pub first_from : (from most : ℕ) → List MeterEntry → List MeterEntry
 first_from from most entries = take most (filter (λ e. nat_le from (place_of e)) entries)
 
+-- The first `most` entries of a meter from a sequence number.
 abbrev pub entries_from : List Fact → (meter : List ℕ) → (from most : ℕ) → List MeterEntry
 entries_from facts meter from most = first_from from most (all_entries facts meter)
 
--- The installations at a register as they stand, ended ones too, in the order in which they were installed.
+-- The installations at a register, with the closed ones, in the order in which they were installed.
 abbrev pub installations_of : List Fact → (register : List ℕ) → List Installation
 installations_of facts register =
     map (installation_of facts) (installations_at facts register)

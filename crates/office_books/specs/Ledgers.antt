@@ -1,4 +1,4 @@
--- What is promised of books, and how a call may change it.
+-- The promises of a store, and the possible change by a call.
 use Rattle.std.specs.Prelude.{◌≡◌, ◌≢◌, ◌⊎◌, List, [], ◌∷◌, ◌++◌, reverse, Result, IfOk, OnOk, OnErr, IsOk}
 use Rattle.interval_core.specs.declared.zone.Zone.{Zone}
 use Rattle.office_events.specs.declared.facts.Fact.{Fact}
@@ -7,9 +7,9 @@ use Rattle.office_books.specs.declared.faults.BooksFault.{BooksFault}
 use Rattle.office_books.specs.declared.failures.Failures.{Failures}
 use Rattle.office_books.specs.Faults.{FailuresAfterCalls, faults_after}
 
--- What is known of books at a moment: which facts they hold, which lists of facts a stop just now may leave in their
--- place, that no wrong answer of a store was taken as true, that their store is still open, how they failed so far, and
--- whose civil days are meant.
+-- The model of a store at a time: the records that it holds, and the lists of records that a crash
+-- may leave instead. `is_clean`: no wrong result of the store was taken as true. Also whether the
+-- store is open, its failures so far, and the zone of its civil days.
 pub record Ledger : Type 1 where
   pub holds : List Fact → Type 0
   pub may_leave : List (List Fact) → Type 0
@@ -18,47 +18,51 @@ pub record Ledger : Type 1 where
   pub failures : Failures
   pub zone : Zone
 
--- A call on books: a wrong answer that was taken as true stays one, a failure is noted, and the zone stays.
+-- A call of the store. A store that is not clean stays so, a failure is counted, and the zone
+-- stays.
 pub record LedgerAfterCall {T : Type 0} (old new : Ledger) (result : Result T BooksFault) :
     Type 0 where
   pub clean : new.is_clean → old.is_clean
   pub faults : new.failures ≡ faults_after result old.failures
   pub zone : new.zone ≡ old.zone
 
--- The same of several calls, and what is done between them: they failed as is answered, or memory ran out elsewhere.
+-- Several calls and the work between them. Their failures are those of the result, or memory ran
+-- out between the calls.
 pub record LedgerAfterCalls {T : Type 0} (old new : Ledger) (result : Result T BooksFault) :
     Type 0 where
   pub clean : new.is_clean → old.is_clean
   pub faults : FailuresAfterCalls result old.failures new.failures
   pub zone : new.zone ≡ old.zone
 
--- The books hold what they held, and a stop leaves no more than it left.
+-- The store holds the records that it held, and a crash may leave at most the lists that it could
+-- leave before.
 pub record KeepsFacts (old new : Ledger) : Type 0 where
   pub facts : (known : List Fact) → old.holds known → new.holds known
   pub left : (left : List (List Fact)) → old.may_leave left → new.may_leave left
 
--- A look-up changes nothing.
+-- A lookup changes nothing.
 pub record OnlyReads {T : Type 0} (old new : Ledger) (result : Result T BooksFault) : Type 0 where
   pub goes : LedgerAfterCall old new result
   pub keeps : KeepsFacts old new
 
--- Several look-ups change nothing.
+-- Several lookups change nothing.
 pub record Consults {T : Type 0} (old new : Ledger) (result : Result T BooksFault) : Type 0 where
   pub goes : LedgerAfterCalls old new result
   pub keeps : KeepsFacts old new
 
--- What is answered is what the facts say.
+-- The result of a lookup agrees with the records.
 abbrev pub Finds : {T : Type 0} → (old new : Ledger) → Result T BooksFault
     → (List Fact → T → Type 0) → Type 0
 Finds old new result says = (known : List Fact) → old.holds known → new.is_clean
     → IfOk result (says known)
 
--- the facts after these, the latest first
+-- The records after these, the latest first.
 abbrev pub with_facts : (facts : List Fact) → (known : List Fact) → List Fact
 with_facts facts known = reverse facts ++ known
 
--- Facts that may follow are booked at Ok, all of them, and nothing else can be left by a stop from then on. Where the
--- books fail, none of them is known, and a stop may yet leave all of them. To book no facts changes nothing and succeeds.
+-- At Ok all of the given records are stored, and from then on a crash can leave nothing else. After
+-- an error none of them is known, though a crash may still leave all of them. To store no records
+-- changes nothing and succeeds.
 pub record Books (old new : Ledger) (facts : List Fact) (result : Result (Unit {0}) BooksFault) :
     Type 0 where
   pub booked : (known : List Fact) → old.holds known → AreLawful (with_facts facts known)
@@ -73,9 +77,10 @@ pub record Books (old new : Ledger) (facts : List Fact) (result : Result (Unit {
   pub nothing : facts ≡ [] → IsOk result × KeepsFacts old new
   pub goes : LedgerAfterCall old new result
 
--- Calls take the books from these facts to later ones. At Ok they hold the later ones, and a stop leaves nothing else, or
--- nothing was recorded and it leaves what it left. Where they fail the books hold what they held, and a stop may yet leave
--- the later ones.
+-- Calls move the store from known records to later ones. At Ok the store holds the later ones, and
+-- a crash leaves nothing else. Alternatively nothing was recorded, and a crash leaves the same as
+-- before.
+-- After an error the store holds the known records, and a crash may still leave the later ones.
 pub record Moves {T : Type 0} (old new : Ledger) (known later : List Fact)
     (result : Result T BooksFault) : Type 0 where
   pub holds : old.holds known → new.is_clean → OnOk result (new.holds later)

@@ -1,4 +1,4 @@
--- What a request is to the one that is kept under its caller and number.
+-- The relation of a request to the kept request with the same caller and number.
 use Rattle.std.specs.Prelude.{ℕ, List, Option, if◌then◌else◌}
 use Rattle.std.specs.Option.{option_map}
 use Rattle.std.specs.Str.{bytes_eq}
@@ -8,9 +8,11 @@ use Rattle.office_rules.specs.Facts.{reply_of}
 use Rattle.office_books.specs.declared.books.Repeat.{Repeat}
 use Rattle.office_books.specs.declared.books.Repeat.TheVariants.{Same, Other}
 
+-- A request has the same bytes as the kept one, or other bytes.
 abbrev pub as_repeat : (request : List ℕ) → Reply → Repeat
 as_repeat request reply = if bytes_eq reply.request request then Same reply.kind else Other
 
+-- The relation of a request to the kept request, if there is one.
 abbrev pub repeat_of : List Fact → (caller : List ℕ) → (number : ℕ) → (request : List ℕ)
     → Option Repeat
 repeat_of facts caller number request =

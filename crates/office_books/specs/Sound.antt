@@ -19,46 +19,47 @@ use Rattle.office_rules.specs.Ranges.{IsSound}
 use Rattle.office_books.specs.declared.faults.BooksFault.{BooksFault}
 use Rattle.office_books.specs.Ledgers.{Ledger, OnlyReads}
 
--- an installation that was just opened
+-- An installation that was just opened.
 abbrev pub as_begun : Opening → Installation
 as_begun opening = record { opening = opening; last = opened opening; total = 0; ended = false }
 
--- The numbers of an opening are in their ranges.
+-- The numbers of an opening are in range.
 pub record HasNumbers (opening : Opening) : Type 0 where
   pub range : (MIN_RANGE ≤ opening.range) × (opening.range ≤ MAX_RANGE)
   pub ceiling : (1 ≤ opening.ceiling) × (opening.ceiling ≤ MAX_CEILING)
   pub raw : opening.raw < opening.range
   pub scale : IsScale opening.sf
 
--- the entries that stand among these rows of a meter, the oldest first, can be added up
+-- The valid entries among these rows of a meter, the oldest first, can be added up.
 abbrev pub HaveAccount : Opening → List EntryRow → Type 0
 HaveAccount opening rows = HasAccount (installed opening) (entries_in (latest_first rows))
 
--- A look-up that answers such installations alone, whatever the store gives.
+-- A lookup that returns only such installations, for all data in the store.
 pub record ReadsInstallation (old new : Ledger) (result : Result (Option Installation) BooksFault) :
     Type 0 where
   pub reads : OnlyReads old new result
   pub sound : IfOk result (λ row. IfSome row IsSound)
 
--- ... or where one stood before an entry
+-- The same for the state of a meter before an entry.
 pub record ReadsPlace (old new : Ledger) (result : Result (Option EntryPlace) BooksFault) : Type 0
   where
     pub reads : OnlyReads old new result
     pub sound : IfOk result (λ place. IfSome place (λ p. IsSound p.before))
 
--- the entry may be booked where the counter stands
+-- The entry may be stored after the present state of the counter.
 abbrev pub MayEnter : Installation → Entry → Type 0
 MayEnter row e =
     entered row.opening.range row.total row.last e
     ≡ Ok (after row.last e, step_to row.opening.range row.last e)
 
--- an entry that may be entered moved the installation on: to where the counter stands then, and by the energy of its step
+-- A valid entry moved the installation: to the new state of the counter, and by the energy of its
+-- step.
 abbrev pub MovesBy : Entry → (row moved : Installation) → Type 0
 MovesBy e row moved =
     (last : Last) (step : Step) → entered row.opening.range row.total row.last e ≡ Ok (last, step)
     → (moved.last ≡ last) × (moved.total ≡ row.total + step.mwh)
 
--- one that may not left it as it was
+-- An invalid entry left the installation unchanged.
 abbrev pub StaysAt : Entry → (row moved : Installation) → Type 0
 StaysAt e row moved =
     (fault : TermFault) → entered row.opening.range row.total row.last e ≡ Err fault → moved ≡ row

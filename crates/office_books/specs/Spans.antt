@@ -1,16 +1,16 @@
--- The moments that are asked for, and the rows of the quarter hours that are.
+-- Ranges of time, and the interval rows in them.
 use Rattle.std.specs.Prelude.{ℕ, nat_le, nat_lt, Bool, true, ◌&&◌, List}
 use Rattle.std.specs.List.{filter}
 use Rattle.interval_core.specs.declared.shares.Share.{Share}
 use Rattle.office_books.specs.declared.spans.Span.{Span}
 use Rattle.office_books.specs.declared.spans.Span.TheVariants.{All, Between}
 
--- the moment is asked for
+-- The timestamp lies in the span.
 abbrev pub is_within : Span → (moment : ℕ) → Bool
 is_within All moment = true
 is_within (Between from till) moment = nat_le from moment && nat_lt moment till
 
--- Of these rows those whose quarter hour is asked for, in their order.
+-- The interval rows whose quarter hours begin in the span, in order.
 abbrev pub rows_within : Span → List Share → List Share
 rows_within All rows = rows
 rows_within (Between from till) rows =

@@ -1,4 +1,4 @@
-//! Where a meter stands after rows that may be any.
+//! Computes the state of a meter from rows that may be damaged.
 ghost use Rattle.std.specs.Prelude.{◌≡◌, None, IfSome};
 ghost use Rattle.meter_journal.specs.Journal.{entries_in};
 ghost use Rattle.meter_journal.specs.Lists.{latest_first};
@@ -11,8 +11,8 @@ use energy_core::accounts_are_sound;
 use meter_journal::{EntryRow, checked_tally};
 use office_events::{Installation, Opening};
 
-/// An installation after these rows, the oldest first. There is none where a number of the opening is outside of its range, or
-/// the entries that stand have no account.
+/// Returns the installation after these rows, the oldest first. Returns `None` if a number of the
+/// opening is out of range or the valid entries have no account.
 pub fn installation_after(opening: &Opening, rows: &[EntryRow], ended: bool) -> Option<Installation>
     ensures stands { IfSome result
         (λ row. row ≡ standing opening.now (entries_in (latest_first rows.now)) ended) }

@@ -1,4 +1,4 @@
-//! The entries of a meter, as a reader copies them place by place.
+//! Lists the entries of a meter by sequence number.
 ghost use Rattle.std.specs.Prelude.{◌≡◌, ◌++◌, ◌∷◌, List, [], reverse, IfOk, OnOk};
 ghost use Rattle.meter_journal.specs.Lists.{latest_first};
 ghost use Rattle.meter_journal.specs.declared.lines.EntryRow.{EntryRow as JournalRow};
@@ -11,18 +11,19 @@ use meter_journal::EntryRow;
 use office_events::Opening;
 use std::alloc::{AllocError, Global};
 
-/// An entry of a meter. A later void changes whether it stands, and the rollovers of the reading after it; nothing else of an
-/// entry ever changes.
+/// An entry of a meter. A later void changes only whether the entry is valid, and the rollovers of
+/// the reading after it.
 #[derive(Clone, Copy, Debug, PartialEq, Eq)]
 pub enum MeterEntry {
-    /// Where the counter stood when the meter was installed. It has the place 1, and always stands.
+    /// The state of the counter when the meter was installed. The opening has sequence number 1,
+    /// and is always valid.
     Opening(Last),
-    /// An entry after that, and the scale factor of the counter after it.
+    /// A later entry, and the scale of the counter after it.
     Later { row: EntryRow, sf: i16 },
 }
 
 impl MeterEntry {
-    /// The place of the entry, from 1 on.
+    /// Returns the sequence number of the entry, from 1.
     pub fn place(&self) -> u64
         ensures { result ≡ place_of self.now }
     {
@@ -33,7 +34,7 @@ impl MeterEntry {
     }
 }
 
-/// The scale of the counter after one more row.
+/// A voided change leaves the scale as it was.
 fn scale_with(sf: i16, row: &EntryRow) -> i16
     ensures { (opening : RecordedOpening) (rows : List JournalRow) → sf ≡ scale_after opening rows
         → result ≡ scale_after opening (row.now ∷ rows) }
@@ -44,7 +45,7 @@ fn scale_with(sf: i16, row: &EntryRow) -> i16
     }
 }
 
-/// Lists one more entry, if it is one of those that are asked for.
+/// Entries before `from`, or after the first `most`, are skipped.
 fn list(
     listed: &mut Vec<MeterEntry>,
     entry: MeterEntry,
@@ -60,7 +61,8 @@ fn list(
     Ok(())
 }
 
-/// The opening of a meter and its rows, the oldest first, from a place on: so many at most.
+/// Returns at most `most` entries of a meter from a sequence number. `rows` are the rows after the
+/// opening, the oldest first.
 pub fn list_entries(
     alloc: Global,
     opening: &Opening,

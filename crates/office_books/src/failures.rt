@@ -1,19 +1,20 @@
-//! How books failed so far.
+//! Counts the failures of a store.
 ghost use Rattle.std.specs.Prelude.{◌≡◌};
 ghost use Rattle.office_books.specs.Faults.{failed_by, faults_after, no_failures};
 
 use crate::faults::BooksFault;
 
-/// How books failed so far: how often the store did, and what the last failure was, of the store or for want of memory.
+/// The failures of a store so far: their count, and the last failure. The last failure may be lack
+/// of memory, which is not counted.
 #[derive(Clone, Copy, Debug, PartialEq, Eq)]
 pub struct Failures {
-    /// How often the store failed. It stays at the greatest number.
+    /// The number of failures of the store. It stays at the greatest number.
     pub count: u64,
     pub last: Option<BooksFault>,
 }
 
 impl Failures {
-    /// None so far.
+    /// Creates the state without failures.
     pub fn new() -> Failures
         ensures { result ≡ no_failures }
     {
@@ -23,7 +24,7 @@ impl Failures {
         }
     }
 
-    /// One more.
+    /// Lack of memory is no failure of the store, so it is not counted.
     fn note(&mut self, fault: BooksFault)
         ensures { self.new ≡ failed_by fault self.old }
     {
@@ -33,7 +34,7 @@ impl Failures {
         self.last = Some(fault);
     }
 
-    /// What a call answers, once its failure is noted.
+    /// Counts the failure of a call, if any, and returns the result of the call.
     pub fn noted<T>(&mut self, answer: Result<T, BooksFault>) -> Result<T, BooksFault>
         ensures answer { result ≡ answer }
         ensures noted { self.new ≡ faults_after answer self.old }

@@ -1,16 +1,16 @@
-//! Why books did not do what they were asked.
+//! Faults of a store.
 use office_events::{Refusal, StoreCause};
 use std::alloc::{AllocError, AllocFailed};
 use std::error::Error;
 use std::fmt;
 use std::fmt::{Display, Formatter};
 
-/// How a store failed.
+/// The failure of a store.
 #[derive(Clone, Copy, Debug, PartialEq, Eq)]
 pub enum StoreFault {
-    /// It refused.
+    /// The store refused or failed.
     Refused,
-    /// It holds what cannot be.
+    /// The store holds impossible data.
     Damaged,
 }
 
@@ -25,7 +25,7 @@ impl Display for StoreFault {
 
 impl Error for StoreFault {}
 
-/// Why books did not do what they were asked.
+/// The reason why a call of the store failed.
 #[derive(Clone, Copy, Debug, PartialEq, Eq)]
 pub enum BooksFault {
     Store(StoreFault),

@@ -1,4 +1,4 @@
-//! What an office asks of the books that hold its facts, however they are kept.
+//! The requirements of an office on the store of its records.
 #![tactic(auto)]
 
 mod accounts;

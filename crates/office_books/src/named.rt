@@ -1,4 +1,4 @@
-//! What books have under a name that was handed in, if it is one.
+//! Lookups by a name that may be invalid.
 ghost use Rattle.std.specs.Prelude.{◌≡◌};
 ghost use Rattle.std.specs.Option.{option_and_then};
 ghost use Rattle.office_rules.specs.Facts.{list_of};
@@ -13,7 +13,7 @@ use mb_wire::ReadSpan;
 use office_events::{Installation, Name, PlannedList};
 use std::alloc::Global;
 
-/// The point list of the device of a name.
+/// Returns the point list of the device with a name. An invalid name finds none.
 pub fn list_at<B: Books>(
     books: &mut B,
     given: &Option<Name>,
@@ -28,7 +28,7 @@ pub fn list_at<B: Books>(
     }
 }
 
-/// How many reads the plan of the device of a name has, where it has a point list.
+/// Returns the number of reads in the plan of the device with a name, if it has a point list.
 pub fn read_count_at<B: Books>(
     books: &mut B,
     given: &Option<Name>,
@@ -43,7 +43,7 @@ pub fn read_count_at<B: Books>(
     }
 }
 
-/// The registers of the reads of that plan from one on: at most so many.
+/// Returns the registers of at most `most` reads of the plan from index `from`.
 pub fn reads_at<B: Books>(
     alloc: Global,
     books: &mut B,
@@ -61,7 +61,7 @@ pub fn reads_at<B: Books>(
     }
 }
 
-/// The latest meter at the register of a name.
+/// Returns the latest installation at the register with a name. An invalid name finds none.
 pub fn meter_at<B: Books>(
     books: &mut B,
     given: &Option<Name>,

@@ -1,11 +1,11 @@
-//! An entry with the energy of its whole meter.
+//! Replaces the energy before an entry by the total energy of its meter.
 ghost use Rattle.std.specs.Prelude.{◌≡◌};
 ghost use Rattle.office_books.specs.Near.{with_energy};
 ghost use Rattle.office_rules.specs.Ranges.{IsSound};
 
 use office_events::{EntryPlace, Installation};
 
-/// The same place of a meter, but with its whole energy in place of that before the entry.
+/// Returns the entry with the total energy of its meter in place of the energy before the entry.
 pub fn with_whole_energy(place: &EntryPlace, whole: &Installation) -> EntryPlace
     ensures same { result ≡ with_energy whole.now.total place.now }
     ensures sound { IsSound place.now.before → IsSound whole.now → IsSound result.before }

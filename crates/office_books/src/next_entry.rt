@@ -1,4 +1,4 @@
-//! The next entry of an installation.
+//! Judges and adds the next entry of an installation.
 ghost use Rattle.std.specs.Prelude.{◌≡◌};
 ghost use Rattle.office_rules.specs.Readings.{judgement};
 ghost use Rattle.office_rules.specs.Ranges.{IsSound};
@@ -9,7 +9,6 @@ use crate::soundness::is_sound;
 use energy_core::{Entry, Ranged, Reading, Terms, Verdict};
 use office_events::{BookedEntry, Installation};
 
-/// The terms on which the next entry of an installation is judged.
 fn terms_of(row: &Installation) -> Terms
     ensures ceiling { result.ceiling ≡ row.now.opening.ceiling }
     ensures total { result.total ≡ row.now.total }
@@ -20,7 +19,7 @@ fn terms_of(row: &Installation) -> Terms
     }
 }
 
-/// The verdict on a reading of an installation.
+/// Returns the verdict on a reading of an installation.
 pub fn verdict_at(row: &Installation, reading: &Reading) -> Verdict
     requires { IsSound row.now }
     ensures { result ≡ judgement row.now reading.now }
@@ -31,7 +30,7 @@ pub fn verdict_at(row: &Installation, reading: &Reading) -> Verdict
     energy_core::judge(&counter, &terms_of(row), &row.last, reading)
 }
 
-/// The installation after one more entry, where that may be entered; else as it was.
+/// Returns the installation after one more entry. An invalid entry leaves it unchanged.
 pub fn after_entry(row: &Installation, entry: &Entry) -> Installation
     requires { IsSound row.now }
     ensures sound { IsSound result }
@@ -53,8 +52,8 @@ pub fn after_entry(row: &Installation, entry: &Entry) -> Installation
     }
 }
 
-/// The installation after an entry that was booked, which ends it where it closes the meter. One whose numbers are outside of
-/// their ranges stays as it was.
+/// Returns the installation after a stored entry. A closing ends it. An installation whose numbers
+/// are out of range is unchanged.
 pub fn moved(row: &Installation, booked: &BookedEntry) -> Installation
     ensures { IsSound row.now → MayEnter row.now booked.now.entry
         → result ≡ moved_by booked.now.kind booked.now.entry row.now }

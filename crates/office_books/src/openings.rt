@@ -8,7 +8,7 @@ use energy_core::Last;
 use meter_journal::Installed;
 use office_events::{Installation, Opening};
 
-/// Where the counter of a meter stood when it was installed.
+/// Returns the state of a meter's counter at its opening.
 pub fn opened(opening: &Opening) -> Last
     ensures { result ≡ meters.opened opening.now }
 {
@@ -19,7 +19,7 @@ pub fn opened(opening: &Opening) -> Last
     }
 }
 
-/// A meter as it was installed.
+/// Returns a meter as it was installed.
 pub fn installed(opening: &Opening) -> Installed
     ensures { result ≡ meters.installed opening.now }
 {
@@ -30,7 +30,7 @@ pub fn installed(opening: &Opening) -> Installed
     }
 }
 
-/// An installation that was just opened.
+/// Returns an installation that was just opened.
 pub fn begun(opening: &Opening) -> Installation
     ensures { result ≡ as_begun opening.now }
 {
@@ -42,7 +42,7 @@ pub fn begun(opening: &Opening) -> Installation
     }
 }
 
-/// Whether the numbers of an opening are in their ranges.
+/// Returns whether the numbers of an opening are in range.
 pub fn has_numbers(opening: &Opening) -> bool
     ensures so { IsTrue result → HasNumbers opening.now }
     ensures if_so { HasNumbers opening.now → IsTrue result }

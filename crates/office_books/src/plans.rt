@@ -1,4 +1,4 @@
-//! The reads of a plan that are asked for.
+//! Selects reads of a plan.
 ghost use Rattle.std.specs.Prelude.{◌≡◌, IfOk, Some, map};
 ghost use Rattle.office_books.specs.Plans.{read_count_of, reads_from};
 
@@ -7,21 +7,20 @@ use office_events::PlannedList;
 use read_plan::PlannedRead;
 use std::alloc::{AllocError, Global};
 
-/// The registers of these reads.
 fn spans_of(alloc: Global, reads: &[PlannedRead]) -> Result<Vec<ReadSpan>, AllocError>
     ensures { IfOk result (λ spans. spans.items ≡ map (λ read. read.span) reads.now) }
 {
     reads.iter().map(|read| read.span).collect(alloc)
 }
 
-/// How many reads the plan of a list has.
+/// Returns the number of reads in the plan of a list.
 pub fn read_count(list: &PlannedList) -> usize
     ensures { Some result ≡ read_count_of (Some list.now) }
 {
     list.reads().len()
 }
 
-/// The registers of its reads from one on: so many at most. The points are not copied.
+/// Returns the registers of at most `most` reads from index `from`. The points are not copied.
 pub fn reads_from(
     alloc: Global,
     list: &PlannedList,

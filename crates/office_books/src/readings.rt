@@ -1,4 +1,4 @@
-//! The registers of which a read gives readings.
+//! Selects the registers that a read covers.
 ghost use Rattle.std.specs.Prelude.{◌≡◌, ◌≤◌, IfOk};
 ghost use Rattle.std.specs.List.{filter};
 ghost use Rattle.office_rules.specs.Readings as readings;
@@ -7,7 +7,6 @@ use mb_wire::ReadSpan;
 use office_events::{Register, ScaleSource};
 use std::alloc::{AllocError, Global};
 
-/// Whether these registers lie in the span.
 fn contains(span: ReadSpan, address: u16, count: u32) -> bool
     requires { count ≤ 2 }
     ensures { result ≡ readings.contains span address count }
@@ -17,7 +16,7 @@ fn contains(span: ReadSpan, address: u16, count: u32) -> bool
     from <= address && address + count <= from + u32::from(span.count)
 }
 
-/// Whether the register of the scale lies in the span, if the device tells it.
+/// A fixed scale needs no register.
 fn contains_scale(span: ReadSpan, scale: ScaleSource) -> bool
     ensures { result ≡ readings.contains_scale span scale }
 {
@@ -27,9 +26,9 @@ fn contains_scale(span: ReadSpan, scale: ScaleSource) -> bool
     }
 }
 
-/// Whether a read of the span gives a reading of the register: it is made by the register's
-/// function, and contains both registers of its counter, and that of its scale, if the device tells
-/// the scale.
+/// Returns whether a read of the span gives a reading of the register. The span must have the
+/// register's function, and contain both registers of the counter. If the device has the scale in a
+/// register, the span must contain that register too.
 pub fn is_read_by(span: ReadSpan, register: &Register) -> bool
     ensures { result ≡ readings.is_read_by span register.now }
 {
@@ -38,7 +37,7 @@ pub fn is_read_by(span: ReadSpan, register: &Register) -> bool
         && contains_scale(span, register.scale)
 }
 
-/// Those of these registers of which a read of the span gives a reading. The others are not copied.
+/// Returns the registers that a read of the span covers. The others are not copied.
 pub fn registers_read(
     alloc: Global,
     registers: &[Register],
@@ -55,7 +54,7 @@ pub fn registers_read(
     Ok(read)
 }
 
-/// Drops those of which a read of the span gives no reading. This takes no memory.
+/// Removes the registers that a read of the span does not cover. Allocates no memory.
 pub fn keep_read(registers: &mut Vec<Register>, span: ReadSpan)
     ensures { registers.new.items ≡ filter (readings.is_read_by span) registers.old.items }
 {

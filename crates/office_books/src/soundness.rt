@@ -1,11 +1,11 @@
-//! Whether the next reading of an installation can be judged.
+//! Checks whether the next reading of an installation can be judged.
 ghost use Rattle.std.specs.Prelude.{◌≡◌, false, IsTrue};
 ghost use Rattle.office_rules.specs.Ranges.{IsSound};
 
 use energy_core::{MAX_CEILING, MAX_RANGE, MAX_SCALE, MAX_TOTAL, MIN_RANGE, MIN_SCALE};
 use office_events::Installation;
 
-/// Whether the numbers of an installation are in their ranges.
+/// Returns whether the numbers of an installation are in range.
 pub fn is_sound(row: &Installation) -> bool
     ensures so { IsTrue result → IsSound row.now }
     ensures if_so { IsSound row.now → IsTrue result }

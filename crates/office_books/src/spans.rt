@@ -1,18 +1,19 @@
-//! Which moments are asked for.
+//! Ranges of time.
 ghost use Rattle.std.specs.Prelude.{◌≡◌};
 ghost use Rattle.office_books.specs.Spans.{is_within};
 
-/// Which moments are asked for, in seconds since 1970-01-01 UTC. A quarter hour is asked for by its start.
+/// A range of time, in seconds since 1970-01-01 UTC. A quarter hour lies in the range if its start
+/// does.
 #[derive(Clone, Copy, Debug, PartialEq, Eq)]
 pub enum Span {
-    /// All.
+    /// All times.
     All,
-    /// Those at `from` or later, and before `till`.
+    /// Times from `from` to before `till`.
     Between { from: u64, till: u64 },
 }
 
 impl Span {
-    /// Whether the moment is asked for.
+    /// Returns whether the timestamp lies in the range.
     pub fn contains(self, moment: u64) -> bool
         ensures { result ≡ is_within self moment }
     {

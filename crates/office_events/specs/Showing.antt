@@ -1,12 +1,12 @@
--- What an observer is shown.
+-- The events that an observer is shown.
 use Rattle.std.specs.Prelude.{ℕ, List, Option, Result}
 use Rattle.office_events.specs.declared.answers.Answer.{Answer}
 use Rattle.office_events.specs.declared.answers.Note.{Note}
 use Rattle.office_events.specs.declared.events.Event.{Event}
 use Rattle.office_events.specs.declared.refusals.Refusal.{Refusal}
 
--- An event that came at a moment for the round of a place, or for none; what it was answered, what was told of it, and the
--- frames that are to be sent.
+-- An event at a time, for the round of the device at an index or for no round. With it: its answer,
+-- its notifications, and the frames to send.
 pub record Shown : Type 0 where
   pub place : Option ℕ
   pub at : ℕ
@@ -15,6 +15,7 @@ pub record Shown : Type 0 where
   pub notes : List Note
   pub frames : List ℕ
 
+-- An event, with everything that an observer is shown of it.
 abbrev pub shown : Option ℕ → ℕ → Event → Result Answer Refusal → List Note → List ℕ → Shown
 shown place at event answer notes frames =
     record {

@@ -1,71 +1,71 @@
-//! What someone asks of the office. Numbers are as they were handed in; a name is `None` where what was
-//! handed in is no name.
+//! Commands for the office. Numbers are as the caller gave them, and the office checks their
+//! ranges. A name is `None` if the caller's text is not a valid name.
 use crate::names::Name;
 use mb_wire::ReadSpan;
 use read_plan::PlannedList;
 
-/// A new device.
+/// The command to add a device.
 #[derive(Clone, Copy, Debug, PartialEq, Eq)]
 pub struct AddDevice {
     pub name: Option<Name>,
-    /// Its Modbus unit identifier, 0 to 255.
+    /// The Modbus unit identifier, 0 to 255.
     pub unit: u64,
-    /// How long a poll waits for its reply, 1 to 60 seconds.
+    /// The time limit for the response to a poll, 1 to 60 seconds.
     pub timeout: u64,
-    /// How many polls may wait at a time, 1 to 16.
+    /// The maximum number of pending polls, 1 to 16.
     pub window: u64,
 }
 
-/// The point list of a device, in the place of the one that it had.
+/// The command to set the point list of a device, or to replace it.
 #[derive(Drop)]
 pub struct PutList {
     pub device: Option<Name>,
     pub list: PlannedList,
 }
 
-/// Where the scale of a register comes from.
+/// The source of a register's scale.
 #[derive(Clone, Copy, Debug, PartialEq, Eq)]
 pub enum GivenScale {
-    /// It is this one, -3 to 3.
+    /// A fixed power of ten, -3 to 3.
     Fixed(i64),
-    /// The device tells it at this address, 0 to 65535.
+    /// The device's scale factor at this address, 0 to 65535.
     Register(u64),
 }
 
-/// A new register: two words of a device that count energy.
+/// The command to add a register: two consecutive Modbus registers of a device that count energy.
 #[derive(Clone, Copy, Debug, PartialEq, Eq)]
 pub struct AddRegister {
     pub name: Option<Name>,
     pub device: Option<Name>,
-    /// The function code by which it is read, 3 or 4.
+    /// The function code of the read, 3 or 4.
     pub function: u64,
-    /// The address of its high word, 0 to 65534.
+    /// The address of the high word, 0 to 65534.
     pub address: u64,
     pub scale: GivenScale,
 }
 
-/// A meter that is installed at a register.
+/// The command to install a meter at a register.
 #[derive(Clone, Copy, Debug, PartialEq, Eq)]
 pub struct Install {
     pub register: Option<Name>,
     pub meter: Option<Name>,
-    /// What it shows, below its range.
+    /// The meter's count, below its range.
     pub raw: u64,
-    /// The scale at which it counts, -3 to 3.
+    /// The power of ten of the meter's counts, -3 to 3.
     pub sf: i64,
-    /// The greatest power that can flow, 1 to 1,000,000,000 W.
+    /// The greatest power that can flow through the meter, 1 to 1,000,000,000 W.
     pub ceiling: u64,
-    /// How many counts its counter has, 65,536 to 4,294,967,296.
+    /// The number of values of the meter's counter, 65,536 to 4,294,967,296.
     pub range: u64,
 }
 
-/// The meter at a register is closed, and another is installed.
+/// The command to close the meter at a register, and to install another there.
 #[derive(Clone, Copy, Debug, PartialEq, Eq)]
 pub struct Exchange {
     pub register: Option<Name>,
-    /// What the old meter shows.
+    /// The last count of the old meter.
     pub last: u64,
-    /// How often it turned over since its last entry, 0 to 255.
+    /// The number of rollovers since the old meter's last entry, 0 to 255.
     pub rolls: u64,
     pub meter: Option<Name>,
     pub raw: u64,
@@ -74,7 +74,7 @@ pub struct Exchange {
     pub range: u64,
 }
 
-/// The counter went on to `before`, and was set to `after`.
+/// The command to record that the counter rose to `before` and was set to `after`.
 #[derive(Clone, Copy, Debug, PartialEq, Eq)]
 pub struct Reset {
     pub register: Option<Name>,
@@ -82,7 +82,7 @@ pub struct Reset {
     pub after: u64,
 }
 
-/// The counter went on to `before`, and was set to `after` at another scale.
+/// The command to record that the counter rose to `before` and was set to `after` at another scale.
 #[derive(Clone, Copy, Debug, PartialEq, Eq)]
 pub struct Rescale {
     pub register: Option<Name>,
@@ -91,18 +91,18 @@ pub struct Rescale {
     pub sf: i64,
 }
 
-/// What someone read off a meter.
+/// The command to enter a reading by hand.
 #[derive(Clone, Copy, Debug, PartialEq, Eq)]
 pub struct Manual {
     pub register: Option<Name>,
     pub raw: u64,
-    /// How often it turned over since its last entry, 0 to 255.
+    /// The number of rollovers since the meter's last entry, 0 to 255.
     pub rolls: u64,
-    /// When it was read, if that was before now.
+    /// The time of the reading, if it is earlier than the command.
     pub at: Option<u64>,
 }
 
-/// What a meter showed in the end.
+/// The command to close a meter, with its last count.
 #[derive(Clone, Copy, Debug, PartialEq, Eq)]
 pub struct Close {
     pub register: Option<Name>,
@@ -110,27 +110,30 @@ pub struct Close {
     pub rolls: u64,
 }
 
-/// A read that is to be sent.
+/// The command to send a single read.
 #[derive(Clone, Copy, Debug, PartialEq, Eq)]
 pub struct StartPoll {
     pub device: Option<Name>,
     pub span: ReadSpan,
 }
 
-/// The reads of the plan of a device's list that are to be sent, from the one of this number on; the first is 0.
+/// The command to send the reads of the plan of a device's list. `from` is the index of the first
+/// read to send, from 0.
 #[derive(Clone, Copy, Debug, PartialEq, Eq)]
 pub struct StartRound {
     pub device: Option<Name>,
     pub from: u64,
 }
 
-/// The entry at a place is false. The opening has the place 1.
+/// The command to void an entry. `place` is the entry's sequence number in the meter's journal. The
+/// opening has number 1.
 #[derive(Clone, Copy, Debug, PartialEq, Eq)]
 pub struct VoidEntry {
     pub meter: Option<Name>,
     pub place: u64,
 }
 
+/// A command for the office.
 #[derive(Drop)]
 pub enum Command {
     AddDevice(AddDevice),

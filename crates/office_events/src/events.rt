@@ -1,10 +1,10 @@
-//! What comes to the office.
+//! Events that reach the office.
 use crate::commands::Command;
 use crate::names::Name;
 use poll_core::Closing;
 use std::marker::Model;
 
-/// Bytes that came to the office: of a device, or of a request.
+/// Bytes that reached the office from a device or with a request.
 #[derive(Clone, Drop)]
 pub struct Piece {
     bytes: Vec<u8>,
@@ -21,12 +21,14 @@ impl Model for Piece {
 impl Piece {
     ghost use Rattle.std.specs.Prelude.{◌≡◌};
 
+    /// Creates a piece from its bytes.
     pub fn new(bytes: Vec<u8>) -> Piece
         ensures { result ≡ bytes.items }
     {
         Piece { bytes }
     }
 
+    /// Returns the bytes of the piece.
     pub fn as_slice(&self) -> &[u8]
         ensures { result.now ≡ self.now }
     {
@@ -34,30 +36,30 @@ impl Piece {
     }
 }
 
-/// A command that someone asks under a name and a number of his own, with the bytes of the request. It is carried out
-/// once, and its answer is kept.
+/// A command with an idempotency key: the caller's name, and a number that the caller chose. The
+/// office executes it once, and keeps its answer with the bytes of the request.
 #[derive(Drop)]
 pub struct Asked {
     pub caller: Option<Name>,
-    /// 0 to 9,223,372,036,854,775,807.
+    /// The number of the request, 0 to 9,223,372,036,854,775,807.
     pub number: u64,
     pub request: Piece,
     pub command: Command,
 }
 
-/// What comes to the office. A name is `None` where what was handed in is no name.
+/// An event that reaches the office. A name is `None` if the given text is not a valid name.
 #[derive(Drop)]
 pub enum Event {
-    /// The connection to a device was made.
+    /// The connection to a device was opened.
     Connected(Option<Name>),
     /// A device sent bytes.
     Bytes(Option<Name>, Piece),
-    /// A moment at which nothing came.
+    /// A timer event: no input arrived before this time.
     Tick,
     /// The connection to a device ended.
     Gone(Option<Name>, Closing),
-    /// Someone asks something of the office.
+    /// A command without an idempotency key.
     Command(Command),
-    /// Someone asks it in a way that can be repeated.
+    /// A command with an idempotency key.
     Asked(Asked),
 }

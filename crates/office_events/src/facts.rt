@@ -1,4 +1,4 @@
-//! What the books record.
+//! The records of the store.
 use crate::answers::CommandKind;
 use crate::events::Piece;
 use crate::names::Name;
@@ -9,33 +9,34 @@ use meter_journal::EntryKind;
 use poll_core::Outcome;
 use read_plan::PlannedList;
 
-/// A device, and the terms on which it is polled.
+/// A device, and the terms of its polls.
 #[derive(Clone, Copy, Debug, PartialEq, Eq)]
 pub struct Device {
     pub name: Name,
-    /// Its Modbus unit identifier.
+    /// The Modbus unit identifier.
     pub unit: u8,
     pub timeout: Timeout,
     pub window: Window,
 }
 
-/// The point list of a device.
+/// The point list of a device, with its plan.
 #[derive(Clone, Drop)]
 pub struct DeviceList {
     pub device: Name,
     pub list: PlannedList,
 }
 
-/// Where the scale of a register comes from.
+/// The source of a register's scale.
 #[derive(Clone, Copy, Debug, PartialEq, Eq)]
 pub enum ScaleSource {
-    /// It is this one, -3 to 3.
+    /// A fixed power of ten, -3 to 3.
     Fixed(i16),
-    /// The device tells it at this address.
+    /// The device's scale factor at this address.
     Register(u16),
 }
 
-/// A register that counts energy: two words of a device, the high one first.
+/// A register that counts energy: two consecutive Modbus registers of a device, the high word
+/// first.
 #[derive(Clone, Copy, Debug, PartialEq, Eq)]
 pub struct Register {
     pub name: Name,
@@ -45,14 +46,14 @@ pub struct Register {
     pub scale: ScaleSource,
 }
 
-/// A meter that was installed at a register, and what it showed then.
+/// A meter that was installed at a register, with its count at that time.
 #[derive(Clone, Copy, Debug, PartialEq, Eq)]
 pub struct Opening {
     pub meter: Name,
     pub register: Name,
-    /// The greatest power that can flow, in W.
+    /// The greatest power that can flow through the meter, in W.
     pub ceiling: u64,
-    /// How many counts its counter has.
+    /// The number of values of the meter's counter.
     pub range: u64,
     /// Seconds since 1970-01-01 UTC.
     pub at: u64,
@@ -60,21 +61,21 @@ pub struct Opening {
     pub sf: i16,
 }
 
-/// A read that was started.
+/// A read that was sent to a device.
 #[derive(Clone, Copy, Debug, PartialEq, Eq)]
 pub struct Poll {
-    /// Polls are numbered from 1.
+    /// The number of the poll, from 1.
     pub number: u64,
     pub device: Name,
     pub unit: u8,
     /// Seconds since 1970-01-01 UTC.
     pub at: u64,
-    /// The transaction identifier of its frame.
+    /// The transaction identifier of the poll's frame.
     pub id: u16,
     pub span: ReadSpan,
 }
 
-/// How a poll ended.
+/// The end of a poll, with its outcome.
 #[derive(Clone, Copy, Debug, PartialEq, Eq)]
 pub struct EndedPoll {
     pub poll: u64,
@@ -91,7 +92,7 @@ pub struct BookedEntry {
     pub entry: Entry,
 }
 
-/// A reading that was not accepted. It is kept, and changes nothing else.
+/// A rejected reading. It is kept with its cause, and changes nothing else.
 #[derive(Clone, Copy, Debug, PartialEq, Eq)]
 pub struct HeldReading {
     pub meter: Name,
@@ -103,7 +104,7 @@ pub struct HeldReading {
     pub cause: Cause,
 }
 
-/// An entry of a meter that stands no more.
+/// A record that an entry of a meter is void.
 #[derive(Clone, Copy, Debug, PartialEq, Eq)]
 pub struct VoidedEntry {
     pub meter: Name,
@@ -112,7 +113,8 @@ pub struct VoidedEntry {
     pub at: u64,
 }
 
-/// What an asked command was answered, kept for good under its caller and number.
+/// The answer to a command with an idempotency key. It is kept under its caller and number, and
+/// never deleted.
 #[derive(Clone, Drop)]
 pub struct Reply {
     pub caller: Name,
@@ -123,7 +125,7 @@ pub struct Reply {
     pub at: u64,
 }
 
-/// What the books record.
+/// A record of the store.
 #[derive(Drop)]
 pub enum Fact {
     Device(Device),

@@ -1,4 +1,4 @@
-//! What comes to an office, and what it records, answers and tells.
+//! The events that reach an office, and its records, answers and notifications.
 #![tactic(auto)]
 
 mod answers;

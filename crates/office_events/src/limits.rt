@@ -1,31 +1,31 @@
-//! How many of each there may be in an office, and how great its numbers are.
+//! The limits of an office and of its numbers.
 
-/// The most bytes of a name.
+/// The maximum length of a name, in bytes.
 pub const MAX_NAME: usize = 16;
 
-/// The most devices of the office.
+/// The maximum number of devices of an office.
 pub const MAX_DEVICES: usize = 64;
 
-/// The most registers of a device.
+/// The maximum number of registers of a device.
 pub const MAX_REGISTERS: usize = 32;
 
-/// The most installations of the office, closed ones too.
+/// The maximum number of installations of an office, with the closed ones.
 pub const MAX_INSTALLATIONS: usize = 4096;
 
-/// The most polls of the office, so the greatest number of one: 2^62.
+/// The maximum number of polls of an office, which is also the greatest poll number: 2^62.
 pub const MAX_POLLS: u64 = 4_611_686_018_427_387_904;
 
 /// The greatest number of a caller's request: 2^63 - 1.
 pub const MAX_REQUEST: u64 = 9_223_372_036_854_775_807;
 
-/// The last Modbus unit identifier.
+/// The greatest Modbus unit identifier.
 pub const LAST_UNIT: u64 = 255;
 
 /// The last address of a device's registers.
 pub const LAST_ADDRESS: u64 = 65535;
 
-/// The last address of a counter's high word: its low word stands after it.
+/// The last address of a counter's high word. The low word has the next address.
 pub const LAST_COUNTER: u64 = 65534;
 
-/// The most turns of a counter from one entry to the next.
+/// The maximum number of rollovers of a counter between two entries.
 pub const MAX_ROLLS: u64 = 255;

@@ -8,7 +8,8 @@ ghost use Rattle.office_events.specs.Names as specs_names;
 use crate::limits::MAX_NAME;
 use std::marker::Model;
 
-/// A name: 1 to 16 ASCII letters, digits, `_` or `-`, a letter first.
+/// The name of a device, register or meter: 1 to 16 ASCII letters, digits, `_` or `-`, with a
+/// letter first.
 #[derive(Clone, Copy, Debug, PartialEq, Eq)]
 pub struct Name {
     bytes: [u8; MAX_NAME],
@@ -25,7 +26,7 @@ impl Model for Name {
 
     ghost view = { λ n. take n.len n.bytes };
 
-    // After the bytes of the name come zeros.
+    // Zeros follow the bytes of the name, so equal names have equal bytes.
     ghost invariant = { λ n. (n.len ≤ MAX_NAME)
         × (take n.len n.bytes ++ replicate (MAX_NAME - length (take n.len n.bytes)) 0 ≡ n.bytes)
         × (length (take n.len n.bytes) ≡ n.len) × (length n.bytes ≡ MAX_NAME)
@@ -37,28 +38,24 @@ impl Model for Name {
     ghost inverse_ok = { λ n h i. record { bytes = h.1 i; len = h.2 i } };
 }
 
-/// Whether a byte is an ASCII letter.
 fn is_letter(byte: u8) -> bool
     ensures { result ≡ specs_names.is_letter byte }
 {
     byte.is_ascii_alphabetic()
 }
 
-/// Whether a byte may stand in a name.
 fn is_name_byte(byte: u8) -> bool
     ensures { result ≡ specs_names.is_name_byte byte }
 {
     byte.is_ascii_alphanumeric() || byte == b'_' || byte == b'-'
 }
 
-/// Whether all bytes may stand in a name.
 fn are_name_bytes(text: &[u8]) -> bool
     ensures { result ≡ list_all specs_names.is_name_byte text.now }
 {
     text.iter().all(|&byte| is_name_byte(byte))
 }
 
-/// Whether a text begins with a letter.
 fn begins_with_letter(text: &[u8]) -> bool
     ensures { result ≡ specs_names.begins_with_letter text.now }
 {
@@ -68,7 +65,6 @@ fn begins_with_letter(text: &[u8]) -> bool
     }
 }
 
-/// The text, and zeros after it.
 fn padded(text: &[u8]) -> [u8; MAX_NAME]
     requires { length text.now ≤ MAX_NAME }
     ensures { result ≡ text.now ++ replicate (MAX_NAME - length text.now) 0 }
@@ -79,7 +75,7 @@ fn padded(text: &[u8]) -> [u8; MAX_NAME]
 }
 
 impl Name {
-    /// The name that these bytes spell, if they spell one.
+    /// Creates a name from its bytes, if they are a valid name.
     pub fn new(text: &[u8]) -> Option<Name>
         ensures { result ≡ specs_names.named text.now }
     {
@@ -93,14 +89,14 @@ impl Name {
         }
     }
 
-    /// Whether this is the same name.
+    /// Returns whether two names are equal.
     pub fn is(&self, other: &Name) -> bool
         ensures { result ≡ bytes_eq self.now other.now }
     {
         self.as_bytes() == other.as_bytes()
     }
 
-    /// The bytes of the name.
+    /// Returns the bytes of the name.
     pub fn as_bytes(&self) -> &[u8]
         ensures bytes { result.now ≡ self.now }
         ensures few { length result.now ≤ MAX_NAME }

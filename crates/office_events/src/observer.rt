@@ -1,15 +1,16 @@
-//! Who is shown what the office is fed.
+//! The observer of an office's events.
 use crate::answers::{Answer, Note};
 use crate::events::Event;
 use crate::refusals::Refusal;
 
-/// Is shown each event that an office is fed, for whose round it was, what it was answered, what the office told of it, and
-/// the frames that it wants sent.
+/// An observer of each event that reaches an office. It is shown the event with its answer, its
+/// notifications, and the frames to send. `place` is the index of the device whose round caused the
+/// event.
 pub trait Observer {
     ghost use Rattle.std.specs.Prelude.{Option};
     ghost use Rattle.office_events.specs.Showing.{Shown, shown};
 
-    // What a showing leaves.
+    // The relation between an observer, an event, and the observer afterwards.
     ghost sees: { Self → Shown → Self → Type 0 };
 
     fn observe(

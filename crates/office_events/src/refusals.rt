@@ -1,17 +1,17 @@
-//! Why the office refuses an event or a question.
+//! The reasons why the office refuses an event or a query.
 use energy_core::Cause;
 use std::error::Error;
 use std::fmt;
 use std::fmt::{Display, Formatter};
 
-/// Why the store did not do what it was asked.
+/// The reason why the store failed.
 #[derive(Clone, Copy, Debug, PartialEq, Eq)]
 pub enum StoreCause {
-    /// It refused or failed, or can number no more polls.
+    /// The store refused or failed, or has no more poll numbers.
     Refused,
-    /// It holds what cannot be.
+    /// The store holds impossible data.
     Damaged,
-    /// An interval row has no civil day in the books' zone. The books did not fail.
+    /// An interval row has no civil day in the store's zone. The store itself did not fail.
     NoDay,
 }
 
@@ -19,7 +19,7 @@ impl StoreCause {
     ghost use Rattle.std.specs.Prelude.{◌≡◌};
     ghost use Rattle.office_events.specs.Numbers.{store_number};
 
-    /// Its number. No text shows it.
+    /// Returns the number of the cause. The program does not print it.
     pub fn number(self) -> u8
         ensures { result ≡ store_number self }
     {
@@ -43,43 +43,45 @@ impl Display for StoreCause {
 
 impl Error for StoreCause {}
 
-/// Why an event or a question is refused. `Stopped` comes before all others, then `Reused`; of the others that apply the one
-/// with the smallest number is answered, but that `Store` comes after `NotPlausible`.
+/// The reason why the office refuses an event or a query. If several apply, `Stopped` comes first,
+/// then `Reused`, then the one with the smallest number. The exception is `Store`, which comes
+/// after `NotPlausible`.
 #[derive(Clone, Copy, Debug, PartialEq, Eq)]
 pub enum Refusal {
-    /// No device, register, meter, list, entry or poll has that name, place or number.
+    /// No device, register, meter, list, entry or poll has this name or number.
     NotFound,
-    /// A device, register or meter has that name, or a meter is open at the register.
+    /// A device, register or meter has this name already, or a meter is open at the register.
     Exists,
-    /// The moment is before that of the latest accepted event.
+    /// The timestamp is before that of the latest accepted event.
     ClockBack,
     /// A scale is not from -3 to 3.
     BadScale,
-    /// The counter would have gone back.
+    /// The count is lower than the last one, also with its rollovers.
     NegativeStep,
-    /// The last entry is as late, or later.
+    /// The last entry has the same timestamp or a later one.
     NotLater,
-    /// The step would touch more than 3,000 intervals.
+    /// The step would touch more than 3,000 quarter hours.
     SpanTooLong,
     /// The energy of the meter would pass 4 * 10^18 mWh.
     TotalFull,
     /// The meter at the register was closed.
     Ended,
-    /// The device has no session, or has one already, or its session can start no poll.
+    /// The device is not connected or is connected already, or its session can start no poll.
     Busy,
     /// The caller used the number for another request.
     Reused,
-    /// A name, a number or a moment is outside its range, or there is no room for one more.
+    /// A name, a number or a timestamp is out of range, or a limit of the office is reached.
     Limit,
-    /// The books failed, can number no more polls, or a row has no civil day.
+    /// The store failed, has no more poll numbers, or a row has no civil day.
     Store(StoreCause),
-    /// There is no memory.
+    /// Memory ran out.
     Memory,
-    /// The office has stopped, since the books or memory failed while it settled polls.
+    /// The office has stopped, because the store or memory failed while the office settled polls.
     Stopped,
-    /// The entry is no reading of the device that stands, or the next that stands is none.
+    /// The entry is void already or no reading from the device, or the next valid entry is no
+    /// reading from the device.
     NotVoidable,
-    /// The next entry would have been held after the one before.
+    /// Without the entry to void, the next entry would have been rejected for this cause.
     NotPlausible(Cause),
 }
 
@@ -87,7 +89,7 @@ impl Refusal {
     ghost use Rattle.std.specs.Prelude.{◌≡◌};
     ghost use Rattle.office_events.specs.Numbers.{refusal_number};
 
-    /// The number that stands for it in texts.
+    /// Returns the number that the program prints for the refusal.
     pub fn number(self) -> u8
         ensures { result ≡ refusal_number self }
     {

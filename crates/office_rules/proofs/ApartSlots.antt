@@ -1,4 +1,5 @@
--- No two devices have the same name, so a start reaches one session, and a connection is made to a device that has none.
+-- No two devices have the same name. A start therefore reaches one session, and only a device
+-- without a session connects.
 use Rattle.std.proofs.Common.{◌≡◌, ℕ, Bool, true, false, cond, List, [], ◌∷◌, ◌++◌, map, refl, sym, ap, subst, ◌∙◌, Option, Some, None, is_some, inl, inr, if◌then◌else◌}
 use Rattle.std.specs.List.{flat_map, find}
 use Rattle.std.specs.Option.{option_and_then}
@@ -27,7 +28,7 @@ same_back a b h = false_from_ne_true _ (λ t.
     let here : same a b ≡ true = ap (same a) e ∙ same_refl a in
     both_ways _ h here)
 
--- no slot is of a device with this name
+-- No slot has a device with this name.
 abbrev pub NoneNamed : List ℕ → List Slot → Type 0
 NoneNamed name [] = Unit {0}
 NoneNamed name (slot ∷ slots) = (same name slot.device.name ≡ false) × NoneNamed name slots
@@ -55,14 +56,14 @@ device_if : (number at : ℕ) (spans : List ReadSpan) (e : Event) (slot : Slot) 
 device_if number at spans e slot true = refl
 device_if number at spans e slot false = device_reached number at spans e slot slot.present
 
--- an event leaves the devices
+-- An event changes no device.
 pub device-after : (number at : ℕ) (spans : List ReadSpan) (e : Event) (slot : Slot) → (slot_after number at spans e slot).device ≡ slot.device
 device-after number at spans e slot = device_if number at spans e slot (connects e slot.device)
 
 pub device-restarted : (slot : Slot) → (slot_restarted slot).device ≡ slot.device
 device-restarted slot = refl
 
--- nothing is found where the first is not, and the others are not
+-- A search finds nothing if the first element does not pass and no other does.
 pub not_found_if : {X : Type 0} (b : Bool) (x : X) (r : Option X) → cond b (Some x) r ≡ None → (b ≡ false) × (r ≡ None)
 not_found_if true x r h = cc
 not_found_if false x r h = (refl, h)
@@ -86,7 +87,7 @@ apart-push_by (slot ∷ slots) new h none =
 pub apart-push : (slots : List Slot) (new : Slot) → AreApart slots → slot_of slots (Some new.device.name) ≡ None → AreApart (slots ++ new ∷ [])
 apart-push slots new h none = apart-push_by slots new h (none_found new.device.name slots none)
 
--- A connection is made only to a device that has none.
+-- Only a device without a session connects.
 pub free_other : (e : Event) → ((device : Device) → connects e device ≡ false) → (slots : List Slot) → AreFree e slots
 free_other e never [] = tt
 free_other e never (slot ∷ slots) = ((λ h. absurd (both_ways _ (never slot.device) h)), free_other e never slots)
@@ -120,7 +121,7 @@ pub free_connected : (given : Option (List ℕ)) (slots : List Slot) → AreApar
 free_connected None slots h absent_there = free_other (event.Connected None) (λ device. refl) slots
 free_connected (Some name) slots h absent_there = free_named name slots h (absent (present_of slots (Some name)) absent_there)
 
--- What is done for the device of a name is done for one.
+-- A function of the device with a name applies to one device.
 pub of_none : {X Y : Type 0} (f : X → List Y) → ((x : X) → f x ≡ []) → (xs : List X) → flat_map f xs ≡ []
 of_none f none [] = refl
 of_none f none (x ∷ xs) = ap (λ ys. ys ++ flat_map f xs) (none x) ∙ of_none f none xs

@@ -1,4 +1,5 @@
--- Each poll ends once: by induction over the accepted events, what the facts say of the polls is what the sessions say.
+-- Each poll ends once: by induction over the accepted events, the records of polls agree with the
+-- sessions.
 use Rattle.std.proofs.Common.{◌≡◌, ℕ, ◌≤◌, ◌==◌, Bool, true, false, cond, List, [], ◌∷◌, ◌++◌, length, map, reverse, refl, sym, ap, subst, ◌∙◌, arith, Option, Some, None, is_some}
 use Rattle.std.specs.List.{filter, flat_map}
 use Rattle.std.proofs.lemmas.Bool.{cond-false, or_parts}
@@ -36,8 +37,8 @@ use Rattle.office_rules.proofs.QuietEvents.{NoneNew, connects_start, bytes_start
 use Rattle.office_rules.proofs.QuietFacts.{AreQuiet, later_part_first, quiet_polls, quiet_ends, quiet_reply}
 use Rattle.office_rules.proofs.StartedPolls.{numbers, command_adds, commands_settle, new_sent}
 
--- The polls of the facts and their recorded ends are those of the sessions; no poll waits in a session that has ended, and
--- no two devices have the same name.
+-- The polls of the records and their recorded ends are those of the sessions. No poll is pending in
+-- an ended session, and no two devices have the same name.
 pub record Agree (facts : List Fact) (slots : List Slot) : Type 0 where
   pub numbered : AreNumbered (polls_in facts)
   pub started : IsPermutation (numbers facts) (numbers_in (polls_of_slots slots))
@@ -45,14 +46,14 @@ pub record Agree (facts : List Fact) (slots : List Slot) : Type 0 where
   pub over : AreOver slots
   pub apart : AreApart slots
 
--- Each number stands once.
+-- Each number occurs once.
 once_on : (facts : List Fact) (slots : List Slot) → Agree facts slots → (n : ℕ) → times n (numbers_in (polls_of_slots slots)) ≤ 1
 once_on facts slots h n =
     let e = times-IsPermutation n (numbers facts) (numbers_in (polls_of_slots slots)) h.started in
     let l = numbered_once n (polls_in facts) h.numbered in
     omega arith
 
--- The polls without outcome are those that wait on the sessions.
+-- The polls without an outcome are those that are pending on the sessions.
 filter-map_step : {X Y : Type 0} (f : X → Y) (b : Bool) (x : X) (xs : List X) (ys : List Y) → map f xs ≡ ys → map f (cond b (x ∷ xs) xs) ≡ cond b (f x ∷ ys) ys
 filter-map_step f true x xs ys e = ap (λ zs. f x ∷ zs) e
 filter-map_step f false x xs ys e = e
@@ -76,7 +77,7 @@ left_waiting facts slots h =
     test polls (λ n. omega arith) (λ n. omega arith)
     ∙ waiting_slots slots h.over)))
 
--- One event more.
+-- One more event.
 record Adds (number at : ℕ) (spans : List ReadSpan) (e : Event) (slots : List Slot) (facts after : List Fact) : Type 0 where
   numbered : AreNumbered (polls_in after)
   started : IsPermutation (numbers after) (flat_map (new_by number at spans e) slots ++ numbers facts)
@@ -118,14 +119,14 @@ nothing_over slots h = let P : List Slot → Type 0 = AreOver in subst P (sym (a
 nothing_apart : (slots : List Slot) → AreApart slots → AreApart (slots ++ [])
 nothing_apart slots h = let P : List Slot → Type 0 = AreApart in subst P (sym (append-nil slots)) h
 
--- no device is added
+-- An event that adds no device.
 agree_same : (laws : SessionLaws) (number at : ℕ) (spans : List ReadSpan) (e : Event) (facts after : List Fact) (slots : List Slot) → Agree facts slots → AreFree e slots → Adds number at spans e slots facts after
     → Agree after (map (slot_after number at spans e) slots ++ [])
 agree_same laws number at spans e facts after slots h free adds =
     agree_after laws number at spans e facts after slots [] h free adds refl
     (nothing_over _ (over-after laws number at spans e slots h.over)) (nothing_apart _ (apart-map (slot_after number at spans e) (device-after number at spans e) slots h.apart))
 
--- the facts stay
+-- An event that adds no record.
 adds_none : (number at : ℕ) (e : Event) (facts : List Fact) (slots : List Slot) → AreNumbered (polls_in facts) → settled_on_all number at e slots ≡ [] → NoneNew number at e slots
     → Adds number at [] e slots facts facts
 adds_none number at e facts slots numbered quiet none = record {
@@ -134,7 +135,7 @@ adds_none number at e facts slots numbered quiet none = record {
   ended = same_is _ _ (ap (λ s. map as_end s ++ recorded facts) (sym quiet));
 }
 
--- the facts are what the event settles
+-- An event that adds only the outcomes and readings of the polls that it settles.
 adds_settled : (number at : ℕ) (e : Event) (facts : List Fact) (slots : List Slot) → AreNumbered (polls_in facts) → NoneNew number at e slots → Adds number at [] e slots facts (with_settled number at e slots facts)
 adds_settled number at e facts slots numbered none =
     let P : List Poll → Type 0 = AreNumbered in
@@ -145,13 +146,13 @@ adds_settled number at e facts slots numbered none =
       ended = recorded-with_settled number at e slots facts;
     }
 
--- an event that may settle polls, and starts none
+-- An event that may settle polls, and starts none.
 agree_settled : (laws : SessionLaws) (number at : ℕ) (e : Event) (facts : List Fact) (slots : List Slot) → Agree facts slots → ((device : Device) → connects e device ≡ false) → NoneNew number at e slots
     → Agree (with_settled number at e slots facts) (map (slot_after number at [] e) slots ++ [])
 agree_settled laws number at e facts slots h never none =
     agree_same laws number at [] e facts (with_settled number at e slots facts) slots h (free_other e never slots) (adds_settled number at e facts slots h.numbered none)
 
--- A device is added.
+-- An event that adds a device.
 over-push : (slots : List Slot) (device : Device) → AreOver slots → AreOver (slots ++ (record { device = device; ended = []; present = None }) ∷ [])
 over-push [] device h = (refl, tt)
 over-push (slot ∷ slots) device h = (h.0, over-push slots device h.1)
@@ -223,7 +224,7 @@ agree_commanded laws at slots facts c h new =
     agree_same laws (next_poll facts) at (spans_by facts c) (event.Command c) facts (commanded at slots facts c) slots h
     (free_other (event.Command c) (λ d. refl) slots) (command_agrees at slots facts c h)
 
--- A command that is asked is followed by the answer that is kept, which says nothing of polls.
+-- A command with an idempotency key is followed by its kept answer, which concerns no poll.
 agree_quiet : (added facts : List Fact) (slots : List Slot) → Agree facts slots → AreQuiet added → Agree (reverse added ++ facts) slots
 agree_quiet added facts slots h quiet =
     let P : List Poll → Type 0 = AreNumbered in
@@ -250,7 +251,7 @@ agree_asked laws at slots facts asked h new =
     agree_replied (added_by (next_poll facts) at slots facts asked.command) (reply_by at asked) facts _
     (agree_commanded laws at slots facts asked.command h new) (quiet_reply at asked)
 
--- The office is opened anew.
+-- A reopening of the office.
 agree_opened : (at : ℕ) (facts : List Fact) (slots : List Slot) → Agree facts slots → Agree (with_lost at facts) (map slot_restarted slots)
 agree_opened at facts slots h =
     let left = left_in facts in
@@ -299,7 +300,7 @@ all_agree laws [] accepted = record { numbered = tt; started = IsPermutation-ref
 all_agree laws (Opened at ∷ past) accepted = agree_opened at (facts_of past) (slots_of past) (all_agree laws past accepted.1)
 all_agree laws (Fed at e ∷ past) accepted = agree_fed laws past at e (all_agree laws past accepted.1) (passed (refuses past at e) accepted.0.right)
 
--- So each poll ends once.
+-- Each poll ends once.
 agreed : (facts : List Fact) (slots : List Slot) → Agree facts slots → (n : ℕ) → map (λ end. end.outcome) (ends_of facts n) ≡ option_to_list (outcome_in slots n)
 agreed facts slots h n =
     let polls = polls_of_slots slots in

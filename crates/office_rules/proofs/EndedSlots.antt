@@ -1,4 +1,4 @@
--- The polls of the devices, and what an event or an opening does to them.
+-- The polls of the devices, and the effect of an event or an opening on them.
 use Rattle.std.proofs.Common.{◌≡◌, ℕ, Bool, true, false, List, [], ◌∷◌, ◌++◌, map, refl, sym, ap, ◌∙◌, Option, Some, None, append_assoc, if◌then◌else◌}
 use Rattle.std.specs.List.{filter, filter_map, flat_map}
 use Rattle.std.specs.Option.{is_none}
@@ -57,7 +57,7 @@ lost_shown ((p, None) ∷ rs) =
     (IsPermutation-sym _ _ (IsPermutation-middle (ends_in (shown false rs)) (lost_end p.number) (map lost_end (waiting_in (shown false rs)))))
 lost_shown ((p, Some s) ∷ rs) = IsPermutation-cons (as_end (p.number, s)) _ _ (lost_shown rs)
 
--- the numbers that wait on a session
+-- The pending numbers of a session.
 pub waiting_on : (device : Device) (events : List session.Event) → waiting_in (polls_on device false events) ≡ map (λ p. p.number) (pending device.timeout events)
 unfolding pending
 waiting_on device events = waiting_shown (results device.timeout [] events)
@@ -75,7 +75,7 @@ numbers-push_on laws device events e =
     numbers_shown false (results device.timeout [] (events ++ e ∷ [])) ∙ numbers-push laws device.timeout events e
     ∙ ap (λ ns. ns ++ number_by e) (sym (numbers_shown false (results device.timeout [] events)))
 
--- more at the end of the first part is more at the end of both
+-- An extension of the first part extends the whole.
 pub more_of : {X : Type 0} (us xs ys zs : List X) → IsPermutation us (xs ++ ys) → IsPermutation (us ++ zs) ((xs ++ zs) ++ ys)
 more_of us xs ys zs p =
     IsPermutation-trans _ _ _ (sorted_out us zs xs ys zs [] p (same_is _ _ (sym (append-nil zs)))) (same_is _ _ (ap (λ ws. (xs ++ zs) ++ ws) (append-nil ys)))
@@ -94,7 +94,7 @@ waiting_both ps qs =
 abbrev pub slot_with : Device → List EndedSession → Option (List session.Event) → Slot
 slot_with device ended present = record { device = device; ended = ended; present = present }
 
--- The polls of one device after one event more on its session.
+-- The polls of one device after one more event of its session.
 ends_more : (laws : SessionLaws) (device : Device) (ended : List EndedSession) (before : List session.Event) (h : session.Event)
     → IsPermutation (ends_in (polls_on device false (before ++ h ∷ []) ++ polls_on_ended device ended))
     (ends_in (polls_of_slot (slot_with device ended (Some before))) ++ map as_end (outcomes_at device.timeout before h))
@@ -117,7 +117,7 @@ numbers_more laws device ended before h =
     (IsPermutation-trans _ _ _ (more_of (numbers_in new) (numbers_in old) (number_by h) (numbers_in rest) (same_is _ _ (numbers-push_on laws device before h)))
     (same_is _ _ (ap (λ ns. ns ++ number_by h) (sym (numbers_both old rest)))))
 
--- what came first and what came later, as one
+-- Two extensions, one after the other, as one.
 grown : {X : Type 0} (end middle start first later : List X) → IsPermutation end (middle ++ later) → IsPermutation middle (start ++ first)
     → IsPermutation end (start ++ (first ++ later))
 grown end middle start first later p q =
@@ -143,7 +143,7 @@ numbers_grown laws device ended before later h end p =
     grown end _ (numbers_in (polls_of_slot (slot_with device ended (Some before)))) (number_by h) (numbers_by later) p
     (numbers_more laws device ended before h)
 
--- The polls of one device after these events on its session.
+-- The polls of one device after these events of its session.
 ends_happened : (laws : SessionLaws) (device : Device) (ended : List EndedSession) (p : Option (List session.Event)) (before happenings : List session.Event) → EndLast happenings
     → IsPermutation (ends_in (polls_of_slot (with_happenings (slot_with device ended p) before happenings)))
     (ends_in (polls_of_slot (slot_with device ended (Some before))) ++ map as_end (settled_in device before happenings))
@@ -170,7 +170,7 @@ numbers_happened laws device ended p before (Piece m b ∷ later) last =
 numbers_happened laws device ended p before (Tick m ∷ later) last =
     numbers_grown laws device ended before later (Tick m) _ (numbers_happened laws device ended p (before ++ Tick m ∷ []) later last.1)
 
--- the polls that an event starts on a device
+-- The polls that an event starts on a device.
 abbrev pub new_on : (number at : ℕ) → List ReadSpan → Event → Device → Option (List session.Event) → List ℕ
 new_on number at spans e device None = []
 new_on number at spans e device (Some before) = numbers_by (reaches number at spans e device before)
@@ -193,7 +193,7 @@ numbers_reached laws number at spans e device ended None = same_is _ _ (sym (app
 numbers_reached laws number at spans e device ended (Some before) =
     numbers_happened laws device ended (Some before) before (reaches number at spans e device before) (ends_last number at spans e device before)
 
--- A connection is made only to a device that has none.
+-- Only a device without a session connects.
 connected_ends : (number at : ℕ) (e : Event) (device : Device) (ended : List EndedSession) (present : Option (List session.Event)) → present ≡ None
     → ends_in (polls_of_slot (slot_with device ended (Some []))) ≡ ends_in (polls_of_slot (slot_with device ended present)) ++ map as_end (settled_on number at e device present)
 connected_ends number at e device ended None none = sym (append-nil _)

@@ -16,7 +16,7 @@ use Rattle.office_rules.specs.Voids.{VoidedEntriesGiveWay}
 use Rattle.office_rules.proofs.Journals.{installed_fits, well}
 use Rattle.office_rules.proofs.Stepping.{installation_by, named, own_line, installed_so, line_after}
 
--- an installation whose counter stands there, with this energy
+-- An installation whose counter has this state, with this energy.
 abbrev stood : Opening → journal.Journal → Last → ℕ → Installation
 stood o lines last total = record { opening = o; last = last; total = total; ended = journal.is_ended lines }
 

@@ -1,4 +1,4 @@
--- What an event of the office is on a session: a piece, a tick or an end, or the starts of a round, one after the other.
+-- The session events of an office's event: bytes, a tick, an end, or the starts of a round.
 use Rattle.std.proofs.Common.{◌≡◌, ℕ, Bool, true, false, List, [], ◌∷◌, ◌++◌, map, refl, sym, ap, ◌∙◌, Some, if◌then◌else◌}
 use Rattle.std.specs.List.{flat_map}
 use Rattle.poll_core.specs.Settling as session
@@ -14,12 +14,12 @@ use Rattle.office_rules.specs.Sessions.{Slot, Send, started_on, start_by, sends_
 use Rattle.office_rules.specs.History.{settled_in}
 use Rattle.office_rules.proofs.SessionLaws.{number_by, outcomes_at-start}
 
--- none but the last ends the session
+-- Only the last event ends the session.
 abbrev pub EndLast : List session.Event → Type 0
 EndLast [] = Unit {0}
 EndLast (h ∷ later) = (is_close h ≡ true → later ≡ []) × EndLast later
 
--- the polls that they start
+-- The polls that the events start.
 abbrev pub numbers_by : List session.Event → List ℕ
 numbers_by happenings = flat_map number_by happenings
 
@@ -43,7 +43,7 @@ pub starts_number : (at : ℕ) (device : Device) (sends : List Send) → numbers
 starts_number at device [] = refl
 starts_number at device (send ∷ sends) = ap (λ ns. send.number ∷ ns) (starts_number at device sends)
 
--- What reaches a session ends it with its last event.
+-- The events of a session end it at most with the last event.
 single_ends_last : (b : Bool) (h : session.Event) → EndLast (if b then h ∷ [] else [])
 single_ends_last true h = ((λ e. refl), tt)
 single_ends_last false h = tt
@@ -66,7 +66,8 @@ ends_last number at spans (event.Gone given closing) device before = single_ends
 ends_last number at spans (event.Command c) device before = command_ends_last number at spans c device before
 ends_last number at spans (event.Asked asked) device before = command_ends_last number at spans asked.command device before
 
--- A command settles nothing, whatever it starts; so what an event settles does not depend on the reads that it wants sent.
+-- A command settles nothing. The settlements of an event therefore do not depend on the reads that
+-- it requests.
 round_settles : (b : Bool) (at : ℕ) (device : Device) (before : List session.Event) (sends : List Send)
     → settled_in device before (if b then map (start_by at device) sends else []) ≡ []
 round_settles true at device before sends = starts_settle at device before sends
@@ -88,13 +89,13 @@ same_settled number at spans (event.Command c) device before =
 same_settled number at spans (event.Asked asked) device before =
     command_settles number at spans asked.command device before ∙ sym (command_settles number at [] asked.command device before)
 
--- the numbers of a round
+-- The numbers of a round.
 pub round_numbers : (b : Bool) (at : ℕ) (device : Device) (sends : List Send)
     → numbers_by (if b then map (start_by at device) sends else []) ≡ (if b then sent_numbers sends else [])
 round_numbers true at device sends = starts_number at device sends
 round_numbers false at device sends = refl
 
--- The device of a slot stays.
+-- A slot keeps its device.
 pub device_happened : (slot : Slot) (before happenings : List session.Event) → (with_happenings slot before happenings).device ≡ slot.device
 device_happened slot before [] = refl
 device_happened slot before (Start m n u s ∷ later) = device_happened slot (before ++ Start m n u s ∷ []) later

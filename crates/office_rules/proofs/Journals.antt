@@ -1,4 +1,4 @@
--- Lawful facts have fitting journals.
+-- Lawful records have fitting journals.
 use Rattle.std.proofs.Common.{◌≡◌, ℕ, true, false, cond, List, [], ◌∷◌, refl, sym, ap, subst, ◌∙◌, inl, inr, Option, Some, None}
 use Rattle.std.specs.List.{cons_option}
 use Rattle.std.proofs.lemmas.Bool.{cases_Bool, cond-true, cond-false}
@@ -18,7 +18,7 @@ use Rattle.office_rules.proofs.Lookups.{same_text, find_none, each_found}
 use Rattle.office_rules.proofs.Openings.{openings_apart}
 use Rattle.std.proofs.lemmas.List.Elements.{All-contains}
 
--- about another meter, or about this one
+-- A case distinction: another meter, or this one.
 pub by_name : {P : Type 0} (a b : List ℕ) → (same a b ≡ true → a ≡ b → P) → (same a b ≡ false → P) → P
 by_name a b here elsewhere =
     elim (cases_Bool (same a b)) [
@@ -29,7 +29,7 @@ by_name a b here elsewhere =
 pub none_and_some : {X P : Type 0} (o : Option X) (x : X) → o ≡ None → o ≡ Some x → P
 none_and_some o x n s = absurd (let e : None ≡ Some x = sym n ∙ s in cc)
 
--- a line is that of its own meter
+-- The line, if it belongs to the meter.
 abbrev pub line_if : (meter m : List ℕ) → journal.Line → Option journal.Line
 line_if meter m line = cond (same meter m) (Some line) None
 
@@ -40,7 +40,7 @@ no_line facts m meter line fits none rest =
     (λ e name. none_and_some (opening_of facts m) fits.opening none (subst (λ (t : List ℕ). opening_of facts t ≡ Some fits.opening) name fits.there))
     (λ e. ap (λ b. cons_option (cond b (Some line) None) (journal_of facts m)) e ∙ rest)
 
--- before its opening a meter has an empty journal
+-- Before its opening a meter has an empty journal.
 pub nothing_before : (facts : List Fact) (m : List ℕ) → AreLawful facts → opening_of facts m ≡ None → journal_of facts m ≡ []
 nothing_before [] m h none = refl
 nothing_before (fact.Device d ∷ facts) m h none = nothing_before facts m h.1 none
@@ -58,7 +58,7 @@ nothing_before (fact.Poll p ∷ facts) m h none = nothing_before facts m h.1 non
 nothing_before (fact.Outcome e ∷ facts) m h none = nothing_before facts m h.1 none
 nothing_before (fact.Reply r ∷ facts) m h none = nothing_before facts m h.1 none
 
--- the opening is that of its meter
+-- The name of the opening's meter finds this opening.
 abbrev pub IsInstalled : List Fact → Opening → Type 0
 IsInstalled facts opening = opening_of facts opening.meter ≡ Some opening
 
@@ -77,7 +77,7 @@ one_line facts o meter line fits there rest =
     subst (λ b. journals.AreFitting (installed o) (cons_option (cond b (Some line) None) (journal_of facts o.meter))) (sym e) (here, rest))
     (λ e. subst (λ b. journals.AreFitting (installed o) (cons_option (cond b (Some line) None) (journal_of facts o.meter))) (sym e) rest)
 
--- the later of two openings is that of its meter, or the earlier one is
+-- Of two openings, the meter's name finds the later or the earlier.
 pub by_opening : {P : Type 0} (facts : List Fact) (p o : Opening) → IsInstalled (fact.Opening p ∷ facts) o
     → (p ≡ o → P) → (IsInstalled facts o → P) → P
 by_opening facts p o found here elsewhere =
@@ -85,7 +85,7 @@ by_opening facts p o found here elsewhere =
     (λ e name. here (same_Some p o (sym (cond-true _ _ _ e) ∙ found)))
     (λ e. elsewhere (sym (cond-false _ _ _ e) ∙ found))
 
--- the journal of an installed meter fits
+-- The journal of an installed meter fits.
 pub installed_fits : (facts : List Fact) (o : Opening) → AreLawful facts → IsInstalled facts o → Fitting facts o
 installed_fits [] o h there = tt
 installed_fits (fact.Device d ∷ facts) o h there = installed_fits facts o h.1 there
@@ -108,7 +108,7 @@ installed_fits (fact.Poll p ∷ facts) o h there = installed_fits facts o h.1 th
 installed_fits (fact.Outcome e ∷ facts) o h there = installed_fits facts o h.1 there
 installed_fits (fact.Reply r ∷ facts) o h there = installed_fits facts o h.1 there
 
--- what was installed has its numbers in their ranges
+-- The numbers of an installed meter are in range.
 pub well : (facts : List Fact) (o : Opening) → AreLawful facts → IsInstalled facts o → IsWellInstalled (installed o)
 well [] o h there = absurd (cc)
 well (fact.Device d ∷ facts) o h there = well facts o h.1 there
@@ -126,7 +126,7 @@ well (fact.Poll p ∷ facts) o h there = well facts o h.1 there
 well (fact.Outcome e ∷ facts) o h there = well facts o h.1 there
 well (fact.Reply r ∷ facts) o h there = well facts o h.1 there
 
--- what is recorded as an opening is found by its meter's name
+-- The name of its meter finds each recorded opening.
 pub found : (facts : List Fact) (o : Opening) → AreLawful facts → IsRecorded facts o → IsInstalled facts o
 found facts o h there =
     All-contains (λ (x : Opening). IsInstalled facts x) (openings_in facts) o

@@ -1,4 +1,4 @@
--- The facts of accepted events are lawful.
+-- The records of accepted events are lawful.
 use Rattle.std.proofs.Common.{◌≡◌, ℕ, ◌+◌, ◌≤◌, nat_lt, false, List, [], ◌∷◌, ◌++◌, map, reverse, length, refl, sym, ap, subst, Option, Some, None, arith}
 use Rattle.std.specs.List.{flat_map}
 use Rattle.std.specs.Option.{option_and_then}
@@ -36,7 +36,7 @@ use Rattle.office_rules.proofs.Additions.{device_fits, list_fits, register_fits,
 use Rattle.office_rules.proofs.Starts.{polls_fit}
 use Rattle.office_rules.proofs.Replies.{asked_fits}
 
--- the polls that wait on the sessions are those without outcome
+-- The pending polls of the sessions are the polls without an outcome.
 abbrev HaveSamePending : List Slot → List Fact → Type 0
 HaveSamePending slots facts = (n : ℕ) → times n (flat_map pending_on slots) ≡ times n (poll_numbers (pending_in facts))
 
@@ -112,7 +112,7 @@ command_fits law past at (command.StartRound c) h latest planned accepted time t
     polls_fit (slots_of past) (facts_of past) at (spans_by (facts_of past) (command.StartRound c)) c.device (slot_of (slots_of past) c.device)
     (same_devices past) h time.within refl (is_few past at (command.StartRound c) taken.few)
 
--- a number that is handed in was read no later than now
+-- The given time of a reading is not later than the command.
 read_in_time : (at : ℕ) (given : Option ℕ) → is_later at given ≡ false → read_at at given ≤ at
 read_in_time at None h = omega arith
 read_in_time at (Some earlier) h = ltb-false at earlier h
@@ -160,7 +160,8 @@ after_event settles law past at (event.Command c) accepted planned pending h lat
 after_event settles law past at (event.Asked asked) accepted planned pending h latest kept time =
     asked_kept law past at asked h latest planned accepted
 
--- The facts are lawful, where sessions settle what waits, each poll ends once, and meters are kept.
+-- The records are lawful. The premises: sessions settle only pending polls, each poll ends once,
+-- and the energy of meters balances.
 kept : SettlesPending → ((history : History) → AreAccepted history → PollsEndOnce history) → MetersAreKept → (history : History)
     → AreAccepted history → ListsArePlanned history → AreKept (latest_of history) (facts_of history)
 kept settles once law [] h planned = record { lawful = tt; latest = omega arith }

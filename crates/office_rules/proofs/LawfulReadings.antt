@@ -33,7 +33,8 @@ use Rattle.office_rules.specs.Refusals.{refuses, reasons, refusal_of, makes_faul
 use Rattle.office_rules.specs.Lawful.{AreLawful}
 use Rattle.office_rules.proofs.Openings.{found_installed}
 
--- what is open at a register: the latest installation there, which is found by its name, and was not closed
+-- The open installation at a register: the latest one there, which its name finds and which was not
+-- closed.
 pub record IsOpen (facts : List Fact) (register : List ℕ) (row : Installation) : Type 0 where
   pub opening : Opening
   pub there : installed_at facts register ≡ Some opening
@@ -70,7 +71,7 @@ by_verdict facts o poll r (verdict.Accepted rolls step) h there unended started 
     subst (λ (sf : ℤ). judgement row (record { at = r.at; raw = r.raw; sf = sf }) ≡ verdict.Accepted rolls step) plain.0.scale e in
     ((record { opening = o; there = there; fits = (unended, record { step = step; accepted = here }) }, timely), h)
 
--- The facts after a reading at a register, of a poll that was started, are lawful.
+-- The records stay lawful after a reading at a register, of a started poll.
 pub reading_fits : (facts : List Fact) (register : List ℕ) (poll : ℕ) (r : Reading) (row : Option Installation) → AreLawful facts
     → is_some (poll_of facts poll) ≡ true → r.at ≤ moment_limit
     → open_at facts register ≡ row → AreLawful (with_reading poll r row facts)
@@ -80,7 +81,7 @@ reading_fits facts register poll r (Some row) h started timely e =
     subst (λ (x : Installation). AreLawful (with_reading poll r (Some x) facts)) open_there.row_is
     (by_verdict facts open_there.opening poll r (judgement (installation_of facts open_there.opening) r) h open_there.installed open_there.unended started timely refl)
 
--- ---- an entry by hand
+-- An entry by hand.
 
 pub entered_fits : (facts : List Fact) (o : Opening) (e : Entry)
     → AllByRecursion (λ why. entering.refuses o.range (installation_of facts o).total (installation_of facts o).last e why ≡ false) entering.faults
@@ -93,7 +94,7 @@ entered_fits facts o e all =
       entered = ap (entering.answered o.range l e) (find-none (entering.refuses o.range (installation_of facts o).total l e) entering.faults all);
     }
 
--- The facts after an entry at the open meter, if there is one, are lawful, where it has none of the faults.
+-- The records stay lawful after an entry without faults at the open meter, if there is one.
 manual_row : (facts : List Fact) (at : ℕ) (c : Manual) (register : List ℕ) (row : Option Installation) → AreLawful facts → open_at facts register ≡ row
     → read_at at c.at ≤ moment_limit
     → makes_fault at fault.NegativeStep (command.Manual c) row ≡ false → makes_fault at fault.NotLater (command.Manual c) row ≡ false
@@ -111,7 +112,7 @@ manual_row facts at c register (Some row) h is timely a b d e f =
     subst (λ (y : Installation). AreLawful (fact.Entry (record { meter = y.opening.meter; kind = kind.Manual; entry = x }) ∷ facts)) open_there.row_is
     ((record { opening = o; there = open_there.installed; fits = (open_there.unended, entered_fits facts o x own) }, timely), h)
 
--- a moment that is handed in is no later than the event's
+-- A given time is not later than the event.
 read_in_time : (at : ℕ) (given : Option ℕ) → is_later at given ≡ false → at ≤ moment_limit → read_at at given ≤ moment_limit
 read_in_time at None h timely = timely
 read_in_time at (Some earlier) h timely = let before : earlier ≤ at = ltb-false at earlier h in omega (arith, before, timely)
@@ -132,7 +133,7 @@ manual_by past at raw rolls given (Some register) h taken =
     manual_row facts at c register (open_at facts register) h refl (read_in_time at given later.1 (ltb-false moment_limit at limit.0))
     four.0 four.1.0 four.1.1.0 four.1.1.1.0 beyond.1
 
--- The facts after an entry by hand that is not refused are lawful.
+-- The records stay lawful after an entry by hand that is not refused.
 pub manual_lawful : (past : History) (at : ℕ) (c : Manual) → AreLawful (facts_of past) → refusal_of past at (event.Command (command.Manual c)) ≡ None
     → AreLawful (facts_of (Fed at (event.Command (command.Manual c)) ∷ past))
 manual_lawful past at c h taken = manual_by past at c.raw c.rolls c.at c.register h taken

@@ -28,7 +28,7 @@ map-reverse {Y = Y} f (x ∷ xs) =
     ap (map f) (reverse-append (x ∷ []) xs) ∙ map-append f (reverse xs) (x ∷ [])
     ∙ ap (λ (ys : List Y). ys ++ f x ∷ []) (map-reverse f xs) ∙ sym (reverse-append (f x ∷ []) (map f xs))
 
--- the poll has no outcome
+-- The poll has no outcome.
 abbrev pub is_pending : List Fact → Poll → Bool
 is_pending facts poll = length (ends_of facts poll.number) == 0
 

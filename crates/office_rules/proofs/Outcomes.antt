@@ -1,4 +1,4 @@
--- Outcomes and readings may follow the facts before them.
+-- Outcomes and readings may follow the records before them.
 use Rattle.std.proofs.Common.{◌≡◌, ℕ, ◌+◌, ◌<◌, ◌≤◌, ◌==◌, true, false, cond, List, [], ◌∷◌, map, reverse, length, refl, sym, ap, subst, ◌∙◌, Option, Some, None, arith}
 use Rattle.std.specs.List.{find, filter}
 use Rattle.std.specs.Option.{is_some}
@@ -32,7 +32,7 @@ poll_skips = record { readings = record { entry = λ b. refl; hold = λ h. refl 
 ended_skips : SkipsReadings as_ended
 ended_skips = record { entry = λ b. refl; hold = λ h. refl }
 
--- the facts are lawful, and nothing is later than a moment
+-- The records are lawful, and none is later than a time.
 pub record AreKept (at : ℕ) (facts : List Fact) : Type 0 where
   pub lawful : AreLawful facts
   pub latest : latest_in facts ≤ at
@@ -40,7 +40,7 @@ pub record AreKept (at : ℕ) (facts : List Fact) : Type 0 where
 abbrev IsStarted : List Fact → ℕ → Type 0
 IsStarted facts number = is_some (poll_of facts number) ≡ true
 
--- The readings of a reply.
+-- The readings of a response.
 moment_read : (meter : List ℕ) (poll : ℕ) (r : Reading) (v : Verdict) → moment_in (as_fact meter poll r v) ≡ r.at
 moment_read meter poll r (Accepted rolls step) = refl
 moment_read meter poll r (Held cause) = refl
@@ -51,7 +51,7 @@ latest_read at poll r None facts now h = h
 latest_read at poll r (Some row) facts now h =
     max_least _ (latest_in facts) at (omega (arith, now, moment_read row.opening.meter poll r (judgement row r))) h
 
--- a reading is one of a poll that was started
+-- A reading belongs to a started poll.
 record AreRead (at poll : ℕ) (facts : List Fact) : Type 0 where
   kept : AreKept at facts
   started : IsStarted facts poll
@@ -97,12 +97,12 @@ words_kept at number session.Silent facts timely h = h.kept
 words_kept at number (session.Malformed malformation) facts timely h = h.kept
 words_kept at number (session.Lost cause) facts timely h = h.kept
 
--- the poll was started, and nothing ended it
+-- The poll was started, and nothing ended it.
 pub record IsOpen (facts : List Fact) (number : ℕ) : Type 0 where
   pub started : is_some (poll_of facts number) ≡ true
   pub pending : ends_of facts number ≡ []
 
--- each of these polls is open, and stands here once
+-- Each of these polls is open, and occurs here once.
 abbrev pub AreOpenOnce : List Fact → List ℕ → Type 0
 AreOpenOnce facts ns = (n : ℕ) → 0 < times n ns → (times n ns ≡ 1) × IsOpen facts n
 
@@ -117,7 +117,7 @@ outcome_kept at settled facts timely here h =
       started = here.started;
     })
 
--- what is recorded of the other polls stays
+-- The records of the other polls are unchanged.
 still_open : (at : ℕ) (settled : ℕ × session.Settlement) (facts : List Fact) (n : ℕ) → settled.0 == n ≡ false → IsOpen facts n
     → IsOpen (with_outcome at settled facts) n
 still_open at settled facts n other here =
@@ -150,11 +150,11 @@ outcomes_kept at ((number, settlement) ∷ later) facts timely h once =
     outcomes_kept at later (with_outcome at (number, settlement) facts) timely (outcome_kept at (number, settlement) facts timely here.1 h)
     (others_open at number settlement (settled_numbers later) facts once)
 
--- the numbers of polls
+-- The numbers of polls.
 abbrev pub poll_numbers : List Poll → List ℕ
 poll_numbers polls = map (λ poll. poll.number) polls
 
--- Each number is that of one poll, and none is above their count.
+-- Each number belongs to one poll, and none exceeds their count.
 record StandsOnce (n : ℕ) (polls : List Poll) : Type 0 where
   once : times n (poll_numbers polls) ≤ 1
   none_above : length polls < n → times n (poll_numbers polls) ≡ 0
@@ -189,7 +189,7 @@ none_from_length : {X : Type 0} (xs : List X) → length xs == 0 ≡ true → xs
 none_from_length [] h = refl
 none_from_length (x ∷ xs) h = absurd (let e : length (x ∷ xs) ≡ 0 = eqb-true (length (x ∷ xs)) 0 h in omega arith)
 
--- Polls that wait, each as often as among those without outcome, are open.
+-- Pending polls are open, if each occurs as often as among the polls without an outcome.
 pub open_once : (facts : List Fact) (ns : List ℕ) → AreLawful facts
     → ((n : ℕ) → times n ns ≤ times n (poll_numbers (pending_in facts))) → AreOpenOnce facts ns
 open_once facts ns h at_most n among =

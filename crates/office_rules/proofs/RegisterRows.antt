@@ -21,7 +21,7 @@ use Rattle.office_rules.proofs.Lists.{reverse_cons}
 use Rattle.office_rules.proofs.Journals.{IsInstalled, installed_fits, well}
 use Rattle.office_rules.proofs.InTurn.{last_at, last_is_recorded, AllOver, InTurn, openings_at, in_turn}
 
--- what journals say of their interval rows
+-- The theorems on journals and their interval rows.
 pub record FromJournals : Type 0 where
   pub kept : laws.JournalsAreKept
   pub accounts : laws.IntervalRowsAreAccounts
@@ -29,7 +29,7 @@ pub record FromJournals : Type 0 where
   pub within : RowsLieWithin
   pub no_further : VoidsGoNoFurther
 
--- all begin at n or later; each after those before it
+-- All rows begin at n or later, each after the rows before it.
 abbrev From : ℕ → List Share → Type 0
 From n [] = Unit {0}
 From n (row ∷ rows) = (n ≤ row.start) × From n rows
@@ -38,7 +38,7 @@ abbrev NeverFall : List Share → Type 0
 NeverFall [] = Unit {0}
 NeverFall (row ∷ rows) = From row.start rows × NeverFall rows
 
--- quarter hours that begin before n, and that end after n
+-- Quarter hours that begin before n, and those that end after n.
 abbrev Before : ℕ → List Share → Type 0
 Before n [] = Unit {0}
 Before n (row ∷ rows) = (row.start % 900 ≡ 0) × (row.start < n) × Before n rows
@@ -83,7 +83,7 @@ never_at (row ∷ rows) zero (suc j) d h le lt = from_at row.start rows j d h.0 
 never_at (row ∷ rows) (suc i) zero d h le lt = absurd (omega (arith, le))
 never_at (row ∷ rows) (suc i) (suc j) d h le lt = never_at rows i j d h.1 (omega (arith, le)) (omega (arith, lt))
 
--- ---- the rows of one installation
+-- The rows of one installation.
 
 from_ascending : (n : ℕ) (rows : List Share) → All (λ later. n < later) (starts_of rows) → From n rows
 from_ascending n [] h = tt
@@ -108,7 +108,7 @@ after_within opened last (row ∷ rows) h =
     let here = All-head (LiesWithin opened last) row rows h in
     (here.quarter, here.following, after_within opened last rows (All-tail (LiesWithin opened last) row rows h))
 
--- what is said of the rows of an installation
+-- The properties of the rows of an installation.
 record IsFine (facts : List Fact) (o : Opening) : Type 0 where
   never_fall : NeverFall (rows_of_opening facts o)
   within : All (LiesWithin o.at (last_at facts o)) (rows_of_opening facts o)
@@ -125,9 +125,9 @@ fine law facts o h there =
       energy = omega (arith, law.sums (installed o) lines own fits, (law.kept (installed o) lines own fits).account.within);
     }
 
--- ---- one installation after the other
+-- Installations, one after another.
 
--- those of these installations, the latest first
+-- The rows of these installations, which are given the latest first.
 abbrev rows_in_turn : List Fact → List Opening → List Share
 rows_in_turn facts os = flat_map (rows_of_opening facts) (reverse os)
 
@@ -136,7 +136,7 @@ one_more facts o os =
     let f : Opening → List Share = rows_of_opening facts in
     ap (flat_map f) (reverse_cons o os) ∙ flat_map-append f (reverse os) (o ∷ []) ∙ ap (λ rows. rows_in_turn facts os ++ rows) (append-nil (f o))
 
--- no counter of these stands at a later moment
+-- The last timestamps of these meters are at most this one.
 abbrev LastBy : List Fact → (at : ℕ) → List Opening → Type 0
 LastBy facts at [] = Unit {0}
 LastBy facts at (o ∷ os) = (last_at facts o ≤ at) × LastBy facts at os
@@ -167,7 +167,7 @@ all_never_fall law facts (o ∷ os) h turn =
     (all_before law facts o.at os h turn.2 (last_over facts o.at os turn.1))
     (after_within o.at (last_at facts o) (rows_of_opening facts o) this.within))
 
--- an installation without rows has no energy; one with rows has gone on since its opening
+-- An installation without rows has no energy. With rows, its last timestamp is after its opening.
 rows_go_on : (opened last : ℕ) (rows : List Share) → All (LiesWithin opened last) rows → energy_of rows ≤ 4 * 10 ^ 18
     → (energy_of rows ≡ 0) ⊎ (opened < last)
 rows_go_on opened last [] h few = inl refl
@@ -179,7 +179,7 @@ energy_with facts o os =
     let mwh : Share → ℕ = λ row. row.mwh in
     ap energy_of (one_more facts o os) ∙ sum_by-append mwh (rows_in_turn facts os) (rows_of_opening facts o)
 
--- there are no more meters with energy than there were seconds
+-- There are at most as many meters with energy as seconds.
 all_energy : FromJournals → (facts : List Fact) (at : ℕ) (os : List Opening) → AreLawful facts → InTurn facts os → LastBy facts at os
     → energy_of (rows_in_turn facts os) ≤ at * (4 * 10 ^ 18)
 all_energy law facts at [] h turn last = omega arith
@@ -198,7 +198,7 @@ all_energy law facts at (o ∷ os) h turn last =
           )
     ]
 
--- ---- of lawful facts
+-- Lawful records.
 
 moments_bounded : (facts : List Fact) → AreLawful facts → latest_in facts ≤ moment_limit
 moments_bounded [] h = omega arith

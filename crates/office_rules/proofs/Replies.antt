@@ -1,4 +1,4 @@
--- An asked command is followed by the answer that is kept.
+-- A command with an idempotency key is followed by its kept answer.
 use Rattle.std.proofs.Common.{◌≡◌, ℕ, ◌≤◌, ◌==◌, nat_lt, false, ◌||◌, ◌&&◌, List, ◌++◌, reverse, refl, sym, ap, subst, ◌∙◌, Option, Some, None}
 use Rattle.std.specs.List.{find}
 use Rattle.std.specs.Option.{is_none, option_map, option_and_then, option_to_list}
@@ -27,7 +27,7 @@ no_reply = record {
   poll = λ p h. refl;
 }
 
--- a command keeps no answer by itself
+-- A command alone keeps no answer.
 no_reply_added : (number at : ℕ) (slots : List Slot) (facts : List Fact) (c : Command)
     → replies_in (reverse (added_by number at slots facts c) ++ facts) ≡ replies_in facts
 no_reply_added number at slots facts c =
@@ -54,7 +54,7 @@ by_caller facts known at asked (Some caller) h timely kept new good = (
   h,
 )
 
--- Where the command may follow, so may the answer that is kept.
+-- If the command may follow, so may its kept answer.
 pub asked_fits : (number at : ℕ) (slots : List Slot) (facts : List Fact) (asked : Asked) → at ≤ moment_limit
     → kept_of facts (event.Asked asked) ≡ None → is_bad_request asked refusal.Limit ≡ false
     → AreLawful (reverse (added_by number at slots facts asked.command) ++ facts)

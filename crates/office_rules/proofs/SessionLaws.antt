@@ -1,4 +1,4 @@
--- What one more event does to the polls of a session, by the laws that the sessions offer.
+-- The effect of one more event on the polls of a session, by the theorems on sessions.
 use Rattle.std.proofs.Common.{◌≡◌, ℕ, Bool, true, false, cond, not, ◌&&◌, List, [], ◌∷◌, ◌++◌, map, refl, ap, ◌∙◌, Option, Some, None}
 use Rattle.std.specs.List.{filter, find}
 use Rattle.std.specs.List.Sorted.{IsPermutation}
@@ -16,7 +16,8 @@ use Rattle.poll_core.specs.Settling.{Event, Start, Piece, Tick, Close, Settlemen
 use Rattle.poll_core.specs.Laws.{outcomes_by_poll, outcomes_by_event, with_event, new_result}
 use Rattle.office_rules.proofs.Permutations.{same_is}
 
--- The laws: what the events settle is the outcome of each poll that has one, once; and what one event more does.
+-- The theorems: the events settle each poll that has an outcome exactly once, and the effect of one
+-- more event.
 pub record SessionLaws : Type 0 where
   pub once : (timeout : ℕ) (events : List Event) → IsPermutation (outcomes_by_poll timeout events) (outcomes_by_event timeout events)
   pub outcomes : (timeout : ℕ) (events : List Event) (event : Event) →
@@ -24,11 +25,11 @@ pub record SessionLaws : Type 0 where
   pub results : (timeout : ℕ) (events : List Event) (event : Event) →
       results timeout [] (events ++ event ∷ []) ≡ map (with_event events event) (results timeout [] events) ++ new_result (started timeout events event)
 
--- the polls that were started
+-- The polls that were started.
 abbrev pub numbers_of : List (Poll × Option Settlement) → List ℕ
 numbers_of rs = map (λ r. r.0.number) rs
 
--- the poll that an event starts
+-- The poll that an event starts.
 abbrev pub number_by : Event → List ℕ
 number_by (Start moment poll unit span) = poll ∷ []
 number_by (Piece moment bytes) = []
@@ -45,7 +46,7 @@ numbers-new_result t es (Piece m b) = refl
 numbers-new_result t es (Tick m) = refl
 numbers-new_result t es (Close m c) = refl
 
--- a start adds its poll, and no other event adds one
+-- A start adds its poll, and no other event adds one.
 pub numbers-push : (laws : SessionLaws) (t : ℕ) (es : List Event) (e : Event) → numbers_of (results t [] (es ++ e ∷ [])) ≡ numbers_of (results t [] es) ++ number_by e
 numbers-push laws t es e =
     let new = new_result (started t es e) in
@@ -54,14 +55,14 @@ numbers-push laws t es e =
     ∙ ap (λ ns. ns ++ numbers_of new) (numbers-with_event es e (results t [] es))
     ∙ ap (λ ns. numbers_of (results t [] es) ++ ns) (numbers-new_result t es e)
 
--- one event more adds the outcomes that it settles
+-- One more event adds the outcomes that it settles.
 pub outcomes_by_poll-push : (laws : SessionLaws) (t : ℕ) (es : List Event) (e : Event) → IsPermutation (outcomes_by_poll t (es ++ e ∷ [])) (outcomes_by_poll t es ++ outcomes_at t es e)
 outcomes_by_poll-push laws t es e =
     IsPermutation-trans _ _ _ (laws.once t (es ++ e ∷ []))
     (IsPermutation-trans _ _ _ (same_is _ _ (laws.outcomes t es e))
     (IsPermutation-append_left (outcomes_at t es e) (outcomes_by_event t es) (outcomes_by_poll t es) (IsPermutation-sym (outcomes_by_poll t es) (outcomes_by_event t es) (laws.once t es))))
 
--- a start settles nothing
+-- A start settles nothing.
 pub outcomes_at-start : (t : ℕ) (es : List Event) (m n u : ℕ) (s : Span) → outcomes_at t es (Start m n u s) ≡ []
 unfolding outcomes_at
 outcomes_at-start t es m n u s = refl
@@ -75,7 +76,7 @@ none_left true x y h = refl
 none_left false None y h = h
 none_left false (Some o) y h = refl
 
--- a closing settles each poll that is left
+-- A closing settles each poll that is left.
 close_settles : (es : List Event) (m : ℕ) (c : Closing) (p : Poll) → is_none (settled_by es (Close m c) p) ≡ false
 unfolding settled_by ending_at
 close_settles es m c p =
@@ -94,7 +95,7 @@ none_wait : (es : List Event) (m : ℕ) (c : Closing) (rs : List (Poll × Option
 none_wait es m c [] = refl
 none_wait es m c (r ∷ rs) = skipped (is_none (option_or r.1 (settled_by es (Close m c) r.0))) (with_event es (Close m c) r) (filter (λ r. is_none r.1) (map (with_event es (Close m c)) rs)) (closed_step es m c r.0 r.1) (none_wait es m c rs)
 
--- no poll waits in a session that was closed
+-- No poll is pending in a closed session.
 pub pending-close : (laws : SessionLaws) (t : ℕ) (es : List Event) (m : ℕ) (c : Closing) → pending t (es ++ Close m c ∷ []) ≡ []
 unfolding pending
 pending-close laws t es m c =

@@ -1,4 +1,4 @@
--- One more fact, and the installation of a meter.
+-- One more record, and the installation of a meter.
 use Rattle.std.proofs.Common.{◌≡◌, ℕ, true, false, cond, List, [], ◌∷◌, sym, ap, subst, ◌∙◌, inl, inr, Some, None}
 use Rattle.std.specs.List.{cons_option}
 use Rattle.std.proofs.lemmas.Bool.{cases_Bool, cond-true, cond-false}
@@ -21,11 +21,11 @@ use Rattle.office_rules.specs.Steps.{Stays, OtherMetersStay, HoldsChangeNothing,
 use Rattle.office_rules.proofs.Lookups.{same_text, same_itself, find_passes}
 use Rattle.office_rules.proofs.Journals.{nothing_before, IsInstalled, installed_fits, well}
 
--- what the lines of a meter leave of its installation
+-- The installation of a meter, by its journal.
 abbrev pub installation_by : Opening → journal.Journal → Installation
 installation_by o lines = standing o (journal.entries_of (opened o) lines) (journal.is_ended lines)
 
--- the same journal leaves the same books
+-- Equal journals give equal installations.
 same_journal : (f : Fact) (facts : List Fact) (o : Opening) → journal_of (f ∷ facts) o.meter ≡ journal_of facts o.meter → Stays f facts o
 same_journal f facts o is =
     record {
@@ -64,11 +64,11 @@ openings_begin o facts h =
       intervals = ap (books.interval_rows (installed o)) none;
     }
 
--- what is found under a name has it
+-- An opening that a name finds has the name.
 pub named : (facts : List Fact) (m : List ℕ) (o : Opening) → opening_of facts m ≡ Some o → o.meter ≡ m
 named facts m o there = same_text o.meter m (find_passes (λ (x : Opening). same x.meter m) (openings_in facts) o there)
 
--- a line of the meter, after its journal
+-- A line of the meter, after its journal.
 pub own_line : (facts : List Fact) (meter : List ℕ) (line : journal.Line) (o : Opening) → LineFits facts meter line → opening_of facts meter ≡ Some o
     → journals.Fits (installed o) (journal_of facts o.meter) line
 own_line facts meter line o fits there =
@@ -83,7 +83,7 @@ line_after facts meter line o is =
     let e : same meter o.meter ≡ true = ap (same meter) is ∙ same_itself meter in
     ap (λ b. cons_option (cond b (Some line) None) (journal_of facts o.meter)) e
 
--- an installation with another energy
+-- An installation with another energy.
 abbrev with_total : Opening → EntryKind → Entry → journal.Journal → ℕ → Installation
 with_total o k e lines n = record {
   opening = o;

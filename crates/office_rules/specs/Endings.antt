@@ -1,4 +1,4 @@
--- How a started poll stands: it has ended once, or it waits.
+-- The two states of a started poll: ended exactly once, or pending.
 use Rattle.std.specs.Prelude.{◌≡◌, ◌⊎◌, ℕ, [], ◌∷◌, map, Some, None, All, Contains}
 use Rattle.std.specs.List.{flat_map}
 use Rattle.poll_core.specs.declared.outcome.Outcome.{Outcome}
@@ -7,20 +7,24 @@ use Rattle.office_rules.specs.Facts.{polls_in, ends_of}
 use Rattle.office_rules.specs.History.{History, facts_of, slots_of}
 use Rattle.office_rules.specs.PollEndings.{outcome_in, pending_on}
 
--- one outcome of the poll is recorded, and it is the one that the events of its session give
+-- Exactly one outcome of the poll is recorded. It is the outcome that the events of the poll's
+-- session give.
 pub record HasEnded (history : History) (number : ℕ) (outcome : Outcome) : Type 0 where
   pub recorded : map (λ ended. ended.outcome) (ends_of (facts_of history) number) ≡ outcome ∷ []
   pub given : outcome_in (slots_of history) number ≡ Some outcome
 
--- none is recorded, and they give none: the poll waits in the present session of a device
+-- No outcome of the poll is recorded, and its session gives none. The poll is pending in the
+-- present session of a device.
 pub record IsPending (history : History) (number : ℕ) : Type 0 where
   pub recorded : ends_of (facts_of history) number ≡ []
   pub given : outcome_in (slots_of history) number ≡ None
   pub waits : Contains (flat_map pending_on (slots_of history)) number
 
+-- A poll ended exactly once, or is pending.
 abbrev pub EndsOnce : History → Poll → Type 0
 EndsOnce history poll =
     ((outcome : Outcome) × HasEnded history poll.number outcome) ⊎ IsPending history poll.number
 
+-- Each started poll ended exactly once, or is pending.
 abbrev pub EachEndsOnce : History → Type 0
 EachEndsOnce history = All (EndsOnce history) (polls_in (facts_of history))

@@ -1,4 +1,5 @@
--- What the books record, the latest fact first, and what is looked up there: each look-up is a filter of the facts.
+-- The records of the store, the latest first, and the lookups in them. Each lookup filters the
+-- records.
 use Rattle.std.specs.Prelude.{ℕ, ◌==◌, max, Bool, false, ◌&&◌, List, [], ◌∷◌, reverse, length, Option, Some, None}
 use Rattle.std.specs.Option.{option_and_then}
 use Rattle.std.specs.List.{find, filter, filter_map}
@@ -21,27 +22,28 @@ use Rattle.read_plan.specs.PlannedLists.{Planned}
 use Rattle.point_list.specs.declared.point.ListedPoint.{ListedPoint}
 use Rattle.office_events.specs.declared.facts.Fact.TheVariants as fact
 
--- Moments go to 2099-12-31 24:00 UTC.
+-- The greatest timestamp: 2099-12-31 24:00 UTC.
 abbrev pub moment_limit : ℕ
 moment_limit = LAST_MOMENT
 
--- the greatest numbers of a poll and of a request: 2^62 and 2^63 - 1
+-- The greatest number of a poll, 2^62.
 abbrev pub poll_limit : ℕ
 poll_limit = MAX_POLLS
 
+-- The greatest number of a caller's request, 2^63 - 1.
 abbrev pub request_limit : ℕ
 request_limit = MAX_REQUEST
 
--- A name is its text. Two names are the same if their bytes are.
+-- Two names are equal if their bytes are.
 abbrev pub same : List ℕ → List ℕ → Bool
 same a b = bytes_eq a b
 
--- what was handed in is this name; it may be no name at all
+-- A given name is this one. An invalid name (`None`) equals no name.
 abbrev pub is_named : Option (List ℕ) → List ℕ → Bool
 is_named None name = false
 is_named (Some given) name = same given name
 
--- Each kind of fact.
+-- A record as each kind, if it is of that kind.
 abbrev pub as_device : Fact → Option Device
 as_device (fact.Device device) = Some device
 as_device _ = None
@@ -82,7 +84,7 @@ abbrev pub as_ended : Fact → Option EndedPoll
 as_ended (fact.Outcome ended) = Some ended
 as_ended _ = None
 
--- The facts of each kind, the latest first: these are the tables.
+-- The records of each kind, the latest first. They correspond to the tables.
 abbrev pub devices_in : List Fact → List Device
 devices_in facts = filter_map as_device facts
 
@@ -113,7 +115,7 @@ polls_in facts = filter_map as_poll facts
 abbrev pub ended_in : List Fact → List EndedPoll
 ended_in facts = filter_map as_ended facts
 
--- the device, the register and the installation of a name
+-- The device, the register and the installation with a name.
 abbrev pub device_of : List Fact → List ℕ → Option Device
 device_of facts name = find (λ device. same device.name name) (devices_in facts)
 
@@ -123,46 +125,49 @@ register_of facts name = find (λ register. same register.name name) (registers_
 abbrev pub opening_of : List Fact → List ℕ → Option Opening
 opening_of facts meter = find (λ opening. same opening.meter meter) (openings_in facts)
 
--- the registers of a device, in the order in which they were added
+-- The registers of a device, in the order in which they were added.
 abbrev pub registers_of : List Fact → List ℕ → List Register
 registers_of facts device =
     reverse (filter (λ register. same register.device device) (registers_in facts))
 
--- the latest installation at a register
+-- The latest installation at a register.
 abbrev pub installed_at : List Fact → List ℕ → Option Opening
 installed_at facts register = find (λ opening. same opening.register register) (openings_in facts)
 
--- the latest list of a device; one without points counts as none
+-- A list, unless it has no points.
 abbrev pub if_some : List ListedPoint → Planned → Option Planned
 if_some [] list = None
 if_some (point ∷ points) list = Some list
 
+-- The latest list of a device. A list without points counts as none.
 abbrev pub list_of : List Fact → List ℕ → Option Planned
 list_of facts device =
     option_and_then (λ put. if_some put.list.points put.list)
     (find (λ put. same put.device device) (lists_in facts))
 
--- the kept answer under a caller and a number
+-- The answer that is kept for a caller and a number.
 abbrev pub reply_of : List Fact → (caller : List ℕ) → (number : ℕ) → Option Reply
 reply_of facts caller number =
     find (λ reply. same reply.caller caller && (reply.number == number)) (replies_in facts)
 
--- the poll of a number, and what is recorded of its end
+-- The poll with a number.
 abbrev pub poll_of : List Fact → ℕ → Option Poll
 poll_of facts number = find (λ poll. poll.number == number) (polls_in facts)
 
+-- All recorded ends of a poll.
 abbrev pub ends_of : List Fact → ℕ → List EndedPoll
 ends_of facts number = filter (λ ended. ended.poll == number) (ended_in facts)
 
+-- The latest recorded end of a poll.
 abbrev pub end_of : List Fact → ℕ → Option EndedPoll
 end_of facts number = find (λ ended. ended.poll == number) (ended_in facts)
 
--- the polls that have no outcome, in the order in which they were started
+-- The polls without an outcome, in the order in which they were started.
 abbrev pub pending_in : List Fact → List Poll
 pending_in facts =
     filter (λ poll. length (ends_of facts poll.number) == 0) (reverse (polls_in facts))
 
--- when a fact was recorded; devices, their lists and registers have no moment
+-- The timestamp of a record. Devices, lists and registers have none, so it is 0.
 abbrev pub moment_in : Fact → ℕ
 moment_in (fact.Device device) = 0
 moment_in (fact.List list) = 0
@@ -175,7 +180,7 @@ moment_in (fact.Poll poll) = poll.at
 moment_in (fact.Outcome ended) = ended.at
 moment_in (fact.Reply reply) = reply.at
 
--- the greatest moment that is recorded
+-- The greatest timestamp of the records.
 abbrev pub latest_in : List Fact → ℕ
 latest_in [] = 0
 latest_in (f ∷ facts) = max (moment_in f) (latest_in facts)

@@ -1,4 +1,4 @@
--- What holds of the facts of an office, whatever it accepted.
+-- Theorems on the records of an office, for all accepted events.
 use Rattle.std.specs.Prelude.{◌≡◌, ◌≢◌, false, List, [], ◌∷◌, Option, Some, All}
 use Rattle.std.specs.List.{AllPairs}
 use Rattle.energy_core.specs.TrueRun.{Item}
@@ -19,28 +19,30 @@ use Rattle.office_rules.specs.Lawful.{AreLawful}
 use Rattle.office_rules.specs.Endings.{EachEndsOnce}
 use Rattle.office_rules.specs.Laws.{IsRecorded, IsKept, IsUntraced}
 
--- A list that a command puts has the reads of its plan, as its type promises: a `PlannedList` is always planned.
+-- The list of a command has the reads of its plan. The type `PlannedList` guarantees this.
 abbrev pub PutsPlanned : Option Command → Type 0
 PutsPlanned (Some (command.PutList c)) = IsPlanned c.list
 PutsPlanned _ = Unit {0}
 
+-- All lists of accepted commands have the reads of their plans.
 abbrev pub ListsArePlanned : History → Type 0
 ListsArePlanned [] = Unit {0}
 ListsArePlanned (Opened at ∷ past) = ListsArePlanned past
 ListsArePlanned (Fed at e ∷ past) = PutsPlanned (command_in e) × ListsArePlanned past
 
--- what an office accepted: each of it after all before, and each list planned
+-- A possible past of an office: each event was accepted after those before it, and each list has
+-- its plan.
 pub record IsPast (history : History) : Type 0 where
   pub accepted : AreAccepted history
   pub planned : ListsArePlanned history
 
--- Whatever the office accepted, each fact may follow those before it.
+-- For all accepted events, each record may follow those before it.
 abbrev pub FactsAreLawful : Type 0
 FactsAreLawful = (history : History) → AreAccepted history → ListsArePlanned history
     → AreLawful (facts_of history)
 
--- No two devices, no two registers and no two meters have the same name, so each is found by its name. The meter that is open
--- at a register is the latest there, so no two are.
+-- No two devices, registers or meters have the same name, so each is found by its name. The open
+-- meter at a register is the latest there, so no two are open.
 pub record AreDistinct (facts : List Fact) : Type 0 where
   pub devices : AllPairs (λ (a b : Device). a.name ≢ b.name) (devices_in facts)
   pub registers : AllPairs (λ (a b : Register). a.name ≢ b.name) (registers_in facts)
@@ -55,11 +57,13 @@ pub record AreDistinct (facts : List Fact) : Type 0 where
   pub latest : (opening : Opening) → IsRecorded facts opening → is_ended facts opening ≡ false
       → installed_at facts opening.register ≡ Some opening
 
+-- The names in lawful records are distinct.
 abbrev pub NamesAreDistinct : Type 0
 NamesAreDistinct = (facts : List Fact) → AreLawful facts → AreDistinct facts
 
--- Each poll ended once, or waits. The energy and the interval rows of each installed meter are those of its entries that
--- stand, what was voided leaves no trace, and where the meter told the truth, they are the true ones.
+-- Each poll ended once, or is pending. The energy and the interval rows of each meter come from its
+-- valid entries, and voids leave no trace. For a meter whose readings are a true run, energy and
+-- interval rows are the true ones.
 pub record AreTrue (history : History) : Type 0 where
   pub polls : EachEndsOnce history
   pub lawful : AreLawful (facts_of history)
@@ -73,5 +77,6 @@ pub record AreTrue (history : History) : Type 0 where
       → ShowsTrueRun (installed opening) (journal_of (facts_of history) opening.meter) first items
       → IsKeptTruly (installed opening) (journal_of (facts_of history) opening.meter) first items
 
+-- The records of each possible past have these properties.
 abbrev pub BooksAreTrue : Type 0
 BooksAreTrue = (history : History) → AreAccepted history → ListsArePlanned history → AreTrue history

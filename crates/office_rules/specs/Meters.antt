@@ -1,4 +1,4 @@
--- The meters: their journals, their accounts, and which is installed where.
+-- The meters: their journals, their accounts, and the installations at each register.
 use Rattle.std.specs.Prelude.{ℕ, Bool, List, Option, Some, None, if◌then◌else◌}
 use Rattle.std.specs.List.{filter_map}
 use Rattle.std.specs.Option.{option_map, option_and_then}
@@ -17,11 +17,11 @@ use Rattle.office_events.specs.declared.questions.Installation.{Installation}
 use Rattle.office_events.specs.declared.questions.EntryPlace.{EntryPlace}
 use Rattle.office_rules.specs.Facts.{same, opening_of, installed_at}
 
--- a reading that was held, as a line of a journal
+-- A rejected reading, as a line of a journal.
 abbrev pub held_line : HeldReading → journal.Line
 held_line held = journal.Held (record { at = held.at; raw = held.raw; sf = held.sf }) held.cause
 
--- what a fact is in the journal of a meter
+-- The line of a record in the journal of a meter, if it has one there.
 abbrev pub line_of : (meter : List ℕ) → Fact → Option journal.Line
 line_of meter (fact.Entry booked) =
     if same booked.meter meter then Some (journal.Entered booked.kind booked.entry) else None
@@ -35,29 +35,32 @@ line_of meter _ = None
 abbrev pub journal_of : List Fact → (meter : List ℕ) → journal.Journal
 journal_of facts meter = filter_map (line_of meter) facts
 
--- where the counter stood at the opening, and the meter as it was installed
+-- The state of the counter at the opening.
 abbrev pub opened : Opening → Last
 opened opening = record { at = opening.at; raw = opening.raw; sf = opening.sf }
 
+-- The meter as it was installed.
 abbrev pub installed : Opening → Installed
 installed opening =
     record { range = opening.range; ceiling = opening.ceiling; opening = opened opening }
 
--- the rows of a meter after its opening, and the entries that stand
+-- The rows of a meter's entries after its opening.
 abbrev pub rows_of : List Fact → Opening → List EntryRow
 rows_of facts opening = journal.rows_of (opened opening) (journal_of facts opening.meter)
 
+-- The valid entries of a meter.
 abbrev pub entries_of : List Fact → Opening → List Entry
 entries_of facts opening = journal.entries_of (opened opening) (journal_of facts opening.meter)
 
+-- The meter was closed.
 abbrev pub is_ended : List Fact → Opening → Bool
 is_ended facts opening = journal.is_ended (journal_of facts opening.meter)
 
--- the steps between the entries that stand, the latest first
+-- The steps between the valid entries, the latest first.
 abbrev pub steps_in : List Fact → Opening → List Step
 steps_in facts opening = books.steps_in (installed opening) (journal_of facts opening.meter)
 
--- an installation with these entries
+-- An installation with these entries.
 abbrev pub standing : Opening → List Entry → (ended : Bool) → Installation
 standing opening es ended = record {
   opening = opening;
@@ -66,25 +69,28 @@ standing opening es ended = record {
   ended = ended;
 }
 
--- An installation as it stands: its opening, where its counter is, its whole energy, and whether it was closed.
+-- An installation: its opening, the state of its counter, its total energy, and whether it was
+-- closed.
 abbrev pub installation_of : List Fact → Opening → Installation
 installation_of facts opening = standing opening (entries_of facts opening) (is_ended facts opening)
 
--- the installation of a meter, and the latest one at a register
+-- The installation of a meter.
 abbrev pub meter_of : List Fact → List ℕ → Option Installation
 meter_of facts meter = option_map (installation_of facts) (opening_of facts meter)
 
+-- The latest installation at a register.
 abbrev pub installation_at : List Fact → List ℕ → Option Installation
 installation_at facts register = option_map (installation_of facts) (installed_at facts register)
 
--- the one that is open at a register
+-- The installation, if it is open.
 abbrev pub if_open : Installation → Option Installation
 if_open row = if row.ended then None else Some row
 
+-- The open installation at a register, if any.
 abbrev pub open_at : List Fact → List ℕ → Option Installation
 open_at facts register = option_and_then if_open (installation_at facts register)
 
--- the entry of a meter at a place, from 2 on
+-- An entry with the meter's state before it, and with the next valid entry.
 abbrev pub place_in : List Fact → Opening → journal.Around → EntryPlace
 place_in facts opening around = record {
   before = standing opening (journal.entries_in around.before) (is_ended facts opening);
@@ -92,6 +98,7 @@ place_in facts opening around = record {
   next = around.next;
 }
 
+-- The entry of a meter with a sequence number, from 2.
 abbrev pub entry_at : List Fact → (meter : List ℕ) → (place : ℕ) → Option EntryPlace
 entry_at facts meter place =
     option_and_then

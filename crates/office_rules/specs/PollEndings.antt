@@ -1,4 +1,4 @@
--- How the polls of the office end: by their sessions' events, or by an opening.
+-- The ends of the office's polls, by their sessions' events or by an opening.
 use Rattle.std.specs.Prelude.{◌≡◌, ℕ, ◌+◌, ◌==◌, Bool, true, false, List, [], ◌∷◌, ◌++◌, map, length, Option, Some, None}
 use Rattle.std.specs.Option.{option_and_then, option_to_list}
 use Rattle.std.specs.List.{find, flat_map}
@@ -13,32 +13,35 @@ use Rattle.office_rules.specs.Facts.{polls_in, ends_of, pending_in}
 use Rattle.office_rules.specs.Sessions.{Slot, EndedSession}
 use Rattle.office_rules.specs.History.{History, facts_of, slots_of, outcome_of}
 
--- How a poll of a session ended: as the events of the session settle it; where they do not and the office was opened anew,
--- it is lost.
+-- The outcome of a poll: the settlement by its session's events. Without a settlement the poll is
+-- lost if the office was reopened.
 abbrev pub end_by : (restarted : Bool) → Option session.Settlement → Option Outcome
 end_by restarted (Some settlement) = Some (outcome_of settlement)
 end_by true None = Some (Lost Restart)
 end_by false None = None
 
--- the polls that were started on a session, with their outcomes
+-- The polls that were started on a session, with their outcomes.
 abbrev pub polls_on : Device → (restarted : Bool) → List session.Event → List (ℕ × Option Outcome)
 polls_on device restarted events =
     map (λ result. (result.0.number, end_by restarted result.1))
     (session.results device.timeout [] events)
 
+-- The polls of the present session, with their outcomes.
 abbrev pub polls_on_present : Device → Option (List session.Event) → List (ℕ × Option Outcome)
 polls_on_present device None = []
 polls_on_present device (Some events) = polls_on device false events
 
+-- The polls of ended sessions, with their outcomes.
 abbrev pub polls_on_ended : Device → List EndedSession → List (ℕ × Option Outcome)
 polls_on_ended device sessions =
     flat_map (λ ended. polls_on device ended.restarted ended.events) sessions
 
--- the polls of a device, and of all devices
+-- The polls of a device, with their outcomes.
 abbrev pub polls_of_slot : Slot → List (ℕ × Option Outcome)
 polls_of_slot slot =
     polls_on_present slot.device slot.present ++ polls_on_ended slot.device slot.ended
 
+-- The polls of all devices, with their outcomes.
 abbrev pub polls_of_slots : List Slot → List (ℕ × Option Outcome)
 polls_of_slots slots = flat_map polls_of_slot slots
 
@@ -47,21 +50,22 @@ abbrev pub outcome_in : List Slot → ℕ → Option Outcome
 outcome_in slots number =
     option_and_then (λ poll. poll.1) (find (λ poll. poll.0 == number) (polls_of_slots slots))
 
--- the polls that wait in the present session of a device
+-- The pending polls of the present session of a device.
 abbrev pub waiting : Device → Option (List session.Event) → List ℕ
 waiting device None = []
 waiting device (Some events) = map (λ poll. poll.number) (session.pending device.timeout events)
 
+-- The pending polls of a slot.
 abbrev pub pending_on : Slot → List ℕ
 pending_on slot = waiting slot.device slot.present
 
--- the polls have the numbers from 1 on, the latest first
+-- The polls are numbered from 1, the latest first.
 abbrev pub AreNumbered : List Poll → Type 0
 AreNumbered [] = Unit {0}
 AreNumbered (poll ∷ polls) = (poll.number ≡ length polls + 1) × AreNumbered polls
 
--- Each started poll has exactly the outcome that its session gives it, recorded once, or it has none and waits in the
--- present session of its device.
+-- Each started poll has the outcome that its session gives, recorded exactly once. Otherwise it has
+-- none, and is pending in the present session of its device.
 pub record PollsEndOnce (history : History) : Type 0 where
   pub numbered : AreNumbered (polls_in (facts_of history))
   pub started : IsPermutation (map (λ poll. poll.number) (polls_in (facts_of history)))

@@ -1,12 +1,12 @@
--- What holds of the polls in the facts: each may follow the facts before it, and so may each outcome.
+-- The rule for polls and outcomes: which of them may follow the records before it.
 use Rattle.std.specs.Prelude.{◌≡◌, true, List, [], ◌∷◌, is_some}
 use Rattle.office_events.specs.declared.facts.Fact.{Fact}
 use Rattle.office_events.specs.declared.facts.Fact.TheVariants as fact
 use Rattle.office_rules.specs.Facts.{poll_of}
 use Rattle.office_rules.specs.Lawful.{PollFits, EndFits}
 
--- A poll has the next number, and its device was added. An outcome is that of a poll that was started and had none. A held
--- reading is one of a poll that was started.
+-- A poll has the next number, and its device exists. An outcome belongs to a started poll without
+-- an outcome. A rejected reading belongs to a started poll.
 abbrev pub PollsFit : List Fact → Type 0
 PollsFit [] = Unit {0}
 PollsFit (fact.Poll poll ∷ facts) = PollFits facts poll × PollsFit facts

@@ -1,4 +1,4 @@
--- What an answered poll means for the meters of its device.
+-- The readings that an answered poll gives for the meters of its device.
 use Rattle.std.specs.Prelude.{ℕ, ℤ, ◌+◌, ◌-◌, ◌==◌, nat_le, Bool, true, ◌&&◌, List, [], ◌∷◌, Option, Some, None, slice_index, if◌then◌else◌}
 use Rattle.std.specs.Option.{option_map}
 use Rattle.energy_core.specs.declared.entries.Entry.TheVariants.{Step}
@@ -21,37 +21,41 @@ use Rattle.office_events.specs.declared.questions.PollRow.{PollRow}
 use Rattle.office_rules.specs.Facts.{registers_of, poll_of, end_of}
 use Rattle.office_rules.specs.Meters.{open_at}
 
--- the poll of a number, and how it ended, if it has
+-- A poll, with its recorded end if it has one.
 abbrev pub poll_row : List Fact → Poll → PollRow
 poll_row facts poll = record { poll = poll; ended = end_of facts poll.number }
 
+-- The poll with a number, with its recorded end if it has one.
 abbrev pub poll_row_of : List Fact → ℕ → Option PollRow
 poll_row_of facts number = option_map (poll_row facts) (poll_of facts number)
 
--- these registers lie in the span
+-- The span contains `count` registers from `address`.
 abbrev pub contains : ReadSpan → (address count : ℕ) → Bool
 contains span address count =
     nat_le span.address address && nat_le (address + count) (span.address + span.count)
 
+-- The span contains the register of the scale, if the scale has one.
 abbrev pub contains_scale : ReadSpan → ScaleSource → Bool
 contains_scale span (source.Fixed sf) = true
 contains_scale span (source.Register address) = contains span address 1
 
--- the span is read by the register's function, and contains its counter and its scale
+-- The span has the register's function, and contains its counter and its scale.
 abbrev pub is_read_by : ReadSpan → Register → Bool
 is_read_by span register =
     (code_of span.function == code_of register.function) && contains span register.address 2
     && contains_scale span register.scale
 
--- the word at an address, among the words of the span
+-- The word at an address, among the words of the span.
 abbrev pub word_at : ReadSpan → (words : List ℕ) → (address : ℕ) → ℕ
 word_at span words address = slice_index words (address - span.address)
 
+-- The scale of a register, by the words of the span.
 abbrev pub scale_of : ReadSpan → List ℕ → ScaleSource → ℤ
 scale_of span words (source.Fixed sf) = sf
 scale_of span words (source.Register address) = scale_value (word_at span words address)
 
--- what the reply tells of a register: its counter, two words of which the high one comes first, and its scale
+-- The reading of a register by a response: its counter, two words with the high word first, and its
+-- scale.
 abbrev pub reading_of : ℕ → ReadSpan → List ℕ → Register → Reading
 reading_of at span words register = record {
   at = at;
@@ -60,13 +64,14 @@ reading_of at span words register = record {
   sf = scale_of span words register.scale;
 }
 
--- the verdict on a reading of an installation
+-- The verdict on a reading of an installation.
 abbrev pub judgement : Installation → Reading → Verdict
 judgement row reading =
     verdict_of row.opening.range (record { ceiling = row.opening.ceiling; total = row.total })
     row.last reading
 
--- An accepted reading is an entry of its meter. A held one is kept with its cause.
+-- The record of a judged reading. An accepted reading is an entry of its meter, and a rejected one
+-- is kept with its cause.
 abbrev pub as_fact : (meter : List ℕ) → (poll : ℕ) → Reading → Verdict → Fact
 as_fact meter poll reading (Accepted rolls step) =
     fact.Entry (record
@@ -81,15 +86,17 @@ as_fact meter poll reading (Held cause) =
       cause = cause;
     })
 
+-- The record of a reading of an installation, by the verdict on it.
 abbrev pub reading_fact : (poll : ℕ) → Reading → Installation → Fact
 reading_fact poll reading row = as_fact row.opening.meter poll reading (judgement row reading)
 
--- The facts after a reading at a register: one more, if a meter is open there.
+-- The records after a reading at a register. One is added if a meter is open there.
 abbrev pub with_reading : (poll : ℕ) → Reading → Option Installation → List Fact → List Fact
 with_reading poll reading None facts = facts
 with_reading poll reading (Some row) facts = reading_fact poll reading row ∷ facts
 
--- the facts after a reply came to a register: it is read if its counter and its scale lie in the span
+-- The records after a response at a register. The register is read if its counter and its scale lie
+-- in the span.
 abbrev pub with_register : ℕ → Poll → List ℕ → Register → List Fact → List Fact
 with_register at poll words register facts =
     if is_read_by poll.span register
@@ -97,14 +104,14 @@ with_register at poll words register facts =
     (open_at facts register.name) facts
     else facts
 
--- the facts after a reply came to these registers, one after the other
+-- The records after a response at several registers, one after another.
 abbrev pub with_registers : ℕ → Poll → List ℕ → List Register → List Fact → List Fact
 with_registers at poll words [] facts = facts
 with_registers at poll words (register ∷ registers) facts =
     with_registers at poll words registers (with_register at poll words register facts)
 
--- The facts after the reply to a poll: a reading for each register of the device that it tells of, in the order in
--- which they were added.
+-- The records after the response to a poll: a reading for each register of the device in the span.
+-- Registers are read in the order in which they were added.
 abbrev pub with_reply : ℕ → Option Poll → List ℕ → List Fact → List Fact
 with_reply at None words facts = facts
 with_reply at (Some poll) words facts =

@@ -1,4 +1,4 @@
--- What a void changes of an installation, over lawful facts.
+-- The change of an installation by a void, over lawful records.
 use Rattle.std.specs.Prelude.{◌≡◌, ◌+◌, List, ◌∷◌, map, Some, is_some, if◌then◌else◌}
 use Rattle.meter_journal.specs.Intervals.{with_each, without_each, all_shares}
 use Rattle.meter_journal.specs.Journal.{Around}
@@ -12,9 +12,10 @@ use Rattle.office_rules.specs.Intervals.{rows_of_opening}
 use Rattle.office_rules.specs.Lawful.{AreLawful}
 use Rattle.office_rules.specs.Meters.{opened, installed, journal_of, rows_of, installation_of, place_in, entry_at}
 
--- The entry at the place is there. Its row and that of the next entry change, and no other row of the meter. The counter
--- stands where it stood, or where it stood before the entry if none came next; the energy of the steps around the entry
--- goes out, and that of the step between its neighbours comes in, in the whole and interval by interval.
+-- The entry exists. The void changes its row and that of the next entry, and no other row. The
+-- counter keeps its state, or returns to the state before the entry if no entry follows.
+-- The energy of the steps around the entry is removed. That of the step between its neighbours is
+-- added, in the total and by quarter hour.
 pub record GivesWay (voided : VoidedEntry) (facts : List Fact) (opening : Opening) : Type 0 where
   pub around : Around
   pub found : entry_at facts voided.meter voided.place ≡ Some (place_in facts opening around)
@@ -35,6 +36,7 @@ pub record GivesWay (voided : VoidedEntry) (facts : List Fact) (opening : Openin
       ≡ rows_until opening.at (installation_of (fact.Void voided ∷ facts) opening).last.at
       (with_each put (without_each out (rows_of_opening facts opening)))
 
+-- Each lawful void has this effect.
 abbrev pub VoidedEntriesGiveWay : Type 0
 VoidedEntriesGiveWay = (voided : VoidedEntry) (facts : List Fact) (opening : Opening)
     → AreLawful (fact.Void voided ∷ facts) → opening_of facts voided.meter ≡ Some opening

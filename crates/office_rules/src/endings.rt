@@ -1,4 +1,4 @@
-//! Each poll ends once.
+//! Theorems on the ends of polls.
 ghost use Rattle.office_rules.specs.History.{History};
 ghost use Rattle.office_rules.specs.Refusals.{AreAccepted};
 ghost use Rattle.office_rules.specs.PollEndings.{PollsEndOnce};
@@ -6,8 +6,8 @@ ghost use Rattle.office_rules.specs.Endings.{EachEndsOnce};
 
 use poll_core::{each_once, one_event_more};
 
-/// Whatever the office accepted, each poll has exactly the outcome that its session gives it, recorded once, or it
-/// has none and waits.
+/// Proves that each poll has the outcome that its session gives, recorded exactly once, or is
+/// pending. This holds for all accepted events.
 pub fn polls_end_once()
     ensures polls { (history : History) → AreAccepted history → PollsEndOnce history }
     ensures each { (history : History) → AreAccepted history → EachEndsOnce history }

@@ -1,11 +1,11 @@
-//! What holds whatever an office accepted.
+//! Theorems on the records of an office, for all accepted events.
 ghost use Rattle.office_rules.specs.Lawfulness.{BooksAreTrue, FactsAreLawful, NamesAreDistinct};
 
 use crate::endings::polls_end_once;
 use crate::laws::{meters_are_kept, truth_is_recorded, voids_leave_no_trace};
 use poll_core::one_event_more;
 
-/// Whatever the office accepted, each of its facts may follow those before it.
+/// Proves that each record may follow those before it, for all accepted events.
 pub fn facts_are_lawful()
     ensures { FactsAreLawful }
 {
@@ -14,14 +14,15 @@ pub fn facts_are_lawful()
     meters_are_kept();
 }
 
-/// In lawful facts no two devices, registers or meters have a name in common, and where a meter is open at a register, it
-/// is the latest there.
+/// Proves that no two devices, registers or meters in lawful records have the same name. The open
+/// meter at a register is the latest there.
 pub fn names_are_distinct()
     ensures { NamesAreDistinct }
 {}
 
-/// Whatever the office accepted, each poll ended once or waits, and the energy and the interval rows of each meter are those
-/// of the entries that stand; where it told the truth, they are the true ones.
+/// Proves for all accepted events that each poll ended once or is pending. The energy and the
+/// interval rows of each meter are those of its valid entries. For a meter whose readings are a
+/// true run, they are the true ones.
 pub fn books_are_true()
     ensures { BooksAreTrue }
 {

@@ -1,4 +1,4 @@
-//! Laws of lawful facts.
+//! Theorems on lawful records.
 ghost use Rattle.office_rules.specs.Laws.{FactsAreBounded, JournalsFit, MetersAreKept, TruthIsRecorded, VoidsLeaveNoTrace};
 ghost use Rattle.office_rules.specs.Ranges.{InstallationsAreInRange};
 
@@ -7,13 +7,14 @@ use meter_journal::{
     places_were_kept, rows_stand, truth_is_kept, voids_leave_no_trace as journal_voids,
 };
 
-/// In lawful facts each line of a meter's journal may follow those before it.
+/// Proves that each line of a meter's journal in lawful records may follow those before it.
 pub fn journals_fit()
     ensures { JournalsFit }
 {}
 
-/// In lawful facts the energy of each installation is its last value less the first, plus a full range for each recorded
-/// rollover, plus the recorded differences, whatever was voided, and its interval rows add up to it.
+/// Proves the energy of each installation in lawful records. It is the last value less the first,
+/// plus a full range for each recorded rollover, plus the recorded differences. Voided entries do
+/// not count, and the interval rows add up to the energy.
 pub fn meters_are_kept()
     ensures { MetersAreKept }
 {
@@ -23,15 +24,16 @@ pub fn meters_are_kept()
     interval_rows_add_up();
 }
 
-/// Where nothing but readings was entered, and the meter tells the truth and is read often enough, none of its readings since
-/// the last void is held, and its steps, its total and its interval rows are the true ones.
+/// Proves that readings of an honest meter that is read often enough, with no entries but readings,
+/// are recorded truly. None of the readings since the last void is rejected. The steps, the total
+/// and the interval rows are the true ones.
 pub fn truth_is_recorded()
     ensures { TruthIsRecorded }
 {
     truth_is_kept();
 }
 
-/// What was voided leaves no trace in a meter's account and its interval rows.
+/// Proves that voided entries leave no trace in a meter's account and its interval rows.
 pub fn voids_leave_no_trace()
     ensures { VoidsLeaveNoTrace }
 {
@@ -39,12 +41,13 @@ pub fn voids_leave_no_trace()
     journal_voids();
 }
 
-/// No moment, no poll's number and no request's number of lawful facts is past its limit.
+/// Proves that no timestamp, poll number or request number of lawful records exceeds its limit.
 pub fn facts_are_bounded()
     ensures { FactsAreBounded }
 {}
 
-/// In lawful facts the numbers of each installation are in their ranges, also where it stood before an entry.
+/// Proves that the numbers of each installation in lawful records are in range, now and before each
+/// entry.
 pub fn installations_are_in_range()
     ensures { InstallationsAreInRange }
 {

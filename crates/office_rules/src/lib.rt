@@ -1,5 +1,4 @@
-//! What an office records of what it accepted, what it answers, and what it refuses: definitions, which the crates above
-//! cite.
+//! The definitions of an office's records, answers and refusals, which the crates above cite.
 #![tactic(auto)]
 
 mod endings;

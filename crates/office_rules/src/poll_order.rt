@@ -1,4 +1,4 @@
-//! Polls and their outcomes may follow what is recorded before them.
+//! Theorems on the order of polls and outcomes.
 ghost use Rattle.office_rules.specs.History.{History, facts_of};
 ghost use Rattle.office_rules.specs.Refusals.{AreAccepted};
 ghost use Rattle.office_rules.specs.PollOrder.{PollsFit};
@@ -6,8 +6,8 @@ ghost use Rattle.office_rules.specs.PollOrder.{PollsFit};
 use crate::endings::polls_end_once;
 use poll_core::one_event_more;
 
-/// Whatever the office accepted, its polls are numbered on and of devices that were added, and only polls that wait
-/// have ended.
+/// Proves for all accepted events that poll numbers are consecutive and that the devices of polls
+/// exist. Only pending polls end.
 pub fn polls_fit()
     ensures { (history : History) → AreAccepted history → PollsFit (facts_of history) }
 {

@@ -1,4 +1,5 @@
--- Worked examples, computed from the definitions: the last good value and the first bad one of each limit.
+-- Worked examples, computed from the definitions: the last valid value and the first invalid value
+-- of each limit.
 use Rattle.std.proofs.Common.{◌≡◌, ℕ, pos, negsuc, true, false, List, [], ◌∷◌, replicate, Some, None, refl}
 use Rattle.std.specs.Prelude.{codes}
 use Rattle.mb_wire.specs.declared.span.ReadFunction.TheVariants.{HoldingRegisters}
@@ -94,7 +95,7 @@ widest_group = refl
 group_too_wide : is_one_group (word_at 0) (word_at 125) ≡ false
 group_too_wide = refl
 
--- 512 points, and one more: it stands on row 514, the header being row 1.
+-- 512 points, and one more on row 514. The header is row 1.
 
 abbrev good_row : RowText
 good_row = record {

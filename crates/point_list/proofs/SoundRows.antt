@@ -1,4 +1,4 @@
--- A row that lacks nothing spells a point.
+-- A row without faults spells a point.
 use Rattle.std.proofs.Common.{◌≡◌, ◌≤◌, ℕ, zero, suc, ℤ, pos, negsuc, Bool, true, false, IsTrue, List, [], ◌∷◌, Some, None, Option, drop, refl, arith, inl, inr, rules}
 use Rattle.std.specs.Prelude.{◌==◌, nat_le, not, if◌then◌else◌, ◌&&◌, ◌||◌, is_none, int_le, codes}
 use Rattle.std.specs.Option.{option_and_then, option_map}
@@ -15,7 +15,7 @@ use Rattle.point_list.specs.Faults.{RowText, conditions_where, first_of, is_bad_
 use Rattle.point_list.specs.Fields.{fixed_scale_of, function_of, minus, number_of, number_within, text_type_of, type_of}
 use Rattle.point_list.specs.Names.{is_name}
 
--- what six fields are that lack nothing
+-- The properties of six fields without faults.
 pub record Sound (taken : Bool) (place : ℕ) (row : RowText) : Type 0 where
   pub name : not (is_name row.name) ≡ false
   pub untaken : taken ≡ false
@@ -53,7 +53,7 @@ sound taken place row h =
 pub sound-none : (taken : Bool) (place : ℕ) (row : RowText) → Sound taken place row → first_of (conditions_where taken place row) ≡ None
 sound-none taken place row s = rw (s.name, s.untaken, s.function, s.area, s.address, s.kind, s.scale, s.few) refl
 
--- a value that is there
+-- A value that exists.
 pub there : {X : Type 0} (o : Option X) → is_none o ≡ false → (x : X) × (o ≡ Some x)
 there None h = absurd (cc h)
 there (Some x) h = (x, refl)
@@ -80,7 +80,7 @@ within-some low high (Some m) n h =
 pub within : (low high : ℕ) (field : List ℕ) (n : ℕ) → number_within low high field ≡ Some n → (low ≤ n) × (n ≤ high)
 within low high field n h = within-some low high (number_of field) n h
 
--- -10 to 10
+-- -10 to 10.
 minus-bounds : (n : ℕ) → n ≤ 10 → IsTrue (int_le (negsuc 9) (minus n) && int_le (minus n) (pos 10))
 minus-bounds zero h = search rules
 minus-bounds (suc n) h = search rules
@@ -103,7 +103,7 @@ fixed-bounds (first ∷ rest) exponent h = elim (cases_Bool (first == 45)) [
       rw (← m.2) (pos-bounds m.0 (within 0 10 (first ∷ rest) m.0 m.1).1)
 ]
 
--- the registers of a type that a field spells
+-- The number of registers of a type that a field spells.
 text-sized : (field : List ℕ) (kind : PointType) → text_type_of field ≡ Some kind → (1 ≤ registers_of kind) × (registers_of kind ≤ 125)
 text-sized field shown h = elim (cases_Bool (starts_with (λ a b. a == b) field (codes "string"))) [
   | inl is ↦ text-found (number_within 1 125 (drop 6 field)) shown (λ n. within 1 125 (drop 6 field) n) (rw is at h)

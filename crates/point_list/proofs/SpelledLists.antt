@@ -1,4 +1,4 @@
--- A text spells one list.
+-- A text spells at most one list.
 use Rattle.std.proofs.Common.{◌≡◌, ◌∙◌, ℕ, Bool, true, false, Some, Option, List, [], ◌∷◌, length, map, drop, refl, sym, ap, subst}
 use Rattle.std.proofs.lemmas.Option.{same_Some}
 use Rattle.std.specs.Prelude.{slice_index_or}
@@ -9,7 +9,7 @@ use Rattle.point_list.specs.Points.{IsPointList}
 use Rattle.point_list.proofs.FaultlessLists.{faultless-each, faultless-lawful, none-told}
 use Rattle.point_list.proofs.TextLemmas.{first-nil, second-nil, spells-list}
 
--- a text without faulty rows spells a list, which is lawful
+-- A text without faulty rows spells a lawful list.
 record Spelled (text : List ℕ) : Type 0 where
   points : List ListedPoint
   spells : SpellsList text points

@@ -21,18 +21,20 @@ use Rattle.point_list.specs.declared.point.PointScale.{PointScale}
 use Rattle.point_list.specs.declared.point.PointScale.TheVariants.{Unscaled, Named}
 use Rattle.mb_wire.specs.declared.span.ReadFunction.TheVariants.{HoldingRegisters}
 
--- `m`, the model's place in the chain, `.` and the point's name
+-- The list's name of a chain's point: `m`, the number of the model in the chain, `.` and the name
+-- in the model.
 abbrev pub chain_name : ℕ → List ℕ → List ℕ
 chain_name place name = codes "m" ++ (decimal place ++ (codes "." ++ name))
 
--- the scale point of this name, if it is among the points of the model
+-- The scale of a point of a model: the scale point with this name, if the model has it, else none.
 abbrev pub chain_scale : ℕ → List ModelPoint → Option (List ℕ) → PointScale
 chain_scale place others None = Unscaled
 chain_scale place others (Some name) =
     if list_any (λ other. bytes_eq other.name name) others then Named (chain_name place name)
     else Unscaled
 
--- a point of the model at a place, the others of which are these; chains are read by holding registers
+-- The list's entry for a point of the model with number `place`. `others` are all points of the
+-- model. Chains are read from holding registers.
 abbrev pub listed : ℕ → ℕ → List ModelPoint → ModelPoint → ListedPoint
 listed place id others point = record {
   name = chain_name place point.name;
@@ -43,27 +45,28 @@ listed place id others point = record {
   scale = chain_scale place others (scale_name_in (table_of id) point.name);
 }
 
--- the scale point of a point, where it has one, has a name that a list may have
+-- The scale point of a point, if any, has a name that a list allows.
 abbrev pub HasScaleName : (place id : ℕ) → ModelPoint → Type 0
 HasScaleName place id point =
     IfSome (scale_name_in (table_of id) point.name)
     (λ name. IsTrue (is_name (chain_name place name)))
 
+-- The list's entries for the points of a model.
 abbrev pub model_points : Words → ℕ → Model → List ListedPoint
 model_points word place model =
     map (listed place model.id (points_in word model)) (points_in word model)
 
--- the points of models, the first of which has this place
+-- The points of consecutive models. The first model has number `place`.
 abbrev pub points_from : Words → ℕ → List Model → List ListedPoint
 points_from word place [] = []
 points_from word place (model ∷ models) =
     model_points word place model ++ points_from word (place + 1) models
 
--- the points of a chain, whose first model has place 1
+-- The points of a chain. Its first model has number 1.
 abbrev pub points_of_chain : Chain → List ListedPoint
 points_of_chain chain = points_from (words_of chain) 1 (models_of chain)
 
--- points that are too many are told as the row after the most
+-- More than 512 points are reported as `TooMany` on row 514.
 abbrev pub chain_faults : List ListedPoint → List FaultyRow
 chain_faults points =
     if nat_le (length points) POINT_LIMIT then []

@@ -1,4 +1,4 @@
--- What a row may lack.
+-- The faults of a row.
 use Rattle.std.specs.Prelude.{ℕ, ◌+◌, Bool, false, nat_le, nat_lt, not, ◌||◌, if◌then◌else◌, List, [], ◌∷◌, Some, None, is_none, is_some}
 use Rattle.std.specs.declared.option.Option.{Option}
 use Rattle.std.specs.List.{list_any}
@@ -15,7 +15,7 @@ use Rattle.point_list.specs.Fields.{fixed_scale_of, function_of, number_within, 
 use Rattle.point_list.specs.Names.{is_name}
 use Rattle.point_list.specs.Points.{takes_scale}
 
--- the number under which a fault is told
+-- The number that the program prints for a fault.
 abbrev pub fault_number : RowFault → ℕ
 fault_number Csv = 1
 fault_number Header = 2
@@ -30,7 +30,7 @@ fault_number NoSuchScale = 10
 fault_number GroupTooWide = 11
 fault_number TooMany = 12
 
--- the fields of a row
+-- The fields of a row.
 pub record RowText : Type 0 where
   pub name : List ℕ
   pub function : List ℕ
@@ -39,40 +39,44 @@ pub record RowText : Type 0 where
   pub kind : List ℕ
   pub scale : List ℕ
 
+-- The fields of a row with exactly six fields.
 abbrev pub six_fields : List (List ℕ) → Option RowText
 six_fields (a ∷ b ∷ c ∷ d ∷ e ∷ f ∷ []) =
     Some (record { name = a; function = b; area = c; address = d; kind = e; scale = f })
 six_fields _ = None
 
--- a row of six fields of which the first is the name
+-- A row with six fields, the first of them this name.
 abbrev pub has_name : List ℕ → List (List ℕ) → Bool
 has_name name fields = option_map_or (λ row. bytes_eq row.name name) (six_fields fields) false
 
--- no whole number from low to high
+-- The field is not a whole number from `low` to `high`.
 abbrev pub is_no_number : ℕ → ℕ → List ℕ → Bool
 is_no_number low high field = is_none (number_within low high field)
 
--- a type that is good takes the point past the last register
+-- A point of a known type reaches past the last register.
 abbrev pub reaches_past : Option ℕ → Option PointType → Bool
 reaches_past (Some address) (Some kind) = nat_lt ADDRESSES (address + registers_of kind)
 reaches_past _ _ = false
 
+-- The field is a scale from -10 to 10.
 abbrev pub is_fixed_scale : List ℕ → Bool
 is_fixed_scale field = is_some (fixed_scale_of field)
 
--- a scale that is neither empty, nor a number from -10 to 10, nor a name, or one for a type that takes none
+-- An invalid scale: a text that is no number from -10 to 10 and no name, or any text for a type
+-- without a scale. An empty field is valid.
 abbrev pub is_bad_scale : List ℕ → Option PointType → Bool
 is_bad_scale [] kind = false
 is_bad_scale (first ∷ rest) kind =
     not (is_fixed_scale (first ∷ rest) || is_name (first ∷ rest))
     || option_map_or (λ k. not (takes_scale k)) kind false
 
--- the first of the faults whose condition holds
+-- The first of the faults whose condition is true.
 abbrev pub first_of : List (RowFault × Bool) → Option RowFault
 first_of [] = None
 first_of (fault ∷ faults) = if fault.1 then Some fault.0 else first_of faults
 
--- what each fault means for a row of six fields, after `place` others below the header, an earlier one of which has taken its name or not
+-- The condition of each fault, for a row of six fields at index `place` below the header. `taken`:
+-- an earlier row has its name.
 abbrev pub conditions_where : Bool → ℕ → RowText → List (RowFault × Bool)
 conditions_where taken place row =
     (Name, not (is_name row.name))
@@ -89,16 +93,16 @@ conditions_where taken place row =
     ∷ (TooMany, nat_le POINT_LIMIT place)
     ∷ []
 
--- the same, `earlier` being the rows above
+-- The condition of each fault, where `earlier` are the rows above.
 abbrev pub conditions : ℕ → List (List (List ℕ)) → RowText → List (RowFault × Bool)
 conditions place earlier row = conditions_where (list_any (has_name row.name) earlier) place row
 
--- the least fault of a row that no other row enters into but by its name
+-- The first fault of a row, apart from the faults of its scale point.
 abbrev pub least_fault : ℕ → List (List (List ℕ)) → List (List ℕ) → Option RowFault
 least_fault place earlier fields =
     option_map_or (λ row. first_of (conditions place earlier row)) (six_fields fields) (Some Csv)
 
--- the fields as slices, seen as lists
+-- The model of a row's fields, which the program holds as slices.
 abbrev pub seen_row : RowFields → RowText
 seen_row row =
     record {

@@ -1,4 +1,4 @@
--- What the fields of a row spell.
+-- The values that the fields of a row spell.
 use Rattle.std.specs.Prelude.{ℕ, zero, suc, ℤ, pos, negsuc, ◌==◌, nat_le, ◌&&◌, if◌then◌else◌, List, [], ◌∷◌, drop, codes, Some, None}
 use Rattle.std.specs.declared.option.Option.{Option}
 use Rattle.std.specs.List.{starts_with}
@@ -11,30 +11,32 @@ use Rattle.mb_wire.specs.declared.limits.TheConstants.{MAX_READ_REGISTERS}
 use Rattle.mb_wire.specs.declared.span.ReadFunction.{ReadFunction}
 use Rattle.mb_wire.specs.declared.span.ReadFunction.TheVariants.{HoldingRegisters, InputRegisters}
 
--- a whole number: one to ten digits
+-- A whole number: one to ten digits.
 abbrev pub number_of : List ℕ → Option ℕ
 number_of field = number_of_digits 10 field
 
--- a whole number from low to high
+-- A whole number from `low` to `high`.
 abbrev pub number_within : ℕ → ℕ → List ℕ → Option ℕ
 number_within low high field =
     option_and_then (λ n. if nat_le low n && nat_le n high then Some n else None) (number_of field)
 
--- the function of a code: 3 or 4
+-- The read function of a code: 3 for holding registers, 4 for input registers.
 abbrev pub function_coded : ℕ → Option ReadFunction
 function_coded n =
     if n == 3 then Some HoldingRegisters else if n == 4 then Some InputRegisters else None
 
+-- The read function that a field spells.
 abbrev pub function_of : List ℕ → Option ReadFunction
 function_of field = option_and_then function_coded (number_of field)
 
--- `string` and 1 to the most registers of one read
+-- A text type: `string` and its number of registers, 1 to 125.
 abbrev pub text_type_of : List ℕ → Option PointType
 text_type_of field =
     if starts_with (λ a b. a == b) field (codes "string")
     then option_and_then (λ n. Some (kind.Text n))
     (number_within 1 MAX_READ_REGISTERS (drop 6 field)) else None
 
+-- The point type that a field spells.
 abbrev pub type_of : List ℕ → Option PointType
 type_of field =
     if bytes_eq field (codes "int16") then Some kind.Int16
@@ -47,12 +49,12 @@ type_of field =
     else if bytes_eq field (codes "sunssf") then Some kind.Sunssf
     else text_type_of field
 
--- the number -n
+-- The number -n.
 abbrev pub minus : ℕ → ℤ
 minus zero = pos 0
 minus (suc n) = negsuc n
 
--- -10 to 10, with a `-` before a number below 0
+-- A fixed scale: -10 to 10, with `-` for a negative number and no other sign.
 abbrev pub fixed_scale_of : List ℕ → Option ℤ
 fixed_scale_of [] = None
 fixed_scale_of (first ∷ rest) =

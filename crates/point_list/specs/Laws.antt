@@ -1,4 +1,4 @@
--- Laws of lists and their texts.
+-- Theorems on lists and their texts.
 use Rattle.std.specs.Prelude.{ℕ, ◌≡◌, List, []}
 use Rattle.point_list.specs.declared.point.ListedPoint.{ListedPoint}
 use Rattle.point_list.specs.Lists.{SpellsList, list_faults, rows_read}
@@ -9,12 +9,12 @@ abbrev pub FaultlessTextsSpell : Type 0
 FaultlessTextsSpell = (text : List ℕ) → list_faults (rows_read text) ≡ []
     → (points : List ListedPoint) × SpellsList text points
 
--- A text spells no two lists.
+-- No text spells two lists.
 abbrev pub SpelledListIsOne : Type 0
 SpelledListIsOne = (text : List ℕ) (points others : List ListedPoint) → SpellsList text points
     → SpellsList text others → points ≡ others
 
--- What a text spells keeps what every list keeps.
+-- Every list that a text spells is lawful.
 abbrev pub SpelledListsAreLawful : Type 0
 SpelledListsAreLawful = (text : List ℕ) (points : List ListedPoint) → SpellsList text points
     → IsPointList points

@@ -1,4 +1,4 @@
--- What the rows of a point list spell, and which of them are faulty.
+-- The list that the rows of a text spell, and the faulty rows.
 use Rattle.std.specs.Prelude.{ℕ, zero, suc, ◌≡◌, ◌≢◌, ◌+◌, Bool, false, ◌==◌, nat_le, ◌&&◌, if◌then◌else◌, List, [], ◌∷◌, ◌++◌, length, map, take, drop, max, min, slice_index_or, codes, Some, None}
 use Rattle.std.specs.declared.option.Option.{Option}
 use Rattle.std.specs.List.{flat_map}
@@ -21,19 +21,21 @@ use Rattle.point_list.specs.Rows.{csv_rows}
 use Rattle.point_list.specs.declared.rows.TheConstants.{ROW_LIMIT}
 use Rattle.mb_wire.specs.declared.limits.TheConstants.{MAX_READ_REGISTERS}
 
+-- The scale of a named scale point.
 abbrev pub named_scale : List ℕ → Option PointScale
 named_scale field = if is_name field then Some (Named field) else None
 
--- the scale of a point: none, a number from -10 to 10, or the name of a scale point
+-- The scale of a point: none, a number from -10 to 10, or the name of a scale point.
 abbrev pub scale_spelled : List ℕ → Option PointScale
 scale_spelled [] = Some Unscaled
 scale_spelled (first ∷ rest) =
     option_or (option_map Fixed (fixed_scale_of (first ∷ rest))) (named_scale (first ∷ rest))
 
+-- The name that a field spells.
 abbrev pub name_spelled : List ℕ → Option (List ℕ)
 name_spelled field = if is_name field then Some field else None
 
--- the point of a name, a scale and the other four of six fields
+-- The point of a name, a scale and the other four of six fields.
 abbrev pub spelled_with : Option (List ℕ) → Option PointScale → RowText → Option ListedPoint
 spelled_with spelled scaled row =
     option_and_then (λ name.
@@ -53,70 +55,74 @@ spelled_with spelled scaled row =
     scaled) (type_of row.kind)) (number_within 0 65535 row.address)) (number_within 0 255 row.area))
     (function_of row.function)) spelled
 
--- the point that six fields spell
+-- The point that six fields spell.
 abbrev pub point_spelled : RowText → Option ListedPoint
 point_spelled row = spelled_with (name_spelled row.name) (scale_spelled row.scale) row
 
+-- The point that a row spells, if the row has six fields.
 abbrev pub point_of_row : List (List ℕ) → Option ListedPoint
 point_of_row fields = option_and_then point_spelled (six_fields fields)
 
--- the points that rows spell
+-- The points that rows spell.
 abbrev pub points_of : List (List (List ℕ)) → List ListedPoint
 points_of rows = flat_map (λ fields. option_to_list (point_of_row fields)) rows
 
--- the least fault of the row that stands `place` rows below the first after the header
+-- The first fault of the row at index `place` below the header, from 0.
 abbrev pub row_fault : List (List (List ℕ)) → ℕ → Option RowFault
 row_fault rows place = least_fault place (take place rows) (slice_index_or rows place [])
 
--- the least fault of each of the first n rows
+-- The first fault of each of the first n rows.
 abbrev pub row_faults : List (List (List ℕ)) → ℕ → List (Option RowFault)
 row_faults rows zero = []
 row_faults rows (suc n) = row_faults rows n ++ (row_fault rows n ∷ [])
 
--- whether a point and its scale point lie in one area, within one read
+-- A point and its scale point have the same function and area, and fit in one read.
 abbrev pub is_one_group : ListedPoint → ListedPoint → Bool
 is_one_group point scale =
     (code_of point.function == code_of scale.function) && (point.area == scale.area)
     && nat_le (max (end_of point) (end_of scale))
     (min point.address scale.address + MAX_READ_REGISTERS)
 
+-- The fault of a point whose named scale point is this one, or missing.
 abbrev pub group_fault : ListedPoint → Option ListedPoint → Option RowFault
 group_fault point None = Some NoSuchScale
 group_fault point (Some scale) = if is_one_group point scale then None else Some GroupTooWide
 
+-- The fault of a point's scale point, if any.
 abbrev pub scale_fault : List ListedPoint → ListedPoint → PointScale → Option RowFault
 scale_fault points point (Named name) = group_fault point (scale_point points name)
 scale_fault points point _ = None
 
--- what each point of a list lacks of its scale point
+-- The fault of each point's scale point, if any.
 abbrev pub scale_faults : List ListedPoint → List ListedPoint → List (Option RowFault)
 scale_faults points some = map (λ point. scale_fault points point point.scale) some
 
--- the rows that have a fault, in order, the first row being of this number
+-- The rows that have a fault, in order. `row` is the number of the first row.
 abbrev pub faulty_rows : ℕ → List (Option RowFault) → List FaultyRow
 faulty_rows row [] = []
 faulty_rows row (None ∷ faults) = faulty_rows (row + 1) faults
 faulty_rows row (Some fault ∷ faults) =
     record { row = row; fault = fault } ∷ faulty_rows (row + 1) faults
 
--- faults of scale points are looked for only where no row has another
+-- Faults of scale points are reported only if no row has another fault.
 abbrev pub or_else : List FaultyRow → List FaultyRow → List FaultyRow
 or_else [] others = others
 or_else (row ∷ rows) others = row ∷ rows
 
--- the faulty ones of the first rows below the header, which is row 1, but for those of their scale points
+-- The faulty rows among the first rows below the header, apart from faults of their scale points.
+-- The header is row 1.
 abbrev pub faulty_first : List (List (List ℕ)) → (count : ℕ) → List FaultyRow
 faulty_first rows count = faulty_rows 2 (row_faults rows count)
 
--- the rows whose points lack something of their scale points
+-- The rows whose points have a fault of their scale point.
 abbrev pub faulty_points : List ListedPoint → List FaultyRow
 faulty_points points = faulty_rows 2 (scale_faults points points)
 
--- the faulty rows below the header
+-- The faulty rows below the header.
 abbrev pub faults_below : List (List (List ℕ)) → List FaultyRow
 faults_below rows = or_else (faulty_first rows (length rows)) (faulty_points (points_of rows))
 
--- name,function,area,address,type,scale
+-- The header `name,function,area,address,type,scale`.
 abbrev pub is_header_text : RowText → Bool
 is_header_text row =
     bytes_eq row.name (codes "name") && bytes_eq row.function (codes "function")
@@ -124,43 +130,47 @@ is_header_text row =
     && bytes_eq row.address (codes "address") && bytes_eq row.kind (codes "type")
     && bytes_eq row.scale (codes "scale")
 
+-- The row is the header of a point list.
 abbrev pub is_header : List (List ℕ) → Bool
 is_header fields = option_map_or is_header_text (six_fields fields) false
 
+-- The fault of a text without a valid header, on row 1.
 abbrev pub no_header : List FaultyRow
 no_header = record { row = 1; fault = Header } ∷ []
 
--- the faulty rows of a list, of which only the header is looked at where it is wrong
+-- The faulty rows of a list. If the header is wrong, only the header is reported.
 abbrev pub list_faults : List (List (List ℕ)) → List FaultyRow
 list_faults [] = no_header
 list_faults (header ∷ rows) = if is_header header then faults_below rows else no_header
 
--- the header and the rows below it, none of which is read after one that is too many
+-- The header and the rows below it. Reading ends after the first row over the limit.
 abbrev pub rows_read : List ℕ → List (List (List ℕ))
 rows_read text = take ROW_LIMIT (csv_rows text)
 
--- rows spell points, one each, in order
+-- Rows spell points, one each, in order.
 abbrev pub SpellEach : List (List (List ℕ)) → List ListedPoint → Type 0
 SpellEach rows points = map point_of_row rows ≡ map (λ point. Some point) points
 
--- rows below the header spell points, and none is faulty
+-- Rows below the header spell points, and no row is faulty.
 abbrev pub SpellsBelow : List (List (List ℕ)) → List ListedPoint → Type 0
 SpellsBelow rows points = (faults_below rows ≡ []) × SpellEach rows points
 
--- a text spells a list: no row of it is faulty, and each one below the header spells a point
+-- A text spells a list: no row is faulty, and each row below the header spells a point.
 pub record SpellsList (text : List ℕ) (points : List ListedPoint) : Type 0 where
   pub faultless : list_faults (rows_read text) ≡ []
   pub each : SpellEach (drop 1 (csv_rows text)) points
 
--- the faulty rows of a list, of which there is one at least
+-- All faulty rows of a list, at least one.
 abbrev pub AreFaults : List FaultyRow → List FaultyRow → Type 0
 AreFaults faulty told = (told ≡ faulty) × (told ≢ [])
 
+-- A fault explains why a text is no list. Lack of memory can happen with any text.
 abbrev pub ExplainsList : List FaultyRow → ListFault → Type 0
 ExplainsList faulty Memory = Unit {0}
 ExplainsList faulty (Faults told) = AreFaults faulty told
 
--- the number under which a fault is told; faulty rows are told one by one, each with the number of its own fault
+-- The number that the program prints for a fault. Faulty rows have no common number: each is
+-- printed with its own.
 abbrev pub list_fault_number : ListFault → Option ℕ
 list_fault_number Memory = Some 13
 list_fault_number (Faults told) = None

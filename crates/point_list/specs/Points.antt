@@ -13,11 +13,12 @@ use Rattle.point_list.specs.declared.point.ListedPoint.{ListedPoint}
 use Rattle.point_list.specs.declared.point.PointScale.{PointScale}
 use Rattle.point_list.specs.declared.point.PointScale.TheVariants.{Unscaled, Fixed, Named}
 
+-- The type of scale points.
 abbrev pub is_sunssf : PointType → Bool
 is_sunssf kind.Sunssf = true
 is_sunssf _ = false
 
--- the types that take a scale
+-- The types that may have a scale.
 abbrev pub takes_scale : PointType → Bool
 takes_scale kind.Int16 = true
 takes_scale kind.Uint16 = true
@@ -26,22 +27,23 @@ takes_scale kind.Uint32 = true
 takes_scale kind.Acc32 = true
 takes_scale _ = false
 
--- the register after the last of a point
+-- The address after a point's last register.
 abbrev pub end_of : ListedPoint → ℕ
 end_of point = point.address + registers_of point.kind
 
--- the sunssf point of a name
+-- The scale point with a name.
 abbrev pub scale_point : List ListedPoint → List ℕ → Option ListedPoint
 scale_point points name = find (λ point. is_sunssf point.kind && bytes_eq point.name name) points
 
--- a point and its scale point lie in one area, within one read
+-- A point and its scale point have the same function and area, and fit in one read.
 pub record IsGroup (point scale : ListedPoint) : Type 0 where
   pub function : point.function ≡ scale.function
   pub area : point.area ≡ scale.area
   pub narrow : max (end_of point) (end_of scale)
       ≤ min point.address scale.address + MAX_READ_REGISTERS
 
--- a scale is for a type that takes one; a named one is that of a sunssf point of the list, in one group with the point
+-- Only some types may have a scale. A named scale is a sunssf point of the list, in one group with
+-- the point.
 abbrev pub HasLawfulScale : List ListedPoint → ListedPoint → PointScale → Type 0
 HasLawfulScale points point Unscaled = Unit {0}
 HasLawfulScale points point (Fixed exponent) =
@@ -50,7 +52,7 @@ HasLawfulScale points point (Fixed exponent) =
 HasLawfulScale points point (Named name) =
     IsTrue (takes_scale point.kind) × IsSomeAnd (scale_point points name) (IsGroup point)
 
--- what every point list keeps
+-- A lawful point list.
 pub record IsPointList (points : List ListedPoint) : Type 0 where
   pub few : length points ≤ POINT_LIMIT
   pub named : All (λ point. IsTrue (is_name point.name)) points

@@ -9,6 +9,7 @@ use Rattle.point_list.specs.declared.point.PointScale.{PointScale}
 use Rattle.point_list.specs.declared.point.PointScale.TheVariants.{Unscaled, Fixed, Named}
 use Rattle.mb_wire.specs.Spans.{code_of}
 
+-- The text of a type in a list.
 abbrev pub type_text : PointType → List ℕ
 type_text kind.Int16 = codes "int16"
 type_text kind.Uint16 = codes "uint16"
@@ -20,25 +21,28 @@ type_text kind.Acc32 = codes "acc32"
 type_text kind.Sunssf = codes "sunssf"
 type_text (kind.Text registers) = codes "string" ++ decimal registers
 
+-- The text of a scale in a list.
 abbrev pub scale_text : PointScale → List ℕ
 scale_text Unscaled = []
 scale_text (Fixed exponent) = signed_decimal exponent
 scale_text (Named name) = name
 
+-- The fields of a point's row.
 abbrev pub row_of : ListedPoint → List (List ℕ)
 row_of point =
     point.name ∷ decimal (code_of point.function) ∷ decimal point.area ∷ decimal point.address
     ∷ type_text point.kind ∷ scale_text point.scale ∷ []
 
+-- The fields of the header.
 abbrev pub header_row : List (List ℕ)
 header_row = codes "name" ∷ codes "function" ∷ codes "area" ∷ codes "address" ∷ codes "type"
     ∷ codes "scale" ∷ []
 
--- the text of rows
+-- The text of rows.
 unfoldable pub rows_text : List (List (List ℕ)) → List ℕ
 rows_text [] = []
 rows_text (row ∷ rows) = row_text default_writer row ++ rows_text rows
 
--- the text of a list
+-- The text of a list.
 abbrev pub list_text : List ListedPoint → List ℕ
 list_text points = rows_text (header_row ∷ map row_of points)

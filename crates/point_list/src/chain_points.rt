@@ -1,4 +1,4 @@
-//! The point list of a chain of models.
+//! Makes the point list of a chain of models.
 ghost use Rattle.std.specs.Prelude.{◌≡◌, ◌≤◌, ◌++◌, ◌∷◌, [], Some, IfOk, IfErr, IfSome, IsTrue};
 ghost use Rattle.std.specs.Prelude.{OnOk, map};
 ghost use Rattle.std.specs.List.{All, list_any};
@@ -37,14 +37,12 @@ fn has_point(points: &[NamedPoint<'_>], name: &str) -> bool
         .any(|point| point.name().as_bytes() == name.as_bytes())
 }
 
-// Whether a point of this name is among those of a model.
 fn is_there(points: &[NamedPoint<'_>], name: &str) -> bool
     ensures { result ≡ list_any (λ point. bytes_eq point.name name.now) (map seen points.now) }
 {
     has_point(points, name)
 }
 
-// The scale point of this name, if it is among those of a model.
 fn scale_there(
     alloc: Global,
     place: usize,
@@ -78,7 +76,7 @@ fn chain_scale(
     }
 }
 
-// A point of the model of an ID at a place in its chain.
+// Chains are read from holding registers, in area 0.
 fn listed(
     alloc: Global,
     place: usize,
@@ -102,7 +100,6 @@ fn listed(
     })
 }
 
-// Adds the points of the model of an ID at a place in the chain.
 fn add_points(
     alloc: Global,
     place: usize,
@@ -122,7 +119,6 @@ fn add_points(
     Ok(())
 }
 
-// Adds the points of the model at a place in the chain.
 fn add_model(
     alloc: Global,
     chain: &Chain<'_>,
@@ -148,7 +144,7 @@ fn chain_points(alloc: Global, chain: &Chain<'_>) -> Result<Vec<ListedPoint>, Al
     Ok(points)
 }
 
-// The row after the most that may be.
+// The row after the last allowed row.
 fn too_many(alloc: Global) -> Result<FaultyRows, AllocError>
     ensures { IfOk result (λ rows. rows ≡ record { row = 514; fault = RowFault.TooMany } ∷ []) }
 {
@@ -160,9 +156,11 @@ fn too_many(alloc: Global) -> Result<FaultyRows, AllocError>
     Ok(FaultyRows::new(rows))
 }
 
-/// The list of the points that the models of a chain have, absent ones too, model by model. A point is named `m`, the
-/// model's place in the chain from 1, `.` and its name in the model; it is read by function 3, in area 0. Its scale is
-/// the scale point of its model, if that is there, else empty. Over 512 points are told as `TooMany` on row 514.
+/// Returns the list of the points of a chain's models that were read, model by model. The list
+/// includes points without a value (`Absent`).
+/// A point is named `m`, the model's number in the chain from 1, `.` and the point's name in the
+/// model. It is read with function 3, in area 0. Its scale is its scale point, if that was read
+/// too, else empty. More than 512 points are reported as `TooMany` on row 514.
 pub fn from_chain(alloc: Global, chain: &Chain<'_>) -> Result<PointList, ListFault>
     ensures list { IfOk result (λ list. list ≡ points_of_chain chain.now) }
     ensures faults { IfErr result (ExplainsList (chain_faults (points_of_chain chain.now))) }

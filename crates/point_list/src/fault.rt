@@ -1,4 +1,4 @@
-//! What a row may lack.
+//! Faults of a row and of a list.
 ghost use Rattle.std.specs.Prelude.{◌≡◌};
 
 use std::alloc::{AllocError, AllocFailed};
@@ -7,14 +7,15 @@ use std::fmt;
 use std::fmt::{Display, Formatter};
 use std::marker::Model;
 
-/// Why a row is no point, in the order in which faults are looked for.
+/// The reason why a row is invalid, in the order of the checks. `NoSuchScale` and `GroupTooWide`
+/// are checked last, and only if no row has another fault.
 #[derive(Clone, Copy, Debug, PartialEq, Eq)]
 pub enum RowFault {
-    /// Not six fields.
+    /// The row does not have six fields.
     Csv,
     /// The header is not `name,function,area,address,type,scale`.
     Header,
-    /// The name is not 1 to 32 letters, digits, `_` and `.`, a letter first.
+    /// The name is not 1 to 32 letters, digits, `_` and `.`, with a letter first.
     Name,
     /// An earlier row has the name.
     DoubleName,
@@ -26,11 +27,11 @@ pub enum RowFault {
     Address,
     /// The type is unknown.
     Type,
-    /// The scale is not empty, -10 to 10 or a name, or is given for a type that takes none.
+    /// The scale is not empty, -10 to 10 or a name, or the type allows no scale.
     Scale,
     /// No sunssf point has the scale's name.
     NoSuchScale,
-    /// The point and its scale point differ in function or area, or span over 125 registers.
+    /// The point and its scale point differ in function or area, or span more than 125 registers.
     GroupTooWide,
     /// The row is the 513th after the header.
     TooMany,
@@ -39,7 +40,7 @@ pub enum RowFault {
 impl RowFault {
     ghost use Rattle.point_list.specs.Faults.{fault_number};
 
-    /// The number of the fault, from 1.
+    /// Returns the number of the fault, from 1.
     pub fn number(self) -> u8
         ensures { result ≡ fault_number self }
     {
@@ -84,10 +85,10 @@ impl Display for RowFault {
 
 impl Error for RowFault {}
 
-/// A row that is no point.
+/// A row with a fault.
 #[derive(Clone, Copy, Debug, PartialEq, Eq)]
 pub struct FaultyRow {
-    /// The number of the row, the header being row 1.
+    /// The number of the row. The header is row 1.
     pub row: usize,
     pub fault: RowFault,
 }
@@ -101,7 +102,7 @@ impl Display for FaultyRow {
 
 impl Error for FaultyRow {}
 
-/// Faulty rows, in order of row.
+/// The faulty rows of a list. `read_list` returns them in order of row.
 #[derive(Debug, Drop)]
 pub struct FaultyRows {
     rows: Vec<FaultyRow>,
@@ -117,18 +118,21 @@ impl Model for FaultyRows {
 }
 
 impl FaultyRows {
+    /// Creates the list of faulty rows.
     pub fn new(rows: Vec<FaultyRow>) -> Self
         ensures { result ≡ rows.items }
     {
         FaultyRows { rows }
     }
 
+    /// Returns the faulty rows.
     pub fn rows(&self) -> &[FaultyRow]
         ensures { result.now ≡ self.now }
     {
         self.rows.as_slice()
     }
 
+    /// Returns the faulty rows as a vector.
     pub fn into_rows(self) -> Vec<FaultyRow>
         ensures { result.items ≡ self }
     {
@@ -137,7 +141,7 @@ impl FaultyRows {
     }
 }
 
-// The first row, and how many there are.
+// The text shows the first faulty row and the number of faulty rows.
 impl Display for FaultyRows {
     fn fmt<W: fmt::Write>(&self, f: &mut Formatter<W>) -> fmt::Result {
         match self.rows.as_slice() {
@@ -150,18 +154,19 @@ impl Display for FaultyRows {
 
 impl Error for FaultyRows {}
 
-/// Why a text or a chain gives no list.
+/// The reason why a text or a chain gives no list.
 #[derive(Debug, Drop)]
 pub enum ListFault {
     Memory,
-    /// One row at least, each with its least fault.
+    /// At least one faulty row, each with its first fault.
     Faults(FaultyRows),
 }
 
 impl ListFault {
     ghost use Rattle.point_list.specs.Lists.{list_fault_number};
 
-    /// The number under which the fault is told. Faulty rows have none together: each is told with the number of its own.
+    /// Returns the number that the program prints for the fault. Faulty rows have no common number:
+    /// each is printed with its own.
     pub fn number(&self) -> Option<u8>
         ensures { result ≡ list_fault_number self.now }
     {

@@ -1,4 +1,4 @@
-//! What the fields of a row spell.
+//! Parses the fields of a row.
 ghost use Rattle.std.specs.Prelude.{◌≡◌, ◌≤◌, length, pos};
 ghost use Rattle.sun_points.specs.Scale.{scale_of};
 ghost use Rattle.point_list.specs.Fields.{fixed_scale_of, minus, number_of, number_within};
@@ -7,17 +7,16 @@ ghost use Rattle.point_list.specs.Fields.{function_of, text_type_of, type_of};
 use mb_wire::{MAX_READ_REGISTERS, ReadFunction};
 use sun_points::{PointType, Scale, TextLength, number_of_digits};
 
-/// The most digits of a whole number.
+/// The maximum number of digits of a whole number.
 const MOST_DIGITS: usize = 10;
 
-// A whole number: one to ten digits.
 fn number(field: &[u8]) -> Option<u64>
     ensures { result ≡ number_of field.now }
 {
     number_of_digits(MOST_DIGITS, field)
 }
 
-/// A whole number from `low` to `high`.
+/// Parses a whole number from `low` to `high`.
 pub fn number_in(low: u64, high: u64, field: &[u8]) -> Option<u64>
     ensures { result ≡ number_within low high field.now }
 {
@@ -27,7 +26,7 @@ pub fn number_in(low: u64, high: u64, field: &[u8]) -> Option<u64>
     }
 }
 
-/// The function of a code: 3 or 4.
+/// Parses a function code, 3 or 4.
 pub fn function(field: &[u8]) -> Option<ReadFunction>
     ensures { result ≡ function_of field.now }
 {
@@ -38,7 +37,7 @@ pub fn function(field: &[u8]) -> Option<ReadFunction>
     }
 }
 
-// A text of 1 to 125 registers.
+// The type `string1` to `string125`.
 fn text_type(field: &[u8]) -> Option<PointType>
     ensures { result ≡ text_type_of field.now }
 {
@@ -50,7 +49,7 @@ fn text_type(field: &[u8]) -> Option<PointType>
     Some(PointType::Text(length))
 }
 
-/// The type of a point, as a list spells it: `acc32`, or `string8` of 8 registers.
+/// Parses the type of a point: for example `acc32`, or `string8` for a text of 8 registers.
 pub fn point_type(field: &[u8]) -> Option<PointType>
     ensures { result ≡ type_of field.now }
 {
@@ -75,7 +74,7 @@ pub fn point_type(field: &[u8]) -> Option<PointType>
     }
 }
 
-// A number below 0, or 0, as a register says it.
+// The two's complement of a negative number, or 0.
 fn scale_word_below(number: u16) -> u16
     requires { number ≤ 10 }
     ensures { scale_of result ≡ Some (minus number) }
@@ -86,7 +85,6 @@ fn scale_word_below(number: u16) -> u16
     }
 }
 
-// A scale from 0 to 10.
 fn scale_from_zero(number: u16) -> Option<Scale>
     requires { number ≤ 10 }
     ensures { result ≡ Some (pos number) }
@@ -94,7 +92,6 @@ fn scale_from_zero(number: u16) -> Option<Scale>
     Scale::new(number)
 }
 
-// A scale from -10 to 0.
 fn scale_to_zero(number: u16) -> Option<Scale>
     requires { number ≤ 10 }
     ensures { result ≡ Some (minus number) }
@@ -102,7 +99,7 @@ fn scale_to_zero(number: u16) -> Option<Scale>
     Scale::new(scale_word_below(number))
 }
 
-/// A scale for good: the digits of -10 to 10, a sign at most before one below 0.
+/// Parses a fixed scale, -10 to 10. The only sign is `-`, before a negative number.
 pub fn fixed_scale(field: &[u8]) -> Option<Scale>
     ensures { result ≡ fixed_scale_of field.now }
 {

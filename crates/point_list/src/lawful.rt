@@ -1,4 +1,4 @@
-//! Whether points make a list.
+//! Checks whether points are a lawful list.
 ghost use Rattle.std.specs.Prelude.{◌≡◌, ◌≢◌, ◌+◌, ◌≤◌, ◌↔◌, IsTrue};
 ghost use Rattle.std.specs.List.{All, AllPairs};
 ghost use Rattle.point_list.specs.Names.{is_name};
@@ -11,10 +11,10 @@ use crate::point::{ListedPoint, PointScale, find_scale};
 use mb_wire::{ADDRESSES, MAX_READ_REGISTERS};
 use sun_points::PointType;
 
-/// The most points of a list.
+/// The maximum number of points in a list.
 pub const POINT_LIMIT: usize = 512;
 
-/// Whether points of the type take a scale.
+/// Returns whether the type may have a scale.
 pub fn is_scaled_type(kind: PointType) -> bool
     ensures { result ≡ takes_scale kind }
 {
@@ -28,14 +28,15 @@ pub fn is_scaled_type(kind: PointType) -> bool
     }
 }
 
-// The register after the last of a point.
+// The address after the last register of a point.
 fn end(point: &ListedPoint) -> u32
     ensures { result ≡ end_of point.now }
 {
     u32::from(point.address) + u32::from(point.kind.registers())
 }
 
-/// Whether a point and its scale point lie in one area, within 125 registers.
+/// Returns whether a point and its scale point have the same function and area, and lie within 125
+/// registers.
 pub fn is_group(point: &ListedPoint, scale: &ListedPoint) -> bool
     ensures { IsTrue result ↔ IsGroup point.now scale.now }
 {
@@ -122,7 +123,7 @@ fn are_scaled(points: &[ListedPoint]) -> bool
     points.iter().all(|point| has_lawful_scale(points, point))
 }
 
-/// Whether points make a list.
+/// Returns whether points are a lawful list.
 pub fn is_lawful(points: &[ListedPoint]) -> bool
     ensures { IsTrue result ↔ IsPointList points.now }
 {

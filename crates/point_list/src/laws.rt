@@ -1,8 +1,8 @@
-//! Laws of lists and their texts, over all texts.
+//! Theorems on lists and their texts, over all texts.
 ghost use Rattle.point_list.specs.Laws.{FaultlessTextsSpell, SpelledListIsOne};
 ghost use Rattle.point_list.specs.Laws.{SpelledListsAreLawful};
 
-/// A text has faulty rows, or spells exactly one list, and that keeps what every list keeps.
+/// Proves that each text has faulty rows or spells exactly one list, which is lawful.
 pub fn texts_spell_one_list()
     ensures spelled { FaultlessTextsSpell }
     ensures one { SpelledListIsOne }

@@ -1,4 +1,4 @@
-//! Point lists: the registers of a device that an office reads, as a table of comma-separated values spells them.
+//! Point lists: the registers of a device that an office reads, as comma-separated values.
 #![tactic(auto)]
 
 mod chain_points;

@@ -5,7 +5,8 @@ use crate::lawful::is_lawful;
 use crate::point::ListedPoint;
 use std::marker::Model;
 
-/// At most 512 points of distinct names, each scale point among them and within one read of its point.
+/// A list of at most 512 points with distinct names. The scale point of each point is in the list,
+/// within one read of the point.
 #[derive(Debug, Drop)]
 pub struct PointList {
     points: Vec<ListedPoint>,
@@ -27,7 +28,7 @@ impl Model for PointList {
 impl PointList {
     ghost use Rattle.point_list.specs.Points.{IsPointList};
 
-    /// The list of points that keep what every list keeps. Other points are handed back.
+    /// Creates a list from lawful points. Other points are returned as the error.
     pub fn new(points: Vec<ListedPoint>) -> Result<Self, Vec<ListedPoint>>
         ensures lawful { IsOk result ↔ IsPointList points.items }
         ensures list { IfOk result (λ list. list ≡ points.items) }
@@ -40,7 +41,7 @@ impl PointList {
         }
     }
 
-    /// The list of points that are known to keep what every list keeps.
+    /// Creates a list from points that the contract guarantees to be lawful.
     pub(crate) fn of_lawful(points: Vec<ListedPoint>) -> Self
         requires { IsPointList points.items }
         ensures { result ≡ points.items }
@@ -48,6 +49,7 @@ impl PointList {
         PointList { points }
     }
 
+    /// Returns the points, in the order of the list.
     pub fn points(&self) -> &[ListedPoint]
         ensures points { result.now ≡ self.now }
         ensures lawful { IsPointList self.now }
@@ -55,6 +57,7 @@ impl PointList {
         self.points.as_slice()
     }
 
+    /// Returns the points, and consumes the list.
     pub fn into_points(self) -> Vec<ListedPoint>
         ensures points { result.items ≡ self }
         ensures lawful { IsPointList self }

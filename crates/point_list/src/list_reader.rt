@@ -1,4 +1,4 @@
-//! Reading a point list.
+//! Reads a point list from text.
 ghost use Rattle.std.specs.Prelude.{◌≡◌, ◌+◌, ◌≤◌, ◌++◌, ◌∷◌, IfOk, IfErr, OnOk, [], length, map};
 ghost use Rattle.csv.specs.Records.{fields_of};
 ghost use Rattle.point_list.specs.Faults.{seen_row};
@@ -28,7 +28,6 @@ fn is_header_text(row: RowFields<'_>) -> bool
         && row.scale == b"scale".as_slice()
 }
 
-// Whether a row is `name,function,area,address,type,scale`.
 fn is_header(row: &ByteRecord) -> bool
     ensures { result ≡ is_header (fields_of row.now) }
 {
@@ -38,7 +37,6 @@ fn is_header(row: &ByteRecord) -> bool
     }
 }
 
-// What a point lacks of its scale point.
 fn scale_fault(points: &[ListedPoint], point: &ListedPoint) -> Option<RowFault>
     ensures { result ≡ scale_fault points.now point.now point.now.scale }
 {
@@ -52,7 +50,7 @@ fn scale_fault(points: &[ListedPoint], point: &ListedPoint) -> Option<RowFault>
     }
 }
 
-// Adds the row that stands `place` rows below the first after the header, where it has a fault.
+// `place` is the index of the row below the header, from 0. The first of these rows is row 2.
 fn add_fault(
     place: usize,
     fault: Option<RowFault>,
@@ -71,7 +69,7 @@ fn add_fault(
     Ok(())
 }
 
-// The faulty ones of the rows below the header, but for those of their scale points.
+// Faults of scale points are left to `scale_faults`.
 fn faulty_rows(alloc: Global, rows: &[ByteRecord]) -> Result<Vec<FaultyRow>, AllocError>
     requires { length rows.now ≤ 513 }
     ensures { IfOk result
@@ -85,7 +83,6 @@ fn faulty_rows(alloc: Global, rows: &[ByteRecord]) -> Result<Vec<FaultyRow>, All
     Ok(faults)
 }
 
-// The rows whose points lack something of their scale points.
 fn scale_faults(alloc: Global, points: &[ListedPoint]) -> Result<Vec<FaultyRow>, AllocError>
     requires { length points.now ≤ 513 }
     ensures { IfOk result (λ faults. faults.items ≡ faulty_points points.now) }
@@ -98,7 +95,7 @@ fn scale_faults(alloc: Global, points: &[ListedPoint]) -> Result<Vec<FaultyRow>,
     Ok(faults)
 }
 
-// A header that is none.
+// A missing or wrong header.
 fn no_header(alloc: Global) -> ListFault
     ensures { ExplainsList (list_faults []) result }
 {
@@ -113,7 +110,7 @@ fn no_header(alloc: Global) -> ListFault
     }
 }
 
-// The list of points of which none lacks anything but of its scale point.
+// The points have no faults, except possibly faults of their scale points.
 fn list_of_points(alloc: Global, points: Vec<ListedPoint>) -> Result<PointList, ListFault>
     requires few { length points.items ≤ 513 }
     requires lawful { faulty_points points.items ≡ [] → IsPointList points.items }
@@ -128,7 +125,6 @@ fn list_of_points(alloc: Global, points: Vec<ListedPoint>) -> Result<PointList, 
     Ok(PointList::of_lawful(points))
 }
 
-// The list that rows below the header spell.
 fn list_below(alloc: Global, rows: &[ByteRecord]) -> Result<PointList, ListFault>
     requires { length rows.now ≤ 513 }
     ensures list { IfOk result (SpellsBelow (map fields_of rows.now)) }
@@ -142,11 +138,14 @@ fn list_below(alloc: Global, rows: &[ByteRecord]) -> Result<PointList, ListFault
     list_of_points(alloc, points)
 }
 
-/// The list that a text of comma-separated values spells: a header `name,function,area,address,type,scale`, and a row
-/// for each point. One leading byte order mark is skipped, blank lines are no rows. At most 513 rows below the header
-/// are read. The function is 3 or 4, an area number 0 to 255, an address 0 to 65535, and a scale is empty, -10 to 10, or
-/// the name of a sunssf point of the list. An error of the reader of rows, of which the bytes are all there, is told as
-/// want of memory.
+/// Parses a point list from comma-separated values: a header
+/// `name,function,area,address,type,scale`, and a row for each point. An optional byte order mark
+/// and blank lines are skipped. At most 513 rows below the header are read.
+///
+/// - The function is 3 or 4, the area 0 to 255, and the address 0 to 65535.
+/// - The scale is empty, -10 to 10, or the name of a sunssf point of the list.
+///
+/// An error of the CSV reader is reported as `Memory`, because the complete text is in memory.
 pub fn read_list(alloc: Global, text: &[u8]) -> Result<PointList, ListFault>
     ensures list { IfOk result (λ list. SpellsList text.now list) }
     ensures faults { IfErr result (ExplainsList (list_faults (rows_read text.now))) }

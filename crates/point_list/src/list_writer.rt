@@ -1,4 +1,4 @@
-//! Writing a point list.
+//! Writes a point list as text.
 ghost use Rattle.std.specs.Prelude.{◌≡◌, IfOk, OnOk};
 ghost use Rattle.point_list.specs.Lists.{SpellsList};
 ghost use Rattle.point_list.specs.ListWriter.{HandsOver};
@@ -12,19 +12,19 @@ use std::fmt;
 use std::fmt::{Display, Formatter};
 use sun_points::Sink;
 
-/// Why a list was not written.
+/// The reason why a list was not written.
 #[derive(Clone, Copy, Debug, PartialEq, Eq)]
 pub enum WriteListFault {
     /// The writer failed.
     Write,
-    /// There was no memory for the text.
+    /// Memory for the text ran out.
     Memory,
 }
 
 impl WriteListFault {
     ghost use Rattle.point_list.specs.ListWriter.{write_fault_number};
 
-    /// The number of the fault, from 1. The program neither prints nor keeps it.
+    /// Returns the number of the fault, from 1. The program does not use this number.
     pub fn number(self) -> u8
         ensures { result ≡ write_fault_number self }
     {
@@ -54,8 +54,8 @@ fn list_text(alloc: Global, list: &PointList) -> Result<Vec<u8>, AllocError>
     text_of_rows(alloc, &rows)
 }
 
-/// Writes a list as comma-separated values, so that its text is read as the same list. The text is made whole before
-/// any of it is written.
+/// Writes a list as comma-separated values. `read_list` reads the text as the same list. The text
+/// is complete in memory before the first byte is written.
 pub fn write_list<S: Sink>(
     alloc: Global,
     list: &PointList,

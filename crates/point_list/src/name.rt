@@ -5,7 +5,7 @@ ghost use Rattle.point_list.specs.Names.{is_name, is_name_byte};
 
 use std::marker::Model;
 
-/// The name of a point: 1 to 32 ASCII letters, digits, `_` and `.`, the first of them a letter.
+/// The name of a point: 1 to 32 ASCII letters, digits, `_` and `.`, with a letter first.
 #[derive(Debug, Drop)]
 pub struct PointName {
     bytes: Vec<u8>,
@@ -34,7 +34,7 @@ fn are_name_rest(bytes: &[u8]) -> bool
     bytes.iter().all(|byte| is_name_rest(*byte))
 }
 
-/// Whether bytes are the name of a point.
+/// Returns whether the bytes are the name of a point.
 pub fn is_point_name(bytes: &[u8]) -> bool
     ensures { result ≡ is_name bytes.now }
 {
@@ -47,7 +47,7 @@ pub fn is_point_name(bytes: &[u8]) -> bool
 }
 
 impl PointName {
-    /// The name that the bytes spell. Bytes that spell none are handed back.
+    /// Creates a name from its bytes. Bytes that are no name are returned as the error.
     pub fn new(bytes: Vec<u8>) -> Result<Self, Vec<u8>>
         ensures lawful { IsOk result ↔ IsTrue (is_name bytes.items) }
         ensures name { IfOk result (λ name. name ≡ bytes.items) }
@@ -60,7 +60,7 @@ impl PointName {
         }
     }
 
-    /// The name that bytes spell which are known to spell one.
+    /// Creates a name from bytes that the contract guarantees to be a name.
     pub(crate) fn of_lawful(bytes: Vec<u8>) -> Self
         requires { IsTrue (is_name bytes.items) }
         ensures { result ≡ bytes.items }
@@ -68,6 +68,7 @@ impl PointName {
         PointName { bytes }
     }
 
+    /// Returns the bytes of the name.
     pub fn as_bytes(&self) -> &[u8]
         ensures bytes { result.now ≡ self.now }
         ensures lawful { IsTrue (is_name self.now) }
@@ -75,6 +76,7 @@ impl PointName {
         self.bytes.as_slice()
     }
 
+    /// Returns the bytes of the name, and consumes it.
     pub fn into_bytes(self) -> Vec<u8>
         ensures bytes { result.items ≡ self }
         ensures lawful { IsTrue (is_name self) }

@@ -7,18 +7,18 @@ use crate::name::PointName;
 use mb_wire::ReadFunction;
 use sun_points::{PointType, Scale};
 
-/// By which power of ten a point's value is multiplied.
+/// The power of ten that multiplies a point's value.
 #[derive(Debug, Drop)]
 pub enum PointScale {
-    /// None: the value as it is.
+    /// No scale: the value is printed as it is.
     Unscaled,
-    /// One for good.
+    /// A fixed power of ten.
     Fixed(Scale),
-    /// The one that the sunssf point of this name says.
+    /// The power of ten in the sunssf point with this name.
     Named(PointName),
 }
 
-/// A point of a list: from `address` on in the registers of a function and an area number.
+/// A point of a list: registers from `address`, in the registers of a function and an area number.
 #[derive(Debug, Drop)]
 pub struct ListedPoint {
     pub name: PointName,
@@ -29,7 +29,7 @@ pub struct ListedPoint {
     pub scale: PointScale,
 }
 
-/// Whether a point of the type says the scale of others.
+/// Returns whether a point of the type is a scale point.
 pub(crate) fn is_scale_type(kind: PointType) -> bool
     ensures { result ≡ is_sunssf kind }
 {
@@ -39,7 +39,7 @@ pub(crate) fn is_scale_type(kind: PointType) -> bool
     }
 }
 
-/// The sunssf point of a name.
+/// Returns the sunssf point with a name.
 pub fn find_scale<'a>(points: &'a [ListedPoint], name: &[u8]) -> Option<&'a ListedPoint>
     ensures { option_copied result ≡ scale_point points.now name.now }
 {

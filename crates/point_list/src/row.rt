@@ -1,4 +1,4 @@
-//! The least fault of a row.
+//! Finds the first fault of a row.
 ghost use Rattle.std.specs.Prelude.{◌≡◌, map};
 ghost use Rattle.std.specs.List.{list_any};
 ghost use Rattle.std.specs.Option.{option_map};
@@ -30,7 +30,7 @@ impl<'a> RowFields<'a> {
     ghost use Rattle.std.specs.Option.{option_map};
     ghost use Rattle.point_list.specs.Faults.{six_fields};
 
-    /// The fields of a row that has six.
+    /// Returns the fields of a row, if the row has six.
     pub fn of_row(row: &'a ByteRecord) -> Option<RowFields<'a>>
         ensures { option_map seen_row result ≡ six_fields (fields_of row.now) }
     {
@@ -48,7 +48,6 @@ impl<'a> RowFields<'a> {
     }
 }
 
-// Whether a row has six fields of which the first is the name.
 fn row_has_name(row: &ByteRecord, name: &[u8]) -> bool
     ensures { result ≡ has_name name.now (fields_of row.now) }
 {
@@ -58,14 +57,14 @@ fn row_has_name(row: &ByteRecord, name: &[u8]) -> bool
     }
 }
 
-// Whether a row of six fields has the name.
+// Rows without six fields have no name.
 fn is_taken(earlier: &[ByteRecord], name: &[u8]) -> bool
     ensures { result ≡ list_any (λ row. has_name name.now (fields_of row)) earlier.now }
 {
     earlier.iter().any(|row| row_has_name(row, name))
 }
 
-// Whether a point whose type is good reaches past the last register.
+// An unknown type is reported as `Type`, not as `Address`.
 fn is_past_end(address: Option<u64>, kind: Option<PointType>) -> bool
     ensures { result ≡ reaches_past address kind }
 {
@@ -75,14 +74,12 @@ fn is_past_end(address: Option<u64>, kind: Option<PointType>) -> bool
     }
 }
 
-// Whether a scale is a number from -10 to 10.
 fn is_fixed(scale: &[u8]) -> bool
     ensures { result ≡ is_fixed_scale scale.now }
 {
     fixed_scale(scale).is_some()
 }
 
-// Whether a scale is none, or one for a type that takes none.
 fn is_bad(scale: &[u8], kind: Option<PointType>) -> bool
     ensures { result ≡ is_bad_scale scale.now kind }
 {
@@ -98,7 +95,8 @@ fn is_bad(scale: &[u8], kind: Option<PointType>) -> bool
     }
 }
 
-/// The least fault of a row that stands `place` rows below the first after the header, but for those of its scale point.
+/// Returns the first fault of the row at index `place` below the header, from 0. Faults of its
+/// scale point are not checked here.
 pub fn least_row_fault(place: usize, earlier: &[ByteRecord], row: &ByteRecord) -> Option<RowFault>
     ensures { result ≡ least_fault place (map fields_of earlier.now) (fields_of row.now) }
 {
@@ -108,7 +106,6 @@ pub fn least_row_fault(place: usize, earlier: &[ByteRecord], row: &ByteRecord) -
     }
 }
 
-// The first fault whose condition holds of six fields.
 fn first_fault(place: usize, taken: bool, row: RowFields<'_>) -> Option<RowFault>
     ensures { result ≡ first_of (conditions_where taken place (seen_row row.entry)) }
 {

@@ -1,4 +1,4 @@
-//! The points that rows spell.
+//! Makes points from rows.
 ghost use Rattle.std.specs.Prelude.{◌≡◌, IfOk, map};
 ghost use Rattle.csv.specs.Records.{fields_of};
 ghost use Rattle.point_list.specs.Faults.{seen_row};
@@ -12,7 +12,6 @@ use crate::row::RowFields;
 use csv::ByteRecord;
 use std::alloc::{AllocError, Global};
 
-// The name that a field spells.
 fn name_of(alloc: Global, field: &[u8]) -> Result<Option<PointName>, AllocError>
     ensures { IfOk result (λ name. name ≡ name_spelled field.now) }
 {
@@ -29,7 +28,6 @@ fn named_scale(alloc: Global, field: &[u8]) -> Result<Option<PointScale>, AllocE
     }
 }
 
-// The scale that a field spells.
 fn scale_of(alloc: Global, field: &[u8]) -> Result<Option<PointScale>, AllocError>
     ensures { IfOk result (λ scale. scale ≡ scale_spelled field.now) }
 {
@@ -42,7 +40,7 @@ fn scale_of(alloc: Global, field: &[u8]) -> Result<Option<PointScale>, AllocErro
     }
 }
 
-// The point of six fields, of which the name and the scale are read.
+// The name and the scale are parsed already, because both need memory.
 fn point_with(
     name: Option<PointName>,
     scale: Option<PointScale>,
@@ -66,7 +64,6 @@ fn point_with(
     })
 }
 
-// The point that six fields spell.
 fn point_of_fields(alloc: Global, row: RowFields<'_>) -> Result<Option<ListedPoint>, AllocError>
     ensures { IfOk result (λ point. point ≡ point_spelled (seen_row row.entry)) }
 {
@@ -75,7 +72,6 @@ fn point_of_fields(alloc: Global, row: RowFields<'_>) -> Result<Option<ListedPoi
     Ok(point_with(name, scale, row))
 }
 
-// The point that a row spells.
 fn point_of_row(alloc: Global, row: &ByteRecord) -> Result<Option<ListedPoint>, AllocError>
     ensures { IfOk result (λ point. point ≡ point_of_row (fields_of row.now)) }
 {
@@ -85,7 +81,7 @@ fn point_of_row(alloc: Global, row: &ByteRecord) -> Result<Option<ListedPoint>, 
     }
 }
 
-/// The points that rows spell.
+/// Returns the points that rows spell. Rows that spell no point are skipped.
 pub fn points_of_rows(alloc: Global, rows: &[ByteRecord]) -> Result<Vec<ListedPoint>, AllocError>
     ensures { IfOk result (λ points. points.items ≡ points_of (map fields_of rows.now)) }
 {

@@ -17,7 +17,8 @@ fn number_text(alloc: Global, number: u16) -> Result<String, AllocError>
     format!(in alloc; "{number}")
 }
 
-/// The text of a type, as a list spells it: `acc32`, or `string8` of 8 registers.
+/// Returns the text of a type in a list: for example `acc32`, or `string8` for a text of 8
+/// registers.
 pub fn type_text(alloc: Global, kind: PointType) -> Result<String, AllocError>
     ensures { IfOk result (λ text. string_bytes text ≡ type_text kind) }
 {
@@ -85,7 +86,7 @@ fn header(alloc: Global) -> Result<ByteRecord, AllocError>
     ByteRecord::from_fields(alloc, &fields)
 }
 
-/// The rows of points, below the header.
+/// Returns the header and the rows of points.
 pub fn point_rows(alloc: Global, points: &[ListedPoint]) -> Result<Vec<ByteRecord>, AllocError>
     ensures rows { IfOk result
         (λ rows. map fields_of rows.items ≡ header_row ∷ map row_of points.now) }
@@ -99,7 +100,7 @@ pub fn point_rows(alloc: Global, points: &[ListedPoint]) -> Result<Vec<ByteRecor
     Ok(rows)
 }
 
-/// The text of rows.
+/// Returns the comma-separated text of rows.
 pub fn text_of_rows(alloc: Global, rows: &[ByteRecord]) -> Result<Vec<u8>, AllocError>
     ensures { IfOk result (λ text. text.items ≡ rows_text (map fields_of rows.now)) }
 {

@@ -1,4 +1,4 @@
--- The rule's reads are lawful where the items are readable and lie in their areas.
+-- The rule's reads are lawful if the items are readable and lie in their areas.
 use Rattle.std.proofs.Common.{◌≤◌, List, get_or, arith}
 use Rattle.std.specs.List.{All, Any}
 use Rattle.read_plan.specs.declared.run.Run.{Run}

@@ -22,7 +22,7 @@ module _ (items runs : List Run) (rule : FollowsRule items runs) (readable : All
   abbrev run_at : ℕ → Run
   run_at k = get_or runs k anything
 
-  -- of two reads of an area the later ends later
+  -- Of two reads of one area, the later ends later.
   ends-rise : (i j : ℕ) → i < j → j < length runs → SameArea (run_at i) (run_at j) → (run_at i).end < (run_at j).end
   ends-rise i j below within area =
       let r = run_at i in
@@ -41,7 +41,7 @@ module _ (items runs : List Run) (rule : FollowsRule items runs) (readable : All
             absurd (at.4.2 (any-take (λ read. Holds read b) runs j i anything below (omega (arith, within)) contained))
       ]
 
-  -- a read before one that ends before an item ends before it too
+  -- A read before a read that ends before an item also ends before the item.
   ends-before-back : (i j : ℕ) (x : Run) → i < j → j < length runs → EndsBefore (run_at j) x → EndsBefore (run_at i) x
   ends-before-back i j x below within ends = by (rule.ordered i j anything below within) ends
     where
@@ -59,7 +59,7 @@ module _ (items runs : List Run) (rule : FollowsRule items runs) (readable : All
           let b = e.1 in
           inr (inr (same_area-trans (run_at i) (run_at j) x c.0 e.0, omega (arith, rises, b)))
 
-  -- the read at which the search stops is the first that holds the item
+  -- The search stops at the first read that holds the item.
   first-holding : (x : Run) (count : ℕ) → IsContained runs x → ((k : ℕ) → k < count → k < length runs → EndsBefore (run_at k) x)
       → ((k : ℕ) → count ≤ k → k < length runs → ¬ EndsBefore (run_at k) x) → IsFirstHolding runs x count
   first-holding x count contained before after =
@@ -142,7 +142,7 @@ module _ (items : List Run) (reads : List PlannedRead) (rule : FollowsRule items
           let inside : k < length reads = omega (arith, within, size) in
           ends-not (get_or reads k d) (point.1 k d above inside) (subst (λ (r : Run). EndsBefore r x) (at-run k d inside) ends))
 
--- what a search among the reads of a plan finds
+-- The result of a search among the reads of a plan.
 pub record PlaceFacts (plan : Planned) (point count : ℕ) (x : Run) : Type 0 where
   pub read_within : count < length plan.reads
   pub point_within : point < length plan.starts

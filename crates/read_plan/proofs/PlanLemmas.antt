@@ -17,7 +17,7 @@ same_area-sym a b s = record { function = sym s.function; area = sym s.area }
 pub same_area-trans : (a b c : Run) → SameArea a b → SameArea b c → SameArea a c
 same_area-trans a b c s t = record { function = s.function ∙ t.function; area = s.area ∙ t.area }
 
--- what holds of an element holds of some element of a front that reaches it
+-- A property of an element is a property of some element of each front that reaches it.
 pub any-take : {X : Type 0} (P : X → Type 0) (xs : List X) (k j : ℕ) (d : X) → j < k → k ≤ length xs → P (get_or xs j d) → Any P (take k xs)
 any-take {X} P xs k j d below within p =
     let inside : j < length xs = omega (arith, below, within) in (
@@ -28,20 +28,20 @@ any-take {X} P xs k j d below within p =
       p,
     )
 
--- of two runs of one area, the first has the lower first register
+-- Of two runs of one area, the first has the lower first register.
 pub first-before : (a b : Run) → ComesBefore a b → SameArea a b → a.first < b.first
 first-before a b (inl f) s = let e = ap code_of s.function in absurd (omega (arith, e, f))
 first-before a b (inr (inl h)) s = let e = s.area in absurd (omega (arith, e, h.1))
 first-before a b (inr (inr h)) s = h.1
 
--- an element of a list by its value
+-- A property of all elements, for an element given by its value.
 pub all-at : {X : Type 0} (P : X → Type 0) (xs : List X) → All P xs → (x : X) → Contains xs x → P x
 all-at {X} P xs all x w = subst P w.2 (all w.0 x w.1)
 
 pub contains-any : {X : Type 0} (P : X → Type 0) (xs : List X) → (w : Any P xs) → Contains xs w.1
 contains-any P xs w = (w.0, w.2, w.3)
 
--- the read y holds an item at which the k-th read begins
+-- The read `y` holds an item at which read `k` begins.
 pub record HoldsBeginning (items reads : List Run) (k : ℕ) (y : Run) : Type 0 where
   pub item : Run
   pub among : Contains items item

@@ -1,4 +1,4 @@
--- Reads from the beginnings to the greatest ends within reach are the rule's.
+-- Reads from the beginnings to the greatest ends within reach follow the rule.
 use Rattle.std.proofs.Common.{◌≡◌, ◌∙◌, ℕ, ◌+◌, ◌<◌, ◌≤◌, List, length, get_or, take, sym, refl, ap, arith, inl, inr, subst}
 use Rattle.std.specs.List.{All, AllZip, Any, Contains}
 use Rattle.std.specs.List.Sorted.{IsPermutation}
@@ -41,7 +41,7 @@ module _ (items begins reads : List Run) (readable : All IsReadable items) (from
   abbrev read_at : ℕ → Run
   read_at k = get_or reads k anything
 
-  -- an item that begins before a beginning of its area is within reach of an earlier one
+  -- An item that begins before a beginning of its area lies within reach of an earlier beginning.
   earlier : (x : Run) (k : ℕ) → k < length begins → SameArea (begin_at k) x → x.first < (begin_at k).first → Any (λ b. LiesWithinReach b x) begins
       → (j : ℕ) × (j < k) × LiesWithinReach (begin_at j) x
   earlier x k within area lower w =
@@ -63,7 +63,7 @@ module _ (items begins reads : List Run) (readable : All IsReadable items) (from
         ]
       ]
 
-  -- a read holds each item within reach of its beginning
+  -- A read holds each item within reach of its beginning.
   holds-reach : (x : Run) → Contains items x → (j : ℕ) → j < length begins → LiesWithinReach (begin_at j) x → Holds (read_at j) x
   holds-reach x among j within reach =
       let f = each j within in
@@ -75,7 +75,7 @@ module _ (items begins reads : List Run) (readable : All IsReadable items) (from
         to_end = all-at (λ item. SameArea (begin_at j) item → item.end ≤ (begin_at j).first + 125 → item.end ≤ (read_at j).end) items f.end.last x among reach.same_area reach.in_reach;
       }
 
-  -- no earlier read reaches the end of a beginning
+  -- No earlier read reaches the end of a beginning.
   unreached : (j k : ℕ) → j < k → k < length begins → SameArea (begin_at j) (begin_at k) → (read_at j).end < (begin_at k).end
   unreached j k below within area =
       let a = (from.apart j k anything below within).1 area in
@@ -171,7 +171,7 @@ module _ (items begins reads : List Run) (readable : All IsReadable items) (from
         );
   }
 
--- the same with the items in any order, and the reads zipped to the beginnings
+-- The same result for items in any order, and for reads paired with the beginnings.
 pub rule-of-sorted : (items sorted ended begins reads : List Run) → IsPermutation items sorted → IsPermutation items ended → All IsReadable items → AreBeginnings sorted begins
     → AllZip (ReadsFrom ended) begins reads → FollowsRule items reads
 rule-of-sorted items sorted ended begins reads same-sorted same-ended readable from zipped =
@@ -182,7 +182,7 @@ rule-of-sorted items sorted ended begins reads same-sorted same-ended readable f
     let f = AllZip-get_or (ReadsFrom ended) begins reads k anything anything zipped within in
     record { same_area = f.same_area; first = f.first; end = greatest-permutation ended items (get_or begins k anything) (get_or reads k anything).end back f.end })
 
--- the beginnings are among the items in any order, so they keep what all items keep
+-- The beginnings are among the items in any order, so they share the properties of all items.
 pub beginnings-among : (items sorted ended begins : List Run) → IsPermutation items sorted → IsPermutation items ended → AreBeginnings sorted begins → All (Contains ended) begins
 beginnings-among items sorted ended begins same-sorted same-ended from =
     All-weaker (Contains sorted) (Contains ended)

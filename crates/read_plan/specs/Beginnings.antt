@@ -1,4 +1,4 @@
--- The items at which the reads of a plan begin, and where each read ends.
+-- The items at which the reads of a plan begin, and the end of each read.
 use Rattle.std.specs.Prelude.{◌≡◌, ℕ, ◌+◌, ◌<◌, ◌≤◌, Bool, ◌==◌, nat_lt, nat_le, ◌&&◌, ◌||◌, List}
 use Rattle.std.specs.List.{All, AllPairs, Any, Contains}
 use Rattle.read_plan.specs.declared.run.Run.{Run}
@@ -6,31 +6,31 @@ use Rattle.read_plan.specs.declared.run.TheConstants.{READ_LIMIT}
 use Rattle.mb_wire.specs.Spans.{code_of}
 use Rattle.read_plan.specs.Plans.{ComesBefore, LiesWithinReach, SameArea}
 
--- b begins after a, and ends beyond the reach of a read that begins at a
+-- Item `b` begins after `a`, and ends beyond the reach of a read that begins at `a`.
 abbrev pub BeginsApart : Run → Run → Type 0
 BeginsApart a b = ComesBefore a b × (SameArea a b → a.first + READ_LIMIT < b.end)
 
--- items so far apart that no read holds two, and each item within reach of one of them
+-- Items so far apart that no read holds two of them. Each item lies within reach of one of them.
 pub record AreBeginnings (items found : List Run) : Type 0 where
   pub among : All (Contains items) found
   pub apart : AllPairs BeginsApart found
   pub reach : All (λ item. Any (λ begin. LiesWithinReach begin item) found) items
 
--- not after the limit, by function, then by area number, then by last register
+-- The run ends at or before the limit, by function, then by area number, then by last register.
 abbrev pub ends_by : Run → Run → Bool
 ends_by run limit =
     nat_lt (code_of run.function) (code_of limit.function)
     || (code_of run.function == code_of limit.function)
     && (nat_lt run.area limit.area || (run.area == limit.area) && nat_le run.end limit.end)
 
--- the greatest last register of the items of an area that end within reach of its first register
+-- The greatest end among the items of the area that end within reach of the beginning.
 pub record IsGreatestEnd (items : List Run) (begin : Run) (end : ℕ) : Type 0 where
   pub at_item : Any
       (λ item. SameArea begin item × (item.end ≤ begin.first + READ_LIMIT) × (item.end ≡ end)) items
   pub last : All
       (λ item. SameArea begin item → item.end ≤ begin.first + READ_LIMIT → item.end ≤ end) items
 
--- a read from a beginning to the greatest end within reach
+-- A read from a beginning to the greatest end within its reach.
 pub record ReadsFrom (items : List Run) (begin read : Run) : Type 0 where
   pub same_area : SameArea begin read
   pub first : begin.first ≡ read.first

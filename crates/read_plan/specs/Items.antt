@@ -1,4 +1,4 @@
--- The registers of points, and the items that are read together.
+-- The registers of points, and the items: registers that one read must hold together.
 use Rattle.std.specs.Prelude.{◌≡◌, ℕ, List, map, max, min, Some, None}
 use Rattle.std.specs.declared.option.Option.{Option}
 use Rattle.std.specs.Borrow.{Bor}
@@ -12,7 +12,7 @@ use Rattle.point_list.specs.declared.point.PointScale.{PointScale}
 use Rattle.point_list.specs.declared.point.PointScale.TheVariants.{Unscaled, Fixed, Named}
 use Rattle.read_plan.specs.declared.run.Run.{Run}
 
--- the registers of a point
+-- The registers of a point.
 abbrev pub point_run : ListedPoint → Run
 point_run point =
     record {
@@ -22,7 +22,7 @@ point_run point =
       end = end_of point;
     }
 
--- the least run with both, of one area
+-- The smallest run that holds both runs of one area.
 abbrev pub joined : Run → Run → Run
 joined a b = record {
   function = a.function;
@@ -31,31 +31,34 @@ joined a b = record {
   end = max a.end b.end;
 }
 
+-- The smallest run that holds a run and the registers of a scale point, if any.
 abbrev pub with_scale : Run → Option ListedPoint → Run
 with_scale run None = run
 with_scale run (Some scale) = joined run (point_run scale)
 
+-- The smallest run that holds a run and the registers of its point's scale point.
 abbrev pub with_scale_of : List ListedPoint → Run → PointScale → Run
 with_scale_of points run Unscaled = run
 with_scale_of points run (Fixed exponent) = run
 with_scale_of points run (Named name) = with_scale run (scale_point points name)
 
--- the run at a name
+-- The run at a name.
 abbrev pub run_named : BTreeMap (Bor (List ℕ)) Run → List ℕ → Option Run
 run_named runs name = get_by (λ key. slice_cmp nat_cmp name key.now) runs
 
--- at each name the registers of its scale point
+-- The map holds the registers of each scale point under its name.
 abbrev pub AreScaleRuns : List ListedPoint → BTreeMap (Bor (List ℕ)) Run → Type 0
 AreScaleRuns points runs = (name : List ℕ)
     → run_named runs name ≡ option_map point_run (scale_point points name)
 
--- an item is the least run with a point and its scale point
+-- An item: the smallest run that holds a point and its scale point.
 abbrev pub item_of : List ListedPoint → ListedPoint → Run
 item_of points point = with_scale_of points (point_run point) point.scale
 
+-- The items of all points, in the order of the list.
 abbrev pub items_of : List ListedPoint → List Run
 items_of points = map (item_of points) points
 
--- the registers of all points, which make the areas
+-- The registers of all points. They define the areas.
 abbrev pub runs_of : List ListedPoint → List Run
 runs_of points = map point_run points

@@ -7,15 +7,16 @@ use Rattle.read_plan.specs.Items.{items_of}
 use Rattle.read_plan.specs.PlannedReads.{read_runs}
 use Rattle.read_plan.specs.Plans.{FollowsRule}
 
+-- A point list, and the reads of its plan.
 pub record Planned : Type 0 where
   pub points : List ListedPoint
   pub reads : List PlannedRead
 
--- The points keep what every point list keeps, and the reads are those of the rule.
+-- The points are a lawful point list, and the reads follow the rule.
 pub record IsPlanned (list : Planned) : Type 0 where
   pub points : IsPointList list.points
   pub rule : FollowsRule (items_of list.points) (read_runs list.reads)
 
--- A list has one plan.
+-- A list has exactly one plan.
 abbrev pub ListsArePlannedOnce : Type 0
 ListsArePlannedOnce = (a b : Planned) → IsPlanned a → IsPlanned b → a.points ≡ b.points → a ≡ b

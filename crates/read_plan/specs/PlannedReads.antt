@@ -1,4 +1,4 @@
--- What a plan holds.
+-- The content of a plan.
 use Rattle.std.specs.Prelude.{ℕ, ◌≡◌, ◌+◌, ◌<◌, ◌≤◌, List, length, map, slice_index, slice_index_or, take}
 use Rattle.std.specs.List.{All}
 use Rattle.mb_wire.specs.declared.limits.TheConstants.{ADDRESSES}
@@ -6,7 +6,7 @@ use Rattle.read_plan.specs.declared.planned_reads.PlannedRead.{PlannedRead}
 use Rattle.read_plan.specs.declared.run.Run.{Run}
 use Rattle.read_plan.specs.Plans.{FollowsRule, Holds, IsContained, IsReadable}
 
--- the registers of a read
+-- The registers of a read.
 abbrev pub read_run : PlannedRead → Run
 read_run read =
     record {
@@ -16,20 +16,21 @@ read_run read =
       end = read.span.address + read.span.count;
     }
 
+-- The registers of each read.
 abbrev pub read_runs : List PlannedRead → List Run
 read_runs reads = map read_run reads
 
--- a plan: for each point its first register and its item, and the reads
+-- A plan: the first register and the item of each point, and the reads.
 pub record Planned : Type 0 where
   pub starts : List ℕ
   pub items : List Run
   pub reads : List PlannedRead
 
--- a point begins inside its item
+-- A point begins inside its item.
 abbrev pub BeginsInside : Run → ℕ → Type 0
 BeginsInside item start = (item.first ≤ start) × (start < item.end)
 
--- what every plan keeps
+-- The invariant of every plan.
 pub record IsPlan (plan : Planned) : Type 0 where
   pub each : length plan.starts ≡ length plan.items
   pub begun : (k : ℕ) (d : Run) → k < length plan.items
@@ -38,12 +39,12 @@ pub record IsPlan (plan : Planned) : Type 0 where
   pub inside : All (λ item. item.end ≤ ADDRESSES) plan.items
   pub rule : FollowsRule plan.items (read_runs plan.reads)
 
--- the point of a number stands so many registers after the first of a read
+-- Point number `point` begins `offset` registers after the first register of read number `read`.
 abbrev pub StandsAt : Planned → (point read offset : ℕ) → Type 0
 StandsAt plan point read offset = (d : PlannedRead)
     → (slice_index_or plan.reads read d).span.address + offset ≡ slice_index plan.starts point
 
--- the first read of the item's area that holds it
+-- The first read that holds the item.
 pub record IsFirstHolding (reads : List Run) (item : Run) (place : ℕ) : Type 0 where
   pub within : place < length reads
   pub holds : (d : Run) → Holds (slice_index_or reads place d) item

@@ -1,66 +1,68 @@
--- Runs of registers, lawful plans of reads, and the rule by which one plan is chosen.
+-- Runs of registers, lawful plans of reads, and the rule that chooses one plan.
 use Rattle.std.specs.Prelude.{◌≡◌, ℕ, ◌+◌, ◌<◌, ◌≤◌, ◌⊎◌, List, length, take, slice_index_or}
 use Rattle.std.specs.List.{All, AllPairs, Any}
 use Rattle.mb_wire.specs.Spans.{code_of}
 use Rattle.read_plan.specs.declared.run.Run.{Run}
 use Rattle.read_plan.specs.declared.run.TheConstants.{READ_LIMIT}
 
--- of one function and one area number
+-- The runs have the same function and area number.
 pub record SameArea (a b : Run) : Type 0 where
   pub function : a.function ≡ b.function
   pub area : a.area ≡ b.area
 
--- a read holds the items of its own area that lie inside it, and no others
+-- A read holds exactly the items of the same area that lie inside it.
 pub record Holds (read item : Run) : Type 0 where
   pub same_area : SameArea read item
   pub from_first : read.first ≤ item.first
   pub to_end : item.end ≤ read.end
 
--- some read of the list holds the item
+-- Some read of the list holds the item.
 abbrev pub IsContained : List Run → Run → Type 0
 IsContained reads item = Any (λ read. Holds read item) reads
 
--- no less than one register, and no more than a read holds
+-- A run of 1 to 125 registers.
 abbrev pub IsReadable : Run → Type 0
 IsReadable run = (run.first < run.end) × (run.end ≤ run.first + READ_LIMIT)
 
--- inside its area, which runs from the first to the last register of the points of one function and area number
+-- A run inside its area. The area extends from the first to the last register of the points of one
+-- function and area number.
 pub record IsInArea (points : List Run) (run : Run) : Type 0 where
   pub after_first : Any (λ point. SameArea point run × point.first ≤ run.first) points
   pub before_last : Any (λ point. SameArea point run × run.end ≤ point.end) points
 
--- the lawful plans for points and the items made of them
+-- A lawful plan for points and their items. Each read has 1 to 125 registers inside its area, and
+-- each item lies in one read.
 pub record IsLawful (points items reads : List Run) : Type 0 where
   pub readable : All IsReadable reads
   pub in_areas : All (IsInArea points) reads
   pub contained : All (IsContained reads) items
 
--- no lawful plan has fewer than so many reads
+-- Every lawful plan has at least `count` reads.
 abbrev pub AreFewest : (points items : List Run) → (count : ℕ) → Type 0
 AreFewest points items count =
     (reads : List Run) → IsLawful points items reads → count ≤ length reads
 
--- before, by function, then by area number, then by first register
+-- The order by function, then by area number, then by first register.
 abbrev pub ComesBefore : Run → Run → Type 0
 ComesBefore a b =
     (code_of a.function < code_of b.function)
     ⊎ ((a.function ≡ b.function) × (a.area < b.area))
     ⊎ (SameArea a b × a.first < b.first)
 
--- before, by function, then by area number, then by last register
+-- The order by function, then by area number, then by last register.
 abbrev pub EndsBefore : Run → Run → Type 0
 EndsBefore a b =
     (code_of a.function < code_of b.function)
     ⊎ ((a.function ≡ b.function) × (a.area < b.area))
     ⊎ (SameArea a b × a.end < b.end)
 
--- the item lies within the registers that a read from the first of this one can hold
+-- The item lies within the 125 registers from the first register of the read.
 pub record LiesWithinReach (read item : Run) : Type 0 where
   pub same_area : SameArea read item
   pub from_first : read.first ≤ item.first
   pub in_reach : item.end ≤ read.first + READ_LIMIT
 
--- a read begins at the first register of the first item of its area that no earlier read holds
+-- A read begins at the first register of the first item of its area that no earlier read holds.
 pub record BeginsAtFirstUnheld (items earlier : List Run) (read : Run) : Type 0 where
   pub at_item : Any (λ item. SameArea read item × (item.first ≡ read.first)
       × ¬ IsContained earlier item)
@@ -68,12 +70,12 @@ pub record BeginsAtFirstUnheld (items earlier : List Run) (read : Run) : Type 0 
   pub first : All (λ item. SameArea read item → item.first < read.first
       → IsContained earlier item) items
 
--- a read ends at the greatest last register of the items within its reach
+-- A read ends at the greatest last register of the items within its reach.
 pub record EndsAtLastInReach (items : List Run) (read : Run) : Type 0 where
   pub at_item : Any (λ item. LiesWithinReach read item × (item.end ≡ read.end)) items
   pub last : All (λ item. LiesWithinReach read item → item.end ≤ read.end) items
 
--- the plan of the rule
+-- The reads that the rule gives for items.
 pub record FollowsRule (items reads : List Run) : Type 0 where
   pub ordered : AllPairs ComesBefore reads
   pub begins : (k : ℕ) (d : Run) → k < length reads

@@ -1,4 +1,4 @@
-//! Where reads begin, and where each ends.
+//! Finds the beginning and the end of each read.
 ghost use Rattle.std.specs.Prelude.{◌≡◌, ◌+◌, ◌-◌, ◌<◌, ◌≤◌, ◌↔◌, IfOk, IsTrue, length};
 ghost use Rattle.std.specs.Prelude.{slice_index_or};
 ghost use Rattle.std.specs.Bool.{OnTrue, OnFalse};
@@ -11,7 +11,6 @@ use crate::run::{READ_LIMIT, Run};
 use mb_wire::ADDRESSES;
 use std::alloc::{AllocError, Global};
 
-// Whether an item lies within reach of a read that begins there.
 fn lies_within_reach(begin: &Run, item: &Run) -> bool
     ensures { IsTrue result ↔ LiesWithinReach begin.now item.now }
 {
@@ -21,7 +20,7 @@ fn lies_within_reach(begin: &Run, item: &Run) -> bool
         && item.end.saturating_sub(READ_LIMIT) <= begin.first
 }
 
-// Whether an item lies within reach of the last beginning.
+// Only the last beginning is compared, because the items are in order.
 fn is_reached(found: &[Run], item: &Run) -> bool
     ensures reached { OnTrue result (Any (λ begin. LiesWithinReach begin item.now) found.now) }
     ensures beyond { OnFalse result ((d : Run) → 0 < length found.now
@@ -33,7 +32,8 @@ fn is_reached(found: &[Run], item: &Run) -> bool
     }
 }
 
-/// The items, of those in order, at which reads begin: each is the first beyond the reach of the one before.
+/// Returns the items at which reads begin. Each is the first item beyond the reach of the beginning
+/// before it.
 pub fn beginnings(alloc: Global, items: &[Run]) -> Result<Vec<Run>, AllocError>
     requires ordered { AllPairs (λ a b. ¬ ComesBefore b a) items.now }
     requires readable { All IsReadable items.now }
@@ -48,7 +48,8 @@ pub fn beginnings(alloc: Global, items: &[Run]) -> Result<Vec<Run>, AllocError>
     Ok(found)
 }
 
-/// Whether a run ends by a limit, by function, then by area number, then by last register.
+/// Returns whether a run ends at or before a limit, by function, then by area number, then by last
+/// register.
 pub fn ends_by_limit(run: &Run, limit: &Run) -> bool
     ensures { result ≡ ends_by run.now limit.now }
 {
@@ -59,7 +60,8 @@ pub fn ends_by_limit(run: &Run, limit: &Run) -> bool
             && (run.area < limit.area || run.area == limit.area && run.end <= limit.end)
 }
 
-/// The greatest last register of the items within reach of a beginning, the items being in order of their ends.
+/// Returns the greatest end of the items within reach of a beginning. The items are in order of
+/// their ends.
 pub fn end_within_reach(items: &[Run], begin: &Run) -> u32
     requires ordered { AllPairs (λ a b. ¬ EndsBefore b a) items.now }
     requires among { Contains items.now begin.now }

@@ -1,10 +1,10 @@
-//! Copies of points.
+//! Copies points and lists, for `Clone` of a planned list.
 ghost use Rattle.std.specs.Prelude.{◌≡◌, IfOk};
 
 use point_list::{ListedPoint, PointList, PointName, PointScale};
 use std::alloc::{AllocError, Global};
 
-/// The same name.
+/// Copies a name.
 fn copy_name(alloc: Global, name: &PointName) -> Result<PointName, AllocError>
     ensures { IfOk result (λ copy. copy ≡ name.now) }
 {
@@ -15,7 +15,7 @@ fn copy_name(alloc: Global, name: &PointName) -> Result<PointName, AllocError>
     }
 }
 
-/// The same scale.
+/// Copies a scale.
 fn copy_scale(alloc: Global, scale: &PointScale) -> Result<PointScale, AllocError>
     ensures { IfOk result (λ copy. copy ≡ scale.now) }
 {
@@ -26,7 +26,7 @@ fn copy_scale(alloc: Global, scale: &PointScale) -> Result<PointScale, AllocErro
     }
 }
 
-/// The same point.
+/// Copies a point.
 fn copy_point(alloc: Global, point: &ListedPoint) -> Result<ListedPoint, AllocError>
     ensures { IfOk result (λ copy. copy ≡ point.now) }
 {
@@ -40,7 +40,7 @@ fn copy_point(alloc: Global, point: &ListedPoint) -> Result<ListedPoint, AllocEr
     })
 }
 
-/// The same points.
+/// Copies points.
 fn copy_points(alloc: Global, points: &[ListedPoint]) -> Result<Vec<ListedPoint>, AllocError>
     ensures { IfOk result (λ copies. copies.items ≡ points.now) }
 {
@@ -51,7 +51,7 @@ fn copy_points(alloc: Global, points: &[ListedPoint]) -> Result<Vec<ListedPoint>
     Ok(copies)
 }
 
-/// The same list.
+/// Copies a list.
 pub fn copy_list(alloc: Global, list: &PointList) -> Result<PointList, AllocError>
     ensures { IfOk result (λ copy. copy ≡ list.now) }
 {

@@ -1,4 +1,4 @@
-//! The registers that are read together: a point and its scale point.
+//! Finds the registers that one read must hold together: a point and its scale point.
 ghost use Rattle.std.specs.Prelude.{◌≡◌, IfOk, List};
 ghost use Rattle.point_list.specs.Points.{is_sunssf};
 ghost use Rattle.point_list.specs.declared.point.ListedPoint.{ListedPoint};
@@ -10,10 +10,8 @@ use std::alloc::{AllocError, Global};
 use std::collections::BTreeMap;
 use sun_points::PointType;
 
-// The registers of scale points, by name.
 type ScaleRuns<'a> = BTreeMap<&'a [u8], Run>;
 
-// The registers of a point.
 fn run_of_point(point: &ListedPoint) -> Run
     ensures { result ≡ point_run point.now }
 {
@@ -26,7 +24,7 @@ fn run_of_point(point: &ListedPoint) -> Run
     }
 }
 
-// The least run with both.
+// The runs are of one area.
 fn join(a: Run, b: Run) -> Run
     ensures { result ≡ joined a b }
 {
@@ -37,14 +35,13 @@ fn join(a: Run, b: Run) -> Run
     }
 }
 
-// Whether a point says the scale of others.
 fn is_scale(point: &ListedPoint) -> bool
     ensures { result ≡ is_sunssf point.now.kind }
 {
     matches!(point.kind, PointType::Sunssf)
 }
 
-// The registers of the sunssf points, by name: of two points of one name those of the first.
+// If two sunssf points have one name, the map holds the first of them.
 fn scale_runs<'a>(alloc: Global, points: &'a [ListedPoint]) -> Result<ScaleRuns<'a>, AllocError>
     ensures { IfOk result (λ runs. AreScaleRuns points.now runs) }
 {
@@ -57,7 +54,8 @@ fn scale_runs<'a>(alloc: Global, points: &'a [ListedPoint]) -> Result<ScaleRuns<
     Ok(runs)
 }
 
-/// The least run with a point of a list and its scale point, which is looked up in the runs of that list.
+/// Returns the smallest run that holds a point and its scale point. `runs` are the scale points of
+/// the point's list.
 pub fn item(runs: &ScaleRuns<'_>, point: &ListedPoint) -> Run
     ensures { (points : List ListedPoint) → AreScaleRuns points runs.now
         → result ≡ item_of points point.now }
@@ -72,7 +70,7 @@ pub fn item(runs: &ScaleRuns<'_>, point: &ListedPoint) -> Run
     }
 }
 
-/// The items of the points, in the order of the list.
+/// Returns the items of the points, in the order of the list.
 pub fn items(alloc: Global, points: &[ListedPoint]) -> Result<Vec<Run>, AllocError>
     ensures { IfOk result (λ v. v.items ≡ items_of points.now) }
 {

@@ -1,16 +1,16 @@
-//! Laws of plans.
+//! Theorems on plans.
 ghost use Rattle.std.specs.Prelude.{List, ◌≤◌, length};
 ghost use Rattle.read_plan.specs.declared.run.Run.{Run};
 ghost use Rattle.read_plan.specs.PlannedLists.{ListsArePlannedOnce};
 ghost use Rattle.read_plan.specs.Plans.{FollowsRule, IsLawful};
 
-/// A law of plans: whatever the points and their items, the rule's reads are the fewest.
+/// Proves that no lawful plan has fewer reads than the rule's plan, for all points and items.
 pub fn rule_is_least()
     ensures { (points items reads other : List Run) → FollowsRule items reads
         → IsLawful points items other → length reads ≤ length other }
 {}
 
-/// A list has one plan.
+/// Proves that a list has exactly one plan.
 pub fn lists_are_planned_once()
     ensures { ListsArePlannedOnce }
 {}

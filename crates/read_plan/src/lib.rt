@@ -1,4 +1,5 @@
-//! Plans of reads: the fewest lawful Modbus reads for a point list, and lists with the reads of their plans.
+//! Plans of reads: the fewest lawful Modbus reads for a point list, and lists with the reads of
+//! their plans.
 #![tactic(auto)]
 
 mod beginnings;

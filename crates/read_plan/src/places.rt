@@ -1,4 +1,4 @@
-//! Plans, and where points stand in them.
+//! Plans, and the location of each point in them.
 ghost use Rattle.std.specs.Prelude.{◌≡◌, ◌<◌, length, slice_index_or};
 
 use crate::beginnings::ends_by_limit;
@@ -6,16 +6,16 @@ use crate::planned_reads::PlannedRead;
 use crate::run::Run;
 use std::marker::Model;
 
-/// Where a point stands in a plan.
+/// The location of a point in a plan.
 #[derive(Clone, Copy, Debug, PartialEq, Eq)]
 pub struct Place {
-    /// The number of the read, the first being 0.
+    /// The index of the read, from 0.
     pub read: usize,
-    /// How many registers of the read stand before the point's.
+    /// The number of registers of the read before the point's first register.
     pub offset: u16,
 }
 
-/// The reads of a point list, and where each of its points stands in them.
+/// The reads of a point list, and the location of each point in them.
 #[derive(Drop)]
 pub struct Plan {
     starts: Vec<u16>,
@@ -55,21 +55,22 @@ impl Plan {
         }
     }
 
-    /// The reads by function, area number and address.
+    /// Returns the reads, in order of function, area number and address.
     pub fn reads(&self) -> &[PlannedRead]
         ensures { result.now ≡ self.now.reads }
     {
         self.reads.as_slice()
     }
 
-    /// How many points the plan places.
+    /// Returns the number of points in the plan.
     pub fn point_count(&self) -> usize
         ensures { result ≡ length self.now.items }
     {
         self.items.len()
     }
 
-    /// Where the point of a number stands, the first of the list being 0: in the first read that holds its item.
+    /// Returns the location of the point at this index of the list, from 0: the first read that
+    /// holds its item, and the offset there.
     pub fn place(&self, point: usize) -> Place
         requires { point < length self.now.items }
         ensures first { (d : Run) → IsFirstHolding (read_runs self.now.reads)

@@ -1,4 +1,4 @@
-//! A point list, and the reads by which its points are polled.
+//! A point list, together with the reads that poll its points.
 ghost use Rattle.std.specs.Prelude.{◌≡◌, IfOk};
 
 use crate::copies::copy_list;
@@ -39,6 +39,7 @@ impl PlannedList {
         Ok(PlannedList { list, reads })
     }
 
+    /// Returns the points, in the order of the list.
     pub fn points(&self) -> &[ListedPoint]
         ensures points { result.now ≡ self.now.points }
         ensures planned { IsPlanned self.now }
@@ -46,7 +47,7 @@ impl PlannedList {
         self.list.points()
     }
 
-    /// The reads of the plan, in their order.
+    /// Returns the reads of the plan, in order of function, area number and address.
     pub fn reads(&self) -> &[PlannedRead]
         ensures reads { result.now ≡ self.now.reads }
         ensures planned { IsPlanned self.now }

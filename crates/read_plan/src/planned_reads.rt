@@ -1,4 +1,4 @@
-//! Reads of a plan.
+//! The reads of a plan.
 ghost use Rattle.std.specs.Prelude.{◌≡◌, ◌≤◌, IfOk, map};
 ghost use Rattle.std.specs.List.{All};
 ghost use Rattle.read_plan.specs.Plans.{IsReadable};
@@ -7,7 +7,7 @@ use crate::run::Run;
 use mb_wire::{ADDRESSES, ReadSpan};
 use std::alloc::{AllocError, Global};
 
-/// One read of a plan: registers of an area.
+/// One read of a plan, in the registers of an area number.
 #[derive(Clone, Copy, Debug, PartialEq, Eq)]
 pub struct PlannedRead {
     pub area: u8,
@@ -17,7 +17,6 @@ pub struct PlannedRead {
 impl PlannedRead {
     ghost use Rattle.read_plan.specs.PlannedReads.{read_run};
 
-    // The registers of a read as a run.
     pub(crate) fn run(&self) -> Run
         ensures { result ≡ read_run self.now }
     {
@@ -30,7 +29,6 @@ impl PlannedRead {
         }
     }
 
-    // A run of 1 to 125 registers as a read.
     pub(crate) fn of_run(run: &Run) -> PlannedRead
         requires readable { IsReadable run.now }
         requires inside { run.now.end ≤ ADDRESSES }
@@ -47,7 +45,6 @@ impl PlannedRead {
         }
     }
 
-    // Runs of 1 to 125 registers as reads.
     pub(crate) fn of_runs(alloc: Global, runs: &[Run]) -> Result<Vec<PlannedRead>, AllocError>
         requires readable { All IsReadable runs.now }
         requires inside { All (λ run. run.end ≤ ADDRESSES) runs.now }

@@ -1,4 +1,4 @@
-//! The plan of a point list.
+//! Plans the reads of a point list.
 ghost use Rattle.std.specs.Prelude.{◌≡◌, IfOk, length, map};
 ghost use Rattle.read_plan.specs.Items.{items_of, runs_of};
 ghost use Rattle.read_plan.specs.PlannedReads.{read_runs};
@@ -11,16 +11,16 @@ use crate::reads::rule_reads;
 use point_list::{ListedPoint, PointList};
 use std::alloc::{AllocError, Global};
 
-// The first register of each point.
 fn starts(alloc: Global, points: &[ListedPoint]) -> Result<Vec<u16>, AllocError>
     ensures { IfOk result (λ v. v.items ≡ map (λ point. point.address) points.now) }
 {
     points.iter().map(|point| point.address).collect(alloc)
 }
 
-/// The plan of a point list: in each area a read begins at the first register of the first item that no earlier read
-/// holds, and ends at the greatest last register of the items within 125 registers from there. An item is the least
-/// run with a point and its scale point.
+/// Returns the plan of a point list. It has the fewest reads that any lawful plan of the list has.
+/// An item is the smallest run that holds a point and its scale point. In each area a read begins
+/// at the first register of the first item that no earlier read holds. The read ends at the
+/// greatest last register of the items within 125 registers from there.
 pub fn plan(alloc: Global, list: &PointList) -> Result<Plan, AllocError>
     ensures starts { IfOk result (λ plan. plan.starts ≡ map (λ point. point.address) list.now) }
     ensures items { IfOk result (λ plan. plan.items ≡ items_of list.now) }

@@ -2,10 +2,10 @@
 
 use mb_wire::ReadFunction;
 
-/// The most registers that one read holds.
+/// The maximum number of registers in one read.
 pub const READ_LIMIT: u32 = 125;
 
-/// A run of registers of one function and area number: from `first` up to, and without, `end`.
+/// A run of registers of one function and area number, from `first` to before `end`.
 #[derive(Clone, Copy)]
 pub struct Run {
     pub function: ReadFunction,

@@ -1,4 +1,4 @@
--- The hex text of bytes, piece after piece.
+-- The hex text of bytes, piece by piece.
 use Rattle.std.proofs.Common.{◌≡◌, ◌/◌, ◌%◌, ℕ, List, [], ◌∷◌, ◌++◌, Option, take, drop, refl, sym, ap, ◌∙◌, append_assoc, append-nil, take-append-drop}
 use Rattle.std.specs.Prelude.{slice_index, IsErr, IsOk, OnOk, Ok, Err}
 use Rattle.std.specs.declared.result.Result.{Result}
@@ -8,31 +8,31 @@ use Rattle.hex.specs.Hex.{encode_lower, encode_with, lower_digits}
 use Rattle.sun_points.specs.Writing.{GotPart, GotText}
 use Rattle.script_text.proofs.Got.{appends_both, appends_this, got_first, part_after}
 
--- the text of bytes that are joined is their texts, joined
+-- The hex text of two byte strings is the texts of both, one after the other.
 pub encode_lower-append : (xs ys : List ℕ) → encode_lower (xs ++ ys) ≡ encode_lower xs ++ encode_lower ys
 unfolding encode_with
 encode_lower-append [] ys = refl
 encode_lower-append (x ∷ xs) ys =
     ap (λ (more : List ℕ). slice_index lower_digits (x / 16) ∷ slice_index lower_digits (x % 16) ∷ more) (encode_lower-append xs ys)
 
--- nothing was got yet
+-- The writer received nothing yet.
 pub none_got : (a : Option (List ℕ)) → Appends a a (encode_lower [])
 unfolding encode_with
 none_got a = Appends-nil a
 
--- a piece is cut off the rest
+-- A piece is removed from the rest.
 pub cut_off : (bytes done rest piece after : List ℕ) (n : ℕ) → bytes ≡ done ++ rest → piece ≡ take n rest → after ≡ drop n rest → bytes ≡ (done ++ piece) ++ after
 cut_off bytes done rest piece after n split front back =
     split ∙ ap (λ (l : List ℕ). done ++ l) (sym (take-append-drop n rest)) ∙ ap (λ (l : List ℕ). done ++ (l ++ drop n rest)) (sym front)
     ∙ ap (λ (l : List ℕ). done ++ (piece ++ l)) (sym back) ∙ sym (append_assoc done piece after)
 
--- a piece was got after the others
+-- The writer received a piece after the others.
 pub piece_got : (a b c : Option (List ℕ)) (done piece : List ℕ) → Appends a b (encode_lower done) → Appends b c (encode_lower piece)
     → Appends a c (encode_lower (done ++ piece))
 piece_got a b c done piece first second =
     appends_both a b c (encode_lower done) (encode_lower piece) (encode_lower (done ++ piece)) first second (sym (encode_lower-append done piece))
 
--- a part of it was
+-- The writer received a part of the piece.
 pub piece_failed : {X E : Type 0} (result : Result X E) (a b c : Option (List ℕ)) (bytes done piece after : List ℕ) → IsErr result → bytes ≡ (done ++ piece) ++ after
     → Appends a b (encode_lower done) → GotPart (encode_lower piece) b c → GotText result (encode_lower bytes) a c
 piece_failed result a b c bytes done piece after failed is first second =
@@ -41,13 +41,13 @@ piece_failed result a b c bytes done piece after failed is first second =
     (ap (λ (front : List ℕ). front ++ encode_lower after) (sym (encode_lower-append done piece)) ∙ sym (encode_lower-append (done ++ piece) after)
     ∙ ap encode_lower (sym is))
 
--- nothing is left
+-- Nothing is left.
 pub all_got : (a b : Option (List ℕ)) (bytes done rest : List ℕ) → bytes ≡ done ++ rest → rest ≡ [] → Appends a b (encode_lower done) → Appends a b (encode_lower bytes)
 all_got a b bytes done rest split none got =
     appends_this a b (encode_lower done) (encode_lower bytes)
     (ap encode_lower (sym (append-nil done)) ∙ ap (λ (l : List ℕ). encode_lower (done ++ l)) (sym none) ∙ ap encode_lower (sym split)) got
 
--- a piece that has room is filled
+-- The contract of a call, after a success.
 pub filled : {X E : Type 0} (result : Result X E) (P : Type 0) → IsOk result → OnOk result P → P
 filled (Ok done) P ok so = so
 filled (Err error) P ok so = cc ok

@@ -1,4 +1,4 @@
-//! What is told of an accepted event.
+//! Writes the text of an accepted event.
 ghost use Rattle.std.specs.Prelude.{◌≡◌, ◌++◌, codes, flat_map};
 ghost use Rattle.hex.specs.Hex.{encode_lower};
 ghost use Rattle.sun_points.specs.Writing.{GotText};
@@ -10,7 +10,8 @@ use crate::row_lines::Line;
 use office_events::{Answer, Note};
 use std::io::{self, Write};
 
-/// Writes the notes of an accepted event and then its answer, where frames are those that it wants sent.
+/// Writes the notifications of an accepted event, and then its answer. `frames` are the bytes to
+/// send.
 pub fn write_accepted<W: Write>(
     answer: &Answer,
     notes: &[Note],
@@ -24,7 +25,7 @@ pub fn write_accepted<W: Write>(
     write_answer(answer, frames, output)
 }
 
-/// Writes a line for each note.
+/// Writes a line for each notification.
 pub fn write_notes<W: Write>(notes: &[Note], output: &mut W) -> io::Result<()>
     ensures { GotText result (flat_map text.note_line notes.now)
         (W.contents output.old) (W.contents output.new) }
@@ -35,7 +36,7 @@ pub fn write_notes<W: Write>(notes: &[Note], output: &mut W) -> io::Result<()>
     Ok(())
 }
 
-/// Writes `ok`, or for a start `started FIRST COUNT OF HEX`, where HEX is the frames that it wants sent.
+/// Writes `ok`, or for a start `started FIRST COUNT OF HEX`. HEX are the frames to send.
 pub fn write_answer<W: Write>(answer: &Answer, frames: &[u8], output: &mut W) -> io::Result<()>
     ensures { GotText result (text.answer_line answer.now frames.now)
         (W.contents output.old) (W.contents output.new) }

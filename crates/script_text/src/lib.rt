@@ -1,5 +1,5 @@
-//! The texts that a script prints. Each call writes its text whole, or a beginning of it where the writer
-//! fails. No call takes memory.
+//! The texts that a script prints. If the writer fails, a call has written a beginning of its text.
+//! No call allocates memory.
 #![tactic(auto)]
 
 mod accepted_events;

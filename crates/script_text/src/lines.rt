@@ -1,4 +1,4 @@
-//! Lines that stand alone.
+//! Writes single lines.
 ghost use Rattle.std.specs.Prelude.{◌≡◌, ◌≤◌, ◌+◌, ◌++◌, flat_map, length};
 ghost use Rattle.sun_points.specs.Writing.{GotText};
 ghost use Rattle.script_text.specs.AnswerText as text;
@@ -28,7 +28,8 @@ fn refused_line(refusal: Refusal) -> Line
     line
 }
 
-/// Writes `meter NAME last RAW sf SF at MOMENT total MWH open`, whose last word is `ended` after a closing.
+/// Writes `meter NAME last RAW sf SF at MOMENT total MWH open`. The last word is `ended` for a
+/// closed meter.
 pub fn write_meter<W: Write>(row: &Installation, output: &mut W) -> io::Result<()>
     ensures { GotText result (text.meter_line row.now)
         (W.contents output.old) (W.contents output.new) }
@@ -61,7 +62,7 @@ fn end_word(ended: bool) -> &'static [u8]
     if ended { b" ended\n" } else { b" open\n" }
 }
 
-/// Writes `poll N OUTCOME`, where the outcome of a poll that has not ended is `pending`.
+/// Writes `poll N OUTCOME`. The outcome of a pending poll is `pending`.
 pub fn write_poll<W: Write>(row: &PollRow, output: &mut W) -> io::Result<()>
     ensures { GotText result (text.poll_line row.now)
         (W.contents output.old) (W.contents output.new) }
@@ -91,7 +92,7 @@ fn push_ending(line: &mut Line, ended: &Option<EndedPoll>)
     }
 }
 
-/// Writes `row R fault N` for each row; the header is row 1.
+/// Writes `row R fault N` for each faulty row. The header is row 1.
 pub fn write_faults<W: Write>(faults: &[FaultyRow], output: &mut W) -> io::Result<()>
     ensures { GotText result (flat_map text.fault_line faults.now)
         (W.contents output.old) (W.contents output.new) }
@@ -119,7 +120,7 @@ fn fault_line(faulty: &FaultyRow) -> Line
     line
 }
 
-/// Writes `bad line N`.
+/// Writes `bad line N`, for an input line without a valid form.
 pub fn write_bad_line<W: Write>(number: u64, output: &mut W) -> io::Result<()>
     ensures { GotText result (text.bad_line number)
         (W.contents output.old) (W.contents output.new) }

@@ -1,4 +1,4 @@
-//! The lines of what the office tells of an event.
+//! Writes the lines of notifications.
 ghost use Rattle.std.specs.Prelude.{◌≡◌, ◌≤◌, ◌+◌, ◌++◌, length};
 ghost use Rattle.sun_points.specs.Writing.{GotText};
 ghost use Rattle.script_text.specs.AnswerText as text;
@@ -51,7 +51,7 @@ fn outcome_line(poll: u64, outcome: Outcome) -> Line
     line
 }
 
-/// Puts how a poll ended.
+/// Appends the outcome of a poll.
 pub(crate) fn push_outcome(line: &mut Line, outcome: Outcome)
     requires { length line.old ≤ 64 }
     ensures bytes { line.new ≡ line.old ++ text.outcome_text outcome }

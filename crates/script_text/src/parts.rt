@@ -1,4 +1,4 @@
-//! Texts that are written one after the other.
+//! Writes texts one after another.
 ghost use Rattle.std.specs.Prelude.{◌≡◌, ◌++◌, ◌*◌, ◌≤◌, length};
 ghost use Rattle.hex.specs.Hex.{encode_lower};
 ghost use Rattle.sun_points.specs.Writing.{GotText};
@@ -6,10 +6,10 @@ ghost use Rattle.sun_points.specs.Writing.{GotText};
 use std::io::{self, Write};
 use sun_points::Sink;
 
-/// So many bytes at most are written as hex in one piece.
+/// The maximum number of bytes that one write shows in hex.
 const PIECE: usize = 32;
 
-/// The digits of so many.
+/// The number of hex digits of a piece.
 const DIGITS: usize = 2 * PIECE;
 
 /// Writes a text.
@@ -27,7 +27,7 @@ fn write_both<W: Write>(first: &[u8], second: &[u8], output: &mut W) -> io::Resu
     write_text(second, output)
 }
 
-/// Writes a word, a name and what is said of it.
+/// Writes a keyword, a name and the rest of a line.
 pub(crate) fn write_named<W: Write>(
     word: &[u8],
     name: &[u8],
@@ -41,7 +41,7 @@ pub(crate) fn write_named<W: Write>(
     write_both(name, rest, output)
 }
 
-/// Writes bytes in lower-case hex, piece after piece.
+/// Writes bytes in lower-case hex, piece by piece.
 pub(crate) fn write_hex<W: Write>(bytes: &[u8], output: &mut W) -> io::Result<()>
     ensures { GotText result (encode_lower bytes.now)
         (W.contents output.old) (W.contents output.new) }
@@ -66,11 +66,11 @@ fn write_piece<W: Write>(bytes: &[u8], output: &mut W) -> io::Result<()>
     write_text(text, output)
 }
 
-/// Fills a text that has two digits for each byte.
+/// The text has two digits for each byte.
 fn put_digits(bytes: &[u8], text: &mut [u8])
     requires { length text.old ≡ 2 * length bytes.now }
     ensures { text.new ≡ encode_lower bytes.now }
 {
-    // (it fails at another length alone)
+    // Any other length is the only error, and the contract excludes it.
     let _ = hex::encode_to_slice(bytes, text);
 }

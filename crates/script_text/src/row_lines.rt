@@ -1,4 +1,4 @@
-//! The lines in which rows of intervals and of days are told. No call takes memory.
+//! The lines of interval rows and days. No call allocates memory.
 
 mod line;
 mod rows;

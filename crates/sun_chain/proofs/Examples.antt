@@ -1,4 +1,5 @@
--- Worked examples, computed from the definitions: the last good value and the first bad one of each limit.
+-- Worked examples, computed from the definitions: the last valid value and the first invalid value
+-- of each limit.
 use Rattle.std.proofs.Common.{◌≡◌, ℕ, List, [], ◌∷◌, Some, None, refl}
 use Rattle.sun_chain.specs.Chain.{base_in}
 use Rattle.sun_chain.specs.Common.{device_address_in}
@@ -8,7 +9,7 @@ use Rattle.sun_chain.specs.Walk.{end_lack, first_lack}
 use Rattle.sun_chain.specs.declared.model.Model.{Model}
 use Rattle.sun_chain.specs.declared.fault.ChainFault.TheVariants.{PastEnd, TooMany, Unreadable}
 
--- the same word at each address
+-- The same word at each address.
 abbrev everywhere : ℕ → Words
 everywhere word address = Some word
 
@@ -23,7 +24,7 @@ no_room_for_a_65th = refl
 an_end_after_64 : first_lack (everywhere 0xFFFF) 64 40002 ≡ None
 an_end_after_64 = refl
 
--- The last address, and the one after it.
+-- The last address, and the address after it.
 
 an_end_at_the_last_address : first_lack (everywhere 0xFFFF) 0 65535 ≡ None
 an_end_at_the_last_address = refl
@@ -43,7 +44,7 @@ a_model_past_the_last_address = refl
 a_word_not_read : first_lack (λ address. None) 0 40002 ≡ Some (Unreadable 40002)
 a_word_not_read = refl
 
--- Where a mark may stand, and which is taken.
+-- The base addresses, and the base that the walk chooses.
 
 abbrev mark : List ℕ
 mark = 0x5375 ∷ 0x6E53 ∷ []
@@ -60,7 +61,7 @@ at_50000_before_zero = refl
 not_at_40001 : base_in (put_words (λ address. None) 40001 mark) ≡ None
 not_at_40001 = refl
 
--- Model 1 has its device address at 66 registers and at 65, and none at 64.
+-- Model 1 has its device address with 66 registers and with 65, and lacks it with 64.
 
 abbrev model_of_length : ℕ → Model
 model_of_length length = record { address = 40002; id = 1; length = length }
@@ -76,7 +77,7 @@ of_65 = refl
 of_64 : device_address_in (everywhere 5) (model_of_length 64) ≡ None
 of_64 = refl
 
--- register 67 of the model is there with 66, and not with 65
+-- Model 1 has register 67 with 66 registers, and lacks it with 65.
 pad_of_66 : registers_in (everywhere 5) (model_of_length 66) 67 1 ≡ Some (5 ∷ [])
 unfolding words_in
 pad_of_66 = refl

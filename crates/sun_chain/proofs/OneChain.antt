@@ -1,4 +1,4 @@
--- Words have one chain, or one fault.
+-- Words have at most one chain, and at most one fault.
 use Rattle.std.proofs.Common.{◌≡◌, ◌≢◌, ℕ, ◌+◌, ◌≤◌, nat_lt, false, Option, Some, None, List, [], ◌∷◌, length, arith, refl, sym, ◌∙◌, ap}
 use Rattle.std.proofs.lemmas.Bool.{le-ltb}
 use Rattle.sun_chain.specs.Image.{Words}
@@ -16,7 +16,7 @@ some_or_none a found is_a is_none = cc
 abbrev model_of : ℕ → ℕ → ℕ → Model
 model_of address id size = record { address = address; id = id; length = size }
 
--- One model stands at an address.
+-- At most one model begins at an address.
 same_model : (word : Words) (first other : Model) → first.address ≡ other.address → Stands word first → Stands word other → first ≡ other
 same_model word first other same stands other_stands =
     let other_id : word first.address ≡ Some other.id = rw same other_stands.id in
@@ -27,7 +27,7 @@ same_model word first other same stands other_stands =
     ∙ ap (λ (i : ℕ). model_of other.address i first.length) ids
     ∙ ap (λ (l : ℕ). model_of other.address other.id l) lengths
 
--- As many models from one address on are the same ones.
+-- Two lists of equally many models from one address are equal.
 same_models : (word : Words) (from : ℕ) (models others : List Model) (next other_next : ℕ) →
     Follow word from models next → Follow word from others other_next → length models ≡ length others → (models ≡ others) × (next ≡ other_next)
 same_models word from [] [] next other_next follow other_follow as_many = (refl, sym follow ∙ other_follow)
@@ -41,7 +41,7 @@ same_models word from (first ∷ models) (other ∷ others) next other_next foll
     same_models word (next_after first) models others next other_next follow.2 other_too (omega arith) in
     (ap (λ (m : Model). m ∷ models) one ∙ ap (λ (ms : List Model). other ∷ ms) rest.0, rest.1)
 
--- No models reach after the end.
+-- No list of models reaches past the end of the chain.
 none_after_end : (word : Words) (from : ℕ) (models others : List Model) (end other_next : ℕ) →
     Follow word from models end → word end ≡ Some 0xFFFF → Follow word from others other_next → length others ≤ length models
 none_after_end word from models [] end other_next follow ends other_follow = omega arith
@@ -64,7 +64,7 @@ chain_is_one word base other_base models others end other_end chain other =
     let same : (models ≡ others) × (end ≡ other_end) = same_models word (base + 2) models others end other_end chain.lawful.follow other_follow (omega arith) in
     (bases, same.0, same.1)
 
--- At the end nothing is lacking.
+-- The end of a chain is no fault.
 no_lack_at_end : (word : Words) (count end : ℕ) → word end ≡ Some 0xFFFF → end ≤ 65535 → first_lack word count end ≡ None
 no_lack_at_end word count end ends inside =
     let in_space : nat_lt 65535 end ≡ false = le-ltb 65535 end inside in

@@ -14,7 +14,7 @@ one_row : (f : Row → Option Named) (row : Row) (found : Option NamedPoint) →
 one_row f row None is = rw (sym is) refl
 one_row f row (Some point) is = rw (sym is) refl
 
--- The points of one row more.
+-- The points after one more row.
 pub rows_more : (word : Words) (model : Model) (entries : List Entry) (i : ℕ) (d : Entry) (found : Option NamedPoint) (before after : List NamedPoint) →
     i < length entries → map seen before ≡ filter_map (point_in word model) (map row_of (take i entries)) →
     option_map seen found ≡ point_in word model (row_of (get_or entries i d)) → after ≡ before ++ option_to_list found →

@@ -10,7 +10,7 @@ use Rattle.sun_chain.specs.declared.fault.ChainFault.{ChainFault}
 use Rattle.sun_chain.specs.declared.fault.ChainFault.TheVariants.{NoMark, Unreadable, PastEnd, TooMany, Memory}
 use Rattle.sun_chain.proofs.Chains.{lawful_more, fails_by}
 
--- What stands at an address after so many models: the end, one more model, or nothing, with what is lacking.
+-- The finding at an address after `count` models: the end, one more model, or a fault.
 data Next (word : Words) (count address : ℕ) : Type 0 where
   AtEnd : word address ≡ Some 0xFFFF → address ≤ 65535 → Next word count address
   AtModel : (model : Model) → model.address ≡ address → Stands word model → count < 64 → Next word count address
@@ -68,7 +68,7 @@ at_address : (word : Words) (count address : ℕ) → (past : Bool) → nat_lt 6
 at_address word count address true past = Lacking PastEnd (λ e. cc) (rw past refl)
 at_address word count address false past = in_words word count address past (word address) refl
 
--- From a lawful list on, a chain or a fault comes within 64 models.
+-- A lawful list leads to a chain or a fault within 64 models.
 found_from : (more : ℕ) (word : Words) (base : ℕ) (models : List Model) (next : ℕ) → IsLawful word base models next → 65 ≤ more + length models →
     HasChain word ⊎ HasFault word
 found_from zero word base models next lawful many =

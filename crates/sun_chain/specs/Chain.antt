@@ -1,65 +1,71 @@
--- The chain of models that stands in a device's words.
+-- The chain of SunSpec models in the words of a device.
 use Rattle.std.specs.Prelude.{◌≡◌, ◌≢◌, ℕ, ◌+◌, ◌≤◌, ◌<◌, Bool, false, ◌&&◌, ◌==◌, List, [], ◌∷◌, length, Some, option_map, unwrap_or, find, MatchOption}
 use Rattle.std.specs.declared.option.Option.{Option}
 use Rattle.sun_chain.specs.Image.{Words, word_in}
 use Rattle.sun_chain.specs.declared.chain.Chain.{Chain}
 use Rattle.sun_chain.specs.declared.model.Model.{Model}
 
--- a word that was read, and has this value
+-- A word that was read, and equals this value.
 abbrev pub is_word : Option ℕ → ℕ → Bool
 is_word found value = unwrap_or (option_map (λ word. word == value) found) false
 
--- the mark: `Su` and `nS`
+-- The address holds the mark `SunS`: the words `Su` and `nS`.
 abbrev pub is_marked : Words → ℕ → Bool
 is_marked word address = is_word (word address) 0x5375 && is_word (word (address + 1)) 0x6E53
 
--- the first of these addresses that has the mark
+-- The first of the base addresses 40000, 50000 and 0 that holds the mark.
 abbrev pub base_in : Words → Option ℕ
 base_in word = find (is_marked word) (40000 ∷ 50000 ∷ 0 ∷ [])
 
--- a model: its ID, which is not that of the end, its length, and all of its registers below 65536
+-- The words hold this model: its ID, which is not the end's, and its length. All of its registers
+-- lie below 65536.
 pub record Stands (word : Words) (model : Model) : Type 0 where
   pub id : word model.address ≡ Some model.id
   pub no_end : model.id ≢ 0xFFFF
   pub length : word (model.address + 1) ≡ Some model.length
   pub inside : model.address + 2 + model.length ≤ 65536
 
+-- The address after a model's last register.
 abbrev pub next_after : Model → ℕ
 next_after model = model.address + 2 + model.length
 
--- models stand one after another, the first at an address, and another address follows them
+-- The models follow one another without a gap, the first at address `from`. `next` is the address
+-- after the last.
 abbrev pub Follow : Words → ℕ → List Model → ℕ → Type 0
 Follow word from [] next = from ≡ next
 Follow word from (model ∷ models) next =
     (model.address ≡ from) × Stands word model × Follow word (next_after model) models next
 
--- what stands at an address after so many models: a model, or the end, where none is found
+-- The walk's finding at an address after `count` models: another model, or the end of the chain.
 abbrev pub IsNext : Words → (count address : ℕ) → Option Model → Type 0
 IsNext word count address found =
     MatchOption found ((word address ≡ Some 0xFFFF) × (address ≤ 65535))
     (λ model. (model.address ≡ address) × Stands word model × (count < 64))
 
--- at most 64 models from after the mark on
+-- At most 64 consecutive models after the mark.
 pub record IsLawful (word : Words) (base : ℕ) (models : List Model) (next : ℕ) : Type 0 where
   pub marked : base_in word ≡ Some base
   pub follow : Follow word (base + 2) models next
   pub few : length models ≤ 64
 
--- a chain: its models, and the address of the end's ID after them
+-- A complete chain: its models, and the address of the end's ID after them.
 pub record IsChain (word : Words) (base : ℕ) (models : List Model) (end : ℕ) : Type 0 where
   pub lawful : IsLawful word base models end
   pub ends : word end ≡ Some 0xFFFF
   pub inside : end ≤ 65535
 
--- what a walk found
+-- The words in which a walk found its chain.
 abbrev pub words_of : Chain → Words
 words_of chain = word_in chain.image.now
 
+-- The address of the chain's mark.
 abbrev pub base_of : Chain → ℕ
 base_of chain = chain.base
 
+-- The models of the chain, in order of address.
 abbrev pub models_of : Chain → List Model
 models_of chain = chain.models.items
 
+-- The address of the end's ID.
 abbrev pub end_of : Chain → ℕ
 end_of chain = chain.end

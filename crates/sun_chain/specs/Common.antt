@@ -1,4 +1,4 @@
--- What a device says of itself in its first model 1.
+-- The identity of a device: the fields of its first common model (model 1).
 use Rattle.std.specs.Prelude.{ℕ, ◌==◌, List, [], Some, None, option_map, option_and_then, find}
 use Rattle.std.specs.declared.option.Option.{Option}
 use Rattle.sun_points.specs.Point.{Value, Absent, Signed, Unsigned, Bits, value_of}
@@ -9,7 +9,7 @@ use Rattle.sun_chain.specs.Points.{registers_in}
 use Rattle.sun_chain.specs.declared.model.Model.{Model}
 use Rattle.sun_chain.specs.declared.common.Common.{Common}
 
--- the fields without where their texts lie in memory: the words of each text
+-- The fields of a common model, each text as its words, without the memory that the text borrows.
 pub record Said : Type 0 where
   pub manufacturer : List ℕ
   pub model : List ℕ
@@ -18,6 +18,7 @@ pub record Said : Type 0 where
   pub serial : List ℕ
   pub device_address : Option ℕ
 
+-- The fields that a `Common` of the program represents.
 abbrev pub said : Common → Said
 said common = record {
   manufacturer = common.manufacturer.words.now;
@@ -28,7 +29,7 @@ said common = record {
   device_address = common.device_address;
 }
 
--- a text's words: none where it is absent
+-- The words of a text. An absent text has none.
 abbrev pub text_words : Value → List ℕ
 text_words Absent = []
 text_words (Signed value) = []
@@ -36,15 +37,18 @@ text_words (Unsigned value) = []
 text_words (Bits bits) = []
 text_words (WordsOf words) = words
 
+-- The words of a text that may be missing.
 abbrev pub words_or_none : Option Value → List ℕ
 words_or_none None = []
 words_or_none (Some value) = text_words value
 
--- a text of a model, by its first register and how many it has: no words where it isn't there
+-- The words of a text at an offset of a model. A text that is not fully inside the model and read
+-- has none.
 abbrev pub text_in : Words → Model → ℕ → ℕ → List ℕ
 text_in word model offset count =
     words_or_none (option_map (value_of (Text count)) (registers_in word model offset count))
 
+-- The number of an unsigned value, if it is implemented.
 abbrev pub number_of : Value → Option ℕ
 number_of Absent = None
 number_of (Signed value) = None
@@ -52,10 +56,12 @@ number_of (Unsigned value) = Some value
 number_of (Bits bits) = None
 number_of (WordsOf words) = None
 
+-- The device address at offset 66 of the model, if it exists and is implemented.
 abbrev pub device_address_in : Words → Model → Option ℕ
 device_address_in word model =
     option_and_then (λ words. number_of (value_of Uint16 words)) (registers_in word model 66 1)
 
+-- The fields of a common model, at the offsets of the SunSpec Information Model Reference.
 abbrev pub common_in : Words → Model → Said
 common_in word model = record {
   manufacturer = text_in word model 2 16;
@@ -66,5 +72,6 @@ common_in word model = record {
   device_address = device_address_in word model;
 }
 
+-- The first common model of a chain.
 abbrev pub first_common : List Model → Option Model
 first_common models = find (λ model. model.id == 1) models

@@ -3,23 +3,24 @@ use Rattle.std.specs.Prelude.{ℕ, zero, suc, ◌+◌, ◌-◌, false, ◌&&◌,
 use Rattle.std.specs.declared.option.Option.{Option}
 use Rattle.sun_chain.specs.declared.image.Image.{Image}
 
--- what was read at each address
+-- The word that was read at each address, if any.
 abbrev pub Words : Type 0
 Words = ℕ → Option ℕ
 
+-- The words of an image, by address.
 abbrev pub word_in : Image → Words
 word_in image address =
     if slice_index_or image.read.items address false
     then Some (slice_index image.words.items address)
     else None
 
--- words put at an address and the ones after it, in place of what stood there
+-- The words after new words are written at consecutive addresses.
 abbrev pub put_words : Words → ℕ → List ℕ → Words
 put_words word address words at =
     if nat_le address at && nat_lt at (address + length words)
     then Some (slice_index words (at - address)) else word at
 
--- so many words from an address on, where each was read
+-- The `count` words from an address, if all of them were read.
 unfoldable pub words_in : Words → ℕ → ℕ → Option (List ℕ)
 words_in word address zero = Some []
 words_in word address (suc count) =

@@ -1,4 +1,4 @@
--- Laws of the chain and its faults, over all words.
+-- Theorems on chains and their faults, over all words.
 use Rattle.std.specs.Prelude.{◌≡◌, ◌≢◌, ℕ, ◌⊎◌, List}
 use Rattle.sun_chain.specs.Image.{Words}
 use Rattle.sun_chain.specs.Chain.{IsChain}
@@ -7,28 +7,30 @@ use Rattle.sun_chain.specs.declared.model.Model.{Model}
 use Rattle.sun_chain.specs.declared.fault.ChainFault.{ChainFault}
 use Rattle.sun_chain.specs.declared.fault.ChainFault.TheVariants.{Memory}
 
+-- The words hold a complete chain.
 abbrev pub HasChain : Words → Type 0
 HasChain word = (base : ℕ) × (models : List Model) × (end : ℕ) × IsChain word base models end
 
+-- The words have a fault other than lack of memory.
 abbrev pub HasFault : Words → Type 0
 HasFault word = (fault : ChainFault) × (fault ≢ Memory) × Fails word fault
 
--- Words have a chain, or a fault.
+-- Every device's words have a chain or a fault.
 abbrev pub ChainOrFault : Type 0
 ChainOrFault = (word : Words) → HasChain word ⊎ HasFault word
 
--- Words have no two chains.
+-- No words have two chains.
 abbrev pub ChainIsOne : Type 0
 ChainIsOne = (word : Words) (base other_base : ℕ) (models others : List Model) (end other_end : ℕ)
     → IsChain word base models end → IsChain word other_base others other_end
     → (base ≡ other_base) × (models ≡ others) × (end ≡ other_end)
 
--- Words that have a chain have no fault: only memory may be lacking.
+-- Words with a chain have no fault except lack of memory.
 abbrev pub ChainHasNoFault : Type 0
 ChainHasNoFault = (word : Words) (base : ℕ) (models : List Model) (end : ℕ) (fault : ChainFault)
     → IsChain word base models end → Fails word fault → fault ≡ Memory
 
--- Words have no two faults.
+-- No words have two faults, apart from lack of memory.
 abbrev pub FaultIsOne : Type 0
 FaultIsOne = (word : Words) (fault other : ChainFault) → fault ≢ Memory → other ≢ Memory
     → Fails word fault → Fails word other → fault ≡ other

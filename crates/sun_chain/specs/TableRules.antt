@@ -1,4 +1,4 @@
--- The rules that the tables keep, and the order of points.
+-- The invariants of the model tables, and the order of points.
 use Rattle.std.specs.Prelude.{ℕ, ◌+◌, ◌≤◌, ◌==◌, ◌&&◌, nat_le, Bool, true, false, IsTrue, if◌then◌else◌, List, [], ◌∷◌, option_map, unwrap_or}
 use Rattle.std.specs.List.{list_all, list_any}
 use Rattle.sun_points.specs.PointType.{registers_of}
@@ -7,19 +7,21 @@ use Rattle.sun_points.specs.declared.point_type.PointType.TheVariants.{Int16, Ui
 use Rattle.sun_chain.specs.Tables.{Row, table_of}
 use Rattle.sun_chain.specs.Points.{Named}
 
--- the register after a point's last one
+-- The offset after a point's last register.
 abbrev pub end_of_row : Row → ℕ
 end_of_row row = row.offset + registers_of row.ty
 
--- each point begins at or after the end of the one before, and the first at or after this register
+-- Points in order without overlap: each begins at or after the end of the point before, the first
+-- at or after `from`.
 abbrev pub ascends_from : ℕ → List Row → Bool
 ascends_from from [] = true
 ascends_from from (row ∷ rows) = nat_le from row.offset && ascends_from (end_of_row row) rows
 
--- a point lies inside a model of this length
+-- A point lies inside a model of this length.
 abbrev pub lies_inside : ℕ → Row → Bool
 lies_inside length row = nat_le (end_of_row row) (2 + length)
 
+-- The type of scale points.
 abbrev pub is_sunssf : PointType → Bool
 is_sunssf Int16 = false
 is_sunssf Uint16 = false
@@ -31,21 +33,22 @@ is_sunssf Acc32 = false
 is_sunssf Sunssf = true
 is_sunssf (Text registers) = false
 
--- a point that may scale others, at this offset
+-- A scale point at this offset.
 abbrev pub is_scale_point : ℕ → Row → Bool
 is_scale_point offset row = is_sunssf row.ty && row.offset == offset
 
--- the point that scales this one, if any does, is in the table
+-- The table holds the scale point of this point, if the point has one.
 abbrev pub has_its_scale : List Row → Row → Bool
 has_its_scale rows row =
     unwrap_or (option_map (λ offset. list_any (is_scale_point offset) rows) row.scale) true
 
--- a table for models of this length: after the ID and the length, its points stand in order, inside the model, with their scale points
+-- A lawful table for models of this length. After the ID and the length, its points are in order
+-- and inside the model, with their scale points.
 abbrev pub is_lawful_table : ℕ → List Row → Bool
 is_lawful_table length rows =
     ascends_from 2 rows && list_all (lies_inside length) rows && list_all (has_its_scale rows) rows
 
--- the length of a known model; model 1 may have one more register, for padding
+-- The length of a known model. Model 1 may have one more register, for padding.
 abbrev pub length_of_known : ℕ → ℕ
 length_of_known id =
     if id == 1 then 65
@@ -53,11 +56,11 @@ length_of_known id =
     else if nat_le 201 id && nat_le id 204 then 105
     else 0
 
--- The table of each ID is lawful.
+-- The table of every model ID is lawful.
 abbrev pub TablesAreLawful : Type 0
 TablesAreLawful = (id : ℕ) → IsTrue (is_lawful_table (length_of_known id) (table_of id))
 
--- each point begins at or after the end of the one before, and the first at or after this address
+-- Points in order of address without overlap, the first at or after address `from`.
 abbrev pub StandInOrder : ℕ → List Named → Type 0
 StandInOrder from [] = Unit {0}
 StandInOrder from (point ∷ points) =

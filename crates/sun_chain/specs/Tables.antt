@@ -1,4 +1,5 @@
--- The tables of the known models: models 1, 101 to 103, and 201 to 204 of the SunSpec Information Model Reference.
+-- The tables of the known models: 1, 101 to 103 and 201 to 204 of the SunSpec Information Model
+-- Reference.
 use Rattle.std.specs.Prelude.{ℕ, ◌==◌, ◌&&◌, nat_le, if◌then◌else◌, List, [], ◌∷◌, codes, find, Some, None}
 use Rattle.std.specs.Option.{option_and_then, option_map}
 use Rattle.std.specs.Str.{bytes_eq}
@@ -9,17 +10,19 @@ use Rattle.sun_chain.specs.declared.tables.Entry.{Entry}
 use Rattle.sun_chain.specs.declared.tables.EntryType.{EntryType}
 use Rattle.sun_chain.specs.declared.tables.EntryType.TheVariants as entry
 
--- a point of a model: its name, its first register counted from the model's ID, its type, and the register of the point that scales it
+-- A point of a model: its name, its offset from the model's ID register, its type, and the offset
+-- of its scale point.
 pub record Row : Type 0 where
   pub name : List ℕ
   pub offset : ℕ
   pub ty : PointType
   pub scale : Option ℕ
 
+-- A row of a table.
 abbrev pub row : List ℕ → ℕ → PointType → Option ℕ → Row
 row name offset ty scale = record { name = name; offset = offset; ty = ty; scale = scale }
 
--- model 1: what a device is
+-- Model 1, common: the identity of a device.
 abbrev pub common_table : List Row
 common_table =
     row (codes "Mn") 2 (Text 16) None
@@ -30,7 +33,7 @@ common_table =
     ∷ row (codes "DA") 66 Uint16 None
     ∷ []
 
--- models 101 to 103: an inverter of one, two or three phases
+-- Models 101 to 103: a single-, split- or three-phase inverter.
 abbrev pub inverter_table : List Row
 inverter_table =
     row (codes "A") 2 Uint16 (Some 6)
@@ -78,7 +81,7 @@ inverter_table =
     ∷ row (codes "EvtVnd4") 50 Bitfield32 None
     ∷ []
 
--- models 201 to 204: a meter
+-- Models 201 to 204: a meter.
 abbrev pub meter_table : List Row
 meter_table =
     row (codes "A") 2 Int16 (Some 6)
@@ -155,7 +158,7 @@ meter_table =
     ∷ row (codes "Evt") 105 Bitfield32 None
     ∷ []
 
--- the points of a model by its ID: none where it is not known
+-- The points of a model by its ID. An unknown model has none.
 abbrev pub table_of : ℕ → List Row
 table_of id =
     if id == 1 then common_table
@@ -163,7 +166,7 @@ table_of id =
     else if nat_le 201 id && nat_le id 204 then meter_table
     else []
 
--- a row as the program has it
+-- The type of a point in the program's tables.
 abbrev pub type_of : EntryType → PointType
 type_of entry.Int16 = Int16
 type_of entry.Uint16 = Uint16
@@ -174,19 +177,20 @@ type_of entry.Sunssf = Sunssf
 type_of entry.String8 = Text 8
 type_of entry.String16 = Text 16
 
+-- The row that an entry of the program's tables represents.
 abbrev pub row_of : Entry → Row
 row_of found = row found.name.now found.offset (type_of found.ty) found.scale
 
--- the offset of the point that scales the first point of a name
+-- The offset of the scale point of the first point with a name.
 abbrev pub scale_offset_in : List Row → List ℕ → Option ℕ
 scale_offset_in rows name =
     option_and_then (λ scaled. scaled.scale) (find (λ scaled. bytes_eq scaled.name name) rows)
 
--- the name of the first point at an offset
+-- The name of the first point at an offset.
 abbrev pub name_at_in : List Row → ℕ → Option (List ℕ)
 name_at_in rows offset =
     option_map (λ scaling. scaling.name) (find (λ scaling. scaling.offset == offset) rows)
 
--- the name of the point that scales the point of a name
+-- The name of the scale point of the point with a name.
 abbrev pub scale_name_in : List Row → List ℕ → Option (List ℕ)
 scale_name_in rows name = option_and_then (name_at_in rows) (scale_offset_in rows name)

@@ -5,7 +5,7 @@ ghost use Rattle.std.specs.List.{All};
 use crate::image::Image;
 use crate::model::Model;
 
-/// The chain of models in an image.
+/// The chain of SunSpec models in an image, as `walk` found it.
 #[derive(Drop)]
 pub struct Chain<'a> {
     pub(crate) image: &'a Image,

@@ -1,4 +1,4 @@
-//! The walk along a chain, from its mark to its end.
+//! Walks a chain from its mark to its end.
 ghost use Rattle.std.specs.Prelude.{◌≡◌, ◌<◌, ◌≤◌, ◌+◌, Some, None, IfOk, IfErr};
 ghost use Rattle.sun_chain.specs.Image.{word_in};
 ghost use Rattle.sun_chain.specs.Chain.{base_in, is_marked, base_of, end_of, models_of, words_of};
@@ -11,16 +11,17 @@ use crate::image::{ADDRESSES, Image};
 use crate::model::Model;
 use std::alloc::Global;
 
-/// The addresses where the mark may stand, in the order in which they are tried.
+/// The addresses where SunSpec allows the mark, in the order of the search.
 const BASES: [u16; 3] = [40000, 50000, 0];
 
-/// The most models of a chain.
+/// The maximum number of models in a chain.
 const MOST_MODELS: usize = 64;
 
-/// The ID that ends a chain.
+/// The ID of the model that ends a chain.
 const END_ID: u16 = 0xFFFF;
 
-/// Finds the chain of models in an image.
+/// Finds the chain of models in an image. The words `Su` and `nS` mark its base address: 40000,
+/// 50000 or 0.
 pub fn walk(alloc: Global, image: &Image) -> Result<Chain<'_>, ChainFault>
     ensures chain { IfOk result
         (λ chain. IsChain (word_in image.now) (base_of chain) (models_of chain) (end_of chain)) }
@@ -62,7 +63,7 @@ fn is_marked_at(image: &Image, base: u16) -> bool
     image.word(base) == Some(0x5375) && image.word(base + 1) == Some(0x6E53)
 }
 
-// The model that stands at an address after so many models, or none where the end stands there.
+// Returns the model at an address after `count` models, or `None` at the end of the chain.
 fn model_at(image: &Image, count: usize, address: u32) -> Result<Option<Model>, ChainFault>
     ensures stands { IfOk result (IsNext (word_in image.now) count address) }
     ensures lack { IfErr result

@@ -1,4 +1,4 @@
-//! What a device says of itself in its first model 1.
+//! Reads the identity of a device from its first common model (model 1).
 ghost use Rattle.std.specs.Prelude.{◌≡◌};
 ghost use Rattle.std.specs.Option.{option_map};
 ghost use Rattle.sun_chain.specs.Chain.{models_of, words_of};
@@ -8,7 +8,8 @@ use crate::chain::Chain;
 use crate::model::Model;
 use sun_points::{Point, PointType, Text, TextLength, read_point};
 
-/// What a device says of itself in its first model 1. A text that isn't there is empty.
+/// The fields of a device's first common model. A text that is absent, outside the model or not
+/// read is empty.
 #[derive(Clone, Copy, Debug, PartialEq, Eq)]
 pub struct Common<'a> {
     pub manufacturer: Text<'a>,
@@ -20,7 +21,7 @@ pub struct Common<'a> {
 }
 
 impl<'a> Chain<'a> {
-    /// The fields of the first model 1.
+    /// Returns the fields of the first common model, or `None` if the chain has no model 1.
     pub fn common(&self) -> Option<Common<'a>>
         ensures { option_map said result
             ≡ option_map (common_in (words_of self.now)) (first_common (models_of self.now)) }

@@ -1,4 +1,4 @@
-//! Why words are not put into an image, and why an image has no chain.
+//! Faults of a write into an image, and of an image without a chain.
 ghost use Rattle.std.specs.Prelude.{◌≡◌};
 ghost use Rattle.sun_chain.specs.Fault.{chain_fault_number, image_fault_number};
 
@@ -6,7 +6,7 @@ use std::error::Error;
 use std::fmt;
 use std::fmt::{Display, Formatter};
 
-/// Why words were not put into an image.
+/// The reason why an image refused words.
 #[derive(Clone, Copy, Debug, PartialEq, Eq)]
 pub enum ImageFault {
     /// The words would end past address 65535.
@@ -15,7 +15,7 @@ pub enum ImageFault {
 }
 
 impl ImageFault {
-    /// The number of the fault, from 1.
+    /// Returns the number of the fault, from 1.
     pub fn number(self) -> u8
         ensures { result ≡ image_fault_number self }
     {
@@ -37,22 +37,22 @@ impl Display for ImageFault {
 
 impl Error for ImageFault {}
 
-/// Why an image has no chain of models.
+/// The reason why an image has no chain of models.
 #[derive(Clone, Copy, Debug, PartialEq, Eq)]
 pub enum ChainFault {
-    /// No base address has the mark.
+    /// No base address holds the mark `SunS`.
     NoMark,
-    /// The word at this address was not read.
+    /// The chain needs the word at this address, and it was not read.
     Unreadable(u16),
-    /// The chain goes on past address 65535.
+    /// The chain continues past address 65535.
     PastEnd,
-    /// There is a 65th model.
+    /// The chain has a 65th model.
     TooMany,
     Memory,
 }
 
 impl ChainFault {
-    /// The number under which `chain` prints the fault, from 1.
+    /// Returns the number that `chain` prints for the fault, from 1.
     pub fn number(self) -> u8
         ensures { result ≡ chain_fault_number self }
     {

@@ -8,14 +8,14 @@ ghost use Rattle.sun_chain.specs.Replaced.{replaced};
 use crate::fault::ImageFault;
 use std::alloc::{AllocError, Global};
 
-/// How many addresses there are.
+/// The number of Modbus addresses.
 pub(crate) const ADDRESSES: u32 = 65536;
 
 /// The words that were read from a device, by address.
 #[derive(Drop)]
 pub struct Image {
     words: Vec<u16>,
-    // Whether the word at the same place was read.
+    // Whether the word at the same index was read.
     read: Vec<bool>,
     ghost sized: { vec_len read ≤ vec_len words },
     ghost few: { vec_len read ≤ 65536 },
@@ -24,7 +24,7 @@ pub struct Image {
 impl Image {
     ghost use Rattle.sun_chain.specs.Image.{put_words, word_in, words_in};
 
-    /// No word was read.
+    /// Creates an image without words.
     pub fn new(alloc: Global) -> Self
         ensures { (address : ℕ) → word_in result address ≡ None }
     {
@@ -34,7 +34,8 @@ impl Image {
         }
     }
 
-    /// Puts words at an address and the ones after it, in place of what stood there.
+    /// Writes words at consecutive addresses, and replaces any earlier words there. Words past
+    /// address 65535 are refused with `PastEnd`. On an error the image keeps its words.
     pub fn put(&mut self, address: u16, words: &[u16]) -> Result<(), ImageFault>
         ensures past_end { (result ≡ Err ImageFault.PastEnd)
             ↔ (65536 < address + length words.now) }
@@ -54,7 +55,7 @@ impl Image {
         Ok(())
     }
 
-    // Room for the words below this address.
+    // Extends the image to cover all addresses below `end`.
     fn make_room(&mut self, end: usize) -> Result<(), AllocError>
         requires { end ≤ 65536 }
         ensures room { OnOk result (end ≤ vec_len self.new.read) }
@@ -72,14 +73,14 @@ impl Image {
         mark_at(&mut self.read, start, words.len());
     }
 
-    /// The word at the address, if it was read.
+    /// Returns the word at the address, if it was read.
     pub fn word(&self, address: u16) -> Option<u16>
         ensures { result ≡ word_in self.now address }
     {
         self.word_at(u32::from(address))
     }
 
-    /// The word at an address, which may be past the last one.
+    /// Returns the word at an address, if it was read. The address may be past 65535.
     pub(crate) fn word_at(&self, address: u32) -> Option<u16>
         ensures { result ≡ word_in self.now address }
     {
@@ -89,7 +90,7 @@ impl Image {
         }
     }
 
-    /// So many words from an address on, if all of them were read.
+    /// Returns `count` words from an address, if all of them were read.
     pub(crate) fn words_at(&self, address: u32, count: u16) -> Option<&[u16]>
         requires { 1 ≤ count }
         ensures words { option_map (λ words. words.now) result
@@ -113,7 +114,7 @@ fn is_all_true(marks: &[bool]) -> bool
     marks.iter().all(|mark| *mark)
 }
 
-// Makes a list at least so long, by more of the value at its end.
+// Extends a list to at least this size with the value.
 fn pad<T: Copy>(items: &mut Vec<T>, size: usize, value: T) -> Result<(), AllocError>
     ensures longer { OnOk result
         (items.new.items ≡ items.old.items ++ replicate (size - vec_len items.old) value) }

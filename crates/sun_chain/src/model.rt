@@ -1,7 +1,8 @@
-//! Models: where each stands, its ID and its length.
+//! A model: its address, its ID and its length.
 ghost use Rattle.std.specs.Prelude.{◌≡◌};
 
-/// A model: the address of its ID register, its ID, and how many registers follow its ID and its length.
+/// A model: the address of its ID register, its ID, and its length. The length counts the registers
+/// after the ID and the length register.
 #[derive(Clone, Copy, Debug, PartialEq, Eq)]
 pub struct Model {
     pub address: u16,
@@ -12,7 +13,7 @@ pub struct Model {
 impl Model {
     ghost use Rattle.sun_chain.specs.Chain.{next_after};
 
-    /// The address after its last register.
+    /// Returns the address after the model's last register.
     pub fn next(&self) -> u32
         ensures { result ≡ next_after self.now }
     {

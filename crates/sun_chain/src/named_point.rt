@@ -1,4 +1,4 @@
-//! The points of a model, with their names and what scales them.
+//! The points of a model, with their names and scales.
 ghost use Rattle.std.specs.Prelude.{◌≡◌};
 ghost use Rattle.sun_chain.specs.Points.{faulty_text, scale_said, seen, value_text};
 ghost use Rattle.sun_points.specs.Point.{seen as point_seen};
@@ -7,17 +7,17 @@ use crate::tables::EntryType;
 use std::io;
 use sun_points::{Point, PointType, Scale, Sink};
 
-/// What scales a point.
+/// The scale of a point.
 #[derive(Clone, Copy, Debug, PartialEq, Eq)]
 pub enum PointScale {
     /// The point has no scale point.
     Unscaled,
     Scaled(Scale),
-    /// The scale point's register says no scale.
+    /// The scale point's register holds no scale factor from -10 to 10.
     Faulty,
 }
 
-/// A point of a model. Its text is lent from the image.
+/// A point of a model. Its text borrows the image.
 #[derive(Clone, Copy, Debug)]
 pub struct NamedPoint<'a> {
     pub(crate) name: &'a str,
@@ -28,32 +28,35 @@ pub struct NamedPoint<'a> {
 }
 
 impl<'a> NamedPoint<'a> {
+    /// Returns the name of the point in its model.
     pub fn name(&self) -> &'a str
         ensures { result.now ≡ (seen self.now).name }
     {
         self.name
     }
 
-    /// The address of its first register.
+    /// Returns the address of the point's first register.
     pub fn address(&self) -> u16
         ensures { result ≡ (seen self.now).address }
     {
         self.address
     }
 
+    /// Returns the type of the point.
     pub fn ty(&self) -> PointType
         ensures { result ≡ (seen self.now).ty }
     {
         self.ty.point_type()
     }
 
+    /// Returns the value of the point, without its scale.
     pub fn value(&self) -> Point<'a>
         ensures { point_seen result ≡ (seen self.now).value }
     {
         self.value
     }
 
-    /// What scales it. A scale point that isn't there counts as 0.
+    /// Returns the scale of the point. A scale point that is missing or was not read counts as 0.
     pub fn scale(&self) -> PointScale
         ensures { result ≡ (seen self.now).scale }
     {
@@ -63,7 +66,8 @@ impl<'a> NamedPoint<'a> {
         }
     }
 
-    /// Writes the value: `faulty` where there is one and its scale is, else as `Point::write` does.
+    /// Writes the value as `Point::write` does. A present value at a faulty scale is written as
+    /// `faulty`.
     pub fn write_value<S: Sink>(&self, output: &mut S) -> io::Result<()>
         ensures { let point = seen self.now in
             S.takes output.old (value_text point.value point.scale) result output.new }

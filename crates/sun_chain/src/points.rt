@@ -1,4 +1,4 @@
-//! The points of a model that were read, in order of address.
+//! Lists the points of a model that were read, in order of address.
 ghost use Rattle.std.specs.Prelude.{◌≡◌, ◌<◌, ◌≤◌, ◌+◌, map, length, IfOk, IfSome};
 ghost use Rattle.std.specs.Option.{option_map};
 ghost use Rattle.sun_chain.specs.Chain.{words_of};
@@ -16,8 +16,8 @@ use std::alloc::AllocError;
 use sun_points::{Point, read_point};
 
 impl<'a> Chain<'a> {
-    /// The points of a model that lie wholly inside it and were read, in order of address. A model that
-    /// is not known has none.
+    /// Returns the points that lie fully inside the model and were read, in order of address. An
+    /// unknown model has none.
     pub fn points(&self, model: &Model) -> Result<Vec<NamedPoint<'a>>, AllocError>
         ensures points { IfOk result
             (λ points. map seen points.items ≡ points_in (words_of self.now) model.now) }
@@ -33,7 +33,6 @@ impl<'a> Chain<'a> {
         Ok(points)
     }
 
-    // A point of the table, if all of its registers are there.
     fn point(&self, model: &Model, entry: &'static Entry) -> Option<NamedPoint<'a>>
         ensures { option_map seen result
             ≡ point_in (words_of self.now) model.now (row_of entry.now) }
@@ -60,7 +59,8 @@ impl<'a> Chain<'a> {
         Some(read_point(entry.ty.point_type(), words))
     }
 
-    /// Registers of a model, if they lie inside it and were read.
+    /// Returns `count` registers at an offset of a model, if they lie inside the model and were
+    /// read.
     pub(crate) fn registers(&self, model: &Model, offset: u16, count: u16) -> Option<&'a [u16]>
         requires { 1 ≤ count }
         ensures words { option_map (λ words. words.now) result
@@ -75,7 +75,7 @@ impl<'a> Chain<'a> {
             .words_at(u32::from(model.address) + u32::from(offset), count)
     }
 
-    // The word of a scale point: 0 where it isn't there.
+    // A scale point that is missing or was not read counts as 0.
     fn scale_word(&self, model: &Model, scale: Option<u16>) -> Option<u16>
         ensures { result ≡ scale_word_in (words_of self.now) model.now scale }
     {

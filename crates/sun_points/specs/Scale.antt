@@ -3,11 +3,12 @@ use Rattle.std.specs.Prelude.{ℕ, ℤ, pos, negsuc, Bool, ◌&&◌, ◌==◌, i
 use Rattle.std.specs.Int.{w16, cast_signed}
 use Rattle.std.specs.declared.option.Option.{Option}
 
--- -10 to 10
+-- The exponents that SunSpec allows for a scale factor: -10 to 10.
 abbrev pub is_exponent : ℤ → Bool
 is_exponent z = int_le (negsuc 9) z && int_le z (pos 10)
 
--- the scale that a register says: 0 where it is not implemented, its own number from -10 to 10, and none else
+-- The scale of a sunssf register: 0 if not implemented, the register's signed value from -10 to 10,
+-- else none.
 abbrev pub scale_of : ℕ → Option ℤ
 scale_of word =
     if word == 0x8000 then Some (pos 0)

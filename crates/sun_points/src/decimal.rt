@@ -1,4 +1,4 @@
-//! Numbers in decimals, scaled by a power of ten.
+//! Writes numbers in decimal, scaled by a power of ten.
 ghost use Rattle.std.specs.Prelude.{◌≤◌, ◌+◌, ◌*◌, ◌/◌, ◌^◌, ◌++◌, ◌≡◌, codes};
 ghost use Rattle.std.specs.Fmt.{decimal};
 ghost use Rattle.arrayvec.specs.ArrayVec.{array_vec_len};
@@ -11,11 +11,11 @@ use crate::text::append;
 use arrayvec::ArrayVec;
 use std::io;
 
-/// The text of a number: at most a sign, twenty digits, a point and ten digits more.
+/// The text of a scaled number: at most a sign, twenty digits, a decimal point and ten digits.
 pub(crate) type NumberText = ArrayVec<u8, 32>;
 
-/// Writes `value * 10 ^ scale`, exactly: a scale of 0 or more appends that many zeros to a value other
-/// than 0, and a negative one gives that many decimals.
+/// Writes `value * 10 ^ scale` exactly. A scale of 0 or more appends that many zeros, unless the
+/// value is 0. A negative scale gives that many decimals.
 pub fn write_scaled<S: Sink>(value: i64, scale: Scale, output: &mut S) -> io::Result<()>
     ensures { S.takes output.old (scaled_text value scale) result output.new }
 {
@@ -33,7 +33,7 @@ fn scaled(value: i64, scale: Scale) -> NumberText
     text
 }
 
-/// The text of `magnitude * 10 ^ scale`.
+/// Returns the text of `magnitude * 10 ^ scale`.
 pub(crate) fn scaled_magnitude(magnitude: u64, scale: Scale) -> NumberText
     ensures { result.items ≡ magnitude_text magnitude scale }
 {
@@ -80,7 +80,7 @@ fn append_with_decimals(text: &mut NumberText, magnitude: u64, places: u8)
     append(text, decimals);
 }
 
-// A number has twenty digits at most.
+// A `u64` has at most twenty decimal digits.
 fn append_decimal(text: &mut NumberText, number: u64)
     requires { array_vec_len text.old ≤ 1 }
     ensures digits { text.new.items ≡ text.old.items ++ decimal number }

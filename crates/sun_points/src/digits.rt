@@ -1,9 +1,9 @@
-//! Digits of base sixteen.
+//! Digits of a number in bases up to sixteen.
 ghost use Rattle.std.specs.Prelude.{◌≡◌, ◌<◌, ◌≤◌, length, true, false};
 ghost use Rattle.std.specs.Fmt.{digit_glyph};
 ghost use Rattle.sun_points.specs.Decimal.{low_digits};
 
-/// A digit below sixteen, in lower case.
+/// Returns a digit below sixteen, in lower case.
 pub(crate) fn lower_digit(value: u8) -> u8
     requires { value < 16 }
     ensures { result ≡ digit_glyph false value }
@@ -15,7 +15,7 @@ pub(crate) fn lower_digit(value: u8) -> u8
     }
 }
 
-/// A digit below sixteen, in upper case.
+/// Returns a digit below sixteen, in upper case.
 pub(crate) fn upper_digit(value: u8) -> u8
     requires { value < 16 }
     ensures { result ≡ digit_glyph true value }
@@ -27,7 +27,7 @@ pub(crate) fn upper_digit(value: u8) -> u8
     }
 }
 
-/// Writes the lowest digits of the number, as many as there is room for.
+/// Fills the slice with the lowest digits of the number, the ones last.
 pub(crate) fn fill_digits(number: u64, base: u64, digits: &mut [u8])
     requires some { 0 < base }
     requires few { base ≤ 16 }

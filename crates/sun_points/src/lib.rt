@@ -1,4 +1,5 @@
-//! SunSpec points: what a point's registers say, counters and scale factors, and the exact text of a scaled value.
+//! SunSpec points: decodes registers of each point type, counters and scale factors, and writes a
+//! scaled value exactly.
 #![tactic(auto)]
 
 mod counters;

@@ -1,12 +1,12 @@
-//! Numbers that decimal digits spell.
+//! Parses numbers from decimal digits.
 
 ghost use Rattle.std.specs.Prelude.{◌≡◌, ◌≤◌, IsTrue, length};
 ghost use Rattle.std.specs.Char.{is_ascii_digit};
 ghost use Rattle.std.specs.List.{list_all};
 ghost use Rattle.sun_points.specs.Numbers.Digits.{digits_value, number_of_digits};
 
-/// The number that one to so many decimal digits spell, the ones last. More than 19 digits may spell a number
-/// past 64 bits, so no more may be let in.
+/// Parses a word of one to `most` decimal digits. `most` is at most 19, because 20 digits may
+/// exceed 64 bits.
 pub fn number_of_digits(most: usize, word: &[u8]) -> Option<u64>
     requires { most ≤ 19 }
     ensures { result ≡ number_of_digits most word.now }
@@ -23,7 +23,6 @@ fn are_digits(word: &[u8]) -> bool
     word.iter().all(|byte| byte.is_ascii_digit())
 }
 
-// The number that at most nineteen digits spell, the ones last.
 fn digits_value(digits: &[u8]) -> u64
     requires few { length digits.now ≤ 19 }
     requires digits { IsTrue (list_all is_ascii_digit digits.now) }

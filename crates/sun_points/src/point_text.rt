@@ -1,4 +1,4 @@
-//! The text of a point.
+//! Writes the value of a point as text.
 ghost use Rattle.std.specs.Prelude.{◌≡◌};
 ghost use Rattle.sun_points.specs.Point.{seen};
 ghost use Rattle.sun_points.specs.PointText.{bits_text, point_text};
@@ -11,8 +11,8 @@ use crate::sink::Sink;
 use std::io;
 
 impl Point<'_> {
-    /// Writes the value: `absent`, the number times the power of ten, `0x` and eight lower-case hex
-    /// digits, or the text.
+    /// Writes `absent`, the number times the power of ten, `0x` and eight lower-case hex digits, or
+    /// the text.
     pub fn write<S: Sink>(&self, scale: Scale, output: &mut S) -> io::Result<()>
         ensures { S.takes output.old (point_text (seen self.now) scale) result output.new }
     {

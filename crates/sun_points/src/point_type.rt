@@ -1,10 +1,10 @@
-//! The types of points, and how many registers each takes.
+//! The types of points, and their numbers of registers.
 ghost use Rattle.std.specs.Prelude.{◌≡◌, ◌≤◌, ◌↔◌, IsSome, IfSome};
 ghost use Rattle.sun_points.specs.PointType.{registers_of};
 
 use std::marker::Model;
 
-/// How many registers a text takes: 1 to 125, the most that one read can ask for.
+/// The number of registers of a text, 1 to 125. One Modbus read requests at most 125 registers.
 #[derive(Clone, Copy, Debug, PartialEq, Eq)]
 pub struct TextLength {
     registers: u16,
@@ -23,10 +23,13 @@ impl Model for TextLength {
 }
 
 impl TextLength {
+    /// A text of 8 registers.
     pub const EIGHT: TextLength = TextLength { registers: 8 };
 
+    /// A text of 16 registers.
     pub const SIXTEEN: TextLength = TextLength { registers: 16 };
 
+    /// Creates a length of 1 to 125 registers.
     pub fn new(registers: u16) -> Option<Self>
         ensures lawful { IsSome result ↔ ((1 ≤ registers) × (registers ≤ 125)) }
         ensures value { IfSome result (λ length. length ≡ registers) }
@@ -38,6 +41,7 @@ impl TextLength {
         }
     }
 
+    /// Returns the number of registers.
     pub fn registers(self) -> u16
         ensures value { result ≡ self }
         ensures some { 1 ≤ result }
@@ -47,7 +51,7 @@ impl TextLength {
     }
 }
 
-/// How a point's registers are read. A value of 32 bits stands in two registers, its high word first.
+/// A SunSpec point type. A 32-bit value occupies two registers, the high word first.
 #[derive(Clone, Copy, Debug, PartialEq, Eq)]
 pub enum PointType {
     Int16,
@@ -56,16 +60,16 @@ pub enum PointType {
     Int32,
     Uint32,
     Bitfield32,
-    /// A counter that goes up, and turns over to 0.
+    /// A counter that only rises, and rolls over to 0.
     Acc32,
-    /// A power of ten for other points.
+    /// A scale factor: the power of ten of other points.
     Sunssf,
-    /// Two characters in a register, the high byte first.
+    /// A text with two characters in each register, the high byte first.
     Text(TextLength),
 }
 
 impl PointType {
-    /// How many registers a point of this type takes.
+    /// Returns the number of registers of a point of this type.
     pub fn registers(self) -> u16
         ensures value { result ≡ registers_of self }
         ensures some { 1 ≤ result }

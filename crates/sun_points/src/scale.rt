@@ -1,10 +1,10 @@
-//! Scale factors, from a `sunssf` register.
+//! Scale factors of `sunssf` registers.
 ghost use Rattle.std.specs.Prelude.{◌≡◌, ◌≤ℤ◌, pos, negsuc};
 ghost use Rattle.sun_points.specs.Scale.{scale_of};
 
 use std::marker::Model;
 
-/// A scale factor: the power of ten that a value is multiplied with, -10 to 10.
+/// A scale factor: the power of ten that multiplies a value, -10 to 10.
 #[derive(Clone, Copy, Debug, PartialEq, Eq)]
 pub struct Scale {
     exponent: i8,
@@ -23,7 +23,8 @@ impl Model for Scale {
 }
 
 impl Scale {
-    /// The scale that a sunssf register says. A register that is not implemented, 0x8000, says 0.
+    /// Returns the scale factor of a sunssf register, or `None` if it is not from -10 to 10. The
+    /// word 0x8000 ("not implemented") gives 0.
     pub fn new(word: u16) -> Option<Self>
         ensures { result ≡ scale_of word }
     {
@@ -38,6 +39,7 @@ impl Scale {
         }
     }
 
+    /// Returns the power of ten, -10 to 10.
     pub fn exponent(self) -> i8
         ensures value { result ≡ self }
         ensures low { negsuc 9 ≤ℤ result }

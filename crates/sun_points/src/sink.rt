@@ -1,4 +1,4 @@
-//! What takes a whole text in one call.
+//! The trait of a sink that accepts a complete text in one call.
 ghost use Rattle.std.specs.Prelude.{◌≡◌, ◌≢◌, List, ℕ, IfErr, IsTrue, ◌↔◌};
 ghost use Rattle.std.specs.IoError.{error_kind};
 ghost use Rattle.std.specs.declared.result.Result.{Result};
@@ -7,18 +7,20 @@ ghost use Rattle.sun_points.specs.Writing.{GotText, TakesText};
 
 use std::io::{self, ErrorKind, Write};
 
-/// What takes a whole text in one call. What a function of this crate answers is what one such call
-/// answered: it makes no error of its own.
+/// A sink that accepts a complete text in one call. The functions of this crate return the result
+/// of one such call unchanged.
 pub trait Sink {
-    // A call with this text may answer this, and leave the sink so.
+    // The relation between a sink, a text, the result of writing the text, and the sink afterwards.
     ghost takes: { Self → List ℕ → Result (Unit {0}) Error → Self → Type 0 };
 
-    /// Takes all of the text, or fails; on an error a part of it may have been taken.
+    /// Writes the complete text, or fails. After an error the sink may have received a beginning of
+    /// the text.
     fn take_text(&mut self, text: &[u8]) -> io::Result<()>
         ensures { takes self.old text.now result self.new };
 }
 
-/// A writer takes a text in as many writes as that takes, up to 2^64 - 1. One that takes nothing of something has failed.
+/// A writer receives the text in as many writes as it needs, at most 2^64 - 1. A write of 0 bytes
+/// is the error `WriteZero`.
 impl<W: Write> Sink for W {
     ghost takes = { λ old text result new.
         TakesText result text (W.contents old) (W.contents new) };
@@ -31,7 +33,8 @@ impl<W: Write> Sink for W {
     }
 }
 
-// Writes all of the text, unless the writer fails or takes nothing. A write that was interrupted has not failed.
+// Writes the complete text, unless the writer fails or accepts no byte. An interrupted write is
+// repeated.
 fn write_whole<W: Write>(text: &[u8], writer: &mut W) -> io::Result<()>
     ensures bytes { GotText result text.now (W.contents writer.old) (W.contents writer.new) }
     ensures made_again { IfErr result (λ error. error_kind error ≢ ErrorKind.Interrupted) }

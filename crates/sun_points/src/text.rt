@@ -9,7 +9,7 @@ use crate::sink::Sink;
 use arrayvec::ArrayVec;
 use std::io;
 
-/// Appends bytes for which there is room.
+/// Appends bytes. The contract guarantees the room for them.
 pub(crate) fn append<const N: usize>(text: &mut ArrayVec<u8, N>, more: &[u8])
     requires { array_vec_len text.old + length more.now ≤ N }
     ensures bytes { text.new.items ≡ text.old.items ++ more.now }
@@ -18,21 +18,20 @@ pub(crate) fn append<const N: usize>(text: &mut ArrayVec<u8, N>, more: &[u8])
     let _ = text.try_extend_from_slice(more);
 }
 
-/// The most registers of a text.
 const MOST_REGISTERS: usize = 125;
 
-/// How a text is shown: four bytes at most for each of its 250.
+/// The printed form of a text: at most four bytes for each of its 250 bytes.
 type ShownText = ArrayVec<u8, 1000>;
 
-/// A text in at most 125 registers, two bytes in each, the high byte first. It ends before its first
-/// zero byte.
+/// A text in registers, two bytes in each, the high byte first. The text ends before its first zero
+/// byte. Only its first 125 registers are printed.
 #[derive(Clone, Copy, Debug, PartialEq, Eq)]
 pub struct Text<'a> {
     pub words: &'a [u16],
 }
 
 impl Text<'_> {
-    /// Writes the text. A byte that is no printable ASCII is written as `\x` and two upper-case hex
+    /// Writes the text. Any byte that is not printable ASCII becomes `\x` and two upper-case hex
     /// digits.
     pub fn write<S: Sink>(&self, output: &mut S) -> io::Result<()>
         ensures { S.takes output.old (shown_text self.now.words.now) result output.new }

@@ -1,4 +1,4 @@
--- Installations that are found place by place.
+-- Installations that are found index by index.
 use Rattle.std.proofs.Common.{◌≡◌, ℕ, ◌+◌, ◌<◌, List, [], ◌∷◌, ◌++◌, map, reverse, take, length, get_or, Option, Some, None, refl, sym, ap, ◌∙◌}
 use Rattle.std.specs.List.{filter_map, cons_option}
 use Rattle.std.specs.Option.{option_map, option_to_list}
@@ -37,7 +37,7 @@ module _ (known facts : List Fact) where
   rows_more places i d row rows more lt so_far is came =
       came ∙ ap (λ (before : List Installation). before ++ option_to_list row) so_far ∙ sym (one_there places i d row lt is)
 
-  -- the meter of an opening that stands at a place of the facts
+  -- The meter of an opening at an index of the records.
   pub meter_there : AreLawful known → facts ≡ reverse known → (place : ℕ) (o : Opening) → opening_at facts place ≡ Some o
       → meter_of known o.meter ≡ option_map (installation_of known) (opening_at facts place)
   meter_there lawful is place o there_is =

@@ -1,4 +1,4 @@
--- Rows out of facts, one fact after the other.
+-- Rows from records, one record after another.
 use Rattle.std.proofs.Common.{◌≡◌, ℕ, suc, ◌+◌, ◌<◌, ◌≤◌, ◌==◌, ◌&&◌, List, [], ◌∷◌, length, refl, sym, ap, subst, ◌∙◌, inl, inr, Option, Some, None, arith}
 use Rattle.std.specs.Option.{option_map}
 use Rattle.std.proofs.lemmas.Bool.{cases_Bool, cond-true, cond-false, eqb-true}
@@ -23,7 +23,7 @@ void_length o place (row ∷ rows) =
       | inr e ↦ ap length (cond-false _ _ _ e) ∙ ap suc (void_length o place rows)
     ]
 
--- the rows keep their places under a void
+-- The rows keep their sequence numbers under a void.
 pub void_numbered : (o : Last) (place : ℕ) (rows : List EntryRow) → AreNumbered rows → AreNumbered (journal.with_void o place rows)
 void_numbered o place [] h = tt
 void_numbered o place (row ∷ rows) h =
@@ -40,7 +40,7 @@ some_before : (row : EntryRow) (o : Option journal.Around) (x : journal.Around) 
 some_before row None x h = absurd (cc)
 some_before row (Some y) x h = (y, refl)
 
--- what is found is at one of the places
+-- A row that is found has one of the sequence numbers.
 pub row_inside : (place : ℕ) (rows : List EntryRow) (x : journal.Around) → AreNumbered rows → journal.row_at place rows ≡ Some x
     → (2 ≤ place) × (place < length rows + 2)
 row_inside place [] x h is = absurd (cc)
@@ -53,7 +53,7 @@ row_inside place (row ∷ rows) x h is =
           (there.0, omega (arith, there.1))
     ]
 
--- the rows of a journal have their places
+-- The rows of a journal have their sequence numbers.
 pub rows_numbered : (o : Last) (lines : journal.Journal) → AreNumbered (journal.rows_of o lines)
 rows_numbered o [] = tt
 rows_numbered o (journal.Entered k e ∷ lines) = (refl, rows_numbered o lines)

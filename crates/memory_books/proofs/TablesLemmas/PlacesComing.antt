@@ -1,4 +1,4 @@
--- One more fact in a table of places.
+-- One more record in a table of indices.
 use Rattle.std.proofs.Common.{◌≡◌, ℕ, cond, List, [], ◌∷◌, ◌++◌, reverse, length, Some, sym, ap, ◌∙◌, inl, inr, Result, Ok, Err, OnOk, OnErr}
 use Rattle.std.specs.BTreeMap.{BTreeMap, get, get_by}
 use Rattle.std.specs.declared.vec.Vec.{Vec}
@@ -12,7 +12,7 @@ use Rattle.memory_books.specs.Tables.Keys.{key_cmp, is_same_key}
 use Rattle.memory_books.specs.Tables.Places.{key_in, is_key, has_key, places_of, under}
 use Rattle.memory_books.proofs.TablesLemmas.SameKeys.{is_eq-key_cmp, one_key}
 
--- a fact that is looked up by a key stands under it and no other
+-- The index of a record with a key is under this key only.
 pub place_comes : (kind : Kind) (known : List Fact) (f : Fact) (key : Key) (place : ℕ) (before after : Key → List ℕ) → length known ≡ place → key_in kind f ≡ Some key
     → ((other : Key) → before other ≡ reverse (places_of (has_key kind other) known))
     → ((other : Key) → after other ≡ cond (is_eq (key_cmp key other)) (before key ++ place ∷ []) (before other))
@@ -32,7 +32,7 @@ place_comes kind known f key place before after long own says adds other =
           ∙ sym (ap reverse (cond-false _ _ _ (has ∙ e)))
     ]
 
--- what was written back as it was changes nothing
+-- A write of the same value changes nothing.
 pub kept_under : {Z : Type 0} (old new : BTreeMap Key (Vec ℕ Z)) (key : Key) (w v : Vec ℕ Z) → get_by (key_cmp key) old ≡ Some v → w.items ≡ v.items
     → ((q : Key) → get key_cmp new q ≡ cond (is_eq (key_cmp key q)) (Some w) (get key_cmp old q))
     → (other : Key) → under (get key_cmp new other) ≡ under (get key_cmp old other)
@@ -44,7 +44,7 @@ kept_under old new key w v there same updates other =
       | inr e ↦ ap under (updates other ∙ cond-false _ _ _ (is_eq-key_cmp key other ∙ e))
     ]
 
--- what follows from what a call promised
+-- A consequence of a call's contract.
 pub on_ok_then : {T E P Q : Type 0} (r : Result T E) → (P → Q) → OnOk r P → OnOk r Q
 on_ok_then (Ok x) f h = f h
 on_ok_then (Err e) f h = tt

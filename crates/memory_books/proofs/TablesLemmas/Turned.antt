@@ -1,4 +1,4 @@
--- Lists of facts read from the other end.
+-- Lists of records read backwards.
 use Rattle.std.proofs.Common.{◌≡◌, Bool, List, [], ◌∷◌, ◌++◌, reverse, refl, sym, ap, ◌∙◌, Option, Some, None}
 use Rattle.std.specs.List.{filter, filter_map, cons_option}
 use Rattle.std.proofs.lemmas.List.{append-nil, reverse-reverse}
@@ -16,11 +16,11 @@ filter_map_reverse h (x ∷ xs) =
     ap (filter_map h) (reverse_cons x xs) ∙ filter_map-append h (reverse xs) (x ∷ [])
     ∙ ap (λ ys. ys ++ cons_option (h x) []) (filter_map_reverse h xs) ∙ one_last h x (h x) (filter_map h xs) refl
 
--- those of a kind, in their order
+-- The records of a kind, in order.
 pub turned : {X Y : Type 0} (h : X → Option Y) (xs : List X) → filter_map h xs ≡ reverse (filter_map h (reverse xs))
 turned h xs = sym (ap reverse (filter_map_reverse h xs) ∙ reverse-reverse (filter_map h xs))
 
--- ... and those of these that pass
+-- The records of a kind that pass.
 pub turned_among : {X Y : Type 0} (h : X → Option Y) (p : Y → Bool) (xs : List X)
     → filter p (filter_map h xs) ≡ reverse (filter p (filter_map h (reverse xs)))
 turned_among h p xs = ap (filter p) (turned h xs) ∙ filter_reverse p (filter_map h (reverse xs))

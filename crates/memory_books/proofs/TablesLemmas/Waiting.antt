@@ -1,4 +1,4 @@
--- Rows that are handed on one by one.
+-- Rows that are passed on one by one.
 use Rattle.std.proofs.Common.{◌≡◌, ◌+◌, ◌*◌, ◌^◌, ◌<◌, ◌≤◌, List, [], ◌∷◌, ◌++◌, Option, Some, None, refl, sym, ap, subst, ◌∙◌, arith, append_assoc}
 use Rattle.std.specs.Option.{ForSome, option_to_list}
 use Rattle.std.proofs.lemmas.List.{append-nil}
@@ -13,7 +13,7 @@ use Rattle.office_books.specs.Rows.{TakesAll}
 use Rattle.office_books.proofs.Handing.{takes_more, takes_both}
 use Rattle.memory_books.specs.Tables.IntervalRows.{TookBut, Passes}
 
--- shares after the last of some rows
+-- Shares after the last of some rows.
 after_last : (done : List Share) (row : Share) (shares : List Share) → with_shares (done ++ row ∷ []) shares ≡ done ++ with_shares (row ∷ []) shares
 after_last [] row shares = refl
 after_last (first ∷ []) row shares = refl
@@ -30,7 +30,7 @@ no_done : (done rows : List Share) (waits : Option Share) → rows ≡ done ++ o
 no_done [] rows waits is none w = refl
 no_done (first ∷ done) rows waits is none w = absurd (let e : first ∷ (done ++ option_to_list waits) ≡ [] = sym is ∙ none w in cc)
 
--- rows with more shares after them
+-- Rows with more shares after them.
 pub took_more : {S : Type 0} (takes : S → Share → S → Type 0) (before now after : S) (waited waits : Option Share) (rows shares : List Share)
     → TookBut takes before now waited rows → Passes takes now after waited waits shares → TookBut takes before after waits (with_shares rows shares)
 took_more takes before now after waited waits rows shares took passes = record {
@@ -44,7 +44,7 @@ took_more takes before now after waited waits rows shares took passes = record {
       ap (λ (rs : List Share). with_shares rs shares) (took.none was.0) ∙ was.1;
 }
 
--- the last row is handed on, or there is none
+-- The last row is passed on, or there is none.
 pub took_all : {S : Type 0} (takes : S → Share → S → Type 0) (before now after : S) (row : Share) (rows : List Share)
     → TookBut takes before now (Some row) rows → takes now row after → TakesAll takes before rows after
 took_all takes before now after row rows took more =
@@ -57,7 +57,7 @@ took_none takes before now rows took =
     let P : List Share → Type 0 = λ rs. TakesAll takes before rs now in
     subst P (sym (took.rows_are ∙ append-nil took.done)) took.took
 
--- The shares that came are handed on but for the last row, and these are still to come.
+-- The rows of the shares so far were passed on except the last, and these shares are left.
 pub record GoesBy {S : Type 0} (takes : S → Share → S → Type 0) (before after : S) (waited waits : Option Share) (shares left : List Share) : Type 0 where
   pub done : List Share
   pub took : TakesAll takes before done after
@@ -90,7 +90,7 @@ goes_by_whole law takes before after waited waits step left none forward goes = 
       (was.1, sym was.2 ∙ none);
 }
 
--- there is room for one more share
+-- One more share fits in 64 bits.
 pub room : (waits : Option Share) (share : Share) (left rest : List Share) → left ≡ share ∷ rest
     → energy_of (option_to_list waits) + energy_of left ≤ 4 * 10 ^ 18 → ForSome waits (λ row. row.mwh + share.mwh < 2 ^ 64)
 room waits share left rest is within = λ row at.

@@ -1,4 +1,5 @@
--- Rows that are handed on one by one, the last of them only once no share of its quarter hour can come any more.
+-- Interval rows that are passed to a sink one by one. The last row is pending until no share of its
+-- quarter hour can follow.
 use Rattle.std.specs.Prelude.{◌≡◌, ℕ, List, [], ◌∷◌, ◌++◌, Option, None}
 use Rattle.std.specs.List.{filter_map, flat_map}
 use Rattle.std.specs.Option.{option_to_list}
@@ -16,7 +17,7 @@ use Rattle.office_events.specs.declared.facts.Fact.{Fact}
 use Rattle.office_rules.specs.Intervals.{rows_of_opening}
 use Rattle.memory_books.specs.Tables.Lookups.{opening_at}
 
--- From one state to another a sink took these rows but for the last, which waits.
+-- The sink received all of these rows except the last, which is pending.
 pub record TookBut {S : Type 0} (takes : S → Share → S → Type 0) (before after : S)
     (waits : Option Share) (rows : List Share) : Type 0 where
   pub done : List Share
@@ -24,7 +25,8 @@ pub record TookBut {S : Type 0} (takes : S → Share → S → Type 0) (before a
   pub rows_are : rows ≡ done ++ option_to_list waits
   pub none : waits ≡ None → rows ≡ []
 
--- With shares after the row that waits, the sink took all rows but the last, which waits now.
+-- After shares that follow the pending row, the sink received all rows except the last, which is
+-- pending now.
 pub record Passes {S : Type 0} (takes : S → Share → S → Type 0) (before after : S)
     (waited waits : Option Share) (shares : List Share) : Type 0 where
   pub done : List Share
@@ -32,20 +34,21 @@ pub record Passes {S : Type 0} (takes : S → Share → S → Type 0) (before af
   pub rows_are : done ++ option_to_list waits ≡ with_shares (option_to_list waited) shares
   pub none : waits ≡ None → (waited ≡ None) × (shares ≡ [])
 
--- the rows of the installations that were opened at these places of the facts, one after the other
+-- The rows of the installations whose openings are at these indices of the records, one after
+-- another.
 abbrev pub rows_at : (known facts : List Fact) → (places : List ℕ) → List Share
 rows_at known facts places = flat_map (rows_of_opening known) (filter_map (opening_at facts) places)
 
--- the sink took some rows
+-- The sink received some rows.
 abbrev pub TakesSome : {S : Type 0} → (takes : S → Share → S → Type 0) → (before after : S) → Type 0
 TakesSome takes before after = (rows : List Share) × TakesAll takes before rows after
 
--- the sink took a row, where its quarter hour is asked for
+-- The sink received a row if its quarter hour is in the span.
 abbrev pub TakesWithin : {S : Type 0} → (takes : S → Share → S → Type 0) → Span → (before : S)
     → Share → (after : S) → Type 0
 TakesWithin takes span before row after = TakesAll takes before (rows_within span (row ∷ [])) after
 
--- where a meter's rows have an account, the sink took the interval rows of the entries that stand
+-- If a meter's rows have an account, the sink received the interval rows of the valid entries.
 abbrev pub TakesRowsOf : {S : Type 0} → (takes : S → Share → S → Type 0) → (before : S)
     → Installed → List EntryRow → (after : S) → Type 0
 TakesRowsOf takes before meter rows after =

@@ -1,4 +1,4 @@
--- What facts are looked up by.
+-- The keys of lookups.
 use Rattle.std.specs.Prelude.{ℕ, ◌==◌, ◌&&◌, Bool, List}
 use Rattle.std.specs.Cmp.Lexicographic.{slice_cmp}
 use Rattle.std.specs.Ordering.{nat_cmp, on, then_cmp}
@@ -6,16 +6,18 @@ use Rattle.std.specs.declared.cmp.Ordering.{Ordering}
 use Rattle.office_rules.specs.Facts.{same}
 use Rattle.memory_books.specs.declared.tables.keys.Key.{Key}
 
--- the keys' order: that of the names' bytes, and then that of the numbers
+-- The order of keys: first by the bytes of the names, then by the numbers.
 abbrev pub key_cmp : Key → Key → Ordering
 key_cmp = then_cmp (on (λ k. k.name) (slice_cmp nat_cmp)) (on (λ k. k.number) nat_cmp)
 
--- a name alone, and one with a number
+-- The key of a name alone.
 abbrev pub named : List ℕ → Key
 named name = record { name = name; number = 0 }
 
+-- The key of a name and a number.
 abbrev pub numbered : List ℕ → ℕ → Key
 numbered name number = record { name = name; number = number }
 
+-- The keys are equal.
 abbrev pub is_same_key : Key → Key → Bool
 is_same_key a b = same a.name b.name && (a.number == b.number)

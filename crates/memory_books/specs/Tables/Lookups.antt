@@ -1,4 +1,4 @@
--- What stands at a place of facts, from 0 on, in the order in which they came.
+-- The record at an index of the list, from 0, in the order in which records were added.
 use Rattle.std.specs.Prelude.{ℕ, List, Option, Some, None, if◌then◌else◌}
 use Rattle.std.specs.List.{slice_get}
 use Rattle.std.specs.Option.{option_and_then, option_map}
@@ -12,32 +12,38 @@ use Rattle.office_books.specs.Repeats.{as_repeat}
 use Rattle.office_rules.specs.Facts.{as_register, as_opening, as_list, as_reply, if_some}
 use Rattle.office_rules.specs.Readings.{is_read_by}
 
--- the list that a fact puts; one without points counts as none
+-- The list of a record. A list without points counts as none.
 abbrev pub listed : Fact → Option Planned
 listed f = option_and_then (λ put. if_some put.list.points put.list) (as_list f)
 
--- what a request is to the one that a fact keeps
+-- The relation of a request to the kept request of a record.
 abbrev pub repeated : (request : List ℕ) → Fact → Option Repeat
 repeated request f = option_map (as_repeat request) (as_reply f)
 
+-- The register at an index.
 abbrev pub register_at : List Fact → ℕ → Option Register
 register_at facts place = option_and_then as_register (slice_get facts place)
 
--- the register, and that of a fact, if a read of the span gives a reading of it
+-- The register, if a read of the span covers it.
 abbrev pub if_read : ReadSpan → Register → Option Register
 if_read span register = if is_read_by span register then Some register else None
 
+-- The register of a record, if a read of the span covers it.
 abbrev pub register_read : ReadSpan → Fact → Option Register
 register_read span f = option_and_then (if_read span) (as_register f)
 
+-- The register at an index, if a read of the span covers it.
 abbrev pub register_read_at : ReadSpan → List Fact → ℕ → Option Register
 register_read_at span facts place = option_and_then (register_read span) (slice_get facts place)
 
+-- The opening at an index.
 abbrev pub opening_at : List Fact → ℕ → Option Opening
 opening_at facts place = option_and_then as_opening (slice_get facts place)
 
+-- The list at an index.
 abbrev pub list_at : List Fact → ℕ → Option Planned
 list_at facts place = option_and_then listed (slice_get facts place)
 
+-- The relation of a request to the kept request at an index.
 abbrev pub repeat_at : (request : List ℕ) → List Fact → ℕ → Option Repeat
 repeat_at request facts place = option_and_then (repeated request) (slice_get facts place)

@@ -11,37 +11,38 @@ use Rattle.memory_books.specs.declared.tables.meters.Meters.{Meters}
 use Rattle.memory_books.specs.Tables.Keys.{key_cmp, named}
 use Rattle.memory_books.specs.Tables.Moving.{HasBegun}
 
--- the meter of a name
+-- The meter with a name.
 abbrev pub meter_at : Meters → List ℕ → Option Meter
 meter_at meters name = get key_cmp meters.meters (named name)
 
--- the meter stands as the facts say of an installation that was found
+-- The meter agrees with the records of an installation that a lookup found.
 pub record Stands (known : List Fact) (meter : Meter) (found : Option Opening) : Type 0 where
   pub opening : Opening
   pub there : found ≡ Some opening
   pub row : meter.row ≡ installation_of known opening
   pub rows : lists.latest_first meter.rows.items ≡ rows_of known opening
 
+-- The table's meter, or its absence, agrees with the lookup in the records.
 abbrev pub IsMeter : List Fact → Option Meter → Option Opening → Type 0
 IsMeter known None found = found ≡ None
 IsMeter known (Some meter) found = Stands known meter found
 
--- Each meter that was installed is there under its name, and stands as the facts say.
+-- Each installed meter is in the table under its name, and agrees with the records.
 abbrev pub AreMeters : Meters → List Fact → Type 0
 AreMeters meters known =
     (name : List ℕ) → IsMeter known (meter_at meters name) (opening_of known name)
 
--- this became of the meter of a name, and the others are as they were
+-- The meter with a name changed in this way, and the other meters are unchanged.
 pub record Changes (meter : List ℕ) (became : Option Meter → Option Meter → Type 0)
     (old new : Meters) : Type 0 where
   pub own : became (meter_at old meter) (meter_at new meter)
   pub others : (name : List ℕ) → same meter name ≡ false → meter_at new name ≡ meter_at old name
 
--- it is there, and has begun
+-- The meter is in the table, in the state of its opening.
 abbrev pub Begins : Opening → Option Meter → Option Meter → Type 0
 Begins opening old new = (meter : Meter) × (new ≡ Some meter) × HasBegun opening meter
 
--- if there is one, this became of it
+-- If the meter is in the table, it changed in this way.
 abbrev pub IfThere : (Meter → Meter → Type 0) → Option Meter → Option Meter → Type 0
 IfThere became None new = new ≡ None
 IfThere became (Some old) new = (meter : Meter) × (new ≡ Some meter) × became old meter

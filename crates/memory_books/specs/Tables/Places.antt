@@ -1,4 +1,4 @@
--- Where facts stand, by what they are looked up by.
+-- The indices of records, by the keys of their lookups.
 use Rattle.std.specs.Prelude.{◌≡◌, ℕ, Bool, false, List, [], ◌∷◌, ◌++◌, cond, reverse, length, Option, Some, None, if◌then◌else◌}
 use Rattle.std.specs.BTreeMap.{get}
 use Rattle.std.specs.Ordering.{is_eq}
@@ -16,7 +16,7 @@ use Rattle.memory_books.specs.declared.tables.places.Kind.TheVariants.{DeviceLis
 use Rattle.memory_books.specs.declared.tables.places.Places.{Places}
 use Rattle.memory_books.specs.Tables.Keys.{key_cmp, named, numbered, is_same_key}
 
--- what a fact is looked up by in a table of a kind
+-- The key of a record in a table of a kind.
 abbrev pub list_key : Kind → DeviceList → Option Key
 list_key DeviceLists put = Some (named put.device)
 list_key Registers put = None
@@ -24,6 +24,7 @@ list_key DeviceRegisters put = None
 list_key RegisterOpenings put = None
 list_key Replies put = None
 
+-- The key of a register in a table of a kind.
 abbrev pub register_key : Kind → Register → Option Key
 register_key DeviceLists register = None
 register_key Registers register = Some (named register.name)
@@ -31,6 +32,7 @@ register_key DeviceRegisters register = Some (named register.device)
 register_key RegisterOpenings register = None
 register_key Replies register = None
 
+-- The key of an opening in a table of a kind.
 abbrev pub opening_key : Kind → Opening → Option Key
 opening_key DeviceLists opening = None
 opening_key Registers opening = None
@@ -38,6 +40,7 @@ opening_key DeviceRegisters opening = None
 opening_key RegisterOpenings opening = Some (named opening.register)
 opening_key Replies opening = None
 
+-- The key of a kept answer in a table of a kind.
 abbrev pub reply_key : Kind → Reply → Option Key
 reply_key DeviceLists reply = None
 reply_key Registers reply = None
@@ -45,6 +48,7 @@ reply_key DeviceRegisters reply = None
 reply_key RegisterOpenings reply = None
 reply_key Replies reply = Some (numbered reply.caller reply.number)
 
+-- The key of a record in a table of a kind, if it has one there.
 abbrev pub key_in : Kind → Fact → Option Key
 key_in kind (fact.Device device) = None
 key_in kind (fact.List put) = list_key kind put
@@ -57,45 +61,47 @@ key_in kind (fact.Poll poll) = None
 key_in kind (fact.Outcome ended) = None
 key_in kind (fact.Reply reply) = reply_key kind reply
 
--- the fact is looked up by this key
+-- The record has this key.
 abbrev pub is_key : Key → Option Key → Bool
 is_key key None = false
 is_key key (Some own) = is_same_key own key
 
+-- The record has this key in a table of a kind.
 abbrev pub has_key : Kind → Key → Fact → Bool
 has_key kind key f = is_key key (key_in kind f)
 
--- the places, from 0 on, of the facts that pass, the latest first
+-- The indices, from 0, of the records that pass, the latest first.
 abbrev pub places_of : (Fact → Bool) → List Fact → List ℕ
 places_of p [] = []
 places_of p (f ∷ facts) = if p f then length facts ∷ places_of p facts else places_of p facts
 
--- what stands under a key
+-- The indices under a key.
 abbrev pub under : {Z : Type 0} → Option (Vec ℕ Z) → List ℕ
 under None = []
 under (Some places) = places.items
 
--- the place of the latest that passes
+-- The index of the latest record that passes.
 abbrev pub latest_place : (Fact → Bool) → List Fact → Option ℕ
 latest_place p known = slice_get (places_of p known) 0
 
--- the places under one key are one more, and those under the others as they were
+-- One key has one more index, and the other keys are unchanged.
 abbrev pub HaveOneMore : Key → (place : ℕ) → (before after : Places) → Type 0
 HaveOneMore key place before after =
     (other : Key) → under (get key_cmp after.places other)
     ≡ cond (is_eq (key_cmp key other)) (under (get key_cmp before.places key) ++ place ∷ [])
     (under (get key_cmp before.places other))
 
--- under each key they are as they were
+-- The indices under each key are unchanged.
 abbrev pub AreUnchanged : (before after : Places) → Type 0
 AreUnchanged before after =
     (other : Key) → under (get key_cmp after.places other) ≡ under (get key_cmp before.places other)
 
--- Under each key are the places of its facts, in the order in which they came.
+-- The indices under each key are those of its records, in the order in which they were added.
 abbrev pub ArePlacesOf : Kind → Places → List Fact → Type 0
 ArePlacesOf kind places known =
     (key : Key) → under (get key_cmp places.places key)
     ≡ reverse (places_of (has_key kind key) known)
 
+-- The indices are those of the table's kind.
 abbrev pub ArePlaces : Places → List Fact → Type 0
 ArePlaces places known = ArePlacesOf places.kind places known

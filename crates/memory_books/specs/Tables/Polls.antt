@@ -14,15 +14,15 @@ use Rattle.memory_books.specs.declared.tables.polls.Pending.{Pending}
 abbrev pub ArePolls : Polls → List Fact → Type 0
 ArePolls polls known = polls.rows.items ≡ map (poll_row known) (reverse (polls_in known))
 
--- The polls that have no outcome, in that order.
+-- The polls without an outcome, in that order.
 abbrev pub ArePending : Pending → List Fact → Type 0
 ArePending pending known = pending.polls.items ≡ pending_in known
 
--- a poll that ended so
+-- A poll with this end.
 abbrev pub row_with_end : EndedPoll → PollRow → PollRow
 row_with_end ended row = record { poll = row.poll; ended = Some ended }
 
--- where there is a poll of the number, it has this end, and the others are as they were
+-- The poll with the number, if it exists, has this end, and the other polls are unchanged.
 abbrev pub EndsPoll : EndedPoll → (before after : List PollRow) → Type 0
 EndsPoll ended before after =
     1 ≤ ended.poll → ended.poll ≤ length before
@@ -30,6 +30,6 @@ EndsPoll ended before after =
     → after ≡ slice_set before (ended.poll - 1)
     (row_with_end ended (slice_index_or before (ended.poll - 1) d))
 
--- the polls without that of a number
+-- The polls except the one with a number.
 abbrev pub polls_but : ℕ → List Poll → List Poll
 polls_but number polls = filter (λ poll. not (number == poll.number)) polls

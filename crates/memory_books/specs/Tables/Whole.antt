@@ -1,4 +1,4 @@
--- All tables of some facts.
+-- All tables of some records.
 use Rattle.std.specs.Prelude.{◌≡◌, List, reverse}
 use Rattle.office_events.specs.declared.facts.Fact.{Fact}
 use Rattle.office_rules.specs.Lawful.{AreLawful}
@@ -12,12 +12,12 @@ use Rattle.memory_books.specs.Tables.Meters.{AreMeters}
 use Rattle.memory_books.specs.Tables.Places.{ArePlaces, ArePlacesOf}
 use Rattle.memory_books.specs.Tables.Polls.{ArePolls, ArePending}
 
--- a table of places of a kind
+-- A table of indices of a kind.
 pub record HasPlaces (kind : Kind) (kept : Kept Places) (facts : List Fact) : Type 0 where
   pub come : HasCome ArePlaces kept facts
   pub kind_is : kept.table.kind ≡ kind
 
--- Each table says what the first of these facts say, as many as it has.
+-- Each table agrees with the first records, as many as it has reached.
 pub record HaveCome (tables : Tables) (facts : List Fact) : Type 0 where
   pub polls : HasCome ArePolls tables.polls facts
   pub pending : HasCome ArePending tables.pending facts
@@ -28,7 +28,7 @@ pub record HaveCome (tables : Tables) (facts : List Fact) : Type 0 where
   pub replies : HasPlaces Replies tables.replies facts
   pub meters : HasCome AreMeters tables.meters facts
 
--- Each says what all of these say, the latest first.
+-- Each table agrees with all records. They are given the latest first.
 pub record AreWhole (tables : Tables) (known : List Fact) : Type 0 where
   pub polls : ArePolls tables.polls.table known
   pub pending : ArePending tables.pending.table known
@@ -39,7 +39,8 @@ pub record AreWhole (tables : Tables) (known : List Fact) : Type 0 where
   pub replies : ArePlacesOf Replies tables.replies.table known
   pub meters : AreMeters tables.meters.table known
 
--- so it is by lawful facts, in the order in which they came, of which the tables are whole
+-- A property for lawful records, in the order in which they were added, with which all tables
+-- agree.
 abbrev pub WhereWhole : Tables → (facts : List Fact) → (List Fact → Type 0) → Type 0
 WhereWhole tables facts so =
     (known : List Fact) → facts ≡ reverse known → AreLawful known → AreWhole tables known → so known

@@ -1,4 +1,4 @@
-//! The energy of entries by quarter hours, handed on row by row where it is asked for.
+//! Passes the energy of entries by quarter hour to a sink, row by row.
 ghost use Rattle.std.specs.Prelude.{◌+◌, ◌^◌, ◌≤◌, ◌<◌, ◌∷◌, []};
 ghost use Rattle.std.specs.Option.{ForSome, option_to_list};
 ghost use Rattle.interval_core.specs.Account.{energy_of};
@@ -18,7 +18,6 @@ use meter_journal::{EntryRow, Installed, Tally, join};
 use office_books::{RowSink, Span, has_numbers, installed};
 use office_events::Opening;
 
-/// Hands on a row, where its quarter hour is asked for.
 fn put_within<K: RowSink<Share>>(span: Span, row: Share, sink: &mut K)
     ensures { TakesWithin K.takes span sink.old row sink.new }
 {
@@ -27,7 +26,7 @@ fn put_within<K: RowSink<Share>>(span: Span, row: Share, sink: &mut K)
     }
 }
 
-/// Takes one more share after the row that waits, and hands that on where it is done.
+/// Joins one more share to the pending row, and passes the row on when its quarter hour is over.
 fn hand_share<K: RowSink<Share>>(waits: &mut Option<Share>, share: Share, span: Span, sink: &mut K)
     requires { ForSome waits.old (λ row. row.mwh + share.mwh < 2 ^ 64) }
     ensures passes { Passes (TakesWithin K.takes span) sink.old sink.new waits.old waits.new
@@ -40,7 +39,6 @@ fn hand_share<K: RowSink<Share>>(waits: &mut Option<Share>, share: Share, span: 
     }
 }
 
-/// Takes the shares of one more step.
 fn hand_step<K: RowSink<Share>>(waits: &mut Option<Share>, step: &Step, span: Span, sink: &mut K)
     requires forward { step.now.from < step.now.till }
     requires intervals { intervals_touched step.now.from step.now.till ≤ MAX_INTERVALS }
@@ -57,7 +55,8 @@ fn hand_step<K: RowSink<Share>>(waits: &mut Option<Share>, step: &Step, span: Sp
     }
 }
 
-/// Hands on the interval rows of the entries that stand, in order. Where they have no account, these are some rows or none.
+/// Passes the interval rows of the valid entries to the sink, in order. Without an account of the
+/// entries these are some rows, or none.
 fn hand_rows<K: RowSink<Share>>(meter: &Installed, rows: &[EntryRow], span: Span, sink: &mut K)
     requires range_low { MIN_RANGE ≤ meter.now.range }
     requires range_high { meter.now.range ≤ MAX_RANGE }
@@ -96,7 +95,8 @@ fn hand_rows<K: RowSink<Share>>(meter: &Installed, rows: &[EntryRow], span: Span
     }
 }
 
-/// Hands on the interval rows of these rows, where their quarter hours are asked for; some or none if they have no account.
+/// Passes the interval rows in the span to the sink. Without an account of the entries these are
+/// some rows, or none.
 pub(crate) fn hand_on<K: RowSink<Share>>(
     opening: &Opening,
     rows: &[EntryRow],

@@ -1,4 +1,4 @@
-//! What stands at places of facts.
+//! Reads the record at an index of the list.
 ghost use Rattle.std.specs.Prelude.{◌≡◌, IfOk};
 ghost use Rattle.std.specs.List.{filter_map};
 ghost use Rattle.std.specs.Option.{option_copied};
@@ -29,21 +29,21 @@ fn as_opening(fact: &Fact) -> Option<Opening>
     }
 }
 
-/// The register at a place.
+/// Returns the register at an index.
 pub(crate) fn register_at(facts: &[Fact], place: usize) -> Option<Register>
     ensures { result ≡ spots.register_at facts.now place }
 {
     as_register(facts.get(place)?)
 }
 
-/// The opening at a place.
+/// Returns the opening at an index.
 pub(crate) fn opening_at(facts: &[Fact], place: usize) -> Option<Opening>
     ensures { result ≡ spots.opening_at facts.now place }
 {
     as_opening(facts.get(place)?)
 }
 
-/// The registers at places.
+/// Returns the registers at indices.
 pub(crate) fn registers_at(
     alloc: Global,
     facts: &[Fact],
@@ -57,7 +57,6 @@ pub(crate) fn registers_at(
         .collect(alloc)
 }
 
-/// The register, if a read of the span gives a reading of it.
 fn if_read(register: &Register, span: ReadSpan) -> Option<Register>
     ensures { result ≡ spots.if_read span register.now }
 {
@@ -77,14 +76,13 @@ fn as_register_read(fact: &Fact, span: ReadSpan) -> Option<Register>
     }
 }
 
-/// The register at a place, if a read of the span gives a reading of it.
 fn register_read_at(facts: &[Fact], place: usize, span: ReadSpan) -> Option<Register>
     ensures { result ≡ spots.register_read_at span facts.now place }
 {
     as_register_read(facts.get(place)?, span)
 }
 
-/// The registers at places of which a read of the span gives a reading. The others are not copied.
+/// Returns the registers at indices that a read of the span covers. The others are not copied.
 pub(crate) fn registers_read_at(
     alloc: Global,
     facts: &[Fact],
@@ -100,7 +98,7 @@ pub(crate) fn registers_read_at(
         .collect(alloc)
 }
 
-/// The point list that a fact puts.
+/// A list without points counts as none.
 fn as_list(fact: &Fact) -> Option<&PlannedList>
     ensures { option_copied result ≡ spots.listed fact.now }
 {
@@ -115,14 +113,13 @@ fn as_list(fact: &Fact) -> Option<&PlannedList>
     }
 }
 
-/// The point list that is put at a place, where it stands.
+/// Returns the point list at an index. A list without points counts as none.
 pub(crate) fn list_at(facts: &[Fact], place: usize) -> Option<&PlannedList>
     ensures { option_copied result ≡ spots.list_at facts.now place }
 {
     as_list(facts.get(place)?)
 }
 
-/// What a request is to one that is kept.
 fn repeat_by(reply: &Reply, request: &[u8]) -> Repeat
     ensures { result ≡ repeats.as_repeat request.now reply.now }
 {
@@ -142,7 +139,7 @@ fn as_repeat(fact: &Fact, request: &[u8]) -> Option<Repeat>
     }
 }
 
-/// What a request is to the one that is kept at a place.
+/// Returns the relation of a request to the kept request at an index.
 pub(crate) fn repeat_at(facts: &[Fact], place: usize, request: &[u8]) -> Option<Repeat>
     ensures { result ≡ spots.repeat_at request.now facts.now place }
 {

@@ -1,4 +1,4 @@
-//! A meter as it stands.
+//! A meter, with its installation and its rows.
 ghost use Rattle.std.specs.Prelude.{◌≡◌, List, Some, take, IfOk, OnOk, OnErr, IfSome};
 ghost use Rattle.std.specs.Option.{option_map};
 ghost use Rattle.meter_journal.specs.Journal.{row_at};
@@ -26,7 +26,6 @@ use office_events::{BookedEntry, EntryPlace, Installation, Opening};
 use office_rules::{installations_are_in_range, journals_fit};
 use std::alloc::{AllocError, Global};
 
-/// Voids the entry at a place, if there is one.
 fn strike_among(last: &Last, rows: &mut [EntryRow], place: u64)
     ensures { VoidsAt last.now place (lists.latest_first rows.old) (lists.latest_first rows.new) }
 {
@@ -35,7 +34,6 @@ fn strike_among(last: &Last, rows: &mut [EntryRow], place: u64)
     }
 }
 
-/// Voids the entry at a place, if there is one.
 fn strike_there(last: &Last, rows: &mut Vec<EntryRow>, place: u64)
     ensures { VoidsAt last.now place (lists.latest_first rows.old.items)
         (lists.latest_first rows.new.items) }
@@ -43,7 +41,6 @@ fn strike_there(last: &Last, rows: &mut Vec<EntryRow>, place: u64)
     strike_among(last, rows, place);
 }
 
-/// The first so many of these rows, or all.
 fn first(rows: &[EntryRow], count: usize) -> &[EntryRow]
     ensures { result.now ≡ take count rows.now }
 {
@@ -64,7 +61,7 @@ pub(crate) struct Meter {
 impl Meter {
     ghost use Rattle.memory_books.specs.Tables.Moving.{HasBegun, HasEntered, IsAsSaid, IsSame, HasStruck, WhereSaid};
 
-    /// A meter that was just installed.
+    /// Creates a meter that was just installed.
     pub(crate) fn begin(alloc: Global, opening: &Opening) -> Meter
         ensures { HasBegun opening.now result }
     {
@@ -74,7 +71,7 @@ impl Meter {
         }
     }
 
-    /// One more entry.
+    /// Adds one more entry.
     pub(crate) fn go_on(&mut self, booked: &BookedEntry) -> Result<(), AllocError>
         ensures ok { OnOk result (HasEntered booked.now self.old self.new) }
         ensures err { OnErr result (IsSame self.old self.new) }
@@ -85,7 +82,7 @@ impl Meter {
         Ok(())
     }
 
-    /// An entry was voided.
+    /// Voids the entry with a sequence number.
     pub(crate) fn strike(&mut self, place: u64)
         ensures { HasStruck place self.old self.new }
     {
@@ -98,7 +95,8 @@ impl Meter {
         }
     }
 
-    /// Where the meter stood before its entry at a place, and the next that stands.
+    /// Returns the entry with a sequence number, with the meter's state before it and the next
+    /// valid entry.
     pub(crate) fn placed(&self, place: u64) -> Option<EntryPlace>
         ensures found { WhereSaid self.now (λ known opening.
             result ≡ option_map (place_in known opening) (row_at place (rows_of known opening))) }
@@ -128,7 +126,7 @@ impl Meter {
         })
     }
 
-    /// Its entries from a place on, so many at most.
+    /// Returns at most `most` entries from a sequence number.
     pub(crate) fn entries(
         &self,
         alloc: Global,
@@ -141,7 +139,7 @@ impl Meter {
         list_entries(alloc, &self.row.opening, &self.rows, from, most)
     }
 
-    /// Hands on its energy by the quarter hours that are asked for.
+    /// Passes the energy of the meter to the sink, for each quarter hour in the span.
     pub(crate) fn hand_on<K: RowSink<Share>>(&self, span: Span, sink: &mut K)
         ensures whole { WhereSaid self.now (λ known opening.
             TakesAll (TakesWithin K.takes span) sink.old (rows_of_opening known opening) sink.new) }

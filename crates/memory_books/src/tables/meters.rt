@@ -26,7 +26,7 @@ use office_rules::{
 use std::alloc::{AllocError, Global};
 use std::collections::BTreeMap;
 
-/// Each meter as it stands.
+/// The present state of each meter, by name.
 #[derive(Drop)]
 pub(crate) struct Meters {
     alloc: Global,
@@ -36,7 +36,7 @@ pub(crate) struct Meters {
 impl Meters {
     ghost use Rattle.memory_books.specs.Tables.Meters.{AreMeters, Changes, Begins, IfThere};
 
-    /// No meters.
+    /// Creates an empty table.
     pub(crate) fn new(alloc: Global) -> Meters
         ensures { AreMeters result [] }
     {
@@ -79,7 +79,7 @@ impl Meters {
         }
     }
 
-    /// The installation of a meter, as it stands.
+    /// Returns the installation of a meter.
     pub(crate) fn row(&self, name: &Name) -> Option<Installation>
         ensures found { (known : List Fact) → AreLawful known → AreMeters self.now known
             → result ≡ meter_of known name.now }
@@ -97,7 +97,8 @@ impl Meters {
         }
     }
 
-    /// Where a meter stood before its entry at a place, and the next that stands.
+    /// Returns the entry of a meter with a sequence number, with the meter's state before it and
+    /// the next valid entry.
     pub(crate) fn entry(&self, name: &Name, place: u64) -> Option<EntryPlace>
         ensures found { (known : List Fact) → AreLawful known → AreMeters self.now known
             → result ≡ entry_at known name.now place }
@@ -110,7 +111,8 @@ impl Meters {
         meter.placed(place)
     }
 
-    /// The same, with the energy of the whole meter in place of that before the entry.
+    /// Returns the same entry, with the total energy of the meter in place of the energy before the
+    /// entry.
     pub(crate) fn entry_near(&self, name: &Name, place: u64) -> Option<EntryPlace>
         ensures found { (known : List Fact) → AreLawful known → AreMeters self.now known
             → TellsNear known name.now place result }
@@ -127,7 +129,7 @@ impl Meters {
         Some(with_whole_energy(&found, &whole))
     }
 
-    /// The entries of a meter from a place on, so many at most.
+    /// Returns at most `most` entries of a meter from a sequence number.
     pub(crate) fn entries(
         &self,
         alloc: Global,
@@ -145,7 +147,7 @@ impl Meters {
         }
     }
 
-    /// Hands on the energy of a meter by the quarter hours that are asked for.
+    /// Passes the energy of a meter to the sink, for each quarter hour in the span.
     pub(crate) fn hand_on<K: RowSink<Share>>(&self, name: &Name, span: Span, sink: &mut K)
         ensures whole { (known : List Fact) → AreLawful known → AreMeters self.now known
             → TakesAll (TakesWithin K.takes span) sink.old (rows_of_meter known name.now) sink.new }

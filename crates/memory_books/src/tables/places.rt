@@ -1,4 +1,4 @@
-//! Where facts of a kind stand, by name.
+//! The indices of the records of a kind, by key.
 ghost use Rattle.std.specs.Prelude.{◌≡◌, List, [], reverse, OnOk, OnErr};
 ghost use Rattle.office_events.specs.declared.facts.Fact.{Fact};
 ghost use Rattle.memory_books.specs.Tables.Keys as keys;
@@ -10,12 +10,12 @@ use office_events::{DeviceList, Fact, Name, Opening, Register, Reply};
 use std::alloc::{AllocError, Global};
 use std::collections::BTreeMap;
 
-/// What facts are looked up, and by what.
+/// The kind of a table of indices: its records and its key.
 #[derive(Clone, Copy)]
 pub(crate) enum Kind {
     /// Point lists by their device.
     DeviceLists,
-    /// Registers by their own name.
+    /// Registers by their name.
     Registers,
     /// Registers by their device.
     DeviceRegisters,
@@ -25,7 +25,7 @@ pub(crate) enum Kind {
     Replies,
 }
 
-/// The key of a name alone.
+/// Returns the key of a name alone.
 pub(crate) fn named(name: &Name) -> Key
     ensures { result ≡ keys.named name.now }
 {
@@ -77,7 +77,6 @@ fn reply_key(kind: Kind, reply: &Reply) -> Option<Key>
     }
 }
 
-/// What a fact is looked up by, if it is one of the kind.
 fn key_in(kind: Kind, fact: &Fact) -> Option<Key>
     ensures { result ≡ places.key_in kind fact.now }
 {
@@ -95,7 +94,7 @@ fn key_in(kind: Kind, fact: &Fact) -> Option<Key>
     }
 }
 
-/// The places of the facts of a kind, by key.
+/// The indices of the records of a kind, by key.
 #[derive(Drop)]
 pub(crate) struct Places {
     alloc: Global,
@@ -107,7 +106,7 @@ impl Places {
     ghost use Rattle.memory_books.specs.Tables.Places.{ArePlaces, ArePlacesOf, AreUnchanged, HaveOneMore, places_of, latest_place, has_key};
     ghost use Rattle.memory_books.specs.declared.tables.places.Kind.{Kind};
 
-    /// No facts.
+    /// Creates an empty table.
     pub(crate) fn new(alloc: Global, kind: Kind) -> Places
         ensures places { ArePlaces result [] }
         ensures kind { result.kind ≡ kind }
@@ -119,7 +118,6 @@ impl Places {
         }
     }
 
-    /// One place more under a key.
     fn add(&mut self, key: Key, place: usize) -> Result<(), AllocError>
         ensures ok { OnOk result (HaveOneMore key place self.old self.new) }
         ensures err { OnErr result (AreUnchanged self.old self.new) }
@@ -135,7 +133,7 @@ impl Places {
         Ok(())
     }
 
-    /// The places of the facts under a key, in their order.
+    /// Returns the indices of the records under a key, in the order in which they were added.
     pub(crate) fn all(&self, key: Key) -> &[usize]
         ensures { (kind : Kind) (known : List Fact) → ArePlacesOf kind self.now known
             → result.now ≡ reverse (places_of (has_key kind key) known) }
@@ -146,7 +144,7 @@ impl Places {
         }
     }
 
-    /// The place of the latest fact under a key.
+    /// Returns the index of the latest record under a key.
     pub(crate) fn latest(&self, key: Key) -> Option<usize>
         ensures { (kind : Kind) (known : List Fact) → ArePlacesOf kind self.now known
             → result ≡ latest_place (has_key kind key) known }

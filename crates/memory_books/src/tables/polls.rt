@@ -1,4 +1,4 @@
-//! Polls by their numbers, and those that wait.
+//! Polls by their numbers, and pending polls.
 ghost use Rattle.std.specs.Prelude.{◌≡◌, [], List, length, IfOk};
 ghost use Rattle.office_events.specs.declared.facts.Fact.{Fact};
 ghost use Rattle.office_rules.specs.Facts.{polls_in, pending_in};
@@ -18,7 +18,7 @@ pub(crate) struct Polls {
 impl Polls {
     ghost use Rattle.memory_books.specs.Tables.Polls.{ArePolls, EndsPoll};
 
-    /// No polls.
+    /// Creates an empty table.
     pub fn new(alloc: Global) -> Polls
         ensures { ArePolls result [] }
     {
@@ -27,7 +27,7 @@ impl Polls {
         }
     }
 
-    /// Writes down how a poll ended, if there is one of this number.
+    /// Stores the end of a poll. A number without a poll is ignored.
     fn end(&mut self, ended: &EndedPoll)
         ensures { EndsPoll ended.now self.old.rows.items self.new.rows.items }
     {
@@ -39,7 +39,7 @@ impl Polls {
         }
     }
 
-    /// The poll of a number, and how it ended.
+    /// Returns the poll with a number, with its end if it has one.
     pub fn row(&self, number: u64) -> Option<PollRow>
         ensures { (known : List Fact) → AreLawful known → ArePolls self.now known
             → result ≡ poll_row_of known number }
@@ -51,7 +51,7 @@ impl Polls {
         }
     }
 
-    /// How many there are.
+    /// Returns the number of polls.
     pub fn count(&self) -> u64
         ensures { (known : List Fact) → ArePolls self.now known → result ≡ length (polls_in known) }
     {
@@ -89,7 +89,7 @@ impl Table for Polls {
     }
 }
 
-/// The polls that have no outcome.
+/// The polls without an outcome.
 #[derive(Drop)]
 pub(crate) struct Pending {
     polls: Vec<Poll>,
@@ -98,7 +98,7 @@ pub(crate) struct Pending {
 impl Pending {
     ghost use Rattle.memory_books.specs.Tables.Polls.{ArePending, polls_but};
 
-    /// No polls.
+    /// Creates an empty table.
     pub fn new(alloc: Global) -> Pending
         ensures { ArePending result [] }
     {
@@ -107,14 +107,13 @@ impl Pending {
         }
     }
 
-    /// Takes out the poll of a number.
     fn take(&mut self, number: u64)
         ensures { self.new.polls.items ≡ polls_but number self.old.polls.items }
     {
         self.polls.retain(|poll| number != poll.number);
     }
 
-    /// The polls, in the order in which they were started.
+    /// Returns the polls, in the order in which they were started.
     pub fn all(&self, alloc: Global) -> Result<Vec<Poll>, AllocError>
         ensures { (known : List Fact) → ArePending self.now known
             → IfOk result (λ v. v.items ≡ pending_in known) }

@@ -1,4 +1,4 @@
-//! Tables that grow with the facts.
+//! Tables that grow with the records.
 ghost use Rattle.std.specs.Prelude.{◌≡◌, List, [], length, OnOk};
 ghost use Rattle.office_events.specs.declared.facts.Fact.{Fact};
 ghost use Rattle.office_rules.specs.Lawful.{AreLawful};
@@ -7,20 +7,21 @@ ghost use Rattle.memory_books.specs.Tables.Growing.{HasCome, latest_first};
 use office_events::Fact;
 use std::alloc::AllocError;
 
-/// A table of what facts say.
+/// A table of records for lookups.
 pub(crate) trait Table: Drop {
     ghost use Rattle.std.specs.Prelude.{◌≡◌, List, ◌∷◌, length, Option, OnOk, OnErr};
     ghost use Rattle.office_events.specs.declared.facts.Fact.{Fact};
     ghost use Rattle.office_rules.specs.Lawful.{AreLawful};
     ghost use Rattle.memory_books.specs.declared.tables.places.Kind.{Kind};
 
-    /// Which places it has, if it is a table of places. This never changes.
+    /// The kind of a table of indices. It never changes.
     ghost kind: { Self → Option Kind };
 
-    /// It says what these facts say, the latest first.
+    /// The table agrees with these records, the latest first.
     ghost says: { Self → List Fact → Type 0 };
 
-    /// Adds the fact at this place, from 0 on, after those before it. For want of memory nothing changes.
+    /// Adds the record at this index, from 0, after those before it. If memory runs out, the table
+    /// is unchanged.
     fn put(&mut self, place: usize, fact: &Fact) -> Result<(), AllocError>
         ensures ok { (known : List Fact) → AreLawful (fact.now ∷ known) → length known ≡ place
             → says self.old known
@@ -30,7 +31,7 @@ pub(crate) trait Table: Drop {
         ensures kind { kind self.new ≡ kind self.old };
 }
 
-/// A table, and how many facts it has.
+/// A table, and the number of records that it has reached.
 #[derive(Drop)]
 pub(crate) struct Kept<T> {
     pub table: T,
@@ -38,7 +39,7 @@ pub(crate) struct Kept<T> {
 }
 
 impl<T: Table> Kept<T> {
-    /// A table that has none of the facts yet.
+    /// Creates a table that has reached no record.
     pub fn new(table: T) -> Kept<T>
         ensures table { result.table ≡ table }
         ensures count { result.count ≡ 0 }
@@ -46,7 +47,8 @@ impl<T: Table> Kept<T> {
         Kept { table, count: 0 }
     }
 
-    /// Adds the facts that the table doesn't have. For want of memory it has some of them.
+    /// Adds the records that the table has not reached. If memory runs out, it has reached some of
+    /// them.
     pub fn catch_up(&mut self, facts: &[Fact]) -> Result<(), AllocError>
         ensures kept { AreLawful (latest_first facts.now) → HasCome T.says self.old facts.now
             → HasCome T.says self.new facts.now }

@@ -1,4 +1,4 @@
-//! All tables of some facts.
+//! All tables of the store.
 ghost use Rattle.std.specs.Prelude.{◌≡◌, ◌∷◌, List, [], map, reverse, length, IfOk, IfSome, OnOk};
 ghost use Rattle.std.specs.List.{filter, filter_map};
 ghost use Rattle.std.specs.Option.{option_copied, option_map};
@@ -34,7 +34,8 @@ use office_events::{
 };
 use std::alloc::{AllocError, Global};
 
-/// Tables of what facts say. Each has the facts as far as it has come; look them up once all have caught up.
+/// The tables of the store. Each agrees with the records that it has reached. Lookups require that
+/// all of them are up to date.
 #[derive(Drop)]
 pub struct Tables {
     polls: Kept<Polls>,
@@ -50,7 +51,7 @@ pub struct Tables {
 impl Tables {
     ghost use Rattle.memory_books.specs.Tables.Whole.{HaveCome, AreWhole, WhereWhole};
 
-    /// Tables that have no facts yet.
+    /// Creates empty tables.
     pub fn new(alloc: Global) -> Tables
         ensures { (facts : List Fact) → HaveCome result facts }
     {
@@ -66,7 +67,8 @@ impl Tables {
         }
     }
 
-    /// Adds the facts that the tables don't have. For want of memory each has some of them, and lacks the rest.
+    /// Adds the records that the tables have not reached. If memory runs out, a table may still
+    /// lack some of them.
     pub fn catch_up(&mut self, facts: &[Fact]) -> Result<(), AllocError>
         ensures kept { AreLawful (latest_first facts.now) → HaveCome self.old facts.now
             → HaveCome self.new facts.now }
@@ -84,7 +86,7 @@ impl Tables {
         Ok(())
     }
 
-    /// The poll of a number, and how it ended.
+    /// Returns the poll with a number, with its end if it has one.
     pub fn poll(&self, number: u64) -> Option<PollRow>
         ensures { (known : List Fact) → AreLawful known → AreWhole self.now known
             → result ≡ poll_row_of known number }
@@ -92,14 +94,14 @@ impl Tables {
         self.polls.table.row(number)
     }
 
-    /// How many polls were started.
+    /// Returns how many polls were started.
     pub fn poll_count(&self) -> u64
         ensures { (known : List Fact) → AreWhole self.now known → result ≡ length (polls_in known) }
     {
         self.polls.table.count()
     }
 
-    /// The polls that have no outcome, in the order in which they were started.
+    /// Returns the polls without an outcome, in the order in which they were started.
     pub fn pending(&self, alloc: Global) -> Result<Vec<Poll>, AllocError>
         ensures { (known : List Fact) → AreWhole self.now known
             → IfOk result (λ v. v.items ≡ pending_in known) }
@@ -107,7 +109,7 @@ impl Tables {
         self.pending.table.all(alloc)
     }
 
-    /// The point list of a device, where it stands among the facts that the tables are of.
+    /// Borrows the list, so that a lookup of a part copies no points.
     fn list_among<'a>(&self, facts: &'a [Fact], device: &Name) -> Option<&'a PlannedList>
         ensures { (known : List Fact) → facts.now ≡ reverse known → AreWhole self.now known
             → option_copied result ≡ list_of known device.now }
@@ -118,7 +120,7 @@ impl Tables {
         }
     }
 
-    /// The point list of a device, among those facts.
+    /// Returns the point list of a device.
     pub fn list(&self, facts: &[Fact], device: &Name) -> Result<Option<PlannedList>, AllocError>
         ensures { (known : List Fact) → facts.now ≡ reverse known → AreWhole self.now known
             → IfOk result (λ list. list ≡ list_of known device.now) }
@@ -129,7 +131,7 @@ impl Tables {
         }
     }
 
-    /// How many reads the plan of a device has, among those facts.
+    /// Returns the number of reads in the plan of a device, if it has a point list.
     pub fn read_count(&self, facts: &[Fact], device: &Name) -> Option<usize>
         ensures { (known : List Fact) → facts.now ≡ reverse known → AreWhole self.now known
             → result ≡ read_count_of (list_of known device.now) }
@@ -140,7 +142,7 @@ impl Tables {
         }
     }
 
-    /// The registers of its reads from one on: at most so many.
+    /// Returns the registers of at most `most` reads of the plan from index `from`.
     pub fn reads(
         &self,
         alloc: Global,
@@ -158,7 +160,7 @@ impl Tables {
         }
     }
 
-    /// The register of a name, among those facts.
+    /// Returns the register with a name.
     pub fn register(&self, facts: &[Fact], name: &Name) -> Option<Register>
         ensures { (known : List Fact) → facts.now ≡ reverse known → AreWhole self.now known
             → result ≡ register_of known name.now }
@@ -169,7 +171,7 @@ impl Tables {
         }
     }
 
-    /// The registers of a device, in the order in which they were added.
+    /// Returns the registers of a device, in the order in which they were added.
     pub fn registers(
         &self,
         alloc: Global,
@@ -182,7 +184,7 @@ impl Tables {
         registers_at(alloc, facts, self.device_registers.table.all(named(device)))
     }
 
-    /// Those of them of which a read of the span gives a reading.
+    /// Returns the registers of a device that a read of the span covers.
     pub fn registers_read(
         &self,
         alloc: Global,
@@ -198,7 +200,7 @@ impl Tables {
         registers_read_at(alloc, facts, places, span)
     }
 
-    /// How many registers a device has. This takes no memory.
+    /// Returns the number of registers of a device. Allocates no memory.
     pub fn register_count(&self, device: &Name) -> usize
         ensures { (known : List Fact) → AreWhole self.now known
             → result ≡ length (registers_of known device.now) }
@@ -206,7 +208,7 @@ impl Tables {
         self.device_registers.table.all(named(device)).len()
     }
 
-    /// The latest opening at a register.
+    /// Returns the latest opening at a register.
     pub fn installed(&self, facts: &[Fact], register: &Name) -> Option<Opening>
         ensures { (known : List Fact) → facts.now ≡ reverse known → AreWhole self.now known
             → result ≡ installed_at known register.now }
@@ -217,7 +219,7 @@ impl Tables {
         }
     }
 
-    /// What a request is to the one that is kept under its caller and number.
+    /// Returns the relation of a request to the kept request with the same caller and number.
     pub fn repeat(
         &self,
         facts: &[Fact],
@@ -238,7 +240,7 @@ impl Tables {
         }
     }
 
-    /// The installation of a meter, as it stands.
+    /// Returns the installation of a meter.
     pub fn meter(&self, name: &Name) -> Option<Installation>
         ensures found { (known : List Fact) → AreLawful known → AreWhole self.now known
             → result ≡ meter_of known name.now }
@@ -247,7 +249,7 @@ impl Tables {
         self.meters.table.row(name)
     }
 
-    /// The latest installation at a register, as it stands.
+    /// Returns the latest installation at a register.
     pub fn installation(&self, facts: &[Fact], register: &Name) -> Option<Installation>
         ensures found { WhereWhole self.now facts.now (λ known.
             result ≡ installation_at known register.now) }
@@ -259,7 +261,8 @@ impl Tables {
         }
     }
 
-    /// Where a meter stood before its entry at a place, and the next that stands.
+    /// Returns the entry of a meter with a sequence number, with the meter's state before it and
+    /// the next valid entry.
     pub fn entry(&self, meter: &Name, place: u64) -> Option<EntryPlace>
         ensures found { (known : List Fact) → AreLawful known → AreWhole self.now known
             → result ≡ entry_at known meter.now place }
@@ -268,7 +271,8 @@ impl Tables {
         self.meters.table.entry(meter, place)
     }
 
-    /// The same, with the energy of the whole meter in place of that before the entry.
+    /// Returns the same entry, with the total energy of the meter in place of the energy before the
+    /// entry.
     pub fn entry_near(&self, meter: &Name, place: u64) -> Option<EntryPlace>
         ensures found { (known : List Fact) → AreLawful known → AreWhole self.now known
             → TellsNear known meter.now place result }
@@ -277,7 +281,7 @@ impl Tables {
         self.meters.table.entry_near(meter, place)
     }
 
-    /// The entries of a meter from a place on, so many at most.
+    /// Returns at most `most` entries of a meter from a sequence number.
     pub fn entries(
         &self,
         alloc: Global,
@@ -291,7 +295,6 @@ impl Tables {
         self.meters.table.entries(alloc, meter, from, most)
     }
 
-    /// The installation that was opened at a place of the facts, if one was, as it stands.
     fn installation_there(&self, facts: &[Fact], place: usize) -> Option<Installation>
         ensures { WhereWhole self.now facts.now (λ known.
             result ≡ option_map (installation_of known) (spots.opening_at facts.now place)) }
@@ -300,7 +303,6 @@ impl Tables {
         self.meter(&opening.meter)
     }
 
-    /// The installations that were opened at these places.
     fn installations_there(
         &self,
         alloc: Global,
@@ -319,7 +321,8 @@ impl Tables {
         Ok(rows)
     }
 
-    /// The installations at a register as they stand, ended ones too, in the order in which they were installed.
+    /// Returns the installations at a register, with the closed ones, in the order in which they
+    /// were installed.
     pub fn installations(
         &self,
         alloc: Global,
@@ -332,7 +335,8 @@ impl Tables {
         self.installations_there(alloc, facts, self.openings.table.all(named(register)))
     }
 
-    /// Hands on the energy of a meter by the quarter hours that are asked for, in order of their starts. This takes no memory.
+    /// Passes the energy of a meter to the sink, for each quarter hour in the span, in order of
+    /// their starts. Allocates no memory.
     pub fn intervals<K: RowSink<Share>>(&self, meter: &Name, span: Span, sink: &mut K)
         ensures whole { (known : List Fact) → AreLawful known → AreWhole self.now known
             → TakesAll (TakesWithin K.takes span) sink.old (rows_of_meter known meter.now)
@@ -342,7 +346,6 @@ impl Tables {
         self.meters.table.hand_on(meter, span, sink);
     }
 
-    /// Hands on the energy of the installation that was opened at a place of the facts, if one was.
     fn hand_on_at<K: RowSink<Share>>(&self, facts: &[Fact], place: usize, span: Span, sink: &mut K)
         ensures whole { WhereWhole self.now facts.now (λ known.
             TakesAll (TakesWithin K.takes span) sink.old (rows_at known facts.now (place ∷ []))
@@ -355,7 +358,6 @@ impl Tables {
         }
     }
 
-    /// Hands on the energy of the installations that were opened at these places, one after the other.
     fn hand_on_all<K: RowSink<Share>>(
         &self,
         facts: &[Fact],
@@ -373,8 +375,8 @@ impl Tables {
         }
     }
 
-    /// Hands on the energy of a register by the quarter hours that are asked for, installation after installation. This takes
-    /// no memory.
+    /// Passes the energy of a register to the sink, for each quarter hour in the span, installation
+    /// after installation. Allocates no memory.
     pub fn register_intervals<K: RowSink<Share>>(
         &self,
         facts: &[Fact],

@@ -1,4 +1,4 @@
--- One reply is one reading.
+-- One response gives one reading.
 use Rattle.std.proofs.Common.{◌≡◌, pos, false, [], ◌∷◌, Some, None, Ok, refl}
 use Rattle.energy_core.specs.Value.{unit_of}
 use Rattle.energy_core.specs.declared.entries.Entry.TheVariants as entry

@@ -1,4 +1,4 @@
--- Requests that are asked once, again, and with other bytes; and the order of refusals.
+-- New requests, retries, requests with other bytes, and the order of refusals.
 use Rattle.std.proofs.Common.{◌≡◌, [], ◌∷◌, Some, None, Ok, Err, refl}
 use Rattle.energy_core.specs.Value.{unit_of}
 use Rattle.mb_wire.specs.Frames.{frames, frames_in, rest, rest_in, is_garbled}

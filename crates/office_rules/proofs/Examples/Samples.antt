@@ -1,4 +1,4 @@
--- What the examples are made of.
+-- The parts of the examples.
 use Rattle.std.proofs.Common.{ℕ, ℤ, ◌++◌, pos, List, [], ◌∷◌, Option, Some, lit≤}
 use Rattle.std.specs.Option.{option_map}
 use Rattle.mb_wire.specs.declared.span.ReadFunction.TheVariants.{HoldingRegisters}
@@ -17,7 +17,7 @@ use Rattle.office_rules.specs.History.{History, Opened, Fed, facts_of}
 use Rattle.office_rules.specs.Refusals.{decision_of}
 use Rattle.office_rules.specs.Notes.{notes_after, outgoing_after}
 
--- ---- names
+-- Names.
 
 abbrev pub inv : List ℕ
 inv = 105 ∷ 110 ∷ 118 ∷ []
@@ -34,7 +34,7 @@ m2 = 109 ∷ 50 ∷ []
 abbrev pub desk : List ℕ
 desk = 100 ∷ 101 ∷ 115 ∷ 107 ∷ []
 
--- ---- events
+-- Events.
 
 abbrev pub device : (name : List ℕ) → (window : ℕ) → Event
 device name window = event.Command (command.AddDevice (record { name = Some name; unit = 1; timeout = 5; window = window }))
@@ -65,7 +65,7 @@ gone = event.Gone (Some inv) closing.Gone
 abbrev pub bytes : List ℕ → Event
 bytes piece = event.Bytes (Some inv) piece
 
--- a read of the counter and its scale, and one of the counter alone
+-- A read of the counter and its scale, and a read of the counter alone.
 abbrev pub three_words : ReadSpan
 three_words = record { function = HoldingRegisters; address = 40094; count = 3; some = lit≤ tt; few = lit≤ tt; inside = lit≤ tt }
 
@@ -112,22 +112,22 @@ exchange last = event.Command (exchange_of last)
 abbrev pub asked : (request : List ℕ) → (last : ℕ) → Event
 asked request last = event.Asked (record { caller = Some desk; number = 7; request = request; command = exchange_of last })
 
--- ---- what came before
+-- Earlier events.
 
--- a device, a register and a meter, and a poll that waits
+-- A device, a register and a meter, and a pending poll.
 abbrev pub started : History
 started = Fed 1898 (start three_words) ∷ Fed 1898 connect ∷ Fed 1000 (install 5000 (pos 0) 100000 full_range)
     ∷ Fed 1000 (register (given.Register 40096)) ∷ Fed 1000 (device inv 1) ∷ Opened 0 ∷ []
 
--- what the meter shows, with its scale, in the reply to the poll of an id
+-- The meter's count and scale, in the response to the poll with an identifier.
 abbrev pub reply : (id high low sf : ℕ) → Event
 reply id high low sf = bytes (0 ∷ id ∷ 0 ∷ 0 ∷ 0 ∷ 9 ∷ 1 ∷ 3 ∷ 6 ∷ 0 ∷ 0 ∷ high ∷ low ∷ 0 ∷ sf ∷ [])
 
--- the reply 5200 came
+-- The response 5200 arrived.
 abbrev pub answered : History
 answered = Fed 1900 (reply 0 20 80 0) ∷ started
 
--- a meter of a fixed scale, installed at a moment
+-- A meter with a fixed scale, installed at a time.
 abbrev pub house : (at raw : ℕ) → (sf : ℤ) → (ceiling range : ℕ) → History
 house at raw sf ceiling range = Fed at connect ∷ Fed at (install raw sf ceiling range) ∷ Fed 0 (register (given.Fixed sf))
     ∷ Fed 0 (device inv 1) ∷ Opened 0 ∷ []
@@ -135,11 +135,11 @@ house at raw sf ceiling range = Fed at connect ∷ Fed at (install raw sf ceilin
 abbrev pub shows : (id : ℕ) → (counter : List ℕ) → Event
 shows id counter = bytes ((0 ∷ id ∷ 0 ∷ 0 ∷ 0 ∷ 7 ∷ 1 ∷ 3 ∷ 4 ∷ []) ++ counter)
 
--- it was read at a moment, and showed this
+-- The meter was read at a time, with this count.
 abbrev pub read : (at id : ℕ) → (counter : List ℕ) → History → History
 read at id counter past = Fed at (shows id counter) ∷ Fed at (start two_words) ∷ past
 
--- ---- what is told
+-- Notifications.
 
 abbrev pub told : History → (at : ℕ) → Event → List Note
 told past at e = notes_after past at e (decision_of past at e)

@@ -1,4 +1,4 @@
--- Rollovers, gaps, ranges and the greatest power.
+-- Rollovers, gaps, ranges and the ceiling.
 use Rattle.std.proofs.Common.{◌≡◌, pos, negsuc, [], ◌∷◌, Err, refl}
 use Rattle.energy_core.specs.Value.{unit_of}
 use Rattle.energy_core.specs.declared.verdicts.Cause.TheVariants as cause

@@ -1,4 +1,4 @@
-//! Text that is built up in room of its own.
+//! Builds text in a fixed buffer.
 ghost use Rattle.std.specs.Prelude.{◌≡◌, ◌≤◌, ◌<◌, ◌+◌, ℕ, List, [], ◌++◌, length, replicate, take};
 ghost use Rattle.interval_core.specs.Report.{right};
 ghost use Rattle.jiff_fmt.specs.Text.{pad2};
@@ -6,14 +6,14 @@ ghost use Rattle.jiff_fmt.specs.Text.{pad2};
 use itoa::{Buffer, Integer};
 use std::marker::Model;
 
-/// A text of at most `N` bytes.
+/// A text of at most `N` bytes, in a fixed buffer.
 #[derive(Clone, Drop)]
 pub struct Text<const N: usize> {
     room: [u8; N],
     filled: usize,
 }
 
-/// A text of at most 128 bytes: a line.
+/// A line of at most 128 bytes.
 pub type Line = Text<128>;
 
 impl<const N: usize> Model for Text<N> {
@@ -25,7 +25,7 @@ impl<const N: usize> Model for Text<N> {
 }
 
 impl<const N: usize> Text<N> {
-    /// A text of no bytes.
+    /// Creates an empty text.
     pub fn new() -> Text<N>
         ensures { result ≡ [] }
     {
@@ -35,14 +35,14 @@ impl<const N: usize> Text<N> {
         }
     }
 
-    /// Its bytes.
+    /// Returns the bytes of the text.
     pub fn bytes(&self) -> &[u8]
         ensures { result.now ≡ self.now }
     {
         &self.room[..self.filled]
     }
 
-    /// Puts bytes at its end.
+    /// Appends bytes.
     pub fn push(&mut self, bytes: &[u8])
         requires { length self.old + length bytes.now ≤ N }
         ensures bytes { self.new ≡ self.old ++ bytes.now }
@@ -54,7 +54,7 @@ impl<const N: usize> Text<N> {
         self.filled = end;
     }
 
-    /// Puts a number at its end, after what introduces it.
+    /// Appends a key and a number.
     pub fn push_number<I: Integer>(&mut self, key: &[u8], number: I)
         requires { length self.old + length key.now + I.MAX_STR_LEN ≤ N }
         ensures bytes { self.new ≡ self.old ++ key.now ++ I.text number }
@@ -65,7 +65,7 @@ impl<const N: usize> Text<N> {
         self.push(buffer.format(number).as_bytes());
     }
 
-    /// Puts a number at its end, with so many spaces before it that it takes the width, at most 24.
+    /// Appends a number, with spaces before it up to the width, which is at most 24.
     pub fn push_right<I: Integer>(&mut self, width: usize, number: I)
         requires narrow { width ≤ 24 }
         requires room { length self.old + width + I.MAX_STR_LEN ≤ N }
@@ -80,7 +80,6 @@ impl<const N: usize> Text<N> {
         self.push(text);
     }
 
-    // Puts at most 24 spaces at its end.
     fn push_spaces(&mut self, count: usize)
         requires few { count ≤ 24 }
         requires room { length self.old + count ≤ N }
@@ -90,7 +89,7 @@ impl<const N: usize> Text<N> {
         self.push(&[b' '; 24][..count]);
     }
 
-    /// Puts a number below 100 at its end, in two digits.
+    /// Appends a number below 100 in two digits.
     pub fn push_pair(&mut self, number: u8)
         requires few { number < 100 }
         requires room { length self.old + 2 ≤ N }

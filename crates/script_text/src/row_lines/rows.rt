@@ -1,4 +1,4 @@
-//! The lines of rows.
+//! Writes the lines of interval rows and days.
 ghost use Rattle.std.specs.Prelude.{◌≡◌, ◌≤◌, ◌<◌, ◌+◌, ◌++◌, codes, length};
 ghost use Rattle.jiff.specs.Words.{date_text};
 ghost use Rattle.jiff_core.specs.Calendar.{IsYear};
@@ -10,7 +10,8 @@ use interval_core::{Day, DayTotal, Share};
 use std::io;
 use sun_points::Sink;
 
-/// `START MWH`: the start of an interval, in seconds since 1970-01-01 UTC, and its energy.
+/// Returns the line `START MWH`: the start of a quarter hour in seconds since 1970-01-01 UTC, and
+/// its energy in mWh.
 pub fn interval_line(row: Share) -> Line
     ensures { result ≡ rows.share_line row }
 {
@@ -21,8 +22,8 @@ pub fn interval_line(row: Share) -> Line
     line
 }
 
-/// `DAY COUNT MWH`: the day as `YYYY-MM-DD`, the count of its intervals right in 3 places, and its energy
-/// right in 24 places.
+/// Returns the line `DAY COUNT MWH`: the day as `YYYY-MM-DD`, the number of its quarter hours, and
+/// its energy in mWh. The number is right-aligned in 3 columns, and the energy in 24.
 pub fn day_line(total: &DayTotal) -> Line
     ensures { result ≡ rows.day_line total.now }
 {
@@ -36,7 +37,7 @@ pub fn day_line(total: &DayTotal) -> Line
     line
 }
 
-/// `end N`: there were so many rows.
+/// Returns the line `end N`, which ends `N` rows.
 pub fn end_line(count: u64) -> Line
     ensures { result ≡ rows.end_line count }
 {
@@ -46,7 +47,7 @@ pub fn end_line(count: u64) -> Line
     line
 }
 
-/// Puts four digits of a year, after a sign and two zeros where it is before the year 0.
+/// Appends a year in four digits. A year before 0 has a sign and two zeros before them.
 pub fn push_year(line: &mut Line, year: i16)
     requires room { length line.old ≤ 64 }
     requires few { IsYear year }
@@ -61,7 +62,7 @@ pub fn push_year(line: &mut Line, year: i16)
     line.push_pair((number % 100) as u8);
 }
 
-// The day as `YYYY-MM-DD`; a year before the first has a sign and six digits.
+// A year before 0 has a sign and six digits.
 fn push_day(line: &mut Line, day: Day)
     requires { length line.old ≤ 64 }
     ensures bytes { line.new ≡ line.old ++ date_text day }
@@ -72,7 +73,7 @@ fn push_day(line: &mut Line, day: Day)
     push_part(line, day_of_month(day));
 }
 
-/// Puts a hyphen, and a number below 100 in two digits.
+/// Appends a hyphen, and a number below 100 in two digits.
 pub fn push_part(line: &mut Line, number: u8)
     requires room { length line.old ≤ 124 }
     requires few { number < 100 }
@@ -83,7 +84,7 @@ pub fn push_part(line: &mut Line, number: u8)
     line.push_pair(number);
 }
 
-/// The month, from 1.
+/// Returns the month, from 1.
 pub fn month_of(day: Day) -> u8
     ensures value { result ≡ day.month }
     ensures few { result < 100 }
@@ -91,7 +92,7 @@ pub fn month_of(day: Day) -> u8
     day.month() as u8
 }
 
-/// The day of the month, from 1.
+/// Returns the day of the month, from 1.
 pub fn day_of_month(day: Day) -> u8
     ensures value { result ≡ day.day }
     ensures few { result < 100 }
@@ -99,7 +100,7 @@ pub fn day_of_month(day: Day) -> u8
     day.day() as u8
 }
 
-/// Writes the line of an interval.
+/// Writes the line of a quarter hour.
 pub fn write_interval<S: Sink>(row: Share, output: &mut S) -> io::Result<()>
     ensures { S.takes output.old (rows.share_line row) result output.new }
 {
@@ -113,7 +114,7 @@ pub fn write_day<S: Sink>(total: &DayTotal, output: &mut S) -> io::Result<()>
     output.take_text(day_line(total).bytes())
 }
 
-/// Writes the line that tells how many rows there were.
+/// Writes the line that ends the rows, with their number.
 pub fn write_end<S: Sink>(count: u64, output: &mut S) -> io::Result<()>
     ensures { S.takes output.old (rows.end_line count) result output.new }
 {

@@ -1,4 +1,4 @@
--- What is gone from the rest was written.
+-- All bytes that are no longer in the rest were written.
 use Rattle.std.proofs.Common.{◌≡◌, ℕ, List, ◌++◌, length}
 use Rattle.std.specs.Io.KnownBytes.{Appends}
 use Rattle.hex.specs.Hex.{encode_lower}

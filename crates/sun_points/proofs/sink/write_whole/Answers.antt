@@ -4,13 +4,13 @@ use Rattle.std.proofs.KnownBytes.{Appends-kept, Appends-trans}
 use Rattle.sun_points.proofs.sink.write_whole.Goals as goal
 use Rattle.sun_points.proofs.sink.write_whole.Goals.{in-Ok, in-Err}
 
--- a write took the front of the rest
+-- A write removed bytes from the beginning of the rest.
 moves_front : (all done rest left : List ℕ) (n : ℕ) → all ≡ done ++ rest → left ≡ take (length rest - n) (drop n rest) → all ≡ (done ++ take n rest) ++ left
 moves_front all done rest left n split is =
     split ∙ ap (λ (l : List ℕ). done ++ l) (sym (take-append-drop n rest)) ∙ sym (append_assoc done (take n rest) (drop n rest))
     ∙ ap (λ (l : List ℕ). (done ++ take n rest) ++ l) (sym (take_rest rest n) ∙ sym is)
 
--- an interrupted write took nothing
+-- An interrupted write removed nothing.
 stays : (all done rest left : List ℕ) → all ≡ done ++ rest → left ≡ rest → all ≡ done ++ left
 stays all done rest left split is = split ∙ ap (λ (l : List ℕ). done ++ l) (sym is)
 

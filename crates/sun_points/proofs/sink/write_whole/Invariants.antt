@@ -1,4 +1,4 @@
--- What is gone from the rest was written.
+-- All bytes that are no longer in the rest were written.
 use Rattle.std.proofs.Common.{◌≡◌, ℕ, List, ◌++◌}
 use Rattle.std.specs.Io.KnownBytes.{Appends}
 use Rattle.sun_points.proofs.sink.write_whole.Given as goal
