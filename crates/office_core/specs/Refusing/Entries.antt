@@ -1,4 +1,4 @@
--- Why an entry that is handed in is not made at a meter.
+-- Why an entry from a command is refused at a meter.
 use Rattle.std.specs.Prelude.{◌≡◌, Bool, false, ◌||◌, Option, Some, None}
 use Rattle.std.specs.List.{find}
 use Rattle.energy_core.specs.declared.limits.TheConstants.{MAX_RANGE}
@@ -15,7 +15,7 @@ use Rattle.office_rules.specs.Refusals.{reasons}
 use Rattle.office_core.specs.declared.refusing.arrivals.Arrival.{Arrival}
 use Rattle.office_core.specs.Refusing.Asking.{IsOfEvent}
 
--- the entry has a fault at an installation, and at one that is open
+-- The entry has a fault at an installation, or at an installation if it is open.
 abbrev pub entry_has_fault : Installation → Entry → TermFault → Bool
 entry_has_fault row e why = entering.refuses row.opening.range row.total row.last e why
 
@@ -23,7 +23,7 @@ abbrev pub is_faulty : Option Installation → Entry → TermFault → Bool
 is_faulty None e why = false
 is_faulty (Some row) e why = entry_has_fault row e why
 
--- Whether an entry that comes so is refused for a reason.
+-- Whether a reason applies to an entry, and the first that does.
 abbrev pub speaks_of_entry : Arrival → (off_scale off_limits : Bool) → Installation → Entry
     → Refusal → Bool
 speaks_of_entry arrival off_scale off_limits row e refusal.ClockBack = arrival.is_back
@@ -46,8 +46,8 @@ abbrev pub entry_refusal : Arrival → (off_scale off_limits : Bool) → Install
 entry_refusal arrival off_scale off_limits row e =
     find (speaks_of_entry arrival off_scale off_limits row e) reasons
 
--- What holds where an entry is not refused: it comes in range, so do the command's numbers, and a counter of 32 bits can show the
--- entry's.
+-- What is known of an entry that is not refused: its arrival and the command's numbers are in
+-- range, and a counter of 32 bits can show its numbers.
 pub record IsEntryInRange (arrival : Arrival) (off_scale off_limits : Bool)
     (e : Entry) : Type 0 where
   pub not_back : arrival.is_back ≡ false

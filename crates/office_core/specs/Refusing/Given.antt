@@ -1,4 +1,4 @@
--- An entry as it is handed in, its numbers not yet bounded.
+-- An entry as a command hands it in: its numbers are not yet checked.
 use Rattle.energy_core.specs.declared.entries.Entry.{Entry}
 use Rattle.energy_core.specs.declared.entries.Entry.TheVariants as entry
 use Rattle.office_core.specs.declared.refusing.given.GivenEntry.{GivenEntry}
