@@ -1,4 +1,4 @@
--- A session that has told all outcomes of its events.
+-- A session that has reported all outcomes of its events.
 use Rattle.std.specs.Prelude.{Bool, true, Option, Some, None, is_none}
 use Rattle.poll_core.specs.Standing.{State}
 

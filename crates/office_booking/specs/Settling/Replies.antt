@@ -1,4 +1,4 @@
--- The registers that a reply tells.
+-- The registers that a response contains.
 use Rattle.std.specs.Prelude.{ℕ, List}
 use Rattle.mb_wire.specs.Replies.{answer_of}
 use Rattle.mb_wire.specs.declared.replies.Reply.{Reply}
