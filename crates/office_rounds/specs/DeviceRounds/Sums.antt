@@ -1,4 +1,4 @@
--- How the polls of a round ended.
+-- The outcomes of a round's polls, as sums.
 use Rattle.std.specs.Prelude.{ℕ, ◌==◌, List, [], ◌∷◌, if◌then◌else◌}
 use Rattle.std.specs.List.{list_any}
 use Rattle.poll_core.specs.declared.outcome.Outcome.{Outcome}
@@ -18,7 +18,7 @@ ended Silent sum = record sum { silent = one_more sum.silent }
 ended (Malformed wrong) sum = record sum { failed = one_more sum.failed }
 ended (Lost cause) sum = record sum { failed = one_more sum.failed }
 
--- of the polls that waited
+-- Only polls that were pending count.
 abbrev pub noted : (polls : List ℕ) → Note → Sum → Sum
 noted polls (note.Outcome poll outcome) sum =
     if list_any (λ one. one == poll) polls then ended outcome sum else sum
