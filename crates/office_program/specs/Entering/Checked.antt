@@ -1,4 +1,4 @@
--- What looking at an input finds, of which nothing is asked.
+-- What checking an input finds, without entering it.
 use Rattle.std.specs.Prelude.{◌≡◌, ◌⊎◌, ◌||◌, ℕ, Bool, true, false, List, [], ◌∷◌, ◌++◌, Option, Some, None, Result, Ok, Err, codes, if◌then◌else◌}
 use Rattle.std.specs.Io.KnownBytes.{Appends}
 use Rattle.std.specs.declared.alloc.AllocError.{AllocError}
@@ -28,15 +28,16 @@ use Rattle.office_program.specs.declared.entering.entries.Entry.TheVariants as e
 use Rattle.office_program.specs.Entering.Course as course
 use Rattle.office_program.specs.Entering.Lines.{IsBad, IsEntry, MayAsk, Telling}
 
--- ---- What books know of a request
+-- ---- What the store knows of a request
 
--- Books were only asked: they hold what they held, and a stop leaves no more than it left.
+-- The store was only queried: its records are the same, and so is what a crash may leave.
 pub record OnlyLooks (old new : Ledger) : Type 0 where
   pub clean : new.is_clean → old.is_clean
   pub zone : new.zone ≡ old.zone
   pub keeps : KeepsFacts old new
 
--- Nothing is kept under its caller and number; the same is; or another, for which it would be refused.
+-- The store has no request with this caller and number; or it has the same one; or another one, for
+-- which the request would be refused.
 abbrev pub known_as : Repeat → Known
 known_as (Same kind) = known.Again
 known_as Other = known.Refused refusal.Reused
@@ -78,7 +79,7 @@ abbrev pub LooksAt : Telling → (caller : Option (List ℕ)) → (text : List �
 LooksAt tells caller text old new result = (facts : List Fact) → old.holds facts → new.is_clean
     → FindsLook tells caller text facts result
 
--- what is printed of it
+-- The text for a line.
 abbrev pub known_text : Known → List ℕ
 known_text known.New = codes "new\n"
 known_text known.Again = codes "again\n"
@@ -89,7 +90,7 @@ look_text number (look.Known what) = known_text what
 look_text number (look.Faulty rows) = course.faults_text rows
 look_text number look.Bad = bad_line number
 
--- whether it is bad, or would be refused
+-- Whether the line is bad or would be refused.
 abbrev pub is_refusal : Known → Bool
 is_refusal known.New = false
 is_refusal known.Again = false
@@ -100,14 +101,15 @@ is_refused (look.Known what) = is_refusal what
 is_refused (look.Faulty rows) = true
 is_refused look.Bad = true
 
--- It was printed, or a part of it where the writing failed.
+-- The text was printed, or a part of it if the write failed.
 abbrev pub IsShown : (number : ℕ) → Look → (had holds : Option (List ℕ)) → Result Bool ExitStatus
     → Type 0
 IsShown number found had holds (Ok refused) =
     Appends had holds (look_text number found) × (refused ≡ is_refused found)
 IsShown number found had holds (Err status) = GotPart (look_text number found) had holds
 
--- It was looked at and printed, or a part of that where the writing failed; or memory was wanting.
+-- The line was checked and its text printed, or a part of it if the write failed. Otherwise memory
+-- was missing.
 pub record IsCut (tells : Telling) (caller : Option (List ℕ)) (line : Line) (facts : List Fact)
     (had holds : Option (List ℕ)) : Type 0 where
   pub found : Look
@@ -150,7 +152,8 @@ abbrev pub any_refused : List Looked → Bool
 any_refused [] = false
 any_refused (one ∷ earlier) = any_refused earlier || is_refused one.found
 
--- All were looked at and printed; or the command was broken off, and a part was printed.
+-- All lines were checked and their texts printed; or the command was broken off, and a part was
+-- printed.
 pub record IsWhole (lines : List Line) (looked : List Looked) (status : ExitStatus)
     (had holds : Option (List ℕ)) : Type 0 where
   pub follow : lines ≡ lines_with looked []
@@ -175,7 +178,7 @@ abbrev pub ChecksText : Telling → (caller : Option (List ℕ)) → (text : Lis
 ChecksText tells caller text old new had holds status = (facts : List Fact) → old.holds facts
     → new.is_clean → Checks tells caller (speaking_lines text) facts status had holds
 
--- Over books that stand after what was accepted, which stand so still.
+-- The same over a store in the state of a past, which stays in that state.
 pub record LooksOver (tells : Telling) (caller text : List ℕ) (new : Ledger)
     (had holds : Option (List ℕ)) (status : ExitStatus) (past : History) : Type 0 where
   pub checks : Checks tells (named caller) (speaking_lines text) (facts_of past) status had holds

@@ -1,4 +1,4 @@
--- A line that installs a meter at what its counter shows when it is entered: `@read` stands in it in the place of RAW and SF.
+-- A line that installs a meter at the reading of its counter: it has `@read` instead of RAW and SF.
 use Rattle.std.specs.Prelude.{◌≡◌, ℕ, ℤ, Bool, true, not, List, [], ◌∷◌, Option, Some, None, codes, if◌then◌else◌}
 use Rattle.std.specs.Str.{bytes_eq}
 use Rattle.office_events.specs.declared.commands.Command.{Command}
@@ -23,22 +23,22 @@ read_form (read.Exchange number register last rolls meter ceiling range) =
 abbrev pub IsReadLine : (words : List (List ℕ)) → ReadLine → Type 0
 IsReadLine words line = Spell words (read_form line)
 
--- the words are none
+-- The words are no such line.
 abbrev pub IsNoReadLine : (words : List (List ℕ)) → Type 0
 IsNoReadLine words = (line : ReadLine) → IsReadLine words line → ⊥
 
--- ---- What it says
+-- ---- The contents of the line
 
 abbrev pub number_of : ReadLine → ℕ
 number_of (read.Install number register meter ceiling range) = number
 number_of (read.Exchange number register last rolls meter ceiling range) = number
 
--- the register whose counter is to be read
+-- The register whose counter is to be read.
 abbrev pub register_of : ReadLine → Option (List ℕ)
 register_of (read.Install number register meter ceiling range) = register
 register_of (read.Exchange number register last rolls meter ceiling range) = register
 
--- what it asks where the counter shows this
+-- The command, given the reading of the counter.
 abbrev pub command_at : ReadLine → (raw : ℕ) → (sf : ℤ) → Command
 command_at (read.Install number register meter ceiling range) raw sf =
     command.Install (record {
@@ -61,7 +61,7 @@ command_at (read.Exchange number register last rolls meter ceiling range) raw sf
       range = range;
     })
 
--- what a request asks where its counter shows this
+-- The request, given the reading of the counter.
 abbrev pub asked_at : ReadRequest → (raw : ℕ) → (sf : ℤ) → Asked
 asked_at read raw sf = record {
   caller = read.caller;
@@ -70,7 +70,7 @@ asked_at read raw sf = record {
   command = command_at read.line raw sf;
 }
 
--- ---- A text that is such a line, which may have a mark where it asks an entry by hand
+-- ---- A text that is such a line, which may have a mark if it makes an entry by hand
 
 abbrev pub may_end : (marked : Bool) → ReadLine → Bool
 may_end marked (read.Install number register meter ceiling range) = not marked
@@ -83,7 +83,7 @@ pub record IsRead (text : List ℕ) (line : ReadLine) : Type 0 where
 abbrev pub IsNoRead : (text : List ℕ) → Type 0
 IsNoRead text = (line : ReadLine) → IsRead text line → ⊥
 
--- ---- The same, word by word, as the words are taken
+-- ---- The same definition, word by word, in reading order
 
 abbrev pub read_word : List (List ℕ) → Option (List (List ℕ))
 read_word [] = None
