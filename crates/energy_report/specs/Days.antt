@@ -1,4 +1,4 @@
--- Which day a text spells.
+-- The day that a text spells.
 use Rattle.std.specs.Prelude.{◌≡◌, ℕ, ◌+◌, ◌<◌, pos, ◌≤ℤ◌, List, [], ◌∷◌, ◌++◌, codes, true, false, Option, Some, None}
 use Rattle.std.specs.Borrow.{Bor}
 use Rattle.jiff.specs.Words.{date_text}
@@ -18,25 +18,25 @@ abbrev pub IsReadAs : List ℕ → Option Date → Type 0
 IsReadAs text (Some day) = Spells text day
 IsReadAs text None = (day : Date) → ¬ Spells text day
 
--- the end of a range that a word spells, if there is a word
+-- The end of a range that a word spells, if there is a word.
 abbrev pub IsEnd : Option (Bor (List ℕ)) → Option Date → Type 0
 IsEnd None None = Unit {0}
 IsEnd None (Some day) = ⊥
 IsEnd (Some word) None = ⊥
 IsEnd (Some word) (Some day) = Spells word.now day
 
--- there is a word, and it spells no day
+-- There is a word, and it spells no day.
 abbrev pub IsNoEnd : Option (Bor (List ℕ)) → Type 0
 IsNoEnd None = ⊥
 IsNoEnd (Some word) = (day : Date) → ¬ Spells word.now day
 
--- the range from one day until another
+-- The range from one day up to another.
 pub record IsRange (first last : Option (Bor (List ℕ))) (range : DayRange) : Type 0 where
   pub from : IsEnd first range.from
   pub till : IsEnd last range.till
   pub forward : is_backward range ≡ false
 
--- two days, of which the second is before the first
+-- Two days; the second is before the first.
 pub record AreBackward (first last : Option (Bor (List ℕ))) : Type 0 where
   pub range : DayRange
   pub from : IsEnd first range.from
@@ -50,17 +50,17 @@ IsRangeFault from till fault.Backward = AreBackward from till
 
 -- ---- digits
 
--- a digit spells a number below 10
+-- A digit spells a number below 10.
 abbrev pub DigitIs : (byte : ℕ) → Option ℕ → Type 0
 DigitIs byte (Some n) = (n < 10) × (byte ≡ 48 + n)
 DigitIs byte None = (n : ℕ) → n < 10 → ¬ (byte ≡ 48 + n)
 
--- two digits spell a number below 100
+-- Two digits spell a number below 100.
 abbrev pub PairIs : (tens ones : ℕ) → Option ℕ → Type 0
 PairIs tens ones (Some n) = (n < 100) × (pad2 n ≡ tens ∷ ones ∷ [])
 PairIs tens ones None = (n : ℕ) → n < 100 → ¬ (pad2 n ≡ tens ∷ ones ∷ [])
 
--- the parts of a day, in two digits each
+-- The parts of a day, in two digits each.
 abbrev pub parts_text : Parts → List ℕ
 parts_text parts =
     pad2 parts.century ++ pad2 parts.year ++ codes "-" ++ pad2 parts.month ++ codes "-"

@@ -1,5 +1,5 @@
--- The text of a statement: a row for each meter, in one of three formats, energies in one of two units. Moments are seconds since
--- 1970-01-01 UTC.
+-- The text of a statement: a row for each meter, in one of three formats, with energies in one of
+-- two units. Timestamps are in seconds since 1970-01-01 UTC.
 use Rattle.std.specs.Prelude.{ℕ, Bool, true, false, not, ◌==◌, ◌++◌, List, [], ◌∷◌, length, codes, Option, Some, None, if◌then◌else◌}
 use Rattle.std.specs.List.{filter, join_by}
 use Rattle.std.specs.Fmt.{decimal}
@@ -17,9 +17,9 @@ use Rattle.energy_report.specs.Held.{by_cause}
 use Rattle.energy_report.specs.Statements.{worth_of}
 use Rattle.energy_report.specs.Texts.{ending_by, energy_text, separator_by, unit_word}
 
--- ---- where a counter stood: its moment and its worth
+-- ---- the reading of a counter: its timestamp and its value
 
--- what stands there where no entry stands in the range
+-- The text for a range without a valid entry.
 abbrev pub nothing : Format → List ℕ
 nothing Text = codes "-"
 nothing Csv = []
@@ -39,21 +39,21 @@ worth_text format unit None = nothing format
 worth_text format unit (Some stand) =
     quote format ++ energy_text unit (worth_of stand) ++ quote format
 
--- ---- readings that were held: `2=3,5=1` in a text are three for cause 2 and one for cause 5
+-- ---- rejected readings: `2=3,5=1` in a text means three for cause 2 and one for cause 5
 
--- what stands between two counts; a table has commas between its fields
+-- The text between two counts. In a table it is not the comma, which separates fields.
 abbrev pub held_mark : Format → List ℕ
 held_mark Text = codes ","
 held_mark Csv = codes ";"
 held_mark Json = codes ","
 
--- what stands before a count; a spreadsheet reads `2:3` as a time
+-- The text before a count. It is not `:` in a text, as a spreadsheet reads `2:3` as a time.
 abbrev pub count_mark : Format → List ℕ
 count_mark Text = codes "="
 count_mark Csv = codes "="
 count_mark Json = codes ":"
 
--- the number of a cause, and how many were held for it
+-- The number of a cause, and its number of rejected readings.
 abbrev pub count_text : Format → HeldCount → List ℕ
 count_text format one =
     quote format ++ decimal (cause_number one.cause) ++ quote format ++ count_mark format
@@ -62,7 +62,7 @@ count_text format one =
 abbrev pub counts_text : Format → List HeldCount → List ℕ
 counts_text format counts = join_by (count_text format) (held_mark format) counts
 
--- those causes for which some were held, in order of their numbers
+-- The causes with rejected readings, in order of their numbers.
 unfoldable pub held_some : HeldCounts → List HeldCount
 held_some held = filter (λ one. not (one.count == 0)) (by_cause held)
 
@@ -70,13 +70,13 @@ abbrev pub counts_or_zero : Format → List HeldCount → List ℕ
 counts_or_zero format [] = codes "0"
 counts_or_zero format (first ∷ counts) = counts_text format (first ∷ counts)
 
--- a field, or a member's object
+-- A field, or the object of a member.
 abbrev pub held_text : Format → HeldCounts → List ℕ
 held_text Text held = counts_or_zero Text (held_some held)
 held_text Csv held = counts_or_zero Csv (held_some held)
 held_text Json held = codes "{" ++ counts_text Json (held_some held) ++ codes "}"
 
--- what one count more puts after those before it
+-- What one more count adds to the earlier ones.
 abbrev pub are_none : List HeldCount → Bool
 are_none [] = true
 are_none (first ∷ counts) = false
@@ -86,7 +86,7 @@ count_piece format is_first one =
     if one.count == 0 then [] else
     (if is_first then [] else held_mark format) ++ count_text format one
 
--- ---- fields with a mark before each but the first: a line of text, or a record of a table
+-- ---- fields with a separator before each but the first: a line of text, or a record of a table
 
 abbrev pub stand_fields : StatementForm → (mark : List ℕ) → Option Last → List ℕ
 stand_fields form mark stand =
@@ -126,7 +126,7 @@ object unit row =
     ++ codes "\"" ++ count_members row.entries ++ codes ",\"held\":" ++ held_text Json row.held
     ++ codes "}"
 
--- ---- rows, and what stands around them
+-- ---- rows, and the text around them
 
 abbrev pub row_by : Format → StatementForm → MeterStatement → List ℕ
 row_by Text form row = fields form (codes " ") row ++ codes "\n"
@@ -152,12 +152,12 @@ opening form = opening_by form.format form.unit
 abbrev pub separator : StatementForm → List ℕ
 separator form = separator_by form.format
 
--- what comes before a row
+-- The text before a row.
 abbrev pub lead : (is_first : Bool) → StatementForm → List ℕ
 lead true form = []
 lead false form = separator form
 
--- the text of the rows, after what comes before them
+-- The text of the rows, with the text before them.
 abbrev pub begun_text : StatementForm → List MeterStatement → List ℕ
 begun_text form rows = opening form ++ join_by (row_text form) (separator form) rows
 

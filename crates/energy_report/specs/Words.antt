@@ -1,4 +1,4 @@
--- The words by which a form is asked for.
+-- The words that select a form.
 use Rattle.std.specs.Prelude.{ℕ, List, Option, Some, None, codes, if◌then◌else◌}
 use Rattle.std.specs.Str.{bytes_eq}
 use Rattle.energy_report.specs.declared.form.Period.{Period}
@@ -27,6 +27,6 @@ format_of word =
     else (if bytes_eq word (codes "csv") then Some Csv
     else (if bytes_eq word (codes "json") then Some Json else None))
 
--- all days, a line a day, in mWh
+-- All days, a line a day, in mWh.
 abbrev pub plain_form : ReportForm
 plain_form = record { range = all_days; period = period.Day; unit = MilliwattHours; format = Text }
