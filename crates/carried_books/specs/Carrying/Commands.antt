@@ -1,4 +1,4 @@
--- The commands by which an office is set up as another stands.
+-- The commands that set up an office like another.
 use Rattle.std.specs.Prelude.{ℕ, List, [], ◌∷◌, ◌++◌, map, Some}
 use Rattle.std.specs.Option.{option_map, option_to_list}
 use Rattle.std.specs.List.{flat_map}
@@ -17,11 +17,11 @@ use Rattle.office_events.specs.declared.facts.ScaleSource.TheVariants as source
 use Rattle.office_rules.specs.Facts.{latest_in, list_of, registers_of}
 use Rattle.carried_books.specs.declared.carrying.commands.TimedCommand.{TimedCommand}
 
--- a command at a moment
+-- A command with a timestamp.
 abbrev pub timed : (at : ℕ) → Command → TimedCommand
 timed at c = record { at = at; command = c }
 
--- ---- what each row was made by
+-- ---- the command of each row
 
 abbrev pub device_command : Device → Command
 device_command device = command.AddDevice (record {
@@ -57,7 +57,7 @@ install_command opening = command.Install (record {
   range = opening.range;
 })
 
--- ---- a device, its list where it has one, and its registers, all at one moment
+-- ---- a device, its list if it has one, and its registers, all at one timestamp
 
 abbrev pub add_device : (at : ℕ) → Device → TimedCommand
 add_device at device = timed at (device_command device)
@@ -82,17 +82,18 @@ set_up_device at facts device =
 abbrev pub set_up_devices : (at : ℕ) → List Fact → List Device → List TimedCommand
 set_up_devices at facts devices = flat_map (set_up_device at facts) devices
 
--- ---- a meter, at the moment of its opening
+-- ---- a meter, at the timestamp of its opening
 
 abbrev pub install : Opening → TimedCommand
 install opening = timed opening.at (install_command opening)
 
--- Devices are set up at the moment of the first opening, or where there is none, at the latest that is recorded.
+-- Devices are set up at the timestamp of the first opening. Without openings it is the latest
+-- recorded one.
 abbrev pub first_moment : List Fact → List Opening → ℕ
 first_moment facts [] = latest_in facts
 first_moment facts (opening ∷ openings) = opening.at
 
--- The commands for these devices, and after them for these openings.
+-- The commands for these devices, followed by those for these openings.
 abbrev pub commands_for : List Fact → List Device → List Opening → List TimedCommand
 commands_for facts devices openings =
     set_up_devices (first_moment facts openings) facts devices ++ map install openings
