@@ -14,6 +14,7 @@ use Rattle.energy_report.specs.declared.spelled_range.RangeFault.TheVariants as 
 abbrev pub Spells : List ℕ → Date → Type 0
 Spells text day = (date_text day ≡ text) × (pos 0 ≤ℤ day.year)
 
+-- The result of parsing a day: the day of the text, or none if it spells no day.
 abbrev pub IsReadAs : List ℕ → Option Date → Type 0
 IsReadAs text (Some day) = Spells text day
 IsReadAs text None = (day : Date) → ¬ Spells text day
@@ -43,6 +44,7 @@ pub record AreBackward (first last : Option (Bor (List ℕ))) : Type 0 where
   pub till : IsEnd last range.till
   pub backward : is_backward range ≡ true
 
+-- The reason why two words are no range.
 abbrev pub IsRangeFault : (from till : Option (Bor (List ℕ))) → RangeFault → Type 0
 IsRangeFault from till fault.From = IsNoEnd from
 IsRangeFault from till fault.Till = IsNoEnd till
@@ -66,12 +68,14 @@ parts_text parts =
     pad2 parts.century ++ pad2 parts.year ++ codes "-" ++ pad2 parts.month ++ codes "-"
     ++ pad2 parts.day
 
+-- Each part is below 100.
 pub record AreFew (parts : Parts) : Type 0 where
   pub century : parts.century < 100
   pub year : parts.year < 100
   pub month : parts.month < 100
   pub day : parts.day < 100
 
+-- The parts of a text, or none if it has no such form.
 abbrev pub PartsAre : List ℕ → Option Parts → Type 0
 PartsAre text (Some parts) = AreFew parts × (parts_text parts ≡ text)
 PartsAre text None = (parts : Parts) → AreFew parts → ¬ (parts_text parts ≡ text)

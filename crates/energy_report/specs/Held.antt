@@ -52,6 +52,7 @@ by_cause counts =
 
 -- ---- readings that arrive one by one
 
+-- The counts of no readings.
 abbrev pub none_held : HeldCounts
 none_held = record {
   not_accumulated = 0;

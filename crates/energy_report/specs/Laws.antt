@@ -14,15 +14,19 @@ use Rattle.energy_report.specs.Rows.{rows_by, rows_in, shown_rows}
 use Rattle.energy_report.specs.Texts.{report_text}
 use Rattle.energy_report.specs.Words.{plain_form}
 
+-- The energy of days, in mWh.
 abbrev pub energy_of_days : List DayTotal → ℕ
 energy_of_days days = sum_by (λ total. total.mwh) days
 
+-- The number of intervals of days.
 abbrev pub intervals_of_days : List DayTotal → ℕ
 intervals_of_days days = sum_by (λ total. total.count) days
 
+-- The energy of rows, in mWh.
 abbrev pub energy_of_rows : List Row → ℕ
 energy_of_rows rows = sum_by (λ row. row.mwh) rows
 
+-- The number of intervals of rows.
 abbrev pub intervals_of_rows : List Row → ℕ
 intervals_of_rows rows = sum_by (λ row. row.count) rows
 
@@ -40,6 +44,7 @@ RowsAreShown = (form : ReportForm) (days : List DayTotal)
     → energy_of_days (days_in form.range days) < 2 ^ 128
     → shown_rows form days ≡ rows_in form days
 
+-- The range from one day up to another.
 abbrev pub range : (from till : Option Date) → DayRange
 range from till = record { from = from; till = till }
 

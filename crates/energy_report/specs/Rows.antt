@@ -42,5 +42,6 @@ shown row = record {
   mwh = min row.mwh (2 ^ 128 - 1);
 }
 
+-- The printed rows of a report on a list of days.
 abbrev pub shown_rows : ReportForm → List DayTotal → List Row
 shown_rows form days = map shown (rows_in form days)

@@ -25,15 +25,18 @@ nothing Text = codes "-"
 nothing Csv = []
 nothing Json = codes "null"
 
+-- The quote around a value: only in JSON.
 abbrev pub quote : Format → List ℕ
 quote Text = []
 quote Csv = []
 quote Json = codes "\""
 
+-- The timestamp of a counter's reading.
 abbrev pub moment_text : Format → Option Last → List ℕ
 moment_text format None = nothing format
 moment_text format (Some stand) = decimal stand.at
 
+-- The value of a counter's reading.
 abbrev pub worth_text : Format → EnergyUnit → Option Last → List ℕ
 worth_text format unit None = nothing format
 worth_text format unit (Some stand) =
@@ -59,6 +62,7 @@ count_text format one =
     quote format ++ decimal (cause_number one.cause) ++ quote format ++ count_mark format
     ++ decimal one.count
 
+-- The counts, separated.
 abbrev pub counts_text : Format → List HeldCount → List ℕ
 counts_text format counts = join_by (count_text format) (held_mark format) counts
 
@@ -66,6 +70,7 @@ counts_text format counts = join_by (count_text format) (held_mark format) count
 unfoldable pub held_some : HeldCounts → List HeldCount
 held_some held = filter (λ one. not (one.count == 0)) (by_cause held)
 
+-- The counts, or `0` if there are none.
 abbrev pub counts_or_zero : Format → List HeldCount → List ℕ
 counts_or_zero format [] = codes "0"
 counts_or_zero format (first ∷ counts) = counts_text format (first ∷ counts)
@@ -81,6 +86,7 @@ abbrev pub are_none : List HeldCount → Bool
 are_none [] = true
 are_none (first ∷ counts) = false
 
+-- A count that is not 0, after a separator unless it is the first.
 abbrev pub count_piece : Format → (is_first : Bool) → HeldCount → List ℕ
 count_piece format is_first one =
     if one.count == 0 then [] else
@@ -88,15 +94,18 @@ count_piece format is_first one =
 
 -- ---- fields with a separator before each but the first: a line of text, or a record of a table
 
+-- The timestamp and the value of a counter's reading, as fields.
 abbrev pub stand_fields : StatementForm → (mark : List ℕ) → Option Last → List ℕ
 stand_fields form mark stand =
     mark ++ moment_text form.format stand ++ mark ++ worth_text form.format form.unit stand
 
+-- The counts of corrections, as fields.
 abbrev pub count_fields : (mark : List ℕ) → EntryTally → List ℕ
 count_fields mark tally =
     mark ++ decimal tally.by_hand ++ mark ++ decimal tally.resets ++ mark
     ++ decimal tally.rescales ++ mark ++ decimal tally.voids
 
+-- A row as fields.
 abbrev pub fields : StatementForm → (mark : List ℕ) → MeterStatement → List ℕ
 fields form mark row =
     row.meter ++ stand_fields form mark row.entries.first
@@ -106,17 +115,20 @@ fields form mark row =
 
 -- ---- an object
 
+-- The timestamp and the value of a counter's reading, as members.
 abbrev pub stand_members : EnergyUnit → (word : List ℕ) → Option Last → List ℕ
 stand_members unit word stand =
     codes "\"" ++ word ++ codes "\":" ++ moment_text Json stand ++ codes ",\"" ++ word ++ codes "_"
     ++ unit_word unit ++ codes "\":" ++ worth_text Json unit stand ++ codes ","
 
+-- The counts of corrections, as members.
 abbrev pub count_members : EntryTally → List ℕ
 count_members tally =
     codes ",\"by_hand\":" ++ decimal tally.by_hand ++ codes ",\"resets\":" ++ decimal tally.resets
     ++ codes ",\"rescales\":" ++ decimal tally.rescales ++ codes ",\"voids\":"
     ++ decimal tally.voids
 
+-- A row as an object.
 abbrev pub object : EnergyUnit → MeterStatement → List ℕ
 object unit row =
     codes "{\"meter\":\"" ++ row.meter ++ codes "\","
@@ -128,27 +140,33 @@ object unit row =
 
 -- ---- rows, and the text around them
 
+-- A row in a format.
 abbrev pub row_by : Format → StatementForm → MeterStatement → List ℕ
 row_by Text form row = fields form (codes " ") row ++ codes "\n"
 row_by Csv form row = fields form (codes ",") row ++ codes "\r\n"
 row_by Json form row = object form.unit row
 
+-- A row in the form's format.
 abbrev pub row_text : StatementForm → MeterStatement → List ℕ
 row_text form row = row_by form.format form row
 
+-- The header of a table.
 abbrev pub csv_header : EnergyUnit → List ℕ
 csv_header unit =
     codes "meter,first,first_" ++ unit_word unit ++ codes ",last,last_" ++ unit_word unit
     ++ codes ",energy_" ++ unit_word unit ++ codes ",by_hand,resets,rescales,voids,held\r\n"
 
+-- The text before the rows, in a format.
 abbrev pub opening_by : Format → EnergyUnit → List ℕ
 opening_by Text unit = []
 opening_by Csv unit = csv_header unit
 opening_by Json unit = codes "["
 
+-- The text before the rows.
 abbrev pub opening : StatementForm → List ℕ
 opening form = opening_by form.format form.unit
 
+-- The text between two rows.
 abbrev pub separator : StatementForm → List ℕ
 separator form = separator_by form.format
 
@@ -161,5 +179,6 @@ lead false form = separator form
 abbrev pub begun_text : StatementForm → List MeterStatement → List ℕ
 begun_text form rows = opening form ++ join_by (row_text form) (separator form) rows
 
+-- The text of a statement.
 abbrev pub statement_text : StatementForm → List MeterStatement → List ℕ
 statement_text form rows = begun_text form rows ++ ending_by form.format (length rows)

@@ -27,6 +27,7 @@ abbrev pub stand_after : Entry → (sf : ℤ) → Last
 stand_after (step.Step at raw rolls) sf = record { at = at; raw = raw; sf = sf }
 stand_after (step.Change at before after set) sf = record { at = at; raw = after; sf = sf }
 
+-- The counter after any entry; after an opening it is the meter's first reading.
 abbrev pub stand_of : MeterEntry → Last
 stand_of (entry.Opening last) = last
 stand_of (entry.Later row sf) = stand_after row.entry sf
@@ -36,14 +37,17 @@ abbrev pub stands : MeterEntry → Bool
 stands (entry.Opening last) = true
 stands (entry.Later row sf) = row.stands
 
+-- A reading by hand.
 abbrev pub is_manual : EntryKind → Bool
 is_manual kind.Manual = true
 is_manual _ = false
 
+-- A reset.
 abbrev pub is_reset : EntryKind → Bool
 is_reset kind.Reset = true
 is_reset _ = false
 
+-- A rescaling.
 abbrev pub is_rescale : EntryKind → Bool
 is_rescale kind.Rescale = true
 is_rescale _ = false
@@ -55,15 +59,19 @@ has_kind is (entry.Later row sf) = is row.kind
 
 -- ---- entries in a range
 
+-- The entry is in the range.
 abbrev pub is_within : Zone → DayRange → MeterEntry → Bool
 is_within zone range e = has_moment zone range (stand_of e).at
 
+-- The entry is in the range and valid.
 abbrev pub stands_within : Zone → DayRange → MeterEntry → Bool
 stands_within zone range e = is_within zone range e && stands e
 
+-- The entry is in the range, valid, and a correction of a kind.
 abbrev pub is_corrected : Zone → DayRange → (EntryKind → Bool) → MeterEntry → Bool
 is_corrected zone range is e = stands_within zone range e && has_kind is e
 
+-- The entry is in the range and voided.
 abbrev pub is_voided : Zone → DayRange → MeterEntry → Bool
 is_voided zone range e = is_within zone range e && not (stands e)
 

@@ -19,11 +19,13 @@ use Rattle.energy_report.specs.declared.form.ReportForm.{ReportForm}
 use Rattle.energy_report.specs.declared.row.Row.{Row}
 use Rattle.energy_report.specs.Rows.{shown_rows}
 
+-- The word for a period.
 abbrev pub period_word : Period → List ℕ
 period_word period.Day = codes "day"
 period_word period.Month = codes "month"
 period_word period.Year = codes "year"
 
+-- The word for a unit.
 abbrev pub unit_word : EnergyUnit → List ℕ
 unit_word MilliwattHours = codes "mwh"
 unit_word KilowattHours = codes "kwh"
@@ -68,16 +70,19 @@ json_row form row =
     ++ codes "\",\"" ++ unit_word form.unit ++ codes "\":\"" ++ energy_text form.unit row.mwh
     ++ codes "\"}"
 
+-- A row in a format.
 abbrev pub row_by : Format → ReportForm → Row → List ℕ
 row_by Text = text_row
 row_by Csv = csv_row
 row_by Json = json_row
 
+-- A row in the form's format.
 abbrev pub row_text : ReportForm → Row → List ℕ
 row_text form row = row_by form.format form row
 
 -- ---- the text around the rows
 
+-- The header of a table.
 abbrev pub csv_header : Period → EnergyUnit → List ℕ
 csv_header period unit = period_word period ++ codes ",energy_" ++ unit_word unit ++ codes "\r\n"
 
@@ -87,6 +92,7 @@ opening_by Text period unit = []
 opening_by Csv period unit = csv_header period unit
 opening_by Json period unit = codes "["
 
+-- The text before the first row.
 abbrev pub opening : ReportForm → List ℕ
 opening form = opening_by form.format form.period form.unit
 
@@ -96,6 +102,7 @@ separator_by Text = []
 separator_by Csv = []
 separator_by Json = codes ",\n"
 
+-- The text between two rows.
 abbrev pub separator : ReportForm → List ℕ
 separator form = separator_by form.format
 
@@ -105,6 +112,7 @@ ending_by Text count = end_line count
 ending_by Csv count = []
 ending_by Json count = codes "]\n"
 
+-- The text after the last row.
 abbrev pub ending : ReportForm → (count : ℕ) → List ℕ
 ending form count = ending_by form.format count
 

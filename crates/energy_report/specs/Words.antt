@@ -10,17 +10,20 @@ use Rattle.energy_report.specs.declared.form.Format.TheVariants.{Text, Csv, Json
 use Rattle.energy_report.specs.declared.form.ReportForm.{ReportForm}
 use Rattle.interval_core.specs.Ranges.{all_days}
 
+-- The period of a word.
 abbrev pub period_of : List ℕ → Option Period
 period_of word =
     if bytes_eq word (codes "day") then Some period.Day
     else (if bytes_eq word (codes "month") then Some period.Month
     else (if bytes_eq word (codes "year") then Some period.Year else None))
 
+-- The unit of a word.
 abbrev pub unit_of : List ℕ → Option EnergyUnit
 unit_of word =
     if bytes_eq word (codes "mwh") then Some MilliwattHours
     else (if bytes_eq word (codes "kwh") then Some KilowattHours else None)
 
+-- The format of a word.
 abbrev pub format_of : List ℕ → Option Format
 format_of word =
     if bytes_eq word (codes "text") then Some Text

@@ -104,12 +104,14 @@ FoundIn old new result row =
     (known : List Fact) → old.holds known → new.is_clean
     → IsRowFound (row known) old.failures new.failures result
 
+-- The same for a query for rows.
 abbrev pub RowsIn : {S T : Type 0} → (S → T → S → Type 0) → (old new : Ledger) → (from to : S)
     → Result (Unit {0}) Refusal → (List Fact → Option (List T)) → Type 0
 RowsIn takes old new from to result rows =
     (known : List Fact) → old.holds known → new.is_clean
     → HandsRows takes (rows known) old.failures new.failures from to result
 
+-- The same for a query for days.
 abbrev pub DaysIn : {S : Type 0} → (S → DayTotal → S → Type 0) → (old new : Ledger) → (from to : S)
     → Result (Unit {0}) Refusal → (register : Option (List ℕ)) → Type 0
 DaysIn takes old new from to result register =
@@ -134,6 +136,7 @@ abbrev pub TellsRow : {B T : Type 0} → (B → Ledger) → (old new : Office B)
 TellsRow ledger old new result row = After ledger old new (λ past.
     IsRowFound (row (facts_of past)) (failures_of ledger old) (failures_of ledger new) result)
 
+-- The same for a query for rows.
 abbrev pub TellsRows : {B S T : Type 0} → (S → T → S → Type 0) → (B → Ledger)
     → (old new : Office B) → (from to : S) → Result (Unit {0}) Refusal
     → (List Fact → Option (List T)) → Type 0
@@ -141,6 +144,7 @@ TellsRows takes ledger old new from to result rows = After ledger old new (λ pa
     HandsRows takes (rows (facts_of past))
     (failures_of ledger old) (failures_of ledger new) from to result)
 
+-- The same for a query for days.
 abbrev pub TellsDays : {B S : Type 0} → (S → DayTotal → S → Type 0) → (B → Ledger)
     → (old new : Office B) → (from to : S) → Result (Unit {0}) Refusal
     → (register : Option (List ℕ)) → Type 0
@@ -167,6 +171,7 @@ CountsWhy before after refusal.Memory = MemoryLacked (Unit {0}) before after
 CountsWhy before after refusal.Stopped = after ≡ before
 CountsWhy before after _ = ⊥
 
+-- The result of a query, with the store's failure counts before and after.
 abbrev pub CountsAsked : {T : Type 0} → (before after : Failures) → Result T Refusal → Type 0
 CountsAsked before after (Ok x) = after ≡ before
 CountsAsked before after (Err why) = CountsWhy before after why

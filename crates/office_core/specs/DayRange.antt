@@ -43,6 +43,7 @@ span_between (Some from) (Some till) =
 span_between (Some from) None = span.All
 span_between None till = span.All
 
+-- The timestamps around the days of a range.
 abbrev pub span_of : DayRange → Span
 span_of range = span_between range.from range.till
 

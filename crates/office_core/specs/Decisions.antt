@@ -19,6 +19,8 @@ abbrev pub Decides : History → (at : ℕ) → Event → Option (Result Answer 
 Decides past at e None = IsAccepted past at e
 Decides past at e (Some given) = given ≡ decision_of past at e
 
+-- The decision for every past that left these slots and records, if no wrong result of the store
+-- was taken as true.
 abbrev pub Decided : (old new : Ledger) → List Slot → (latest at : ℕ) → Event
     → Result (Option (Result Answer Refusal)) BooksFault → Type 0
 Decided old new kept latest at e result =

@@ -33,6 +33,7 @@ in_turn (fed ∷ events) [] = []
 in_turn (fed ∷ events) (result ∷ results) =
     record { at = fed.0; event = fed.1; result = result } ∷ in_turn events results
 
+-- The events of a run, each with its answer, in order.
 abbrev pub events_of : {B : Type 0} → List (ℕ × Event) → Run B → List Answered
 events_of events run = in_turn events run.results.items
 

@@ -33,6 +33,7 @@ IsOutside takes_memory before after refusal.Memory = MemoryLacked takes_memory b
 IsOutside takes_memory before after refusal.Stopped = after ≡ before
 IsOutside takes_memory before after _ = ⊥
 
+-- A result that is refused for a cause outside the request.
 abbrev pub FailsOutside : {T : Type 0} → (takes_memory : Type 0) → (before after : Failures)
     → Result T Refusal → Type 0
 FailsOutside takes_memory before after (Ok x) = ⊥
@@ -69,6 +70,7 @@ abbrev pub IsOfStore : StoreCause → Type 0
 IsOfStore store.NoDay = ⊥
 IsOfStore _ = Unit {0}
 
+-- A refusal for another reason than that a row has no civil day.
 abbrev pub IsNotForWantOfDay : Refusal → Type 0
 IsNotForWantOfDay (refusal.Store cause) = IsOfStore cause
 IsNotForWantOfDay _ = Unit {0}

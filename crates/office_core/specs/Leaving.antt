@@ -19,6 +19,7 @@ pub record IsOneMore (past : History) (facts : List Fact) : Type 0 where
   pub same : facts_of earlier ≡ facts_of past
   pub are : facts ≡ facts_of (next ∷ earlier)
 
+-- The records of what was accepted, or those after one more event or opening.
 abbrev pub MayBeLeft : History → List Fact → Type 0
 MayBeLeft past facts = (facts ≡ facts_of past) ⊎ IsOneMore past facts
 

@@ -35,6 +35,7 @@ abbrev pub holds_at : List Fact → (meter : List ℕ) → Span → Option (List
 holds_at facts meter span =
     option_map (λ opening. holds_within span (holds_of facts meter)) (opening_of facts meter)
 
+-- The same by a name, which may be invalid.
 abbrev pub holds_named : List Fact → (meter : Option (List ℕ)) → Span → Option (List HeldReading)
 holds_named facts meter span = option_and_then (λ name. holds_at facts name span) meter
 
@@ -50,6 +51,7 @@ abbrev pub meters_at : List Fact → (register : List ℕ) → Option (List Inst
 meters_at facts register =
     option_map (λ row. installations_of facts register) (register_of facts register)
 
+-- The same by a name, which may be invalid.
 abbrev pub meters_named : List Fact → (register : Option (List ℕ)) → Option (List Installation)
 meters_named facts register = option_and_then (meters_at facts) register
 

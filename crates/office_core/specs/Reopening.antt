@@ -52,6 +52,7 @@ pub record IsReopened (past : History) (at : ℕ) (old new : Ledger) (slots : Li
   pub leaves : Leaves old new (LeftByOpening past at (Ok slots))
   pub keeps : KeepsSlots slots (slots_of (Opened at ∷ past))
 
+-- The office is opened, or it is not.
 abbrev pub Reopens : History → (at : ℕ) → (old new : Ledger) → Result (Vec Slot Global) Refusal
     → Type 0
 Reopens past at old new (Ok slots) = IsReopened past at old new slots.items

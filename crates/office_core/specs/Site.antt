@@ -27,9 +27,11 @@ row_at facts register =
 abbrev pub rows_at : List Fact → List Register → List SiteRow
 rows_at facts registers = map (row_at facts) registers
 
+-- The rows of a device's registers.
 abbrev pub rows_of : List Fact → Device → List SiteRow
 rows_of facts device = rows_at facts (registers_of facts device.name)
 
+-- The rows of several devices.
 abbrev pub rows_of_all : List Fact → List Device → List SiteRow
 rows_of_all facts devices = flat_map (rows_of facts) devices
 

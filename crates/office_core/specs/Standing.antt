@@ -11,12 +11,15 @@ use Rattle.office_core.specs.Leaving.{BooksStand}
 abbrev pub books_in : {B : Type 0} → Office B → B
 books_in office = office.books
 
+-- Whether the office has stopped.
 abbrev pub is_stopped : {B : Type 0} → Office B → Bool
 is_stopped office = office.stopped
 
+-- The notifications of the last event.
 abbrev pub notes_in : {B : Type 0} → Office B → List Note
 notes_in office = office.notes.items
 
+-- The bytes to send after the last event.
 abbrev pub outgoing_in : {B : Type 0} → Office B → List ℕ
 outgoing_in office = office.outgoing
 

@@ -102,6 +102,7 @@ TakesAny ledger at e old new result =
     (past : History) → MayTake ledger past e old → (ledger (books_in new)).is_clean
     → Takes ledger past at e old new result
 
+-- The same for an event that is accepted.
 abbrev pub TakesAccepted : {B : Type 0} → (B → Ledger) → (at : ℕ) → Event → (old new : Office B)
     → Result Answer Refusal → Type 0
 TakesAccepted ledger at e old new result =

@@ -15,6 +15,7 @@ pub record Port : Type 0 where
   pub names : List (List ℕ)
   pub connections : ℕ
 
+-- The port with these parts.
 abbrev pub port : (names : List (List ℕ)) → (connections : ℕ) → Port
 port names connections = record { names = names; connections = connections }
 
@@ -51,6 +52,7 @@ pub record Scene (B : Type 0) : Type 0 where
   pub moments : Option (List ℕ)
   pub written : Option (List ℕ)
 
+-- The scene with these parts.
 abbrev pub scene : {B : Type 0} → B → (moments written : Option (List ℕ)) → Scene B
 scene books moments written = record { books = books; moments = moments; written = written }
 

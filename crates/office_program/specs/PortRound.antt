@@ -28,11 +28,13 @@ pub record IsPolled {B : Type 0} (ledger : B → Ledger) (device : List ℕ)
       (passage (round_state had then (failures_of ledger opened))
       (round_state holds later (failures_of ledger left)) from to) left done
 
+-- The office is unchanged, and nothing was printed.
 pub record IsLeft {B : Type 0} (had holds : Option (List ℕ)) (opened left : Office B)
     : Type 0 where
   pub same : left ≡ opened
   pub silent : holds ≡ had
 
+-- What a round at a port leaves, by how it ended.
 abbrev pub PollsPort : {B : Type 0} → (B → Ledger) → (device : List ℕ)
     → (later had holds : Option (List ℕ)) → PollEnd
     → (following : History) → (then : Option (List ℕ)) → (opened left : Office B) → Type 0

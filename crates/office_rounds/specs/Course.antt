@@ -24,12 +24,14 @@ first_by None (answer.Done kind) = None
 first_by None (answer.Again kind) = None
 first_by None (answer.Started first count of) = Some first
 
+-- The number of reads that an answer starts.
 abbrev pub started_by : Answer → ℕ
 started_by answer.Noted = 0
 started_by (answer.Done kind) = 0
 started_by (answer.Again kind) = 0
 started_by (answer.Started first count of) = count
 
+-- The number of reads in the plan, by an answer, or as known before.
 abbrev pub planned_by : ℕ → Answer → ℕ
 planned_by planned answer.Noted = planned
 planned_by planned (answer.Done kind) = planned
@@ -41,10 +43,12 @@ abbrev pub first_after : Option ℕ → Result Answer Refusal → Option ℕ
 first_after first (Ok given) = first_by first given
 first_after first (Err why) = first
 
+-- The number of reads that were started, after a result.
 abbrev pub started_after : ℕ → Result Answer Refusal → ℕ
 started_after started (Ok given) = started + started_by given
 started_after started (Err why) = started
 
+-- The number of reads in the plan, after a result.
 abbrev pub planned_after : ℕ → Result Answer Refusal → ℕ
 planned_after planned (Ok given) = planned_by planned given
 planned_after planned (Err why) = planned
@@ -70,6 +74,7 @@ abbrev pub is_from : (first : Option ℕ) → ℕ → Bool
 is_from None poll = false
 is_from (Some first) poll = nat_le first poll
 
+-- The notification reports the outcome of such a poll.
 abbrev pub is_ending : (first : Option ℕ) → Note → Bool
 is_ending first (note.Outcome poll outcome) = is_from first poll
 is_ending first (note.Reading meter raw rolls step) = false
@@ -116,6 +121,7 @@ next_by (event.Gone given closing) next = Over
 next_by (event.Command c) next = next
 next_by (event.Asked asked) next = next
 
+-- What is next after these events.
 abbrev pub next_in : (past : History) → List Answered → Next
 next_in past [] = Connect
 next_in past (one ∷ earlier) = next_by one.event (next_after (endings_of past earlier one)
@@ -131,6 +137,7 @@ IsTaken device (event.Gone given cause) = (given ≡ device) × (cause ≡ closi
 IsTaken device (event.Command c) = ⊥
 IsTaken device (event.Asked asked) = ⊥
 
+-- The event that starts the reads of a device from a number on.
 abbrev pub start_from : (device : Option (List ℕ)) → ℕ → Event
 start_from device read =
     event.Command (command.StartRound (record { device = device; from = read }))

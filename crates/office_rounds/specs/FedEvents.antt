@@ -34,6 +34,7 @@ told_text past at e (Ok given) =
     accepted_text given (notes_after past at e (Ok given)) (outgoing_after past at e (Ok given))
 told_text past at e (Err why) = []
 
+-- The printed text of these events.
 abbrev pub text_after : (past : History) → List Answered → List ℕ
 text_after past [] = []
 text_after past (one ∷ earlier) =
@@ -55,6 +56,7 @@ piece_in (event.Gone given closing) = []
 piece_in (event.Command c) = []
 piece_in (event.Asked asked) = []
 
+-- The bytes of the device in these events.
 abbrev pub pieces_after : List Answered → List ℕ
 pieces_after [] = []
 pieces_after (one ∷ earlier) = pieces_after earlier ++ piece_in one.event

@@ -17,6 +17,7 @@ abbrev pub AreTakes : (takes before after : ℕ) → Type 0
 AreTakes takes before after = (count : ℕ) → before ≡ min count (2 ^ 64 - 1)
     → after ≡ min (count + takes) (2 ^ 64 - 1)
 
+-- At most `most` reads were made.
 abbrev pub AreAtMost : (most before after : ℕ) → Type 0
 AreAtMost most before after = (takes : ℕ) × (takes ≤ most) × AreTakes takes before after
 

@@ -31,6 +31,7 @@ next_at Starting started = StartFrom started
 next_at Waiting started = Take
 next_at (Leaving closing) started = Leave
 
+-- What a round does next.
 abbrev pub next_of : Round → Next
 next_of round = next_at round.stage round.started
 
@@ -79,6 +80,7 @@ pub record IsUnfed (fed : List Answered) (round : Round) : Type 0 where
   pub started : round.started ≡ 0
   pub planned : round.planned ≡ 0
 
+-- The state of a round at a stage, after what it fed.
 abbrev pub StandsAt : Stage → (device : Option (List ℕ)) → History → List Answered → Round → Type 0
 StandsAt Off device past fed round = Unit {0}
 StandsAt Joining device past fed round = IsUnfed fed round

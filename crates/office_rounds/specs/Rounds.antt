@@ -27,6 +27,7 @@ pub record RoundState : Type 0 where
   pub moments : Option (List ℕ)
   pub failures : Failures
 
+-- The state with these parts.
 abbrev pub round_state : (printed moments : Option (List ℕ)) → (failures : Failures) → RoundState
 round_state printed moments failures =
     record { printed = printed; moments = moments; failures = failures }
@@ -36,6 +37,7 @@ pub record Wire : Type 0 where
   pub remaining : Option (List ℕ)
   pub given : Option (List ℕ)
 
+-- The link with these parts.
 abbrev pub wire : (remaining given : Option (List ℕ)) → Wire
 wire remaining given = record { remaining = remaining; given = given }
 
@@ -46,6 +48,7 @@ pub record Passage : Type 0 where
   pub from : Wire
   pub to : Wire
 
+-- The passage between these states.
 abbrev pub passage : (begun ended : RoundState) → (from to : Wire) → Passage
 passage begun ended from to = record { begun = begun; ended = ended; from = from; to = to }
 
@@ -115,6 +118,7 @@ abbrev pub gone_at : (latest moment : ℕ) → ℕ
 gone_at latest moment =
     if nat_lt moment latest || nat_lt moment_limit moment then latest else moment
 
+-- The device is gone at this timestamp, after the earlier events.
 pub record IsGoneAt (past : History) (begun now : Option (List ℕ)) (earlier : List Answered)
     (at : ℕ) : Type 0 where
   pub between : Option (List ℕ)
@@ -148,6 +152,7 @@ pub record IsBrokenOff {B : Type 0} (ledger : B → Ledger) (device : Option (Li
       through.begun.printed through.ended.printed
   pub settled : IsSettled device (history_with past (gone ∷ earlier)) office
 
+-- The same, for a fault that is a refusal.
 abbrev pub IsNotConnectedBy : {B : Type 0} → (B → Ledger) → (device : Option (List ℕ)) → History
     → Passage → Office B
     → RoundFault → Type 0

@@ -28,6 +28,7 @@ use Rattle.office_rounds.specs.declared.fault.RoundFault.{RoundFault}
 use Rattle.office_rounds.specs.declared.fault.RoundFault.TheVariants.{Refused, Link, Output, TurnsUsed}
 use Rattle.office_rounds.specs.declared.progress.Progress.{Progress}
 
+-- The connection of a device at a timestamp, with its answer.
 abbrev pub connection : (device : Option (List ℕ)) → (at : ℕ) → Result Answer Refusal → Answered
 connection device at result = record { at = at; event = event.Connected device; result = result }
 
@@ -48,6 +49,7 @@ pub record IsUnprinted {B : Type 0} (ledger : B → Ledger) (past : History) (at
   pub printed : IsPrinted {X = Unit {0}} (Err Output) (told_text past at e (Ok given)) begun.printed
       now.printed
 
+-- An event was fed, and its report printed completely, or in part if the write failed.
 abbrev pub Feeds : {B : Type 0} → (B → Ledger) → History → (at : ℕ) → Event
     → (begun now : RoundState) → Office B
     → Result Answer RoundFault → Type 0
@@ -67,6 +69,7 @@ pub record Stops (was : Bool) (e : Event) (reply : Result Answer Refusal) (now :
     pub before : reply ≡ Err refusal.Stopped → was ≡ true
     pub after : now ≡ (was || stops e reply)
 
+-- The same by the result of feeding the event.
 abbrev pub FeedStops : (was : Bool) → Event → Result Answer RoundFault → (now : Bool) → Type 0
 FeedStops was e (Ok given) now = Unit {0}
 FeedStops was e (Err (Refused why)) now = Stops was e (Err why) now
@@ -74,6 +77,7 @@ FeedStops was e (Err Link) now = Unit {0}
 FeedStops was e (Err Output) now = Unit {0}
 FeedStops was e (Err TurnsUsed) now = Unit {0}
 
+-- The same for a refused event.
 abbrev pub RefusedStops : (was : Bool) → Event → Result Answer Refusal → (now : Bool) → Type 0
 RefusedStops was e reply now = (why : Refusal) → reply ≡ Err why → Stops was e reply now
 
@@ -87,6 +91,7 @@ pub record EndsPrinted {B : Type 0} (ledger : B → Ledger) (past : History) (at
   pub printed : ((fault ≡ cause) × Appends begun.printed now.printed (told_text past at e reply))
       ⊎ ((fault ≡ Output) × GotPart (told_text past at e reply) begun.printed now.printed)
 
+-- The end of a round was fed and not printed.
 pub record EndsUnprinted {B : Type 0} (ledger : B → Ledger) (past : History) (at : ℕ) (e : Event)
     (begun now : RoundState) (old new : Office B) : Type 0 where
   pub reply : Result Answer Refusal
@@ -177,6 +182,7 @@ IsUnsent Link result = ⊥
 IsUnsent Output result = Unit {0}
 IsUnsent TurnsUsed result = ⊥
 
+-- An event of a round was fed: the round continues, or is broken off.
 abbrev pub Told : {B : Type 0} → (B → Ledger) → (device : Option (List ℕ)) → History
     → (begun now : RoundState) → Office B
     → List Answered → Answered → Progress → Result (Unit {0}) RoundFault → Type 0
@@ -204,6 +210,7 @@ pub record Scene (B : Type 0) : Type 0 where
   pub wire : Wire
   pub progress : Progress
 
+-- The scene with these parts.
 abbrev pub scene : {B : Type 0} → Office B → RoundState → Wire → Progress → Scene B
 scene office round_state wire progress =
     record { office = office; round_state = round_state; wire = wire; progress = progress }

@@ -14,6 +14,7 @@ use Rattle.carried_books.specs.declared.carrying.commands.TimedCommand.{TimedCom
 abbrev pub event_of : TimedCommand → Event
 event_of timed = event.Command timed.command
 
+-- The command as an accepted event.
 abbrev pub accepted : TimedCommand → Accepted
 accepted timed = Fed timed.at (event_of timed)
 
@@ -44,11 +45,13 @@ pub record AreFedUpTo {B : Type 0} (ledger : B → Ledger) (past : History)
   pub are : commands ≡ given ++ next ∷ later
   pub refused : IsRefused ledger (history_with past given) next old new why
 
+-- The office executed the command, or refused it.
 abbrev pub IsFedOr : {B : Type 0} → (B → Ledger) → History → TimedCommand
     → (old new : Office B) → Result (Unit {0}) Refusal → Type 0
 IsFedOr ledger past timed old new (Ok done) = AreFed ledger past (timed ∷ []) old new
 IsFedOr ledger past timed old new (Err why) = IsRefused ledger past timed old new why
 
+-- The office executed the commands, or refused one of them.
 abbrev pub AreFedOr : {B : Type 0} → (B → Ledger) → History → List TimedCommand
     → (old new : Office B) → Result (Unit {0}) Refusal → Type 0
 AreFedOr ledger past commands old new (Ok done) = AreFed ledger past commands old new
@@ -60,6 +63,7 @@ abbrev pub FeedsOne : {B : Type 0} → (B → Ledger) → TimedCommand → (old 
 FeedsOne ledger timed old new result =
     After ledger old new (λ past. IsFedOr ledger past timed old new result)
 
+-- The same for several commands.
 abbrev pub Feeds : {B : Type 0} → (B → Ledger) → List TimedCommand → (old new : Office B)
     → Result (Unit {0}) Refusal → Type 0
 Feeds ledger commands old new result =

@@ -17,15 +17,19 @@ use Rattle.carried_books.specs.declared.carrying.openings.Openings.TheVariants.{
 -- ---- the open meters: the devices, and the registers of each, in the order in which they were
 -- added
 
+-- The open meter of a register, if any.
 abbrev pub open_at_register : List Fact → Register → List Installation
 open_at_register facts register = option_to_list (open_at facts register.name)
 
+-- The open meters of several registers.
 abbrev pub open_at_registers : List Fact → List Register → List Installation
 open_at_registers facts registers = flat_map (open_at_register facts) registers
 
+-- The open meters of a device's registers.
 abbrev pub open_at_device : List Fact → Device → List Installation
 open_at_device facts device = open_at_registers facts (registers_of facts device.name)
 
+-- The open meters of several devices' registers.
 abbrev pub open_at_devices : List Fact → List Device → List Installation
 open_at_devices facts devices = flat_map (open_at_device facts) devices
 
@@ -53,6 +57,7 @@ pub record IsNotYet (facts : List Fact) (until : Option ℕ) (rows : List Instal
   pub name : row.opening.meter ≡ meter
   pub none : opening_until facts until row ≡ None
 
+-- The openings of these meters, or the name of a meter that has none yet.
 abbrev pub AreOpened : List Fact → (until : Option ℕ) → List Installation → Openings → Type 0
 AreOpened facts until rows (All openings) = AreOpeningsOf facts until rows openings.items
 AreOpened facts until rows (NotYet meter) = IsNotYet facts until rows meter

@@ -17,6 +17,7 @@ use Rattle.carried_books.specs.declared.carrying.plans.Plan.TheVariants.{Ready, 
 abbrev pub devices_of : List Fact → List Device
 devices_of facts = reverse (devices_in facts)
 
+-- The open meters at the registers of all devices.
 abbrev pub open_meters : List Fact → List Installation
 open_meters facts = open_at_devices facts (devices_of facts)
 
@@ -39,6 +40,7 @@ pub record AreCarried (facts : List Fact) (until : Option ℕ) (commands : List 
   pub each : AreOpeningsOf facts until (open_meters facts) opened
   pub so : AreCommandsFor facts (devices_of facts) opened commands meters
 
+-- A plan for these devices and openings.
 abbrev pub IsPlanFor : List Fact → List Device → List Opening → Plan → Type 0
 IsPlanFor facts devices opened (Ready commands meters) =
     AreCommandsFor facts devices opened commands.items meters

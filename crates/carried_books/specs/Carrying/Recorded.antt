@@ -19,6 +19,7 @@ use Rattle.carried_books.specs.Carrying.Standings.{last_until}
 abbrev pub list_fact : (device : List ℕ) → Planned → Fact
 list_fact device list = fact.List (record { device = device; list = list })
 
+-- The records of a device, its list and its registers.
 abbrev pub device_facts : List Fact → Device → List Fact
 device_facts facts device =
     fact.Device device

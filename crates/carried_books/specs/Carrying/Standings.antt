@@ -31,6 +31,7 @@ abbrev pub stands : MeterEntry → Bool
 stands (listed.Opening last) = true
 stands (listed.Later row sf) = row.stands
 
+-- The entry is valid and counts up to the timestamp.
 abbrev pub counts : (until : Option ℕ) → MeterEntry → Bool
 counts until e = stands e && is_until until (shown_by e).at
 

@@ -44,6 +44,7 @@ HasAdded sink rows = HasNumber rows → AddUp sink.fault sink.zone rows sink.fol
 
 -- ---- one more row
 
+-- The sum with one more row, by the first failure.
 abbrev pub AddsUp : Option DayFault → Zone → List Share → Share → FoldState → Type 0
 AddsUp None zone rows row fold = HasTaken zone (rows ++ row ∷ []) fold
 AddsUp (Some fault.Zone) zone rows row fold = IsOutOfTurn rows row

@@ -17,6 +17,7 @@ pub record Told : Type 0 where
   pub meters : List Installation
   pub days : FoldState
 
+-- What is reported of a register in earlier files.
 abbrev pub told : EarlierRegister → Told
 told it = record { name = it.name; meters = it.meters.items; days = it.days.fold }
 

@@ -108,6 +108,7 @@ pub record AddsBoth (span : Span) (register : List ℕ) (facts : List Fact)
   pub meters : AddMeters old.meters.items (installations_of facts register) new.meters.items
   pub days : AddDays (rows_within span (rows_of_register facts register)) old.days new.days None
 
+-- The same by the result.
 abbrev pub AddsRows : Span → (register : List ℕ) → (facts : List Fact) → (old new : JoinedFiles)
     → Option Unjoined → Type 0
 AddsRows span register facts old new None = AddsBoth span register facts old new

@@ -64,6 +64,7 @@ pub record EndsOtherwise (known : List Installation) (row : Installation) : Type
   pub known_is : known ≡ before ++ stands ∷ []
   pub other : GoesOn stands row → ⊥
 
+-- There is no meter, or the last one does not continue as this one.
 abbrev pub NoneGoesOn : (known : List Installation) → Installation → Type 0
 NoneGoesOn known row = (known ≡ []) ⊎ EndsOtherwise known row
 
@@ -101,6 +102,7 @@ pub record AreApart (known listed : List Installation) (apart : Apart) : Type 0 
   pub among : Contains listed row
   pub is : IsApart mid row apart
 
+-- The meters join, or two of them are apart.
 abbrev pub AddOrAreApart : (known listed after : List Installation) → Option Apart → Type 0
 AddOrAreApart known listed after None = AddMeters known listed after
 AddOrAreApart known listed after (Some apart) = AreApart known listed apart

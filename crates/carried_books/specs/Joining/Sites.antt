@@ -39,6 +39,7 @@ of_both stands row =
     then (record { meter = as_one stands row; earlier = Some stands.total })
     else of_office row
 
+-- The latest meter, if the earlier files, the office or both have one.
 abbrev pub latest : (stands row : Option Installation) → Option LatestMeter
 latest None None = None
 latest None (Some row) = Some (of_office row)

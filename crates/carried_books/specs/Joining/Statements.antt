@@ -133,6 +133,7 @@ IsStatementOver zone register files form text = (meters : List MeterOver)
 
 -- ---- what is stored of a meter
 
+-- The stored value of a meter.
 abbrev pub kept_of : Zone → DayRange → MeterOver → KeptMeter
 kept_of zone range m = record { stands = m.stands; told = statement_over zone range m }
 
@@ -140,9 +141,11 @@ kept_of zone range m = record { stands = m.stands; told = statement_over zone ra
 abbrev pub AreTold : Zone → DayRange → List KeptMeter → List MeterOver → Type 0
 AreTold zone range kept meters = kept ≡ map (kept_of zone range) meters
 
+-- The state of a stored meter.
 abbrev pub stands_of : KeptMeter → Installation
 stands_of kept = kept.stands
 
+-- The statement of a stored meter.
 abbrev pub told_of : KeptMeter → MeterStatement
 told_of kept = kept.told
 
@@ -232,6 +235,7 @@ DoesNotGoOn register facts old unjoined.OutOfTurn = ⊥
 
 -- ---- the printed text
 
+-- The statement of these rows was printed, or a part of it if a write failed.
 abbrev pub PrintsRows : {W : Type 0} → (contents : W → Option (List ℕ)) → StatementForm
     → List MeterStatement → ExitStatus → (had holds : W) → Type 0
 PrintsRows contents form rows status had holds =

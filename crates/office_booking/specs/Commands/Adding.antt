@@ -20,9 +20,11 @@ abbrev pub void_by : (at : ℕ) → VoidEntry → Option Fact
 void_by at c =
     option_map (λ meter. fact.Void (record { meter = meter; place = c.place; at = at })) c.meter
 
+-- The point list that a command stores, if its device's name is valid.
 abbrev pub list_by : PutList → Option Fact
 list_by c = option_map (λ device. fact.List (record { device = device; list = c.list })) c.device
 
+-- The register that a command adds, if its names are valid.
 abbrev pub register_by : AddRegister → Option Fact
 register_by c =
     option_and_then (λ name. option_map (λ device. history.register_by c name device) c.device)

@@ -59,9 +59,11 @@ started_on number at spans c slot None = slot
 started_on number at spans c slot (Some before) =
     with_happenings slot before (starts_by number at spans (Some c) slot.device before)
 
+-- A slot after a command.
 abbrev pub slot_obeyed : (number at : ℕ) → List ReadSpan → Command → sessions.Slot → sessions.Slot
 slot_obeyed number at spans c slot = started_on number at spans c slot slot.present
 
+-- All slots after a command, with those of new devices.
 abbrev pub slots_obeyed : (number at : ℕ) → List ReadSpan → Command → List sessions.Slot
     → List sessions.Slot
 slots_obeyed number at spans c slots =
@@ -128,12 +130,15 @@ CarriesEvent old new before after at e result =
 abbrev pub sends_by : (at : ℕ) → sessions.Slot → List Fact → Command → List sessions.Send
 sends_by at slot known c = starts.sends_of (next_poll known) at (spans_by known c) slot
 
+-- The poll records of these reads.
 abbrev pub polls_by : (at : ℕ) → sessions.Slot → List Fact → Command → List Fact
 polls_by at slot known c = starts.polls_of (next_poll known) at (spans_by known c) slot
 
+-- The frames of these reads.
 abbrev pub frames_by : (at : ℕ) → sessions.Slot → List Fact → Command → List ℕ
 frames_by at slot known c = starts.frames_of (next_poll known) at (spans_by known c) slot
 
+-- The slot after these reads.
 abbrev pub slot_by : (at : ℕ) → sessions.Slot → List Fact → Command → sessions.Slot
 slot_by at slot known c = starts.slot_sent (next_poll known) at (spans_by known c) slot
 
@@ -169,12 +174,14 @@ StandsStarted at c old new after result slot known =
     starts.IsBefore at slot → old.holds known → new.is_clean
     → OnOk result (KeepsSlot after (slot_by at slot known c))
 
+-- The start has its answer.
 abbrev pub AnswersStart : (at : ℕ) → Command → (old new : Ledger)
     → Result Done BooksFault → sessions.Slot → (known : List Fact) → Type 0
 AnswersStart at c old new result slot known =
     old.holds known → new.is_clean
     → IfOk result (λ done. done.answer ≡ start_answer at slot known c)
 
+-- The frames of the start are to be sent.
 abbrev pub SendsStart : (at : ℕ) → Command → (old new : Ledger)
     → Result Done BooksFault → sessions.Slot → (known : List Fact) → Type 0
 SendsStart at c old new result slot known =

@@ -21,10 +21,12 @@ KeepsPresent device (Some kept) (Some events) = KeepsSession device kept events
 KeepsPresent device None (Some events) = ⊥
 KeepsPresent device (Some kept) None = ⊥
 
+-- A stored slot has the device of the modeled slot, and its session.
 pub record KeepsSlot (kept : Slot) (slot : sessions.Slot) : Type 0 where
   pub device : kept.device ≡ slot.device
   pub session : KeepsPresent slot.device kept.session slot.present
 
+-- The stored slots model these slots, in order.
 abbrev pub KeepsSlots : List Slot → List sessions.Slot → Type 0
 KeepsSlots [] [] = Unit {0}
 KeepsSlots (kept ∷ rest) (slot ∷ slots) = KeepsSlot kept slot × KeepsSlots rest slots

@@ -10,6 +10,7 @@ use Rattle.office_booking.specs.declared.sessions.slots.Slot.{Slot}
 abbrev pub place_in : List Slot → Option (List ℕ) → Option ℕ
 place_in kept given = position (λ slot. is_named given slot.device.name) kept
 
+-- Whether a slot has the name.
 abbrev pub has_slot : List Slot → Option (List ℕ) → Bool
 has_slot kept given = is_some (place_in kept given)
 
@@ -19,6 +20,7 @@ StartsOnSlot kept (command.StartPoll c) = has_slot kept c.device ≡ true
 StartsOnSlot kept (command.StartRound c) = has_slot kept c.device ≡ true
 StartsOnSlot kept _ = Unit {0}
 
+-- The same for an event that may have no command.
 abbrev pub AsksOnSlot : List Slot → Option Command → Type 0
 AsksOnSlot kept None = Unit {0}
 AsksOnSlot kept (Some c) = StartsOnSlot kept c

@@ -24,6 +24,7 @@ pub record IsCommandInRange (at : ℕ) (c : Command) : Type 0 where
   pub field : asks_bad_field at c ≡ false
   pub counter : FitsCounter c
 
+-- The same for an event that may have no command.
 abbrev pub AsksInRange : (at : ℕ) → Option Command → Type 0
 AsksInRange at None = Unit {0}
 AsksInRange at (Some c) = IsCommandInRange at c

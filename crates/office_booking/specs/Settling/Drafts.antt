@@ -25,6 +25,7 @@ IsTold (fact.Entry booked) = booked.kind ≡ kind.Reading
 IsTold (fact.Hold held) = Unit {0}
 IsTold _ = ⊥
 
+-- All of these records are outcomes, readings or rejected readings.
 abbrev pub AreTold : List Fact → Type 0
 AreTold [] = Unit {0}
 AreTold (f ∷ facts) = IsTold f × AreTold facts

@@ -20,6 +20,7 @@ abbrev pub with_result : Installation → Result (Last × Step) TermFault → In
 with_result row (Ok entry) = record row { last = entry.0; total = row.total + entry.1.mwh }
 with_result row (Err fault) = row
 
+-- The installation after an entry, if the entry is admissible.
 abbrev pub with_entry : Installation → Entry → Installation
 with_entry row e = with_result row (entered row.opening.range row.total row.last e)
 
@@ -28,6 +29,7 @@ abbrev pub with_booked : BookedEntry → Installation → Installation
 with_booked booked row =
     if same booked.meter row.opening.meter then with_entry row booked.entry else row
 
+-- The installation after any record.
 abbrev pub installation_with : Fact → Installation → Installation
 installation_with (fact.Entry booked) row = with_booked booked row
 installation_with _ row = row

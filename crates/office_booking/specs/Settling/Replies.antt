@@ -4,5 +4,6 @@ use Rattle.mb_wire.specs.Replies.{answer_of}
 use Rattle.mb_wire.specs.declared.replies.Reply.{Reply}
 use Rattle.poll_core.specs.Settling.{words_in}
 
+-- The words of a response.
 abbrev pub words_of : Reply → List ℕ
 words_of reply = words_in (answer_of reply)

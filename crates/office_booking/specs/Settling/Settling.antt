@@ -41,6 +41,7 @@ pub record MayReach (at : ℕ) (kept : Slot) (slot : sessions.Slot) : Type 0 whe
   pub keeps : KeepsSlot kept slot
   pub before : none_later at slot.present
 
+-- The same for all slots.
 abbrev pub MayReachAll : ℕ → List Slot → List sessions.Slot → Type 0
 MayReachAll at [] [] = Unit {0}
 MayReachAll at (k ∷ kept) (slot ∷ slots) = MayReach at k slot × MayReachAll at kept slots
@@ -80,6 +81,7 @@ TellsReached old new before after None first last result =
 TellsReached old new before after (Some happening) first last result =
     TellsAll old new before after happening first last result
 
+-- The event does not concern the session, or settles no poll of it.
 abbrev pub ReachesQuietly : State → Option session.Event → Type 0
 ReachesQuietly kept None = Unit {0}
 ReachesQuietly kept (Some happening) = SettlesNothing kept happening

@@ -34,6 +34,7 @@ sent_from at slot sends None = slot
 sent_from at slot sends (Some before) =
     with_happenings slot before (map (start_by at slot.device) sends)
 
+-- The slot after the reads that its session allows.
 abbrev pub slot_sent : (number at : ℕ) → List ReadSpan → Slot → Slot
 slot_sent number at spans slot = sent_from at slot (sends_of number at spans slot) slot.present
 

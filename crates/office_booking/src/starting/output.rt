@@ -41,6 +41,7 @@ impl Outgoing {
         self.len = end;
     }
 
+    /// Returns the bytes.
     pub fn as_slice(&self) -> &[u8]
         ensures { result.now ≡ self.now }
     {

@@ -33,6 +33,7 @@ IsOfDevice (event.Gone given closing) = Unit {0}
 IsOfDevice (event.Command c) = ⊥
 IsOfDevice (event.Asked asked) = ⊥
 
+-- The reasons to refuse an event of a device.
 abbrev pub IsOfSession : Refusal → Type 0
 IsOfSession refusal.NotFound = Unit {0}
 IsOfSession refusal.ClockBack = Unit {0}
@@ -46,6 +47,7 @@ abbrev pub IsFull : StoreCause → Type 0
 IsFull store.Refused = Unit {0}
 IsFull _ = ⊥
 
+-- A reason that lies in the event.
 abbrev pub IsOfEvent : Refusal → Type 0
 IsOfEvent (refusal.Store why) = IsFull why
 IsOfEvent refusal.Memory = ⊥

@@ -19,6 +19,7 @@ use Rattle.office_core.specs.Refusing.Asking.{IsOfEvent}
 abbrev pub entry_has_fault : Installation → Entry → TermFault → Bool
 entry_has_fault row e why = entering.refuses row.opening.range row.total row.last e why
 
+-- The same; without an installation there is no fault.
 abbrev pub is_faulty : Option Installation → Entry → TermFault → Bool
 is_faulty None e why = false
 is_faulty (Some row) e why = entry_has_fault row e why
@@ -41,6 +42,7 @@ speaks_of_entry arrival off_scale off_limits row e refusal.Limit =
     arrival.is_beyond || off_limits || is_faulty (if_open row) e fault.NotBelowRange
 speaks_of_entry arrival off_scale off_limits row e _ = false
 
+-- The first reason that applies to an entry, if any.
 abbrev pub entry_refusal : Arrival → (off_scale off_limits : Bool) → Installation → Entry
     → Option Refusal
 entry_refusal arrival off_scale off_limits row e =
@@ -56,6 +58,7 @@ pub record IsEntryInRange (arrival : Arrival) (off_scale off_limits : Bool)
   pub field : off_limits ≡ false
   pub shown : CanBeShown MAX_RANGE e
 
+-- An entry without a refusal is in range; otherwise the reason lies in the entry or the command.
 abbrev pub BefitsEntry : Arrival → (off_scale off_limits : Bool) → Entry → Option Refusal → Type 0
 BefitsEntry arrival off_scale off_limits e None = IsEntryInRange arrival off_scale off_limits e
 BefitsEntry arrival off_scale off_limits e (Some why) = IsOfEvent why

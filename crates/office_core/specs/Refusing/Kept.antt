@@ -8,6 +8,7 @@ use Rattle.office_events.specs.declared.refusals.Refusal.TheVariants.{Reused}
 use Rattle.office_books.specs.declared.books.Repeat.{Repeat}
 use Rattle.office_books.specs.declared.books.Repeat.TheVariants.{Same, Other}
 
+-- The answer to a request by the stored one: its kind for a retry, `Reused` for another request.
 abbrev pub kept_as : Repeat → Result CommandKind Refusal
 kept_as (Same kind) = Ok kind
 kept_as Other = Err Reused

@@ -20,6 +20,7 @@ abbrev pub arrival_of : (latest at : ℕ) → Arrival
 arrival_of latest at =
     record { moment = at; is_back = nat_lt at latest; is_beyond = nat_lt moment_limit at }
 
+-- The arrival of a request. An invalid caller or number counts as out of range.
 abbrev pub request_arrival : (latest at : ℕ) → Asked → Arrival
 request_arrival latest at asked = record {
   moment = at;
@@ -33,6 +34,7 @@ comes_wrongly arrival refusal.ClockBack = arrival.is_back
 comes_wrongly arrival refusal.Limit = arrival.is_beyond
 comes_wrongly arrival _ = false
 
+-- A reason applies to a command, by its arrival or by its content.
 abbrev pub speaks_against : List sessions.Slot → List Fact → Arrival → Command → Refusal → Bool
 speaks_against slots facts arrival c why =
     comes_wrongly arrival why || asks_wrongly slots facts arrival.moment c why
@@ -45,6 +47,7 @@ refusal_under slots facts arrival c = find (speaks_against slots facts arrival c
 abbrev pub IsWhy : Arrival → Command → List Fact → Option Refusal → Type 0
 IsWhy arrival c facts r = (slots : List sessions.Slot) → r ≡ refusal_under slots facts arrival c
 
+-- The result is the refusal of the command for the stored devices.
 abbrev pub IsWhyAmong : List Slot → Arrival → Command → List Fact → Option Refusal → Type 0
 IsWhyAmong kept arrival c facts r =
     (slots : List sessions.Slot) → KeepsSlots kept slots → r ≡ refusal_under slots facts arrival c
@@ -67,6 +70,7 @@ speaks_of_session arrival is_unknown is_busy refusal.NotFound = is_unknown
 speaks_of_session arrival is_unknown is_busy refusal.Busy = is_busy
 speaks_of_session arrival is_unknown is_busy why = comes_wrongly arrival why
 
+-- The first reason that applies to an event of a device, if any.
 abbrev pub session_refusal : Arrival → (is_unknown is_busy : Bool) → Option Refusal
 session_refusal arrival is_unknown is_busy =
     find (speaks_of_session arrival is_unknown is_busy) reasons

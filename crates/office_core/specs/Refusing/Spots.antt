@@ -16,11 +16,13 @@ use Rattle.office_core.specs.declared.refusing.voids.Spot.{Spot}
 use Rattle.office_core.specs.declared.refusing.voids.Spot.TheVariants as spot
 use Rattle.office_core.specs.Refusing.Reasons.{comes_wrongly}
 
+-- Whether the meter has nothing at the index.
 abbrev pub is_nothing : Spot → Bool
 is_nothing spot.Nothing = true
 is_nothing spot.Opening = false
 is_nothing (spot.Entry place) = false
 
+-- The entry at the index, if it is one.
 abbrev pub entry_in : Spot → Option EntryPlace
 entry_in spot.Nothing = None
 entry_in spot.Opening = None
@@ -60,6 +62,7 @@ speaks_of_void arrival found (refusal.NotPlausible why) =
     is_held_for why (verdict_at (entry_in found))
 speaks_of_void arrival found why = comes_wrongly arrival why
 
+-- The first reason that applies to a void, if any.
 abbrev pub void_refusal : Arrival → Spot → Option Refusal
 void_refusal arrival found = find (speaks_of_void arrival found) reasons
 
@@ -69,5 +72,6 @@ speaks_of_strike place refusal.NotVoidable = is_not_voidable (Some place)
 speaks_of_strike place (refusal.NotPlausible why) = is_held_for why (verdict_at (Some place))
 speaks_of_strike place why = false
 
+-- The first reason why the entry can't be voided, if any.
 abbrev pub strike_refusal : EntryPlace → Option Refusal
 strike_refusal place = find (speaks_of_strike place) reasons

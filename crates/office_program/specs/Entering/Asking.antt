@@ -57,6 +57,7 @@ pub record IsAsked {B : Type 0} (ledger : B → Ledger) (past : History) (at : �
   pub text : GotText result (reply_text past one.at one.event one.result) had holds
   pub next : IfOk result (λ next. next ≡ progress_after progress (Asked one))
 
+-- The same for every past that the office was in the state of.
 abbrev pub AsksAt : {B W : Type 0} → stores.Ghosts B → writers.Ghosts W → (at : ℕ) → Event
     → Progress → (old new : Office B) → (had holds : W) → Result Progress Error → Type 0
 AsksAt b w at e progress old new had holds result = After b.ledger old new (λ past.
@@ -96,6 +97,7 @@ pub record HasAsked {B : Type 0} (ledger : B → Ledger) (request : Request) (pa
   pub comes : IsCameOf (entry.Ask request) came
   pub takes : TakesLine {E = Error} ledger past progress begun now office result came
 
+-- The same at a timestamp that follows, for any reading of the clock.
 abbrev pub AsksTimed : {B W : Type 0} → stores.Ghosts B → writers.Ghosts W → Request → Progress
     → (at : ℕ) → (old new : Office B) → (had holds : W) → Result Progress Error → Type 0
 AsksTimed b w request progress at old new had holds result = (moments later : Option (List ℕ))

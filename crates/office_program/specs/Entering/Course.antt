@@ -52,6 +52,7 @@ pub data Came : Type 0 where
   Undecided : (at : ℕ) → Request → Refusal → Came
   Unread : (at : ℕ) → ReadRequest → Came
 
+-- The outcome is one of this entry.
 abbrev pub IsCameOf : Entry → Came → Type 0
 IsCameOf e (Asked one) =
     (request : Request) × MayAsk e request × (one.event ≡ event.Asked request)
@@ -71,6 +72,7 @@ IsShown tells facts (entry.Read read) (Doubted at request mwh) =
 IsShown tells facts (entry.Read read) (Unread at tried) = IsShownFor tells facts read None
 IsShown tells facts _ _ = Unit {0}
 
+-- The outcome of a line, by its entry and by the records of a past.
 pub record Comes (tells : Telling) (caller : Option (List ℕ)) (past : History) (text : List ℕ)
     (came : Came) : Type 0 where
   pub entry : Entry
@@ -107,15 +109,19 @@ reply_text past at e (Ok given) =
     accepted_text given (notes_after past at e (Ok given)) (outgoing_after past at e (Ok given))
 reply_text past at e (Err why) = refused_line why
 
+-- The text for the faulty rows of a list.
 abbrev pub faults_text : List FaultyRow → List ℕ
 faults_text rows = flat_map fault_line rows ++ refused_line Limit
 
+-- The text for a doubted entry, with its energy in mWh.
 abbrev pub doubted_line : (mwh : ℕ) → List ℕ
 doubted_line mwh = codes "doubted " ++ decimal mwh ++ codes "\n"
 
+-- The text for a counter that can't be read.
 abbrev pub unread_line : List ℕ
 unread_line = codes "unread\n"
 
+-- The text for any outcome.
 abbrev pub came_text : History → Came → List ℕ
 came_text past (Asked one) = reply_text past one.at one.event one.result
 came_text past (Faulty rows) = faults_text rows
@@ -129,6 +135,7 @@ pub record IsAskedAt (latest : ℕ) (begun now : Option (List ℕ)) (at : ℕ) :
   pub tells : TellsMoment begun now told
   pub is : at ≡ max latest told
 
+-- The outcome has the time of its line; a list with faulty rows needs none.
 abbrev pub IsTimed : (latest : ℕ) → (begun now : Option (List ℕ)) → Came → Type 0
 IsTimed latest begun now (Asked one) = IsAskedAt latest begun now one.at
 IsTimed latest begun now (Faulty rows) = now ≡ begun
@@ -203,12 +210,14 @@ abbrev pub history_with : History → List Taken → History
 history_with past [] = past
 history_with past (one ∷ earlier) = with_came (history_with past earlier) one.came
 
+-- Each processed line has an outcome of its entry.
 abbrev pub AreComing : Telling → (caller : Option (List ℕ)) → History → List Taken → Type 0
 AreComing tells caller past [] = Unit {0}
 AreComing tells caller past (one ∷ earlier) =
     Comes tells caller (history_with past earlier) one.line.text one.came
     × AreComing tells caller past earlier
 
+-- Each outcome is answered after the earlier lines.
 abbrev pub AreAnswered : History → (before after : Failures) → List Taken → Type 0
 AreAnswered past before after [] = after ≡ before
 AreAnswered past before after (one ∷ earlier) =
@@ -220,12 +229,14 @@ abbrev pub progress_of : (first : ℕ) → List Taken → Progress
 progress_of first [] = record { latest = first; refused = false }
 progress_of first (one ∷ earlier) = progress_after (progress_of first earlier) one.came
 
+-- Each outcome has the time of its line.
 abbrev pub AreTimed : (first : ℕ) → (begun now : Option (List ℕ)) → List Taken → Type 0
 AreTimed first begun now [] = now ≡ begun
 AreTimed first begun now (one ∷ earlier) =
     (between : Option (List ℕ)) × AreTimed first begun between earlier
     × IsTimed (progress_of first earlier).latest between now one.came
 
+-- The printed text of the processed lines.
 abbrev pub text_after : History → List Taken → List ℕ
 text_after past [] = []
 text_after past (one ∷ earlier) =

@@ -52,6 +52,7 @@ doubted_up_to row moment up_to =
     then Some (energy_by row up_to)
     else None
 
+-- The energy of a doubted entry.
 abbrev pub doubted_by : Installation → Entry → Option ℕ
 doubted_by row e = doubted_up_to row (moment_of e) (reached row.opening.range e)
 
@@ -79,6 +80,7 @@ doubt_of facts at asked =
     else if is_marked asked.request then None
     else doubted_in facts at asked.command (corrected_at asked.command)
 
+-- The energy that an event would record, if it is a doubted request.
 abbrev pub doubt_in : List Fact → (at : ℕ) → Event → Option ℕ
 doubt_in facts at (event.Asked asked) = doubt_of facts at asked
 doubt_in facts at _ = None

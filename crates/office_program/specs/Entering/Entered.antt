@@ -46,6 +46,7 @@ pub record IsWhole (lines : List Line) (past : History) (first : ℕ) (taken : L
   pub printed : Appends had holds (text_after past taken)
   pub means : status ≡ status_of (progress_of first taken)
 
+-- If a bad line ends the command, the text up to its message is printed.
 pub record IsStoppedTold (tells : Telling) (lines : List Line) (past : History) (taken : List Taken)
     (status : ExitStatus) (had holds : Option (List ℕ)) : Type 0 where
   pub stopped : IsStopped tells lines taken
@@ -62,6 +63,7 @@ pub record IsBrokenOff (tells : Telling) (lines : List Line) (past : History) (t
       ⊎ ((stopped : IsStopped tells lines taken) × GotPart (stopped_text past stopped) had holds)
   pub means : status ≡ Failed
 
+-- The three ways in which the command ends.
 abbrev pub IsEnd : Telling → List Line → History → (first : ℕ) → List Taken → ExitStatus
     → (had holds : Option (List ℕ)) → Type 0
 IsEnd tells lines past first taken status had holds =

@@ -36,6 +36,7 @@ pub record Telling : Type 1 where
   pub files : List ℕ → Option (List ℕ) → Type 0
   pub counters : Device → Register → Option Shown → Type 0
 
+-- The two relations of an implementation.
 abbrev pub telling_of : {F : Type 0} → surroundings.Ghosts F → F → Telling
 telling_of f files = record { files = f.tells files; counters = f.shows files }
 
@@ -60,6 +61,7 @@ is_by_hand _ = false
 abbrev pub can_be_asked : (marked : Bool) → Command → Bool
 can_be_asked marked c = if marked then is_by_hand c else is_request c
 
+-- The request of a command, if the command can be one.
 abbrev pub wanted_by : (marked : Bool) → (number : ℕ) → Command → Wanted
 wanted_by marked number c =
     if can_be_asked marked c then wanted.Command number c else wanted.Nothing
@@ -69,6 +71,7 @@ abbrev pub wanted_of : (marked : Bool) → (number : ℕ) → Event → Wanted
 wanted_of marked number (event.Command c) = wanted_by marked number c
 wanted_of marked number _ = wanted.Nothing
 
+-- The request of a point list, which may have no mark.
 abbrev pub wanted_list : (marked : Bool) → (number : ℕ) → GivenList → Wanted
 wanted_list marked number list = if marked then wanted.Nothing else wanted.List number list
 
@@ -92,6 +95,7 @@ pub record IsListOf (text : List ℕ) (list : Planned) : Type 0 where
   pub points : SpellsList text list.points
   pub planned : IsPlanned list
 
+-- The command that stores a point list.
 abbrev pub put_by : (device : Option (List ℕ)) → Planned → Command
 put_by device list = command.PutList (record { device = device; list = list })
 
@@ -114,6 +118,7 @@ IsWantedEntry caller text (wanted.List number list) entry =
     IsListEntry caller number list.device list.text text entry
 IsWantedEntry caller text wanted.Nothing entry = ⊥
 
+-- The entry of a script's line.
 pub record IsScriptEntry (caller : Option (List ℕ)) (text : List ℕ) (entry : Entry) : Type 0 where
   pub said : ScriptLine
   pub is : IsOnly (words_of (unmarked text)) said
@@ -124,6 +129,7 @@ pub record IsScriptEntry (caller : Option (List ℕ)) (text : List ℕ) (entry :
 abbrev pub file_request : (text bytes : List ℕ) → List ℕ
 file_request text bytes = text ++ 10 ∷ bytes
 
+-- The entry of a line that names a file.
 pub record IsFileEntry (tells : Telling) (caller : Option (List ℕ)) (text : List ℕ) (entry : Entry)
     : Type 0 where
   pub line : FileLine
@@ -157,22 +163,26 @@ abbrev pub LacksFile : Telling → (text : List ℕ) → Type 0
 LacksFile tells text =
     (named : FileLine) × IsFileLine (words_of text) named × tells.files named.name None
 
+-- No script's line that the text spells is a request.
 abbrev pub IsNoRequest : (text : List ℕ) → Type 0
 IsNoRequest text = (said : ScriptLine) → IsLine (words_of (unmarked text)) said
     → wanted_in (is_marked text) said ≡ wanted.Nothing
 
+-- The line is bad.
 abbrev pub IsBad : Telling → (text : List ℕ) → Type 0
 IsBad tells text =
     LacksFile tells text ⊎ (IsNoFileLine (words_of text) × IsNoRead text × IsNoRequest text)
 
 -- ---- The result of parsing a line. Out of memory says nothing of the line.
 
+-- The result for a script's line, given its request.
 abbrev pub ReadsWanted : (caller : Option (List ℕ)) → (text : List ℕ) → Wanted
     → Result Entry LineFault → Type 0
 ReadsWanted caller text want (Ok entry) = IsWantedEntry caller text want entry
 ReadsWanted caller text want (Err Bad) = want ≡ wanted.Nothing
 ReadsWanted caller text want (Err Memory) = Unit {0}
 
+-- The result for a point list.
 abbrev pub ReadsList : (caller : Option (List ℕ)) → (number : ℕ) → (device : Option (List ℕ))
     → (text request : List ℕ) → Result Entry LineFault → Type 0
 ReadsList caller number device text request (Ok entry) =
@@ -180,12 +190,14 @@ ReadsList caller number device text request (Ok entry) =
 ReadsList caller number device text request (Err Bad) = ⊥
 ReadsList caller number device text request (Err Memory) = Unit {0}
 
+-- The result for a script's line.
 abbrev pub ReadsScript : (caller : Option (List ℕ)) → (text : List ℕ) → Result Entry LineFault
     → Type 0
 ReadsScript caller text (Ok entry) = IsScriptEntry caller text entry
 ReadsScript caller text (Err Bad) = IsNoRequest text
 ReadsScript caller text (Err Memory) = Unit {0}
 
+-- The result for a line whose counter is read.
 abbrev pub ReadsCounter : (caller : Option (List ℕ)) → (text : List ℕ) → ReadLine
     → Result Entry LineFault → Type 0
 ReadsCounter caller text line (Ok entry) =
@@ -193,6 +205,7 @@ ReadsCounter caller text line (Ok entry) =
 ReadsCounter caller text line (Err Bad) = ⊥
 ReadsCounter caller text line (Err Memory) = Unit {0}
 
+-- The result for a line that names no file.
 abbrev pub ReadsUnnamed : (caller : Option (List ℕ)) → (text : List ℕ) → Result Entry LineFault
     → Type 0
 ReadsUnnamed caller text (Ok entry) =
@@ -200,6 +213,7 @@ ReadsUnnamed caller text (Ok entry) =
 ReadsUnnamed caller text (Err Bad) = IsNoRead text × IsNoRequest text
 ReadsUnnamed caller text (Err Memory) = Unit {0}
 
+-- The result for a line that names a file.
 abbrev pub ReadsFile : Telling → (caller : Option (List ℕ)) → (text : List ℕ) → FileLine
     → Result Entry LineFault → Type 0
 ReadsFile tells caller text named (Ok entry) =
@@ -208,6 +222,7 @@ ReadsFile tells caller text named (Ok entry) =
 ReadsFile tells caller text named (Err Bad) = tells.files named.name None
 ReadsFile tells caller text named (Err Memory) = Unit {0}
 
+-- The result for any line.
 abbrev pub ReadsEntry : Telling → (caller : Option (List ℕ)) → (text : List ℕ)
     → Result Entry LineFault → Type 0
 ReadsEntry tells caller text (Ok entry) = IsEntry tells caller text entry

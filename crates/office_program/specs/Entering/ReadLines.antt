@@ -11,6 +11,7 @@ use Rattle.office_program.specs.declared.entering.read_line.ReadLine.TheVariants
 use Rattle.office_program.specs.declared.entering.read_line.ReadRequest.{ReadRequest}
 use Rattle.office_program.specs.Entering.Marks.{is_marked, unmarked}
 
+-- The words of a line with `@read`.
 abbrev pub read_form : ReadLine → List Field
 read_form (read.Install number register meter ceiling range) =
     Of Number number ∷ Word (codes "install") ∷ Of AnyName register ∷ Of AnyName meter
@@ -20,6 +21,7 @@ read_form (read.Exchange number register last rolls meter ceiling range) =
     ∷ Of Number rolls ∷ Of AnyName meter ∷ Word (codes "@read") ∷ Of Number ceiling
     ∷ Of Range range ∷ []
 
+-- The words spell the line.
 abbrev pub IsReadLine : (words : List (List ℕ)) → ReadLine → Type 0
 IsReadLine words line = Spell words (read_form line)
 
@@ -29,6 +31,7 @@ IsNoReadLine words = (line : ReadLine) → IsReadLine words line → ⊥
 
 -- ---- The contents of the line
 
+-- The number of the request.
 abbrev pub number_of : ReadLine → ℕ
 number_of (read.Install number register meter ceiling range) = number
 number_of (read.Exchange number register last rolls meter ceiling range) = number
@@ -72,23 +75,28 @@ asked_at read raw sf = record {
 
 -- ---- A text that is such a line, which may have a mark if it makes an entry by hand
 
+-- Whether the line may have a mark, or no mark.
 abbrev pub may_end : (marked : Bool) → ReadLine → Bool
 may_end marked (read.Install number register meter ceiling range) = not marked
 may_end marked (read.Exchange number register last rolls meter ceiling range) = true
 
+-- The text is the line, with or without its mark.
 pub record IsRead (text : List ℕ) (line : ReadLine) : Type 0 where
   pub is : IsReadLine (words_of (unmarked text)) line
   pub may : may_end (is_marked text) line ≡ true
 
+-- The text is no such line.
 abbrev pub IsNoRead : (text : List ℕ) → Type 0
 IsNoRead text = (line : ReadLine) → IsRead text line → ⊥
 
 -- ---- The same definition, word by word, in reading order
 
+-- The words after `@read`, if that is the first word.
 abbrev pub read_word : List (List ℕ) → Option (List (List ℕ))
 read_word [] = None
 read_word (word ∷ words) = if bytes_eq word (codes "@read") then Some words else None
 
+-- The installation that the words after `install` spell, if any.
 abbrev pub install_said : (number : ℕ) → List (List ℕ) → Option ReadLine
 install_said number words =
     first_value AnyName words >>= λ register.
@@ -99,6 +107,7 @@ install_said number words =
     nothing_more range.1 >>= λ none.
     Some (read.Install number register.0 meter.0 ceiling.0 range.0)
 
+-- The exchange that the words after `exchange` spell, if any.
 abbrev pub exchange_said : (number : ℕ) → List (List ℕ) → Option ReadLine
 exchange_said number words =
     first_value AnyName words >>= λ register.
@@ -111,15 +120,18 @@ exchange_said number words =
     nothing_more range.1 >>= λ none.
     Some (read.Exchange number register.0 last.0 rolls.0 meter.0 ceiling.0 range.0)
 
+-- The line with this verb, if the other words spell one.
 abbrev pub line_said : (number : ℕ) → (verb : List ℕ) → List (List ℕ) → Option ReadLine
 line_said number verb words =
     if bytes_eq verb (codes "install") then install_said number words
     else if bytes_eq verb (codes "exchange") then exchange_said number words
     else None
 
+-- The line after its number, if the words spell one.
 abbrev pub verb_said : (number : ℕ) → List (List ℕ) → Option ReadLine
 verb_said number [] = None
 verb_said number (verb ∷ words) = line_said number verb words
 
+-- The line that the words spell, if they spell one.
 abbrev pub read_said : List (List ℕ) → Option ReadLine
 read_said words = first_value Number words >>= λ number. verb_said number.0 number.1

@@ -41,6 +41,7 @@ pub record LacksDevice (facts : List Fact) (register : Option (List ℕ)) : Type
   pub register_is : option_and_then (register_of facts) register ≡ Some counter
   pub none : device_of facts counter.device ≡ None
 
+-- The counter of the register can't be read, or does not exist.
 abbrev pub IsNotShown : Telling → List Fact → (register : Option (List ℕ)) → Type 0
 IsNotShown tells facts register =
     (option_and_then (register_of facts) register ≡ None) ⊎ LacksDevice facts register
@@ -54,6 +55,7 @@ IsShownFor tells facts read (Some shown) =
 IsShownFor tells facts read None =
     (repeat_of_read facts read ≡ None) × IsNotShown tells facts (line.register_of read.line)
 
+-- The request installs the meter at the reading of its counter.
 abbrev pub AsksShown : Telling → List Fact → ReadRequest → Asked → Type 0
 AsksShown tells facts read request =
     (shown : Shown) × IsShownFor tells facts read (Some shown)
@@ -61,6 +63,7 @@ AsksShown tells facts read request =
 
 -- ---- The office's answer
 
+-- The office's answer, with the store's failure counts before and after.
 abbrev pub HasShown : Telling → List Fact → ReadRequest → (before after : Failures)
     → Result (Option Shown) Refusal → Type 0
 HasShown tells facts read before after (Ok found) =
@@ -74,6 +77,7 @@ pub record IsFilled {B : Type 0} (ledger : B → Ledger) (tells : Telling) (read
   pub stands : Stands ledger past office
   pub told : HasShown tells (facts_of past) read before after result
 
+-- The same for every past that the office was in the state of.
 abbrev pub Fills : {B : Type 0} → (B → Ledger) → Telling → ReadRequest → (old new : Office B)
     → Result (Option Shown) Refusal → Type 0
 Fills ledger tells read old new result = After ledger old new (λ past.
@@ -86,18 +90,21 @@ abbrev pub IsCounterFor : Telling → List Fact → (register : Option (List ℕ
 IsCounterFor tells facts register (Some shown) = IsCounterTold tells facts register (Some shown)
 IsCounterFor tells facts register None = IsNotShown tells facts register
 
+-- The office's answer for the counter of a register, with the store's failure counts.
 abbrev pub HasCounter : Telling → List Fact → (register : Option (List ℕ))
     → (before after : Failures) → Result (Option Shown) Refusal → Type 0
 HasCounter tells facts register before after (Ok found) =
     IsCounterFor tells facts register found × (after ≡ before)
 HasCounter tells facts register before after (Err why) = IsOutside ⊥ before after why
 
+-- The office is in its state and gave this answer, or it failed outside.
 pub record IsReadThere {B : Type 0} (ledger : B → Ledger) (tells : Telling)
     (register : Option (List ℕ)) (past : History) (before after : Failures) (office : Office B)
     (result : Result (Option Shown) Refusal) : Type 0 where
   pub stands : Stands ledger past office
   pub told : HasCounter tells (facts_of past) register before after result
 
+-- The same for every past that the office was in the state of.
 abbrev pub ReadsThere : {B : Type 0} → (B → Ledger) → Telling → (register : Option (List ℕ))
     → (old new : Office B) → Result (Option Shown) Refusal → Type 0
 ReadsThere ledger tells register old new result = After ledger old new (λ past.

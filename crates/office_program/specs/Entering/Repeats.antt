@@ -40,6 +40,7 @@ abbrev pub HasActed : Came → Type 0
 HasActed (course.Asked one) = IsOk one.result
 HasActed _ = ⊥
 
+-- Each of the lines acted.
 abbrev pub HaveActed : List Taken → Type 0
 HaveActed [] = Unit {0}
 HaveActed (one ∷ earlier) = HasActed one.came × HaveActed earlier
@@ -51,12 +52,14 @@ IsRepeated result =
     ((kind : CommandKind) × (result ≡ Ok (answer.Again kind)))
     ⊎ ((before after : Failures) × FailsOutside ⊥ before after result)
 
+-- A line was answered as a retry, or the office failed.
 abbrev pub HasRepeated : Came → Type 0
 HasRepeated (course.Asked one) = IsRepeated one.result
 HasRepeated (Undecided at request why) =
     (before after : Failures) × IsOutside ⊥ before after why
 HasRepeated _ = ⊥
 
+-- Each of the lines was answered as a retry, or the office failed.
 abbrev pub HaveRepeated : List Taken → Type 0
 HaveRepeated [] = Unit {0}
 HaveRepeated (one ∷ earlier) = HasRepeated one.came × HaveRepeated earlier

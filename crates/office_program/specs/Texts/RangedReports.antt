@@ -63,11 +63,13 @@ pub record PrintsRefusal {W : Type 0} (contents : W → Option (List ℕ)) (why 
   pub told : IsTold (refused_line why) Refused status (contents old.output.now)
       (contents new.output.now)
 
+-- The rest of the report is written.
 pub record PrintsLast {W : Type 0} (contents : W → Option (List ℕ)) (status : ExitStatus)
     (old new : ReportRows W) : Type 0 where
   pub finishes : Finishes contents old new
   pub means : status ≡ (if new.failed then Failed else Fine)
 
+-- The rest, or the reason if the report was refused.
 abbrev pub PrintsRest : {W : Type 0} → (W → Option (List ℕ)) → Result (Unit {0}) Refusal
     → ExitStatus → (old new : ReportRows W) → Type 0
 PrintsRest contents (Ok done) status old new = PrintsLast contents status old new

@@ -49,6 +49,7 @@ told_of zone range facts meter opening = record {
   held = held_within zone range (holds_of facts meter);
 }
 
+-- The statement of the meter with a name.
 abbrev pub statement_of : Zone → DayRange → List Fact → (meter : List ℕ) → MeterStatement
 statement_of zone range facts meter = told_of zone range facts meter (opening_of facts meter)
 
@@ -60,19 +61,23 @@ statements_of zone range facts rows =
 
 -- ---- the answers, if a meter has the name
 
+-- The tally of the meter's entries.
 abbrev pub tally_in : Zone → DayRange → List Fact → (meter : Option (List ℕ)) → Option EntryTally
 tally_in zone range facts meter =
     option_map (λ opening. tally_of zone range (entries_at facts (Some opening)))
     (option_and_then (opening_of facts) meter)
 
+-- The energy of the meter.
 abbrev pub energy_in : Zone → DayRange → List Fact → (meter : Option (List ℕ)) → Option ℕ
 energy_in zone range facts meter = option_map (energy_within zone range) (intervals_of facts meter)
 
+-- The rejected readings of the meter.
 abbrev pub held_in : Zone → DayRange → List Fact → (meter : Option (List ℕ)) → Option HeldCounts
 held_in zone range facts meter =
     option_and_then (λ name. option_map (λ opening. held_within zone range (holds_of facts name))
     (opening_of facts name)) meter
 
+-- The statement of the meter.
 abbrev pub statement_in : Zone → DayRange → List Fact → (meter : List ℕ) → Option MeterStatement
 statement_in zone range facts meter =
     option_map (λ opening. told_of zone range facts meter (Some opening)) (opening_of facts meter)
@@ -98,6 +103,7 @@ IsStated zone range facts rows before after had has (Ok done) =
     (after ≡ before ++ statements_of zone range facts rows) × (has ≡ had)
 IsStated zone range facts rows before after had has (Err why) = IsOutside (Unit {0}) had has why
 
+-- The same for every past that the office was in the state of.
 abbrev pub States : {B : Type 0} → (B → Ledger) → Zone → DayRange → List Installation
     → (old new : Office B) → (before after : List MeterStatement) → Result (Unit {0}) Refusal
     → Type 0
@@ -111,6 +117,7 @@ abbrev pub statements_in : Zone → DayRange → List Fact → (register : Optio
 statements_in zone range facts register =
     option_map (statements_of zone range facts) (meters_named facts register)
 
+-- The items of a result.
 abbrev pub items_of : {T E : Type 0} → Result (Vec T Global) E → Result (List T) E
 items_of (Ok rows) = Ok rows.items
 items_of (Err why) = Err why
@@ -122,6 +129,7 @@ abbrev pub statement_or_not : StatementForm → Result (List MeterStatement) Ref
 statement_or_not form (Ok rows) = statement_text form rows
 statement_or_not form (Err why) = refused_line why
 
+-- The exit status for a result.
 abbrev pub meant_by : Result (List MeterStatement) Refusal → ExitStatus
 meant_by (Ok rows) = Fine
 meant_by (Err why) = Refused

@@ -17,6 +17,7 @@ use Rattle.office_rounds.specs.declared.device_rounds.round.Round.{Round}
 use Rattle.office_rounds.specs.declared.device_rounds.stage.Stage.{Stage}
 use Rattle.office_rounds.specs.declared.device_rounds.stage.Stage.TheVariants.{Off, Joining, Starting, Waiting, Leaving}
 
+-- The round of a device that is not connected.
 abbrev pub unconnected : (device : Option (List ℕ)) → Round
 unconnected device = record {
   device = device;
@@ -27,6 +28,7 @@ unconnected device = record {
   sum = sums.none;
 }
 
+-- Whether the round requests an event.
 abbrev pub is_wishing : Round → Bool
 is_wishing round = stages.is_wishing round.stage
 
@@ -40,6 +42,7 @@ wish_at Starting device started =
 wish_at Waiting device started = None
 wish_at (Leaving closing) device started = Some (event.Gone device closing)
 
+-- The event that the round requests, if any.
 abbrev pub wish_of : Round → Option Event
 wish_of round = wish_at round.stage round.device round.started
 
@@ -58,9 +61,11 @@ joined_at Starting round = round
 joined_at Waiting round = round
 joined_at (Leaving closing) round = round
 
+-- The round after a new connection.
 abbrev pub joined : Round → Round
 joined round = joined_at round.stage round
 
+-- The round after its connection has ended.
 abbrev pub leaving : Closing → Round → Round
 leaving closing round = record round { stage = stages.left closing round.stage }
 
@@ -73,6 +78,7 @@ broken_off round = record round { stage = Leaving closing.Failed }
 abbrev pub stage_after : List ℕ → Stage
 stage_after polls = if length polls == 0 then Leaving closing.Gone else Waiting
 
+-- The round after a start of `count` polls from `first` on.
 abbrev pub begun : (first count planned : ℕ) → Round → Round
 begun first count planned round = record {
   device = round.device;
@@ -105,6 +111,7 @@ answered_at Waiting (Ok given) round = round
 answered_at Waiting (Err why) round = broken_off round
 answered_at (Leaving closing) result round = record round { stage = Off }
 
+-- The round after the answer to its event.
 abbrev pub answered : Result Answer Refusal → Round → Round
 answered result round = answered_at round.stage result round
 
@@ -116,6 +123,7 @@ gone_on round =
     else if length round.polls.items == 0 then record round { stage = Leaving closing.Gone }
     else round
 
+-- The round after notifications, by whether a poll has ended.
 abbrev pub going_on : Stage → (ended : Bool) → Round → Round
 going_on Off ended round = round
 going_on Joining ended round = round
@@ -128,6 +136,7 @@ going_on (Leaving closing) ended round = round
 abbrev pub polls_left : List Note → Round → List ℕ
 polls_left notes round = filter (waits notes) round.polls.items
 
+-- The round after notifications.
 abbrev pub heard : List Note → Round → Round
 heard notes round =
     going_on round.stage (nat_lt (length (polls_left notes round)) (length round.polls.items))

@@ -19,6 +19,7 @@ pub record Scene (B V : Type 0) : Type 0 where
   pub rounds : List Round
   pub observer : V
 
+-- The scene with these parts.
 abbrev pub scene : {B V : Type 0} → Office B → Failures → List Round → V → Scene B V
 scene office failures rounds observer =
     record { office = office; failures = failures; rounds = rounds; observer = observer }
@@ -29,6 +30,7 @@ pub record Start (V : Type 0) : Type 0 where
   pub table : Table
   pub observer : V
 
+-- The start with these parts.
 abbrev pub start : {V : Type 0} → Failures → Table → V → Start V
 start failures at observer = record { failures = failures; table = at; observer = observer }
 
@@ -63,6 +65,7 @@ FeedsNext {B} {V} ledger sees at one old new =
 abbrev pub IsSettled : List Round → (before after : List Answered) → Type 0
 IsSettled rounds before after = (first_wish rounds ≡ None) ⊎ (256 ≤ length after)
 
+-- The office is fed the requested events, and the turn is settled.
 abbrev pub OfficeGoesOn : {B V : Type 0} → (B → Ledger) → (V → Shown → V → Type 0) → (at : ℕ)
     → (old new : Scene B V) → Type 0
 OfficeGoesOn {B} {V} ledger sees at old new =
@@ -78,6 +81,7 @@ FeedsOne ledger sees at one old new before after from to =
     FeedsNext ledger sees at one (scene old (failures_of ledger old) before from)
     (scene new (failures_of ledger new) after to)
 
+-- The same for the events that rounds request.
 abbrev pub Settles : {B V : Type 0} → (B → Ledger) → (V → Shown → V → Type 0) → (at : ℕ)
     → (old new : Office B) → (before after : List Round) → (from to : V) → Type 0
 Settles ledger sees at old new before after from to =

@@ -23,17 +23,21 @@ pub record Wished : Type 0 where
   pub place : Option ℕ
   pub event : Event
 
+-- The event for the round of a slot, or for none.
 abbrev pub wished : Option ℕ → Event → Wished
 wished place e = record { place = place; event = e }
 
+-- The event that the round of a slot requests, if any.
 abbrev pub wished_at : ℕ → Option Event → Option Wished
 wished_at place None = None
 wished_at place (Some e) = Some (wished (Some place) e)
 
+-- The same by the round in the slot, if there is one.
 abbrev pub wish_in : ℕ → Option Round → Option Wished
 wish_in place None = None
 wish_in place (Some round) = wished_at place (wish_of round)
 
+-- The same by the slot, if there is one.
 abbrev pub wish_from : Option ℕ → List Round → Option Wished
 wish_from None rounds = None
 wish_from (Some place) rounds = wish_in place (slice_get rounds place)
@@ -42,6 +46,7 @@ wish_from (Some place) rounds = wish_in place (slice_get rounds place)
 abbrev pub first_wish : List Round → Option Wished
 first_wish rounds = wish_from (position is_wishing rounds) rounds
 
+-- A slot and an event, as an event to feed.
 abbrev pub as_wished : Option (ℕ × Event) → Option Wished
 as_wished None = None
 as_wished (Some one) = Some (wished (Some one.0) one.1)
@@ -51,13 +56,16 @@ pub record Table : Type 0 where
   pub first : Option Wished
   pub rounds : List Round
 
+-- The table with these parts.
 abbrev pub table : Option Wished → List Round → Table
 table first rounds = record { first = first; rounds = rounds }
 
+-- The next event to feed: the first one, or else a requested one.
 abbrev pub next_by : Option Wished → List Round → Option Wished
 next_by None rounds = first_wish rounds
 next_by (Some one) rounds = Some one
 
+-- The next event of a table.
 abbrev pub next_of : Table → Option Wished
 next_of at = next_by at.first at.rounds
 
@@ -67,6 +75,7 @@ at_place place change [] = []
 at_place zero change (round ∷ rounds) = change round ∷ rounds
 at_place (suc place) change (round ∷ rounds) = round ∷ at_place place change rounds
 
+-- The rounds after the answer to the event of a slot, or of none.
 abbrev pub answered_for : Option ℕ → Result Answer Refusal → List Round → List Round
 answered_for None answer rounds = rounds
 answered_for (Some place) answer rounds = at_place place (answered answer) rounds
@@ -75,10 +84,12 @@ answered_for (Some place) answer rounds = at_place place (answered answer) round
 abbrev pub told : Option ℕ → Result Answer Refusal → List Note → List Round → List Round
 told place answer notes rounds = map (heard notes) (answered_for place answer rounds)
 
+-- The slot of an event, if it has one.
 abbrev pub place_of : Option Wished → Option ℕ
 place_of None = None
 place_of (Some one) = one.place
 
+-- The table after an event was answered.
 abbrev pub table_after : Table → Result Answer Refusal → List Note → Table
 table_after at answer notes = table None (told (place_of (next_of at)) answer notes at.rounds)
 
@@ -126,6 +137,7 @@ came_at Starting place device piece = None
 came_at Waiting place device piece = Some (wished (Some place) (event.Bytes device piece))
 came_at (Leaving closing) place device piece = None
 
+-- The same by the round in the slot, if there is one.
 abbrev pub came : ℕ → Option Round → List ℕ → Option Wished
 came place None piece = None
 came place (Some round) piece = came_at round.stage place round.device piece
