@@ -10,7 +10,7 @@ use Rattle.office_rules.specs.History.{History, Accepted, Opened, Fed, facts_of}
 use Rattle.office_rules.specs.Lawfulness.{IsPast}
 use Rattle.office_books.specs.Ledgers.{Ledger}
 
--- The records after one more event or opening. It may follow what was accepted, except for later
+-- The records after one more event or opening. It could follow the past as it was before some later
 -- events that recorded nothing.
 pub record IsOneMore (past : History) (facts : List Fact) : Type 0 where
   pub next : Accepted

@@ -146,10 +146,10 @@ fn end_unconnected<B: Books, C: Clock, W: Write>(
 /// started. Refusals are not printed.
 ///
 /// `None` is a name that no device can have. After a fault the round feeds that the device is gone,
-/// as after a failed read or write, and prints that too. If the office refused the connection,
-/// nothing else is fed. If the clock was set back, or is past the last timestamp, the device is
-/// gone at the timestamp of the latest event. At the end none of the device's polls is pending,
-/// unless the store or memory failed and the office has stopped.
+/// as after a failed read or write, and prints that too, unless printing failed. If the office
+/// refused the connection, nothing else is fed. If the clock was set back, or is past the last
+/// timestamp, the device is gone at the timestamp of the latest event. At the end none of the
+/// device's polls is pending, unless the store or memory failed and the office has stopped.
 pub fn round_over<L: Link, B: Books, C: Clock, W: Write>(
     alloc: Global,
     link: &mut L,

@@ -47,7 +47,8 @@ abbrev pub known_by : Option Repeat → Known
 known_by None = known.New
 known_by (Some repeat) = known_as repeat
 
--- What is known of the request of a caller, or a failure of the store. An invalid caller is refused.
+-- What is known of the request of a caller, or a failure of the store. An invalid caller is
+-- refused.
 abbrev pub IsKnownOf : List Fact → Asked → (caller : Option (List ℕ)) → Known → Type 0
 IsKnownOf facts asked None what = what ≡ known.Refused refusal.Limit
 IsKnownOf facts asked (Some caller) what =
