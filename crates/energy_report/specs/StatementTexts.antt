@@ -81,7 +81,7 @@ held_text Text held = counts_or_zero Text (held_some held)
 held_text Csv held = counts_or_zero Csv (held_some held)
 held_text Json held = codes "{" ++ counts_text Json (held_some held) ++ codes "}"
 
--- What one more count adds to the earlier ones.
+-- Whether there are no counts.
 abbrev pub are_none : List HeldCount → Bool
 are_none [] = true
 are_none (first ∷ counts) = false

@@ -54,7 +54,7 @@ AreWritten rows done None = (rows ≡ []) × (done ≡ [])
 AreWritten rows done (Some pending) =
     (last : Row) × (rows ≡ done ++ last ∷ []) × (pending ≡ shown last)
 
--- The same with the rows of the days, which were counted.
+-- All rows of the days but the last were written and counted; the last row waits.
 pub record IsWritten {W : Type 0} (contents : W → Option (List ℕ)) (days : List DayTotal)
     (old : W) (new : ReportRows W) : Type 0 where
   pub done : List Row

@@ -96,8 +96,8 @@ pub record HandsDays {S : Type 0} (takes : S → DayTotal → S → Type 0) (zon
   pub whole : OnOk result (TakesDays takes zone facts register from to)
   pub none : OnErr result (to ≡ from)
 
--- What the store answers from the records that it holds: a row, rows, or days. It holds if no wrong
--- result of a store was taken as true.
+-- What the store answers to a query for a row, from the records that it holds. This assumes that no
+-- wrong result of a store was taken as true.
 abbrev pub FoundIn : {T : Type 0} → (old new : Ledger) → Result T Refusal → (List Fact → Option T)
     → Type 0
 FoundIn old new result row =
@@ -130,7 +130,7 @@ ListsDays old new register span result =
     × (new.failures ≡ old.failures))
     (IsOutside (Unit {0}) old.failures new.failures)
 
--- What the office answers from the records of the events that it accepted: a row, rows, or days.
+-- What the office answers to a query for a row, from the records of the events that it accepted.
 abbrev pub TellsRow : {B T : Type 0} → (B → Ledger) → (old new : Office B) → Result T Refusal
     → (List Fact → Option T) → Type 0
 TellsRow ledger old new result row = After ledger old new (λ past.

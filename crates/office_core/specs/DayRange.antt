@@ -72,8 +72,8 @@ pub record HandsDaysWithin {S : Type 0} (takes : S → DayTotal → S → Type 0
   pub whole : OnOk result (TakesDaysWithin takes zone facts register range before after)
   pub none : OnErr result (after ≡ before)
 
--- What the store answers for a range, from the records that it holds. It holds if no wrong result
--- of a store was taken as true.
+-- What the store answers for a range, from the records that it holds. This assumes that no wrong
+-- result of a store was taken as true.
 abbrev pub DaysWithinIn : {S : Type 0} → (S → DayTotal → S → Type 0) → (old new : Ledger)
     → (before after : S) → Result (Unit {0}) Refusal → (register : Option (List ℕ))
     → DayRange → Type 0

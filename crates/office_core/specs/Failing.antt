@@ -65,7 +65,7 @@ abbrev pub IsNotStopped : Refusal → Type 0
 IsNotStopped refusal.Stopped = ⊥
 IsNotStopped _ = Unit {0}
 
--- A reason other than that a row has no civil day; of the store's causes, another cause.
+-- A cause of the store other than that a row has no civil day.
 abbrev pub IsOfStore : StoreCause → Type 0
 IsOfStore store.NoDay = ⊥
 IsOfStore _ = Unit {0}

@@ -64,8 +64,8 @@ IsListed None before after (Err why) =
     ((why ≡ refusal.NotFound) × (after ≡ before)) ⊎ IsOutside ⊥ before after why
 IsListed (Some rows) before after (Err why) = IsOutside ⊥ before after why
 
--- What the store answers, from the records that it holds. It holds if no wrong result of a store
--- was taken as true.
+-- What the store answers, from the records that it holds. This assumes that no wrong result of a
+-- store was taken as true.
 abbrev pub ListsIn : {T : Type 0} → (old new : Ledger) → Result (Vec T Global) Refusal
     → (List Fact → Option (List T)) → Type 0
 ListsIn old new result rows = (known : List Fact) → old.holds known → new.is_clean

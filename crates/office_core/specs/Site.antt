@@ -23,11 +23,11 @@ abbrev pub row_at : List Fact → Register → SiteRow
 row_at facts register =
     record { register = register; meter = installation_at facts register.name }
 
--- The registers of a device, in the order in which they were added.
+-- The rows of some registers.
 abbrev pub rows_at : List Fact → List Register → List SiteRow
 rows_at facts registers = map (row_at facts) registers
 
--- The rows of a device's registers.
+-- The rows of a device's registers, in the order in which they were added.
 abbrev pub rows_of : List Fact → Device → List SiteRow
 rows_of facts device = rows_at facts (registers_of facts device.name)
 
@@ -47,8 +47,8 @@ IsSite facts before after result = MatchResult result
     (λ rows. (rows.items ≡ site_of facts) × (after ≡ before))
     (IsOutside (Unit {0}) before after)
 
--- What the store answers, from the records that it holds. It holds if no wrong result of a store
--- was taken as true.
+-- What the store answers, from the records that it holds. This assumes that no wrong result of a
+-- store was taken as true.
 abbrev pub SiteIn : (old new : Ledger) → Result (Vec SiteRow Global) Refusal → Type 0
 SiteIn old new result = (known : List Fact) → old.holds known → new.is_clean
     → IsSite known old.failures new.failures result

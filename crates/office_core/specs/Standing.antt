@@ -7,7 +7,7 @@ use Rattle.office_books.specs.Ledgers.{Ledger}
 use Rattle.office_core.specs.declared.office.Office.{Office}
 use Rattle.office_core.specs.Leaving.{BooksStand}
 
--- The parts of an office, as its calls return them.
+-- The store of the office.
 abbrev pub books_in : {B : Type 0} → Office B → B
 books_in office = office.books
 

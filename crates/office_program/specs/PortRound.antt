@@ -17,8 +17,7 @@ use Rattle.office_program.specs.Opened.{OverStanding, WithOffice}
 use Rattle.office_program.specs.declared.port_round.PollEnd.{PollEnd}
 use Rattle.office_program.specs.declared.port_round.PollEnd.TheVariants.{Polled, Unopened, Unconnected}
 
--- What a round at a port leaves of an office and prints: the round, over some link; or nothing if
--- there is no device.
+-- The round of a device at a port, over some link.
 pub record IsPolled {B : Type 0} (ledger : B → Ledger) (device : List ℕ)
     (later had holds : Option (List ℕ)) (done : Result (Unit {0}) RoundFault)
     (following : History) (then : Option (List ℕ)) (opened left : Office B) : Type 0 where

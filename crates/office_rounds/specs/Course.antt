@@ -15,8 +15,7 @@ use Rattle.office_rules.specs.Notes.{notes_after}
 use Rattle.office_core.specs.EventRun.{Answered}
 use Rattle.office_rounds.specs.FedEvents.{history_with}
 
--- What a start reports: the number of its first poll, the reads that it started, and the reads of
--- the plan.
+-- The number of the first poll, by an answer, or as known before.
 abbrev pub first_by : Option ℕ → Answer → Option ℕ
 first_by (Some first) given = Some first
 first_by None answer.Noted = None
@@ -38,7 +37,7 @@ planned_by planned (answer.Done kind) = planned
 planned_by planned (answer.Again kind) = planned
 planned_by planned (answer.Started first count of) = of
 
--- The same of a result; a refusal changes nothing.
+-- The first poll after a result; a refusal changes nothing.
 abbrev pub first_after : Option ℕ → Result Answer Refusal → Option ℕ
 first_after first (Ok given) = first_by first given
 first_after first (Err why) = first
@@ -68,8 +67,7 @@ abbrev pub reads_planned : List Answered → ℕ
 reads_planned [] = 0
 reads_planned (one ∷ earlier) = planned_after (reads_planned earlier) one.result
 
--- The notification reports the outcome of a poll, and the poll is not before the first of the
--- round.
+-- The poll is not before the first of the round.
 abbrev pub is_from : (first : Option ℕ) → ℕ → Bool
 is_from None poll = false
 is_from (Some first) poll = nat_le first poll

@@ -47,7 +47,7 @@ frames_after past (one ∷ earlier) =
     frames_after past earlier
     ++ outgoing_after (history_with past earlier) one.at one.event one.result
 
--- The bytes of the device in an event, and in a list of events.
+-- The bytes of the device in an event.
 abbrev pub piece_in : Event → List ℕ
 piece_in (event.Connected given) = []
 piece_in (event.Bytes given piece) = piece

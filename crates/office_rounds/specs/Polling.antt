@@ -1,4 +1,4 @@
--- The state of a round after what it fed: its pending polls, and what it does next.
+-- The state of a round after what it fed: its pending polls, and its next event.
 use Rattle.std.specs.Prelude.{◌≡◌, ℕ, zero, suc, ◌+◌, ◌≤◌, ◌==◌, Bool, true, false, List, [], ◌∷◌, ◌++◌, map, length, Option, Some, None, Ok}
 use Rattle.std.specs.List.{filter}
 use Rattle.poll_core.specs.declared.outcome.Closing.TheVariants as closing

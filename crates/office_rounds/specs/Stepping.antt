@@ -40,7 +40,7 @@ pub record IsTaken {B : Type 0} (ledger : B → Ledger) (past : History) (at : �
   pub answer : IsAnswer past at e begun.failures now.failures reply
   pub told : IsTold past at e reply office
 
--- What feeding an event and printing its report does.
+-- An event was fed, and a write of its report failed.
 pub record IsUnprinted {B : Type 0} (ledger : B → Ledger) (past : History) (at : ℕ) (e : Event)
     (begun now : RoundState)
     (office : Office B) : Type 0 where
@@ -81,7 +81,7 @@ FeedStops was e (Err TurnsUsed) now = Unit {0}
 abbrev pub RefusedStops : (was : Bool) → Event → Result Answer Refusal → (now : Bool) → Type 0
 RefusedStops was e reply now = (why : Refusal) → reply ≡ Err why → Stops was e reply now
 
--- The end of a round was fed and printed; or not printed, since a write had failed.
+-- The end of a round was fed and printed, or printed in part if a write failed.
 pub record EndsPrinted {B : Type 0} (ledger : B → Ledger) (past : History) (at : ℕ) (e : Event)
     (cause : RoundFault)
     (begun now : RoundState) (old new : Office B) (fault : RoundFault) : Type 0 where
@@ -91,7 +91,7 @@ pub record EndsPrinted {B : Type 0} (ledger : B → Ledger) (past : History) (at
   pub printed : ((fault ≡ cause) × Appends begun.printed now.printed (told_text past at e reply))
       ⊎ ((fault ≡ Output) × GotPart (told_text past at e reply) begun.printed now.printed)
 
--- The end of a round was fed and not printed.
+-- The end of a round was fed and not printed, since a write had failed.
 pub record EndsUnprinted {B : Type 0} (ledger : B → Ledger) (past : History) (at : ℕ) (e : Event)
     (begun now : RoundState) (old new : Office B) : Type 0 where
   pub reply : Result Answer Refusal

@@ -10,7 +10,7 @@ use Rattle.office_core.specs.Standing.{After, Stands, books_in}
 use Rattle.office_core.specs.Taking.{IsAnswer, failures_of}
 use Rattle.carried_books.specs.declared.carrying.commands.TimedCommand.{TimedCommand}
 
--- A command as the office's event, and as an accepted event.
+-- A command as the office's event.
 abbrev pub event_of : TimedCommand → Event
 event_of timed = event.Command timed.command
 
@@ -57,13 +57,13 @@ abbrev pub AreFedOr : {B : Type 0} → (B → Ledger) → History → List Timed
 AreFedOr ledger past commands old new (Ok done) = AreFed ledger past commands old new
 AreFedOr ledger past commands old new (Err why) = AreFedUpTo ledger past commands old new why
 
--- The same for every past that the office was in the state of.
+-- One command is fed, for every past that the office was in the state of.
 abbrev pub FeedsOne : {B : Type 0} → (B → Ledger) → TimedCommand → (old new : Office B)
     → Result (Unit {0}) Refusal → Type 0
 FeedsOne ledger timed old new result =
     After ledger old new (λ past. IsFedOr ledger past timed old new result)
 
--- The same for several commands.
+-- Several commands are fed, for every past that the office was in the state of.
 abbrev pub Feeds : {B : Type 0} → (B → Ledger) → List TimedCommand → (old new : Office B)
     → Result (Unit {0}) Refusal → Type 0
 Feeds ledger commands old new result =

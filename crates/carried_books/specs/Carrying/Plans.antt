@@ -13,7 +13,7 @@ use Rattle.carried_books.specs.declared.carrying.commands.TimedCommand.{TimedCom
 use Rattle.carried_books.specs.declared.carrying.plans.Plan.{Plan}
 use Rattle.carried_books.specs.declared.carrying.plans.Plan.TheVariants.{Ready, NotYet}
 
--- The devices, in the order in which they were added, and the open meters at their registers.
+-- The devices, in the order in which they were added.
 abbrev pub devices_of : List Fact → List Device
 devices_of facts = reverse (devices_in facts)
 

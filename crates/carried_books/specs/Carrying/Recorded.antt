@@ -15,11 +15,11 @@ use Rattle.carried_books.specs.Carrying.Commands.{commands_for}
 use Rattle.carried_books.specs.Carrying.Feeding.{history_with}
 use Rattle.carried_books.specs.Carrying.Standings.{last_until}
 
--- A device, its list if it has one, and its registers, in this order.
+-- The record of a device's point list.
 abbrev pub list_fact : (device : List ℕ) → Planned → Fact
 list_fact device list = fact.List (record { device = device; list = list })
 
--- The records of a device, its list and its registers.
+-- The records of a device, its list if it has one, and its registers, in this order.
 abbrev pub device_facts : List Fact → Device → List Fact
 device_facts facts device =
     fact.Device device

@@ -101,14 +101,14 @@ pub record IsOutOfTurn (span : Span) (register : List ℕ) (facts : List Fact)
   pub added : AddDays (rows_within span (rows_of_register facts register)) old.days days
       (Some unjoined.OutOfTurn)
 
--- The meters and the rows of a file were added, or the reason why they don't join.
+-- The meters and the rows of a file were added.
 pub record AddsBoth (span : Span) (register : List ℕ) (facts : List Fact)
     (old new : JoinedFiles) : Type 0 where
   pub recorded : new.is_recorded ≡ old.is_recorded
   pub meters : AddMeters old.meters.items (installations_of facts register) new.meters.items
   pub days : AddDays (rows_within span (rows_of_register facts register)) old.days new.days None
 
--- The same by the result.
+-- The meters and the rows of a file were added, or the reason why they don't join.
 abbrev pub AddsRows : Span → (register : List ℕ) → (facts : List Fact) → (old new : JoinedFiles)
     → Option Unjoined → Type 0
 AddsRows span register facts old new None = AddsBoth span register facts old new

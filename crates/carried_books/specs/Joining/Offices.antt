@@ -95,8 +95,8 @@ abbrev pub rows_of_both : Span → (earlier : List Share) → List Fact → (reg
 rows_of_both span earlier facts register =
     earlier ++ rows_within span (rows_of_register facts register)
 
--- The same with the rows whose sum the earlier days are, by what an office has accepted, if the
--- total energy fits 128 bits.
+-- The days of a register over earlier files and an office, by what the office has accepted. The
+-- earlier days are the sum of the earlier rows, and the total energy fits 128 bits.
 abbrev pub TellsDaysOver : {B : Type 0} → (B → Ledger) → (old new : Office B) → Zone
     → (earlier : EarlierDays) → (register : List ℕ) → Span
     → Result (Vec DayTotal Global) Refusal → Type 0

@@ -15,7 +15,7 @@ abbrev pub AreAdded : (at : ℕ) → Command → (known facts : List Fact) → T
 AreAdded at c known facts =
     (number : ℕ) (slots : List sessions.Slot) → facts ≡ history.added_by number at slots known c
 
--- The void, point list or register that a command adds, if its names are valid.
+-- The void that a command adds, if its meter's name is valid.
 abbrev pub void_by : (at : ℕ) → VoidEntry → Option Fact
 void_by at c =
     option_map (λ meter. fact.Void (record { meter = meter; place = c.place; at = at })) c.meter

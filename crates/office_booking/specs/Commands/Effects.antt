@@ -52,7 +52,7 @@ pub record Tries (old new : Ledger) (facts : List Fact)
       → OnErr result (new.may_leave left ⊎ new.may_leave (left ++ with_facts facts known ∷ []))
   pub goes : LedgerAfterCalls old new result
 
--- A slot after a command started its reads there, and all slots.
+-- A slot after a command started its reads there.
 abbrev pub started_on : (number at : ℕ) → List ReadSpan → Command → sessions.Slot
     → Option (List session.Event) → sessions.Slot
 started_on number at spans c slot None = slot
@@ -126,7 +126,7 @@ CarriesEvent old new before after at e result =
     (past : History) → IsPast past → KeepsSlots before (slots_of past) → IsAccepted past at e
     → Carries old new after past at e result
 
--- What a command starts on a slot: the reads, their polls and frames, and the slot after them.
+-- The reads that a command starts on a slot.
 abbrev pub sends_by : (at : ℕ) → sessions.Slot → List Fact → Command → List sessions.Send
 sends_by at slot known c = starts.sends_of (next_poll known) at (spans_by known c) slot
 
@@ -167,7 +167,7 @@ BooksStart at c replies old new result slot known =
     let later = facts_started at slot known c replies in
     AreLawful later → Moves old new known later result
 
--- After a start: the slot has the polls, the start has its answer, and its frames are to be sent.
+-- After a start the slot has its polls.
 abbrev pub StandsStarted : (at : ℕ) → Command → (old new : Ledger) → (after : Slot)
     → Result Done BooksFault → sessions.Slot → (known : List Fact) → Type 0
 StandsStarted at c old new after result slot known =

@@ -6,7 +6,7 @@ use Rattle.office_events.specs.declared.commands.Command.TheVariants as command
 use Rattle.office_rules.specs.Facts.{is_named}
 use Rattle.office_booking.specs.declared.sessions.slots.Slot.{Slot}
 
--- The index of the first slot whose device has the name, and whether one exists.
+-- The index of the first slot whose device has the name.
 abbrev pub place_in : List Slot → Option (List ℕ) → Option ℕ
 place_in kept given = position (λ slot. is_named given slot.device.name) kept
 

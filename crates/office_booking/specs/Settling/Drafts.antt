@@ -18,14 +18,15 @@ pub record HasMore (old new : Draft) (f : Fact) (note : Note) : Type 0 where
   pub facts : new.facts.items ≡ old.facts.items ++ f ∷ []
   pub notes : new.notes.items ≡ old.notes.items ++ note ∷ []
 
--- An event that settles polls adds outcomes and readings, accepted or rejected, and nothing else.
+-- The record is an outcome or a reading, accepted or rejected. An event that settles polls adds
+-- nothing else.
 abbrev pub IsTold : Fact → Type 0
 IsTold (fact.Outcome ended) = Unit {0}
 IsTold (fact.Entry booked) = booked.kind ≡ kind.Reading
 IsTold (fact.Hold held) = Unit {0}
 IsTold _ = ⊥
 
--- All of these records are outcomes, readings or rejected readings.
+-- All of these records are outcomes or readings.
 abbrev pub AreTold : List Fact → Type 0
 AreTold [] = Unit {0}
 AreTold (f ∷ facts) = IsTold f × AreTold facts

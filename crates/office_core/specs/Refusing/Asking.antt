@@ -24,7 +24,7 @@ AsksNoBooks (event.Gone given closing) = Unit {0}
 AsksNoBooks (event.Command c) = IsOfDevices c
 AsksNoBooks (event.Asked asked) = IsOfDevices asked.command
 
--- An event of a device, or a timer event for all devices; and the reasons to refuse such an event.
+-- An event of a device, or a timer event for all devices.
 abbrev pub IsOfDevice : Event → Type 0
 IsOfDevice (event.Connected given) = Unit {0}
 IsOfDevice (event.Bytes given piece) = Unit {0}
@@ -41,13 +41,12 @@ IsOfSession refusal.Busy = Unit {0}
 IsOfSession refusal.Limit = Unit {0}
 IsOfSession _ = ⊥
 
--- A reason that lies in the event, and not in a failure. Of the store's causes, this is that no
--- more polls can be numbered.
+-- The store's cause that lies in the event: no more polls can be numbered.
 abbrev pub IsFull : StoreCause → Type 0
 IsFull store.Refused = Unit {0}
 IsFull _ = ⊥
 
--- A reason that lies in the event.
+-- A reason that lies in the event, and not in a failure.
 abbrev pub IsOfEvent : Refusal → Type 0
 IsOfEvent (refusal.Store why) = IsFull why
 IsOfEvent refusal.Memory = ⊥

@@ -15,7 +15,7 @@ use Rattle.office_rules.specs.Refusals.{reasons}
 use Rattle.office_core.specs.declared.refusing.arrivals.Arrival.{Arrival}
 use Rattle.office_core.specs.Refusing.Asking.{IsOfEvent}
 
--- The entry has a fault at an installation, or at an installation if it is open.
+-- The entry has a fault at an installation.
 abbrev pub entry_has_fault : Installation → Entry → TermFault → Bool
 entry_has_fault row e why = entering.refuses row.opening.range row.total row.last e why
 
@@ -24,7 +24,7 @@ abbrev pub is_faulty : Option Installation → Entry → TermFault → Bool
 is_faulty None e why = false
 is_faulty (Some row) e why = entry_has_fault row e why
 
--- Whether a reason applies to an entry, and the first that does.
+-- Whether a reason applies to an entry.
 abbrev pub speaks_of_entry : Arrival → (off_scale off_limits : Bool) → Installation → Entry
     → Refusal → Bool
 speaks_of_entry arrival off_scale off_limits row e refusal.ClockBack = arrival.is_back

@@ -15,7 +15,7 @@ use Rattle.office_core.specs.declared.refusing.arrivals.Arrival.{Arrival}
 use Rattle.office_core.specs.Refusing.Asking.{IsOfEvent}
 use Rattle.office_booking.specs.Sessions.Ranges.{IsCommandInRange}
 
--- The arrival of an event after the latest accepted one, and that of a request.
+-- The arrival of an event after the latest accepted one.
 abbrev pub arrival_of : (latest at : ℕ) → Arrival
 arrival_of latest at =
     record { moment = at; is_back = nat_lt at latest; is_beyond = nat_lt moment_limit at }
@@ -43,7 +43,7 @@ speaks_against slots facts arrival c why =
 abbrev pub refusal_under : List sessions.Slot → List Fact → Arrival → Command → Option Refusal
 refusal_under slots facts arrival c = find (speaks_against slots facts arrival c) reasons
 
--- The result is the refusal of the command: for any devices, or for the stored devices.
+-- The result is the refusal of the command, for any devices.
 abbrev pub IsWhy : Arrival → Command → List Fact → Option Refusal → Type 0
 IsWhy arrival c facts r = (slots : List sessions.Slot) → r ≡ refusal_under slots facts arrival c
 
@@ -63,8 +63,8 @@ abbrev pub Befits : Arrival → Command → Option Refusal → Type 0
 Befits arrival c None = ComesInRange arrival c
 Befits arrival c (Some why) = IsOfEvent why
 
--- The refusal of an event of a device: by its arrival, and by whether the device is unknown or is
--- in the wrong connection state.
+-- Whether a reason applies to an event of a device: by its arrival, and by whether the device is
+-- unknown or is in the wrong connection state.
 abbrev pub speaks_of_session : Arrival → (is_unknown is_busy : Bool) → Refusal → Bool
 speaks_of_session arrival is_unknown is_busy refusal.NotFound = is_unknown
 speaks_of_session arrival is_unknown is_busy refusal.Busy = is_busy

@@ -54,7 +54,7 @@ abbrev pub IsSoundSpot : Spot → Type 0
 IsSoundSpot (spot.Entry place) = IsSound place.before
 IsSoundSpot _ = Unit {0}
 
--- Whether a reason applies to a void, and the first that does.
+-- Whether a reason applies to a void.
 abbrev pub speaks_of_void : Arrival → Spot → Refusal → Bool
 speaks_of_void arrival found refusal.NotFound = is_nothing found
 speaks_of_void arrival found refusal.NotVoidable = is_not_voidable (entry_in found)
@@ -66,7 +66,7 @@ speaks_of_void arrival found why = comes_wrongly arrival why
 abbrev pub void_refusal : Arrival → Spot → Option Refusal
 void_refusal arrival found = find (speaks_of_void arrival found) reasons
 
--- Why the entry at an index can't be voided.
+-- Whether a reason applies against voiding an entry.
 abbrev pub speaks_of_strike : EntryPlace → Refusal → Bool
 speaks_of_strike place refusal.NotVoidable = is_not_voidable (Some place)
 speaks_of_strike place (refusal.NotPlausible why) = is_held_for why (verdict_at (Some place))

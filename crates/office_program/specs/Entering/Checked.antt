@@ -36,8 +36,8 @@ pub record OnlyLooks (old new : Ledger) : Type 0 where
   pub zone : new.zone ≡ old.zone
   pub keeps : KeepsFacts old new
 
--- The store has no request with this caller and number; or it has the same one; or another one, for
--- which the request would be refused.
+-- What is known by a stored request: it is the same, or another one, for which the request would be
+-- refused.
 abbrev pub known_as : Repeat → Known
 known_as (Same kind) = known.Again
 known_as Other = known.Refused refusal.Reused
@@ -87,7 +87,7 @@ abbrev pub LooksAt : Telling → (caller : Option (List ℕ)) → (text : List �
 LooksAt tells caller text old new result = (facts : List Fact) → old.holds facts → new.is_clean
     → FindsLook tells caller text facts result
 
--- The text for a line.
+-- The text for what is known of a request.
 abbrev pub known_text : Known → List ℕ
 known_text known.New = codes "new\n"
 known_text known.Again = codes "again\n"
@@ -99,7 +99,7 @@ look_text number (look.Known what) = known_text what
 look_text number (look.Faulty rows) = course.faults_text rows
 look_text number look.Bad = bad_line number
 
--- Whether the line is bad or would be refused.
+-- Whether the request would be refused.
 abbrev pub is_refusal : Known → Bool
 is_refusal known.New = false
 is_refusal known.Again = false
@@ -118,15 +118,14 @@ IsShown number found had holds (Ok refused) =
     Appends had holds (look_text number found) × (refused ≡ is_refused found)
 IsShown number found had holds (Err status) = GotPart (look_text number found) had holds
 
--- The line was checked and its text printed, or a part of it if the write failed. Otherwise memory
--- was missing.
+-- The line was checked, and a part of its text was printed, since a write failed.
 pub record IsCut (tells : Telling) (caller : Option (List ℕ)) (line : Line) (facts : List Fact)
     (had holds : Option (List ℕ)) : Type 0 where
   pub found : Look
   pub is : IsLook tells caller line.text facts found
   pub part : GotPart (look_text line.number found) had holds
 
--- A line was checked and its text printed; or the command was broken off.
+-- A line was checked and its text printed; or a write failed, or memory was missing.
 abbrev pub IsChecked : Telling → (caller : Option (List ℕ)) → Line → List Fact
     → (had holds : Option (List ℕ)) → Result Bool ExitStatus → Type 0
 IsChecked tells caller line facts had holds (Ok refused) =
@@ -169,8 +168,7 @@ abbrev pub any_refused : List Looked → Bool
 any_refused [] = false
 any_refused (one ∷ earlier) = any_refused earlier || is_refused one.found
 
--- All lines were checked and their texts printed; or the command was broken off, and a part was
--- printed.
+-- All lines were checked, and their texts printed.
 pub record IsWhole (lines : List Line) (looked : List Looked) (status : ExitStatus)
     (had holds : Option (List ℕ)) : Type 0 where
   pub follow : lines ≡ lines_with looked []
@@ -198,7 +196,7 @@ abbrev pub ChecksText : Telling → (caller : Option (List ℕ)) → (text : Lis
 ChecksText tells caller text old new had holds status = (facts : List Fact) → old.holds facts
     → new.is_clean → Checks tells caller (speaking_lines text) facts status had holds
 
--- The same over a store in the state of a past, which stays in that state.
+-- The input was checked over a store in the state of a past, which stays in that state.
 pub record LooksOver (tells : Telling) (caller text : List ℕ) (new : Ledger)
     (had holds : Option (List ℕ)) (status : ExitStatus) (past : History) : Type 0 where
   pub checks : Checks tells (named caller) (speaking_lines text) (facts_of past) status had holds

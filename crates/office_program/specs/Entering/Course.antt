@@ -101,15 +101,14 @@ IsCameAnswered past before after (Doubted at request mwh) =
 IsCameAnswered past before after (Undecided at request why) = IsOutside ⊥ before after why
 IsCameAnswered past before after (Unread at read) = after ≡ before
 
--- The text for the outcome, as in a script: an accepted event's notifications and `ok`, or the
--- number of the refusal; a line for each faulty row, and the refusal of the list; or the doubted
--- energy.
+-- The text for an answer, as in a script: an accepted event's notifications and `ok`, or the number
+-- of the refusal.
 abbrev pub reply_text : History → (at : ℕ) → Event → Result Answer Refusal → List ℕ
 reply_text past at e (Ok given) =
     accepted_text given (notes_after past at e (Ok given)) (outgoing_after past at e (Ok given))
 reply_text past at e (Err why) = refused_line why
 
--- The text for the faulty rows of a list.
+-- The text for a list with faults: a line for each faulty row, and the refusal of the list.
 abbrev pub faults_text : List FaultyRow → List ℕ
 faults_text rows = flat_map fault_line rows ++ refused_line Limit
 

@@ -157,8 +157,7 @@ MayAsk (Ask asked) request = request ≡ asked
 MayAsk (Read read) request = (raw : ℕ) × (sf : ℤ) × (request ≡ asked_at read raw sf)
 MayAsk (Faulty rows) request = ⊥
 
--- A bad line names a file that does not exist; or it names none, and is no script's line that is a
--- request.
+-- The line names a file that does not exist.
 abbrev pub LacksFile : Telling → (text : List ℕ) → Type 0
 LacksFile tells text =
     (named : FileLine) × IsFileLine (words_of text) named × tells.files named.name None
@@ -168,7 +167,7 @@ abbrev pub IsNoRequest : (text : List ℕ) → Type 0
 IsNoRequest text = (said : ScriptLine) → IsLine (words_of (unmarked text)) said
     → wanted_in (is_marked text) said ≡ wanted.Nothing
 
--- The line is bad.
+-- A bad line names a file that does not exist; or it names none and is no request.
 abbrev pub IsBad : Telling → (text : List ℕ) → Type 0
 IsBad tells text =
     LacksFile tells text ⊎ (IsNoFileLine (words_of text) × IsNoRead text × IsNoRequest text)

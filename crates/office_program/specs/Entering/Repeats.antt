@@ -35,12 +35,12 @@ abbrev pub AreSteady : Telling → Type 0
 AreSteady tells =
     (name : List ℕ) (a b : Option (List ℕ)) → tells.files name a → tells.files name b → a ≡ b
 
--- Each line acted, now or earlier.
+-- The line acted, now or earlier.
 abbrev pub HasActed : Came → Type 0
 HasActed (course.Asked one) = IsOk one.result
 HasActed _ = ⊥
 
--- Each of the lines acted.
+-- Each of the lines acted, now or earlier.
 abbrev pub HaveActed : List Taken → Type 0
 HaveActed [] = Unit {0}
 HaveActed (one ∷ earlier) = HasActed one.came × HaveActed earlier

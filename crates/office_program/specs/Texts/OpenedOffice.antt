@@ -51,7 +51,7 @@ TellsWhereClean ledger past moments later books had holds unopened =
     (ledger unopened.books).is_clean → TellsUnopened past moments later (ledger books)
     (ledger unopened.books) unopened.status had holds
 
--- The same over a store in the state of a past.
+-- An office is opened over a store in the state of a past.
 abbrev pub OpensOver : {B C : Type 0} → stores.Ghosts B → a_clock.Ghosts C → (books : B)
     → (before after : C) → Result (Office B) (Unopened B) → Type 0
 OpensOver b c books before after result =

@@ -56,7 +56,7 @@ ReportsRange b w register form old new had holds status = After b.ledger old new
     (failures_of b.ledger old) (failures_of b.ledger new))
     status (w.contents had) (w.contents holds))
 
--- The rest of the report is written. If the report was refused, the reason is written.
+-- The reason of a refused report is written.
 pub record PrintsRefusal {W : Type 0} (contents : W → Option (List ℕ)) (why : Refusal)
     (status : ExitStatus) (old new : ReportRows W) : Type 0 where
   pub output : new.output.ghost_name ≡ old.output.ghost_name
