@@ -29,7 +29,6 @@ pub enum ServeEnd {
     Broken,
 }
 
-// Serves on a port.
 fn serve_port<R: Net + std::rt::Clock, B: Books, C: Clock>(
     rt: &R,
     alloc: Global,

@@ -44,7 +44,6 @@ fn connect<R: Net>(net: &R, place: (&str, u16)) -> io::Result<SocketLink<R::Stre
     Err(io::Error::from(io::ErrorKind::ConnectionRefused))
 }
 
-// Polls a device at a port.
 fn poll_port<R: Net, B: Books, C: Clock, W: Write>(
     net: &R,
     alloc: Global,

@@ -42,7 +42,6 @@ fn connect<B: Books, C: Clock, W: Write>(
     }
 }
 
-// Takes turns until the round is over.
 fn take_turns<L: Link, B: Books, C: Clock, W: Write>(
     alloc: Global,
     progress: &mut Progress,

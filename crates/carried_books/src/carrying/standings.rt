@@ -41,7 +41,6 @@ fn shown(entry: &MeterEntry) -> Last
     }
 }
 
-// Whether an entry is valid.
 fn stands(entry: &MeterEntry) -> bool
     ensures { result ≡ standings.stands entry.now }
 {

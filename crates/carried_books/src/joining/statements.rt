@@ -215,7 +215,6 @@ fn rows_of(
     Ok(rows)
 }
 
-// Writes a statement.
 fn print_rows<W: Write>(form: &StatementForm, rows: &[MeterStatement], output: &mut W) -> ExitStatus
     ensures { PrintsRows W.contents form.now rows.now result output.old output.new }
 {

@@ -99,7 +99,6 @@ fn tell_undecided<W: Write>(why: Refusal, at: u64, output: &mut W) -> io::Result
     }
 }
 
-// Prints that a counter could not be read, and returns the progress.
 fn tell_unread<W: Write>(at: u64, output: &mut W) -> io::Result<Progress>
     ensures { TellsWhyNot course.unread_line at
         (W.contents output.old) (W.contents output.new) result }

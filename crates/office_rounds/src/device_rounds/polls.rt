@@ -32,7 +32,6 @@ fn has_ended(notes: &[Note], poll: u64) -> bool
     notes.iter().any(|note| ends(note, poll))
 }
 
-// Whether no notification reports the outcome of the poll.
 fn waits(notes: &[Note], poll: u64) -> bool
     ensures { result ≡ specs.waits notes.now poll }
 {
@@ -125,7 +124,6 @@ impl Sum {
     }
 }
 
-// Whether the poll is among these polls.
 fn is_among(polls: &Polls, poll: u64) -> bool
     ensures { result ≡ list_any (λ one. one == poll) polls.now.items }
 {

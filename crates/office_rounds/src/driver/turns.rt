@@ -37,7 +37,6 @@ fn settle<B: Books, V: Observer>(
     }
 }
 
-// Begins a round after a new connection.
 fn join(rounds: &mut [Round], place: usize)
     ensures { rounds.new ≡ at_place place joined rounds.old }
 {
@@ -46,7 +45,6 @@ fn join(rounds: &mut [Round], place: usize)
     }
 }
 
-// Ends a round because its connection has ended.
 fn leave(rounds: &mut [Round], place: usize, closing: Closing)
     ensures { rounds.new ≡ at_place place (leaving closing) rounds.old }
 {
