@@ -1,5 +1,7 @@
-//! A new office that goes on where an old one stands: it has its devices, lists and registers, and each meter that is open
-//! there, opened anew at its last entry that stands.
+//! Sets up a new office from the store of an old one (a file rollover).
+//!
+//! The new office has the old one's devices, lists and registers, and each open meter, opened at
+//! its last valid entry.
 
 mod carried;
 mod commands;

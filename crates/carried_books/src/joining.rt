@@ -1,5 +1,7 @@
-//! What several files of one office tell of a register, one file after the other: the meters at it, each of which goes on where it
-//! stands in the file before, and its energy by days.
+//! Joins the files of one office at a register, in order.
+//!
+//! A meter continues from its state in the file before. The module reports the register's meters
+//! and its energy by day.
 
 mod days;
 mod earlier;

@@ -1,4 +1,4 @@
-//! Books that are carried into new ones, and what all of them tell together.
+//! Rolls a store over into a new one, and reports what several stores contain together.
 #![tactic(auto)]
 
 mod carrying;

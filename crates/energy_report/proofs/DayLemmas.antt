@@ -1,4 +1,4 @@
--- Texts of days, and what they spell.
+-- Texts of days, and the days that they spell.
 use Rattle.std.proofs.Common.{◌≡◌, ℕ, ◌+◌, ◌*◌, ◌/◌, ◌%◌, ◌≤◌, List, [], ◌∷◌, ◌++◌, length, get_or, refl, sym, ◌∙◌, ap, subst, arith}
 use Rattle.std.specs.Prelude.{ℤ, pos, negsuc, ◌≤ℤ◌, unsigned_abs, codes, Some, None}
 use Rattle.jiff.specs.Words.{date_text}
@@ -45,7 +45,7 @@ pairs parts text is =
     let P : List ℕ → Type 0 = λ xs. Pairs parts xs in
     subst P is (record { size = refl; first = refl; second = refl; century = refl; year = refl; month = refl; day = refl })
 
--- ten characters, one by one
+-- Ten characters, one by one.
 ten : (xs : List ℕ) → length xs ≡ 10 → get_or xs 4 0 ≡ 45 → get_or xs 7 0 ≡ 45
     → get_or xs 0 0 ∷ get_or xs 1 0 ∷ get_or xs 2 0 ∷ get_or xs 3 0 ∷ 45 ∷ get_or xs 5 0 ∷ get_or xs 6 0 ∷ 45 ∷ get_or xs 8 0 ∷ get_or xs 9 0 ∷ []
     ≡ xs
@@ -71,7 +71,7 @@ natural : (z : ℤ) → pos 0 ≤ℤ z → z ≡ pos (unsigned_abs z)
 natural (pos n) le = refl
 natural (negsuc n) le = absurd (omega (arith, signed_arith, le))
 
--- the parts of a day
+-- The parts of a day.
 pub record IsOf (parts : Parts) (date : Date) : Type 0 where
   pub few : AreFew parts
   pub year : date.year ≡ pos (parts.century * 100 + parts.year)
@@ -106,7 +106,7 @@ has_parts day le =
       day = refl;
     }
 
--- a text without parts spells no day
+-- A text without parts spells no day.
 pub none : (text : List ℕ) → PartsAre text None → IsReadAs text None
 none text lacks day spells =
     let parts = has_parts day spells.1 in
@@ -118,7 +118,7 @@ same_pair a b is =
     let second : 48 + a % 10 ≡ 48 + b % 10 = ap (λ (xs : List ℕ). get_or xs 1 0) is in
     omega (arith, first, second)
 
--- a text has one list of parts
+-- A text has one list of parts.
 same_parts : (a b : Parts) (text : List ℕ) → parts_text a ≡ text → parts_text b ≡ text
     → (a.century ≡ b.century) × (a.year ≡ b.year) × (a.month ≡ b.month) × (a.day ≡ b.day)
 same_parts a b text first second =
@@ -130,7 +130,7 @@ same_parts a b text first second =
       same_pair a.day b.day (x.day ∙ sym y.day),
     )
 
--- a day with these parts
+-- A day with these parts.
 pub read : (text : List ℕ) (parts : Parts) (day : Date) → PartsAre text (Some parts)
     → IsYmd (pos (parts.century * 100 + parts.year)) (pos parts.month) (pos parts.day) day → IsReadAs text (Some day)
 read text parts day are is =
@@ -143,7 +143,7 @@ read text parts day are is =
 upward : (a b : ℕ) → a ≤ b → pos a ≤ℤ pos b
 upward a b le = omega (arith, signed_arith, le)
 
--- the calendar has each day that is spelled
+-- The calendar has each day that is spelled.
 pub unread : (text : List ℕ) (parts : Parts) → PartsAre text (Some parts)
     → ¬ IsDate (pos (parts.century * 100 + parts.year)) (pos parts.month) (pos parts.day) → IsReadAs text None
 unread text parts are lacks day spells =

@@ -25,7 +25,7 @@ decimals n few =
     (sym (six (n / 100_000 % 10) (n / 10_000 % 10) (n / 1_000 % 10) (n / 100 % 10) (n / 10 % 10) (n / 1 % 10)
     (omega arith) (omega arith) (omega arith) (omega arith) (omega arith) (omega arith)))
 
--- the lowest digits are those of the rest
+-- The lowest digits are those of the remainder.
 pub decimals-rest : (n : ℕ) → low_digits 10 6 (n % 1_000_000) ≡ low_digits 10 6 n
 decimals-rest n =
     let a : n % 1_000_000 / 100_000 % 10 ≡ n / 100_000 % 10 = omega arith in

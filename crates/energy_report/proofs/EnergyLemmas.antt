@@ -45,7 +45,7 @@ within zone range (row ∷ rows) from to z r fits took =
     ∙ ap (λ n. min n most) (add_assoc from.mwh (cond (has zone range row) row.mwh 0) (sum_of zone range rows)
     ∙ ap (λ n. from.mwh + n) (sym (chosen (has zone range row) row (filter (has zone range) rows))))
 
--- what a fresh sink has of rows that it took
+-- The sum of a new sink after these rows.
 pub added_up : (zone : Zone) (range : DayRange) (rows : List Share) (from to : EnergyWithin) → IsFresh zone range from
     → TakesAll AddsShare from rows to → to.mwh ≡ energy_within zone range rows
 added_up zone range rows from to fresh took =

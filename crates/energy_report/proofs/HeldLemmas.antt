@@ -1,4 +1,4 @@
--- Held readings that were counted one by one, and the text of their counts.
+-- Rejected readings that were counted one by one, and the text of their counts.
 use Rattle.std.proofs.Common.{◌≡◌, ℕ, ◌+◌, ◌<◌, ◌≤◌, ◌==◌, Bool, true, false, cond, not, ◌&&◌, List, [], ◌∷◌, ◌++◌, length, take, get_or, refl, sym, ◌∙◌, ap, append-nil, append_assoc}
 use Rattle.std.specs.Prelude.{codes}
 use Rattle.std.specs.List.{filter, flat_map}
@@ -65,7 +65,7 @@ counted_on zone range before (held ∷ holds) from to z r is took =
     counted_on zone range (before ++ held ∷ []) holds next to (took.1.zone ∙ z) (took.1.range ∙ r) here took.2
     ∙ ap (held_within zone range) (append_assoc before (held ∷ []) holds)
 
--- what a fresh sink has of readings that it took
+-- The counts of a new sink after these readings.
 pub counted_all : (zone : Zone) (range : DayRange) (holds : List HeldReading) (from to : HeldWithin) → HasCountedNone zone range from
     → TakesAll CountsReading from holds to → to.counts ≡ held_within zone range holds
 counted_all zone range holds from to fresh took = counted_on zone range [] holds from to fresh.zone_is fresh.range_is fresh.none took
@@ -97,7 +97,7 @@ none_with [] x true = refl
 none_with [] x false = refl
 none_with (y ∷ ys) x b = refl
 
--- one count more
+-- One more count.
 abbrev pub some_of : List HeldCount → List HeldCount
 some_of counts = filter is_some counts
 
@@ -109,7 +109,7 @@ text_with format before x =
 none_more : (before : List HeldCount) (x : HeldCount) → are_none (some_of (before ++ x ∷ [])) ≡ (are_none (some_of before) && (x.count == 0))
 none_more before x = ap are_none (filter-append is_some before (x ∷ [])) ∙ none_with (some_of before) x (x.count == 0)
 
--- a count more of a list
+-- One more count of a list.
 pub piece_more : (format : Format) (xs : List HeldCount) (i : ℕ) (d : HeldCount) (old page new : List ℕ) (none : Bool) → i < length xs
     → page ≡ old ++ counts_text format (some_of (take i xs)) → none ≡ are_none (some_of (take i xs))
     → new ≡ page ++ count_piece format none (get_or xs i d) → new ≡ old ++ counts_text format (some_of (take (i + 1) xs))
@@ -128,7 +128,7 @@ still_none xs i d none next lt is put =
     put ∙ ap (λ b. b && ((get_or xs i d).count == 0)) is ∙ sym (none_more (take i xs) (get_or xs i d))
     ∙ ap (λ those. are_none (some_of those)) (sym (take_more xs i d lt))
 
--- the whole list
+-- The complete list.
 pub all_pieces : (format : Format) (held : HeldCounts) (xs : List HeldCount) (i : ℕ) (old page : List ℕ) (none : Bool) → xs ≡ by_cause held → length xs ≤ i
     → page ≡ old ++ counts_text format (some_of (take i xs)) → none ≡ are_none (some_of (take i xs))
     → (page ≡ old ++ counts_text format (held_some held)) × (none ≡ are_none (held_some held))
@@ -137,7 +137,7 @@ all_pieces format held xs i old page none are all begun is =
     let whole : take i xs ≡ by_cause held = take_all i xs all ∙ are in
     (begun ∙ ap (λ those. old ++ counts_text format (some_of those)) whole, is ∙ ap (λ those. are_none (some_of those)) whole)
 
--- where there are none, a zero stands
+-- If there are no counts, the text is a zero.
 pub a_zero : (format : Format) (xs : List HeldCount) → are_none xs ≡ true → counts_text format xs ++ codes "0" ≡ counts_or_zero format xs
 a_zero format [] none = refl
 a_zero format (x ∷ xs) none = absurd (cc none)

@@ -1,4 +1,4 @@
--- Rows that numbers of their bits hold.
+-- Rows whose numbers fit their bits.
 use Rattle.std.proofs.Common.{◌≡◌, ◌-◌, ◌<◌, ◌≤◌, ◌^◌, List, [], ◌∷◌, map, refl, arith}
 use Rattle.std.specs.Prelude.{min}
 use Rattle.std.proofs.Math.Nat.{min-eq_left}
@@ -11,7 +11,7 @@ use Rattle.interval_core.specs.Ranges.{days_in}
 use Rattle.energy_report.specs.Rows.{rows_in, shown, shown_rows}
 use Rattle.energy_report.proofs.SumLemmas.{sums}
 
--- rows that together fit are shown as they are
+-- If rows fit together, the printed rows are exact.
 fits : (rows : List Row) → intervals_of_rows rows < 2 ^ 64 → energy_of_rows rows < 2 ^ 128 → map shown rows ≡ rows
 fits [] few small = refl
 fits (row ∷ rows) few small =

@@ -26,7 +26,8 @@ use Rattle.energy_report.specs.Held.{held_within, none_held}
 use Rattle.energy_report.specs.Statements.{energy_within, tally_of, worth_of}
 use Rattle.energy_report.specs.StatementTexts.{held_some, held_text, statement_text}
 
--- ---- A meter that counts Wh: it was installed at 0, read at 5, a number by hand was voided, it was reset from 7 to 0, and read by hand at 2
+-- ---- A meter that counts Wh: it was installed at 0 and read at 5. A reading by hand was voided,
+-- the counter was reset from 7 to 0, and then read by hand at 2.
 
 abbrev opened : MeterEntry
 opened = entry.Opening (record { at = 1000; raw = 0; sf = pos 0 })
@@ -56,20 +57,20 @@ tally = record {
 all_entries : (zone : Zone) → tally_of zone all_days entries ≡ tally
 all_entries zone = refl
 
--- after a reset the counter stands where it was set
+-- After a reset the counter shows the number that it was set to.
 set_anew : (zone : Zone) → (tally_of zone all_days (opened ∷ reset ∷ [])).last ≡ Some (record { at = 4000; raw = 0; sf = pos 0 })
 set_anew zone = refl
 
--- an entry past the last moment is in no range
+-- An entry past the last timestamp is in no range.
 past_the_last_moment : (zone : Zone) → tally_of zone all_days (at_place 2 kind.Manual 4102444801 5 ∷ [])
     ≡ record { first = None; last = None; by_hand = 0; resets = 0; rescales = 0; voids = 0 }
 past_the_last_moment zone = refl
 
--- 5 Wh, and then 2 Wh up to the reset, and 2 Wh after it
+-- 5 Wh, then 2 Wh up to the reset, and 2 Wh after it.
 all_rows : (zone : Zone) → energy_within zone all_days (record { start = 900; mwh = 5000 } ∷ record { start = 1800; mwh = 2000 } ∷ record { start = 4500; mwh = 2000 } ∷ []) ≡ 9000
 all_rows zone = refl
 
--- ---- worths: 5 counts of 1 Wh, of 1 mWh and of 1 kWh, and of a scale that no counter has
+-- ---- values: 5 counts of 1 Wh, of 1 mWh and of 1 kWh, and of a scale that no counter has
 
 abbrev stood : ℤ → Last
 stood sf = record { at = 0; raw = 5; sf = sf }
@@ -89,7 +90,8 @@ five_kwh = refl
 no_such_scale : worth_of (stood (pos 4)) ≡ 0
 no_such_scale = refl
 
--- ---- readings that were held: three for another scale, one for a gap, and one past the last moment, which is in no range
+-- ---- rejected readings: three for another scale, one for a gap, and one past the last timestamp,
+-- which is in no range
 
 abbrev held_at : (moment : ℕ) → Cause → HeldReading
 held_at moment why = record { meter = codes "m1"; poll = 1; at = moment; raw = 5; sf = pos 0; cause = why }
@@ -116,7 +118,7 @@ all_holds zone = refl
 no_holds : (zone : Zone) → held_within zone all_days [] ≡ none_held
 no_holds zone = refl
 
--- each cause with its own number, the most that a count has
+-- The count of each cause is its number, except the first: it is the largest count.
 abbrev all_held : HeldCounts
 all_held = record {
   not_accumulated = 18446744073709551615;

@@ -9,18 +9,18 @@ use Rattle.energy_report.specs.declared.meter_statement.MeterStatement.{MeterSta
 use Rattle.energy_report.specs.StatementTexts.{begun_text, lead, opening, row_text, separator, statement_text}
 use Rattle.energy_report.specs.Texts.{ending_by}
 
--- a row after another
+-- A row after another.
 abbrev next_text : StatementForm → MeterStatement → List ℕ
 next_text form row = separator form ++ row_text form row
 
 abbrev joined : StatementForm → List MeterStatement → List ℕ
 joined form rows = join_by (row_text form) (separator form) rows
 
--- a row with what comes before it, where so many are written
+-- A row with the text before it, after `count` rows.
 abbrev pub piece : StatementForm → (count : ℕ) → MeterStatement → List ℕ
 piece form count row = lead (count == 0) form ++ row_text form row
 
--- the rows after those
+-- The rows after those.
 abbrev pub later : StatementForm → List MeterStatement → List ℕ
 later form rows = flat_map (next_text form) rows
 
@@ -33,7 +33,7 @@ split form (x ∷ done) row more =
     ∙ ap (λ b. (row_text form x ++ later form done) ++ ((lead b form ++ row_text form row) ++ later form more))
     (sym (ne_eqb (suc (length done)) 0 (λ e. omega (arith, e))))
 
--- the text of rows is that of the first, of one more, and of those after it
+-- The text of rows is that of the first rows, of one more, and of those after it.
 pub begun : (form : StatementForm) (done : List MeterStatement) (row : MeterStatement) (more : List MeterStatement)
     → begun_text form (done ++ row ∷ more) ≡ begun_text form done ++ (piece form (length done) row ++ later form more)
 begun form done row more =
@@ -45,7 +45,7 @@ pub begun_more : (form : StatementForm) (done : List MeterStatement) (row : Mete
 begun_more form done row =
     begun form done row [] ∙ ap (λ text. begun_text form done ++ text) (append-nil (piece form (length done) row))
 
--- ---- the row at a place
+-- ---- the row at an index
 
 around : {X : Type 0} (xs : List X) (i : ℕ) (d : X) → i < length xs → take i xs ++ get_or xs i d ∷ drop (suc i) xs ≡ xs
 around [] i d lt = absurd (omega (arith, lt))
@@ -57,7 +57,7 @@ length_before [] i lt = absurd (omega (arith, lt))
 length_before (x ∷ xs) zero lt = refl
 length_before (x ∷ xs) (suc i) lt = ap suc (length_before xs i (omega (arith, lt)))
 
--- what comes after the row at a place
+-- The text after the row at an index.
 abbrev pub tail : StatementForm → List MeterStatement → (i : ℕ) → List ℕ
 tail form rows i = later form (drop (suc i) rows) ++ ending_by form.format (length rows)
 
@@ -89,7 +89,7 @@ next form rows i row lt is =
     ∙ sym (begun_more form (take i rows) row)
     ∙ ap (begun_text form) (ap (λ (x : MeterStatement). take i rows ++ x ∷ []) is ∙ sym (take_more rows i row lt))
 
--- ---- texts that were put at the end of one another
+-- ---- texts that were appended to one another
 
 pub pushed : (p q r x y : List ℕ) → q ≡ p ++ x → r ≡ q ++ y → r ≡ p ++ (x ++ y)
 pushed p q r x y first second = second ∙ ap (λ front. front ++ y) first ∙ append_assoc p x y

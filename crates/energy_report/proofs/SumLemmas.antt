@@ -1,4 +1,4 @@
--- What rows add up to.
+-- Sums of rows.
 use Rattle.std.proofs.Common.{◌≡◌, ℕ, ◌+◌, Bool, true, false, cond, List, [], ◌∷◌, refl, sym, ◌∙◌, ap, add_assoc}
 use Rattle.std.specs.Prelude.{sum_by}
 use Rattle.std.proofs.lemmas.List.Sums.{sum_by-cons}
@@ -8,7 +8,7 @@ use Rattle.energy_report.specs.declared.row.Row.{Row}
 use Rattle.energy_report.specs.Periods.{is_same}
 use Rattle.energy_report.specs.Rows.{before, joined, row_of, rows_by}
 
--- what is added where rows are joined
+-- What is added if rows are joined.
 abbrev pub Adds : (Row → ℕ) → Type 0
 Adds f = (row next : Row) → f (joined row next) ≡ f row + f next
 

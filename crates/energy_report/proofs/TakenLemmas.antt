@@ -1,4 +1,4 @@
--- What was written of the days that were taken, step by step.
+-- What was written of the days that were passed, step by step.
 use Rattle.std.proofs.Common.{◌≡◌, ℕ, ◌+◌, ◌-◌, ◌<◌, ◌≤◌, ◌^◌, ◌==◌, Bool, true, false, cond, Option, Some, None, List, [], ◌∷◌, ◌++◌, length, refl, sym, ◌∙◌, ap, subst, append-nil, append_assoc, length-append, arith}
 use Rattle.std.specs.Prelude.{min}
 use Rattle.std.specs.Io.KnownBytes.{Appends}
@@ -18,14 +18,14 @@ use Rattle.energy_report.specs.Writing.{AreWritten, GotUnless, Finishes, HasTake
 use Rattle.energy_report.proofs.SnocLemmas.{after, after-push, few, shown-joined, with_day, without_day}
 use Rattle.energy_report.proofs.TextLemmas.{begun-append, begun-push, following, longer, whole}
 
--- one day less is fewer
+-- One day less is fewer.
 fewer : (days : List DayTotal) (t : DayTotal) → length (days ++ t ∷ []) < 2 ^ 64 → length days < 2 ^ 64
 fewer days t less = omega (arith, less, length-append days (t ∷ []))
 
 clash : {P : Type 0} (b : Bool) → b ≡ false → b ≡ true → P
 clash b works failed = absurd (let e : false ≡ true = sym works ∙ failed in cc e)
 
--- all but the pending row stays
+-- Everything but the pending row stays.
 pub record Keeps {W : Type 0} (old new : ReportRows W) : Type 0 where
   pub form : new.form ≡ old.form
   pub now : new.output.now ≡ old.output.now
@@ -54,7 +54,7 @@ module _ {W : Type 0} (contents : W → Option (List ℕ)) where
     broken = λ failed less. clash old.failed works failed;
   }
 
-  -- the text so far, in the words of the new state
+  -- The text so far, in terms of the new state.
   same_text : (from : W) (done : List Row) (old new : ReportRows W) → Keeps old new → Appends (contents from) (contents old.output.now) (begun_text old.form done)
       → Appends (contents from) (contents new.output.now) (begun_text new.form done)
   same_text from done old new keeps text = rw (keeps.form, keeps.now) text
@@ -117,7 +117,7 @@ module _ {W : Type 0} (contents : W → Option (List ℕ)) where
 
 -- ---- a row is written
 
--- rows that are there stay there, and so does the text of them
+-- Existing rows stay, and so their text stays.
 after-more : (p : Period) (row : Row) (rest : List Row) (t : DayTotal) (b : Bool) (next : Row) (rows : List Row)
     → (r : Row) × (rs : List Row) × (cond b (joined row next ∷ rows) (row ∷ next ∷ rows) ≡ r ∷ rs)
 after-more p row rest t true next rows = (joined row next, rows, refl)
@@ -152,7 +152,7 @@ begun_of : (form : ReportForm) (front more : List Row) → (rest : List ℕ) × 
 begun_of form [] more = (begun_text form more, refl)
 begun_of form (row ∷ rows) more = (_, begun-append form row rows more)
 
--- what was begun is a part of the report on all days
+-- The text so far is a part of the report on all days.
 part_of : (form : ReportForm) (front : List Row) (days : List DayTotal) → Goes form front days
     → (rest : List ℕ) × (report_text form days ≡ begun_text form front ++ rest)
 part_of form front days goes =
@@ -162,7 +162,7 @@ part_of form front days goes =
     (split.0 ++ end, whole form days rows goes.2 ∙ ap (λ text. text ++ end) split.1 ∙ append_assoc (begun_text form front) split.0 end)
 
 module _ {W : Type 0} (contents : W → Option (List ℕ)) where
-  -- the count of rows is exact
+  -- The count of rows is exact.
   counted : (form : ReportForm) (days : List DayTotal) (done : List Row) (last : Row) (count next : ℕ) → rows_in form days ≡ done ++ last ∷ []
       → length days < 2 ^ 64 → count ≡ length done → next ≡ min (count + 1) (2 ^ 64 - 1) → next ≡ length (done ++ last ∷ [])
   counted form days done last count next rows less is after_it =
@@ -236,7 +236,7 @@ module _ {W : Type 0} (contents : W → Option (List ℕ)) where
 
   -- ---- the end
 
-  -- what was written before, and the last text
+  -- The earlier text, and the last text.
   ends : (from : W) (text last whole_text : List ℕ) (old new : ReportRows W) → WritesText contents last old new → old.failed ≡ false → text ++ last ≡ whole_text
       → Appends (contents from) (contents old.output.now) text → (b : Bool) → new.failed ≡ b
       → GotUnless b whole_text (contents from) (contents new.output.now)
@@ -249,7 +249,7 @@ module _ {W : Type 0} (contents : W → Option (List ℕ)) where
       let Q : List ℕ → Type 0 = λ text. GotPart text (contents from) (contents new.output.now) in
       subst Q is (following text last _ _ _ got (subst P failed (writes.written works)))
 
-  -- a write failed before: nothing more is written
+  -- An earlier write failed: nothing more is written.
   pub ends_broken : (days : List DayTotal) (from old new : ReportRows W) → old.failed ≡ true → new.failed ≡ true → new.output.now ≡ old.output.now
       → HasTaken contents days from old → length days < 2 ^ 64 → IsFinished contents days from new
   ends_broken days from old new failed again now h less =
@@ -303,7 +303,7 @@ module _ {W : Type 0} (contents : W → Option (List ℕ)) where
   ends_row days from old mid new o works is row writes h less =
       ends_after days from old mid new o works is row writes h less mid.failed refl
 
-  -- nothing was taken yet
+  -- Nothing was passed yet.
   pub fresh : (new : ReportRows W) → new.failed ≡ false → new.pending ≡ None → new.count ≡ 0 → HasTaken contents [] new new
   fresh new works none count =
       let P : Option Row → Type 0 = λ o. AreWritten [] [] o in

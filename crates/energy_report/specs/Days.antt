@@ -1,4 +1,4 @@
--- Which day a text spells.
+-- The day that a text spells.
 use Rattle.std.specs.Prelude.{◌≡◌, ℕ, ◌+◌, ◌<◌, pos, ◌≤ℤ◌, List, [], ◌∷◌, ◌++◌, codes, true, false, Option, Some, None}
 use Rattle.std.specs.Borrow.{Bor}
 use Rattle.jiff.specs.Words.{date_text}
@@ -14,35 +14,37 @@ use Rattle.energy_report.specs.declared.spelled_range.RangeFault.TheVariants as 
 abbrev pub Spells : List ℕ → Date → Type 0
 Spells text day = (date_text day ≡ text) × (pos 0 ≤ℤ day.year)
 
+-- The result of parsing a day: the day of the text, or none if it spells no day.
 abbrev pub IsReadAs : List ℕ → Option Date → Type 0
 IsReadAs text (Some day) = Spells text day
 IsReadAs text None = (day : Date) → ¬ Spells text day
 
--- the end of a range that a word spells, if there is a word
+-- The end of a range that a word spells, if there is a word.
 abbrev pub IsEnd : Option (Bor (List ℕ)) → Option Date → Type 0
 IsEnd None None = Unit {0}
 IsEnd None (Some day) = ⊥
 IsEnd (Some word) None = ⊥
 IsEnd (Some word) (Some day) = Spells word.now day
 
--- there is a word, and it spells no day
+-- There is a word, and it spells no day.
 abbrev pub IsNoEnd : Option (Bor (List ℕ)) → Type 0
 IsNoEnd None = ⊥
 IsNoEnd (Some word) = (day : Date) → ¬ Spells word.now day
 
--- the range from one day until another
+-- The range from one day up to another.
 pub record IsRange (first last : Option (Bor (List ℕ))) (range : DayRange) : Type 0 where
   pub from : IsEnd first range.from
   pub till : IsEnd last range.till
   pub forward : is_backward range ≡ false
 
--- two days, of which the second is before the first
+-- Two days; the second is before the first.
 pub record AreBackward (first last : Option (Bor (List ℕ))) : Type 0 where
   pub range : DayRange
   pub from : IsEnd first range.from
   pub till : IsEnd last range.till
   pub backward : is_backward range ≡ true
 
+-- The reason why two words are no range.
 abbrev pub IsRangeFault : (from till : Option (Bor (List ℕ))) → RangeFault → Type 0
 IsRangeFault from till fault.From = IsNoEnd from
 IsRangeFault from till fault.Till = IsNoEnd till
@@ -50,28 +52,30 @@ IsRangeFault from till fault.Backward = AreBackward from till
 
 -- ---- digits
 
--- a digit spells a number below 10
+-- A digit spells a number below 10.
 abbrev pub DigitIs : (byte : ℕ) → Option ℕ → Type 0
 DigitIs byte (Some n) = (n < 10) × (byte ≡ 48 + n)
 DigitIs byte None = (n : ℕ) → n < 10 → ¬ (byte ≡ 48 + n)
 
--- two digits spell a number below 100
+-- Two digits spell a number below 100.
 abbrev pub PairIs : (tens ones : ℕ) → Option ℕ → Type 0
 PairIs tens ones (Some n) = (n < 100) × (pad2 n ≡ tens ∷ ones ∷ [])
 PairIs tens ones None = (n : ℕ) → n < 100 → ¬ (pad2 n ≡ tens ∷ ones ∷ [])
 
--- the parts of a day, in two digits each
+-- The parts of a day, in two digits each.
 abbrev pub parts_text : Parts → List ℕ
 parts_text parts =
     pad2 parts.century ++ pad2 parts.year ++ codes "-" ++ pad2 parts.month ++ codes "-"
     ++ pad2 parts.day
 
+-- Each part is below 100.
 pub record AreFew (parts : Parts) : Type 0 where
   pub century : parts.century < 100
   pub year : parts.year < 100
   pub month : parts.month < 100
   pub day : parts.day < 100
 
+-- The parts of a text, or none if it has no such form.
 abbrev pub PartsAre : List ℕ → Option Parts → Type 0
 PartsAre text (Some parts) = AreFew parts × (parts_text parts ≡ text)
 PartsAre text None = (parts : Parts) → AreFew parts → ¬ (parts_text parts ≡ text)

@@ -1,4 +1,4 @@
--- How many readings of a meter in a range were held, by the cause of it.
+-- The number of rejected readings of a meter in a range, by cause.
 use Rattle.std.specs.Prelude.{ℕ, Bool, ◌&&◌, ◌==◌, List, [], ◌∷◌}
 use Rattle.std.specs.List.{count_by}
 use Rattle.energy_core.specs.declared.verdicts.Cause.{Cause}
@@ -12,19 +12,19 @@ use Rattle.energy_report.specs.declared.held_counts.HeldCount.{HeldCount}
 use Rattle.energy_report.specs.declared.held_counts.HeldCounts.{HeldCounts}
 use Rattle.energy_report.specs.RowLines.{counted, one_more_if}
 
--- the two are one cause
+-- The two are the same cause.
 abbrev pub is_one : (one other : Cause) → Bool
 is_one one other = cause_number one == cause_number other
 
--- The reading was held for the cause, and its moment is in the range.
+-- The reading was rejected for the cause, and its timestamp is in the range.
 abbrev pub is_held_within : Zone → DayRange → (why : Cause) → HeldReading → Bool
 is_held_within zone range why held = has_moment zone range held.at && is_one held.cause why
 
--- How many were; the count stays at the greatest number of 64 bits.
+-- The number of such readings; the count stays at 2^64 - 1.
 abbrev pub held_for : Zone → DayRange → List HeldReading → (why : Cause) → ℕ
 held_for zone range holds why = counted (count_by (is_held_within zone range why) holds)
 
--- The held readings of a list whose moments are in the range, counted by their causes.
+-- The rejected readings of a list with timestamps in the range, counted by cause.
 abbrev pub held_within : Zone → DayRange → List HeldReading → HeldCounts
 held_within zone range holds = record {
   not_accumulated = held_for zone range holds cause.NotAccumulated;
@@ -37,7 +37,7 @@ held_within zone range holds = record {
   not_below_range = held_for zone range holds cause.NotBelowRange;
 }
 
--- the counts with their causes, in order of the causes' numbers
+-- The counts with their causes, in order of the causes' numbers.
 abbrev pub by_cause : HeldCounts → List HeldCount
 by_cause counts =
     record { cause = cause.NotAccumulated; count = counts.not_accumulated }
@@ -50,8 +50,9 @@ by_cause counts =
     ∷ record { cause = cause.NotBelowRange; count = counts.not_below_range }
     ∷ []
 
--- ---- readings that come one by one
+-- ---- readings that arrive one by one
 
+-- The counts of no readings.
 abbrev pub none_held : HeldCounts
 none_held = record {
   not_accumulated = 0;
@@ -64,7 +65,7 @@ none_held = record {
   not_below_range = 0;
 }
 
--- One reading more, where it counts: it is one of its cause, and of no other.
+-- One more reading, if it counts: it counts for its cause, and for no other.
 abbrev pub with_one : HeldCounts → (counts : Bool) → (why : Cause) → HeldCounts
 with_one old counts why = record {
   not_accumulated = one_more_if (counts && is_one why cause.NotAccumulated) old.not_accumulated;

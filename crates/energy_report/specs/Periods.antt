@@ -1,4 +1,4 @@
--- Which civil days fall in one period of the calendar.
+-- The civil days of one period of the calendar.
 use Rattle.std.specs.Prelude.{◌≡◌, ◌↔◌, ℤ, ◌≤ℤ◌, Bool, true, ◌&&◌, pos}
 use Rattle.std.specs.Ordering.{int_eq}
 use Rattle.jiff_core.specs.Calendar.{days_from_civil}
@@ -14,13 +14,13 @@ is_same period.Month one other =
     int_eq one.year other.year && int_eq (pos one.month) (pos other.month)
 is_same period.Year one other = int_eq one.year other.year
 
--- the last day of the period in which a day falls, counted from 1970-01-01
+-- The last day of the period that contains a day, counted from 1970-01-01.
 abbrev pub last_day : Period → Date → ℤ
 last_day period.Day day = epoch_day day
 last_day period.Month day = days_from_civil day.year day.month (month_length day)
 last_day period.Year day = days_from_civil day.year 12 31
 
--- Of the days from one on, those up to the last of its period fall in that, and no others.
+-- From a day on, its period contains the days up to its last day, and no others.
 abbrev pub PeriodsEndWithTheirLastDay : Type 0
 PeriodsEndWithTheirLastDay = (period : Period) (day other : Date)
     → epoch_day day ≤ℤ epoch_day other

@@ -7,11 +7,11 @@ use Rattle.energy_report.specs.declared.row.Row.{Row}
 use Rattle.interval_core.specs.Ranges.{days_in}
 use Rattle.energy_report.specs.Periods.{is_same}
 
--- the row of a day alone
+-- The row of a single day.
 abbrev pub row_of : DayTotal → Row
 row_of total = record { first = total.day; count = total.count; mwh = total.mwh }
 
--- two rows as one, the earlier first
+-- Two rows as one, the earlier first.
 abbrev pub joined : Row → Row → Row
 joined row next = record {
   first = row.first;
@@ -19,7 +19,7 @@ joined row next = record {
   mwh = row.mwh + next.mwh;
 }
 
--- A row before others: one with the next, where they are of one period.
+-- A row before others: it joins the next row if both are of the same period.
 abbrev pub before : Period → Row → List Row → List Row
 before period row [] = row ∷ []
 before period row (next ∷ rows) =
@@ -30,11 +30,11 @@ abbrev pub rows_by : Period → List DayTotal → List Row
 rows_by period [] = []
 rows_by period (total ∷ days) = before period (row_of total) (rows_by period days)
 
--- the rows of a report on a list of days
+-- The rows of a report on a list of days.
 abbrev pub rows_in : ReportForm → List DayTotal → List Row
 rows_in form days = rows_by form.period (days_in form.range days)
 
--- A row as numbers of 64 and of 128 bits hold it: past the greatest a sum stays there.
+-- A row in numbers of 64 and of 128 bits: a larger sum stays at the largest number.
 abbrev pub shown : Row → Row
 shown row = record {
   first = row.first;
@@ -42,5 +42,6 @@ shown row = record {
   mwh = min row.mwh (2 ^ 128 - 1);
 }
 
+-- The printed rows of a report on a list of days.
 abbrev pub shown_rows : ReportForm → List DayTotal → List Row
 shown_rows form days = map shown (rows_in form days)

@@ -1,5 +1,5 @@
--- The text of a statement: a row for each meter, in one of three formats, energies in one of two units. Moments are seconds since
--- 1970-01-01 UTC.
+-- The text of a statement: a row for each meter, in one of three formats, with energies in one of
+-- two units. Timestamps are in seconds since 1970-01-01 UTC.
 use Rattle.std.specs.Prelude.{ℕ, Bool, true, false, not, ◌==◌, ◌++◌, List, [], ◌∷◌, length, codes, Option, Some, None, if◌then◌else◌}
 use Rattle.std.specs.List.{filter, join_by}
 use Rattle.std.specs.Fmt.{decimal}
@@ -17,86 +17,95 @@ use Rattle.energy_report.specs.Held.{by_cause}
 use Rattle.energy_report.specs.Statements.{worth_of}
 use Rattle.energy_report.specs.Texts.{ending_by, energy_text, separator_by, unit_word}
 
--- ---- where a counter stood: its moment and its worth
+-- ---- the reading of a counter: its timestamp and its value
 
--- what stands there where no entry stands in the range
+-- The text for a range without a valid entry.
 abbrev pub nothing : Format → List ℕ
 nothing Text = codes "-"
 nothing Csv = []
 nothing Json = codes "null"
 
+-- The quote around a value: only in JSON.
 abbrev pub quote : Format → List ℕ
 quote Text = []
 quote Csv = []
 quote Json = codes "\""
 
+-- The timestamp of a counter's reading.
 abbrev pub moment_text : Format → Option Last → List ℕ
 moment_text format None = nothing format
 moment_text format (Some stand) = decimal stand.at
 
+-- The value of a counter's reading.
 abbrev pub worth_text : Format → EnergyUnit → Option Last → List ℕ
 worth_text format unit None = nothing format
 worth_text format unit (Some stand) =
     quote format ++ energy_text unit (worth_of stand) ++ quote format
 
--- ---- readings that were held: `2=3,5=1` in a text are three for cause 2 and one for cause 5
+-- ---- rejected readings: `2=3,5=1` in a text means three for cause 2 and one for cause 5
 
--- what stands between two counts; a table has commas between its fields
+-- The text between two counts. In a table it is not the comma, which separates fields.
 abbrev pub held_mark : Format → List ℕ
 held_mark Text = codes ","
 held_mark Csv = codes ";"
 held_mark Json = codes ","
 
--- what stands before a count; a spreadsheet reads `2:3` as a time
+-- The text before a count. It is not `:` in a text, as a spreadsheet reads `2:3` as a time.
 abbrev pub count_mark : Format → List ℕ
 count_mark Text = codes "="
 count_mark Csv = codes "="
 count_mark Json = codes ":"
 
--- the number of a cause, and how many were held for it
+-- The number of a cause, and its number of rejected readings.
 abbrev pub count_text : Format → HeldCount → List ℕ
 count_text format one =
     quote format ++ decimal (cause_number one.cause) ++ quote format ++ count_mark format
     ++ decimal one.count
 
+-- The counts, separated.
 abbrev pub counts_text : Format → List HeldCount → List ℕ
 counts_text format counts = join_by (count_text format) (held_mark format) counts
 
--- those causes for which some were held, in order of their numbers
+-- The causes with rejected readings, in order of their numbers.
 unfoldable pub held_some : HeldCounts → List HeldCount
 held_some held = filter (λ one. not (one.count == 0)) (by_cause held)
 
+-- The counts, or `0` if there are none.
 abbrev pub counts_or_zero : Format → List HeldCount → List ℕ
 counts_or_zero format [] = codes "0"
 counts_or_zero format (first ∷ counts) = counts_text format (first ∷ counts)
 
--- a field, or a member's object
+-- A field, or the object of a member.
 abbrev pub held_text : Format → HeldCounts → List ℕ
 held_text Text held = counts_or_zero Text (held_some held)
 held_text Csv held = counts_or_zero Csv (held_some held)
 held_text Json held = codes "{" ++ counts_text Json (held_some held) ++ codes "}"
 
--- what one count more puts after those before it
+-- Whether there are no counts.
 abbrev pub are_none : List HeldCount → Bool
 are_none [] = true
 are_none (first ∷ counts) = false
 
+-- A count that is not 0, after a separator unless it is the first.
 abbrev pub count_piece : Format → (is_first : Bool) → HeldCount → List ℕ
 count_piece format is_first one =
     if one.count == 0 then [] else
     (if is_first then [] else held_mark format) ++ count_text format one
 
--- ---- fields with a mark before each but the first: a line of text, or a record of a table
+-- ---- fields with a separator before each but the first: a line of text, or a record of a table
 
+-- The timestamp and the value of a counter's reading, as fields.
 abbrev pub stand_fields : StatementForm → (mark : List ℕ) → Option Last → List ℕ
 stand_fields form mark stand =
     mark ++ moment_text form.format stand ++ mark ++ worth_text form.format form.unit stand
 
+-- The counts of corrections, as fields.
 abbrev pub count_fields : (mark : List ℕ) → EntryTally → List ℕ
 count_fields mark tally =
     mark ++ decimal tally.by_hand ++ mark ++ decimal tally.resets ++ mark
     ++ decimal tally.rescales ++ mark ++ decimal tally.voids
 
+-- A row as fields.
 abbrev pub fields : StatementForm → (mark : List ℕ) → MeterStatement → List ℕ
 fields form mark row =
     row.meter ++ stand_fields form mark row.entries.first
@@ -106,17 +115,20 @@ fields form mark row =
 
 -- ---- an object
 
+-- The timestamp and the value of a counter's reading, as members.
 abbrev pub stand_members : EnergyUnit → (word : List ℕ) → Option Last → List ℕ
 stand_members unit word stand =
     codes "\"" ++ word ++ codes "\":" ++ moment_text Json stand ++ codes ",\"" ++ word ++ codes "_"
     ++ unit_word unit ++ codes "\":" ++ worth_text Json unit stand ++ codes ","
 
+-- The counts of corrections, as members.
 abbrev pub count_members : EntryTally → List ℕ
 count_members tally =
     codes ",\"by_hand\":" ++ decimal tally.by_hand ++ codes ",\"resets\":" ++ decimal tally.resets
     ++ codes ",\"rescales\":" ++ decimal tally.rescales ++ codes ",\"voids\":"
     ++ decimal tally.voids
 
+-- A row as an object.
 abbrev pub object : EnergyUnit → MeterStatement → List ℕ
 object unit row =
     codes "{\"meter\":\"" ++ row.meter ++ codes "\","
@@ -126,40 +138,47 @@ object unit row =
     ++ codes "\"" ++ count_members row.entries ++ codes ",\"held\":" ++ held_text Json row.held
     ++ codes "}"
 
--- ---- rows, and what stands around them
+-- ---- rows, and the text around them
 
+-- A row in a format.
 abbrev pub row_by : Format → StatementForm → MeterStatement → List ℕ
 row_by Text form row = fields form (codes " ") row ++ codes "\n"
 row_by Csv form row = fields form (codes ",") row ++ codes "\r\n"
 row_by Json form row = object form.unit row
 
+-- A row in the form's format.
 abbrev pub row_text : StatementForm → MeterStatement → List ℕ
 row_text form row = row_by form.format form row
 
+-- The header of a table.
 abbrev pub csv_header : EnergyUnit → List ℕ
 csv_header unit =
     codes "meter,first,first_" ++ unit_word unit ++ codes ",last,last_" ++ unit_word unit
     ++ codes ",energy_" ++ unit_word unit ++ codes ",by_hand,resets,rescales,voids,held\r\n"
 
+-- The text before the rows, in a format.
 abbrev pub opening_by : Format → EnergyUnit → List ℕ
 opening_by Text unit = []
 opening_by Csv unit = csv_header unit
 opening_by Json unit = codes "["
 
+-- The text before the rows.
 abbrev pub opening : StatementForm → List ℕ
 opening form = opening_by form.format form.unit
 
+-- The text between two rows.
 abbrev pub separator : StatementForm → List ℕ
 separator form = separator_by form.format
 
--- what comes before a row
+-- The text before a row.
 abbrev pub lead : (is_first : Bool) → StatementForm → List ℕ
 lead true form = []
 lead false form = separator form
 
--- the text of the rows, after what comes before them
+-- The text of the rows, with the text before them.
 abbrev pub begun_text : StatementForm → List MeterStatement → List ℕ
 begun_text form rows = opening form ++ join_by (row_text form) (separator form) rows
 
+-- The text of a statement.
 abbrev pub statement_text : StatementForm → List MeterStatement → List ℕ
 statement_text form rows = begun_text form rows ++ ending_by form.format (length rows)

@@ -1,5 +1,5 @@
--- What a statement tells of a meter: where its counter stood at its first and last entry in a range of days, the corrections
--- that were made in it, and its energy.
+-- The statement of a meter: the reading of its counter at its first and last entry in a range of
+-- days, its corrections there, and its energy.
 use Rattle.std.specs.Prelude.{ℕ, ℤ, int_lt, ◌-◌, ◌^◌, min, Bool, true, false, not, ◌&&◌, ◌||◌, List, filter, reverse, sum_by, None, if◌then◌else◌}
 use Rattle.std.specs.List.{count_by, find}
 use Rattle.std.specs.Option.{option_map}
@@ -22,57 +22,65 @@ use Rattle.energy_report.specs.RowLines.{counted}
 
 -- ---- an entry
 
--- where the counter stood after it, at the scale after it
+-- The counter after an entry, at the scale after it.
 abbrev pub stand_after : Entry → (sf : ℤ) → Last
 stand_after (step.Step at raw rolls) sf = record { at = at; raw = raw; sf = sf }
 stand_after (step.Change at before after set) sf = record { at = at; raw = after; sf = sf }
 
+-- The counter after any entry; after an opening it is the meter's first reading.
 abbrev pub stand_of : MeterEntry → Last
 stand_of (entry.Opening last) = last
 stand_of (entry.Later row sf) = stand_after row.entry sf
 
--- no void names it
+-- No void names the entry.
 abbrev pub stands : MeterEntry → Bool
 stands (entry.Opening last) = true
 stands (entry.Later row sf) = row.stands
 
+-- A reading by hand.
 abbrev pub is_manual : EntryKind → Bool
 is_manual kind.Manual = true
 is_manual _ = false
 
+-- A reset.
 abbrev pub is_reset : EntryKind → Bool
 is_reset kind.Reset = true
 is_reset _ = false
 
+-- A rescaling.
 abbrev pub is_rescale : EntryKind → Bool
 is_rescale kind.Rescale = true
 is_rescale _ = false
 
--- it is of such a kind; an opening is of none
+-- The entry is of a kind; an opening is of none.
 abbrev pub has_kind : (EntryKind → Bool) → MeterEntry → Bool
 has_kind is (entry.Opening last) = false
 has_kind is (entry.Later row sf) = is row.kind
 
 -- ---- entries in a range
 
+-- The entry is in the range.
 abbrev pub is_within : Zone → DayRange → MeterEntry → Bool
 is_within zone range e = has_moment zone range (stand_of e).at
 
+-- The entry is in the range and valid.
 abbrev pub stands_within : Zone → DayRange → MeterEntry → Bool
 stands_within zone range e = is_within zone range e && stands e
 
+-- The entry is in the range, valid, and a correction of a kind.
 abbrev pub is_corrected : Zone → DayRange → (EntryKind → Bool) → MeterEntry → Bool
 is_corrected zone range is e = stands_within zone range e && has_kind is e
 
+-- The entry is in the range and voided.
 abbrev pub is_voided : Zone → DayRange → MeterEntry → Bool
 is_voided zone range e = is_within zone range e && not (stands e)
 
--- how many there are; the count stays at the greatest number of 64 bits
+-- The number of entries; the count stays at 2^64 - 1.
 abbrev pub count_of : (MeterEntry → Bool) → List MeterEntry → ℕ
 count_of does entries = counted (count_by does entries)
 
--- What the entries of a meter come to, in their order: where the counter stood at the first and at the last that stands, and how
--- many corrections stand. Entries that were voided are counted by their own moments.
+-- The tally of a meter's entries in order: the counter at the first and at the last valid entry,
+-- and the valid corrections. Voided entries count by the timestamps of the entries.
 abbrev pub tally_of : Zone → DayRange → List MeterEntry → EntryTally
 tally_of zone range entries = record {
   first = option_map stand_of (find (stands_within zone range) entries);
@@ -85,21 +93,21 @@ tally_of zone range entries = record {
 
 -- ---- energy
 
--- The energy of the rows whose quarter hours start in the range, as a number of 128 bits holds it.
+-- The energy of the rows whose quarter hours start in the range, in 128 bits.
 abbrev pub energy_within : Zone → DayRange → List Share → ℕ
 energy_within zone range rows =
     min (sum_by (λ row. row.mwh) (filter (λ row. has_moment zone range row.start) rows))
     (2 ^ 128 - 1)
 
--- What a counter was worth, in mWh. No counter has another scale.
+-- The value of a counter's reading, in mWh. No counter has a scale out of range.
 abbrev pub worth_of : Last → ℕ
 worth_of last =
     if int_lt last.sf MIN_SCALE || int_lt MAX_SCALE last.sf then 0 else value_of last
 
 -- ---- meters
 
--- A meter was there on a day of the range, by the clocks of the zone: it was installed before the range ends, and was not ended
--- before it begins.
+-- A meter was installed on some day of the range, by the clocks of the zone: it was installed
+-- before the range ends, and was not closed before it begins.
 abbrev pub was_there : Zone → DayRange → Installation → Bool
 was_there zone range row =
     has_moment zone (record { from = None; till = range.till }) row.opening.at

@@ -1,4 +1,4 @@
--- The text of a report: its rows in one of three formats, the energy in one of two units.
+-- The text of a report: its rows in one of three formats, with the energy in one of two units.
 use Rattle.std.specs.Prelude.{ℕ, zero, suc, Bool, true, false, ◌++◌, ◌∷◌, negsuc, List, [], length, codes}
 use Rattle.std.specs.List.{join_by}
 use Rattle.std.specs.Fmt.{decimal}
@@ -19,27 +19,30 @@ use Rattle.energy_report.specs.declared.form.ReportForm.{ReportForm}
 use Rattle.energy_report.specs.declared.row.Row.{Row}
 use Rattle.energy_report.specs.Rows.{shown_rows}
 
+-- The word for a period.
 abbrev pub period_word : Period → List ℕ
 period_word period.Day = codes "day"
 period_word period.Month = codes "month"
 period_word period.Year = codes "year"
 
+-- The word for a unit.
 abbrev pub unit_word : EnergyUnit → List ℕ
 unit_word MilliwattHours = codes "mwh"
 unit_word KilowattHours = codes "kwh"
 
--- the period in which a day falls: `2026-11-25`, `2026-11` or `2026`
+-- The period that contains a day: `2026-11-25`, `2026-11` or `2026`.
 abbrev pub period_text : Period → Date → List ℕ
 period_text period.Day day = date_text day
 period_text period.Month day = year_text day.year ++ codes "-" ++ pad2 day.month
 period_text period.Year day = year_text day.year
 
--- mWh as a whole number, or a millionth of it, which is kWh, with six decimals
+-- mWh as a whole number, or kWh (millionths of the number) with six decimals.
 abbrev pub energy_text : EnergyUnit → (mwh : ℕ) → List ℕ
 energy_text MilliwattHours mwh = decimal mwh
 energy_text KilowattHours mwh = magnitude_text mwh (negsuc 5)
 
--- in how many places the count of intervals stands right: a day has up to 100, a month 2,980, a year 35,136
+-- The width of the count of intervals, right-aligned: a day has up to 100, a month 2,980, a year
+-- 35,136.
 abbrev pub count_width : Period → ℕ
 count_width period.Day = 3
 count_width period.Month = 4
@@ -47,81 +50,87 @@ count_width period.Year = 5
 
 -- ---- a row in each format
 
--- period, count and energy with spaces (32) between, and a line feed (10) at the end
+-- Period, count and energy, separated by spaces (32), with a line feed (10) at the end.
 abbrev pub text_row : ReportForm → Row → List ℕ
 text_row form row =
     period_text form.period row.first ++ 32
     ∷ (right (count_width form.period) (decimal row.count) ++ 32
     ∷ (right 24 (energy_text form.unit row.mwh) ++ 10 ∷ []))
 
--- a record of two fields, neither of which needs quotes
+-- A record of two fields; both need no quotes.
 abbrev pub csv_row : ReportForm → Row → List ℕ
 csv_row form row =
     period_text form.period row.first ++ codes "," ++ energy_text form.unit row.mwh
     ++ codes "\r\n"
 
--- an object of two texts
+-- An object of two texts.
 abbrev pub json_row : ReportForm → Row → List ℕ
 json_row form row =
     codes "{\"" ++ period_word form.period ++ codes "\":\"" ++ period_text form.period row.first
     ++ codes "\",\"" ++ unit_word form.unit ++ codes "\":\"" ++ energy_text form.unit row.mwh
     ++ codes "\"}"
 
+-- A row in a format.
 abbrev pub row_by : Format → ReportForm → Row → List ℕ
 row_by Text = text_row
 row_by Csv = csv_row
 row_by Json = json_row
 
+-- A row in the form's format.
 abbrev pub row_text : ReportForm → Row → List ℕ
 row_text form row = row_by form.format form row
 
--- ---- what stands around the rows
+-- ---- the text around the rows
 
+-- The header of a table.
 abbrev pub csv_header : Period → EnergyUnit → List ℕ
 csv_header period unit = period_word period ++ codes ",energy_" ++ unit_word unit ++ codes "\r\n"
 
--- before the first row
+-- Before the first row.
 abbrev pub opening_by : Format → Period → EnergyUnit → List ℕ
 opening_by Text period unit = []
 opening_by Csv period unit = csv_header period unit
 opening_by Json period unit = codes "["
 
+-- The text before the first row.
 abbrev pub opening : ReportForm → List ℕ
 opening form = opening_by form.format form.period form.unit
 
--- between two rows
+-- Between two rows.
 abbrev pub separator_by : Format → List ℕ
 separator_by Text = []
 separator_by Csv = []
 separator_by Json = codes ",\n"
 
+-- The text between two rows.
 abbrev pub separator : ReportForm → List ℕ
 separator form = separator_by form.format
 
--- after the last of so many rows
+-- After the last of `count` rows.
 abbrev pub ending_by : Format → (count : ℕ) → List ℕ
 ending_by Text count = end_line count
 ending_by Csv count = []
 ending_by Json count = codes "]\n"
 
+-- The text after the last row.
 abbrev pub ending : ReportForm → (count : ℕ) → List ℕ
 ending form count = ending_by form.format count
 
--- what comes before a row
+-- The text before a row.
 abbrev pub lead : (is_first : Bool) → ReportForm → List ℕ
 lead true form = opening form
 lead false form = separator form
 
--- what is left to write after so many rows
+-- The text that remains after `count` rows.
 abbrev pub last_text : ReportForm → (count : ℕ) → List ℕ
 last_text form zero = opening form ++ ending form 0
 last_text form (suc count) = ending form (suc count)
 
--- the text of rows
+-- The text of rows.
 abbrev pub rows_text : ReportForm → List Row → List ℕ
 rows_text form rows =
     opening form ++ join_by (row_text form) (separator form) rows ++ ending form (length rows)
 
--- the text of the report on a list of days
+-- The text of the report on a list of days.
 abbrev pub report_text : ReportForm → List DayTotal → List ℕ
 report_text form days = rows_text form (shown_rows form days)

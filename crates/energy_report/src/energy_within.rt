@@ -1,11 +1,13 @@
-//! The energy of interval rows in a range.
+//! Adds up the energy of interval rows in a range.
 ghost use Rattle.std.specs.Prelude.{◌≡◌, if◌then◌else◌};
 
 use interval_core::{DayRange, Share, Zone};
 use office_books::RowSink;
 
-/// Adds up the energy of the interval rows whose quarter hours start in a range, by the clocks of a zone. A sum stays at the
-/// greatest number.
+/// Adds up the energy of the interval rows whose quarter hours start in a range, by the clocks of a
+/// zone.
+///
+/// The sum stays at 2^128 - 1 mWh.
 #[derive(Drop)]
 pub struct EnergyWithin {
     zone: Zone,
@@ -16,7 +18,7 @@ pub struct EnergyWithin {
 impl EnergyWithin {
     ghost use Rattle.energy_report.specs.Energies.{IsFresh};
 
-    /// No rows yet.
+    /// Creates a sum of no rows.
     pub fn new(zone: Zone, range: DayRange) -> EnergyWithin
         ensures { IsFresh zone range result }
     {
@@ -27,7 +29,7 @@ impl EnergyWithin {
         }
     }
 
-    /// The energy, in mWh.
+    /// Returns the energy, in mWh.
     pub fn mwh(&self) -> u128
         ensures { result ≡ self.now.mwh }
     {

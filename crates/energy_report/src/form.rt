@@ -1,4 +1,4 @@
-//! The form of a report.
+//! The form of a report or a statement, and the words that select it.
 ghost use Rattle.std.specs.Prelude.{◌≡◌};
 ghost use Rattle.jiff.specs.Words.{epoch_day};
 ghost use Rattle.energy_report.specs.Periods as periods;
@@ -7,7 +7,7 @@ ghost use Rattle.energy_report.specs.Words.{period_of, unit_of, format_of, plain
 
 use interval_core::{Day, DayRange};
 
-/// What days are added up to a row.
+/// The period whose days are added up to a row.
 #[derive(Clone, Copy, Debug, PartialEq, Eq)]
 pub enum Period {
     Day,
@@ -18,24 +18,24 @@ pub enum Period {
 /// The unit of energy.
 #[derive(Clone, Copy, Debug, PartialEq, Eq)]
 pub enum EnergyUnit {
-    /// Whole mWh.
+    /// Whole milliwatt-hours (mWh).
     MilliwattHours,
     /// kWh with six decimals, which are exact.
     KilowattHours,
 }
 
-/// How rows are written.
+/// The format of rows.
 #[derive(Clone, Copy, Debug, PartialEq, Eq)]
 pub enum Format {
-    /// Lines for a reader, and then how many there are.
+    /// Lines for a reader, and then their number.
     Text,
-    /// A table as RFC 4180 has it, with a header.
+    /// A table with a header, as in RFC 4180.
     Csv,
     /// One array of objects.
     Json,
 }
 
-/// Which days a report is of, and how it is written.
+/// The days of a report, and how it is written.
 #[derive(Clone, Copy, Debug, PartialEq, Eq)]
 pub struct ReportForm {
     pub range: DayRange,
@@ -44,7 +44,7 @@ pub struct ReportForm {
     pub format: Format,
 }
 
-/// Which days a statement is of, and how it is written.
+/// The days of a statement, and how it is written.
 #[derive(Clone, Copy, Debug, PartialEq, Eq)]
 pub struct StatementForm {
     pub range: DayRange,
@@ -53,7 +53,7 @@ pub struct StatementForm {
 }
 
 impl ReportForm {
-    /// All days, a line a day, in mWh.
+    /// Returns the form of all days, a line a day, in mWh.
     pub fn plain() -> ReportForm
         ensures { result ≡ plain_form }
     {
@@ -67,7 +67,7 @@ impl ReportForm {
 }
 
 impl Period {
-    /// The period of a word: `day`, `month` or `year`.
+    /// Parses a period: `day`, `month` or `year`.
     pub fn read(word: &str) -> Option<Period>
         ensures { result ≡ period_of word.now }
     {
@@ -79,7 +79,7 @@ impl Period {
         }
     }
 
-    /// Whether two days fall in one such period.
+    /// Returns whether two days are in the same period.
     pub fn has_both(self, one: Day, other: Day) -> bool
         ensures { result ≡ is_same self one other }
     {
@@ -90,7 +90,7 @@ impl Period {
         }
     }
 
-    /// The last day of the period in which a day falls.
+    /// Returns the last day of the period that contains a day.
     pub fn last_day(self, day: Day) -> Day
         ensures { epoch_day result ≡ periods.last_day self day }
     {
@@ -103,7 +103,7 @@ impl Period {
 }
 
 impl EnergyUnit {
-    /// The unit of a word: `mwh` or `kwh`.
+    /// Parses a unit: `mwh` or `kwh`.
     pub fn read(word: &str) -> Option<EnergyUnit>
         ensures { result ≡ unit_of word.now }
     {
@@ -116,7 +116,7 @@ impl EnergyUnit {
 }
 
 impl Format {
-    /// The format of a word: `text`, `csv` or `json`.
+    /// Parses a format: `text`, `csv` or `json`.
     pub fn read(word: &str) -> Option<Format>
         ensures { result ≡ format_of word.now }
     {

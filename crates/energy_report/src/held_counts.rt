@@ -1,4 +1,4 @@
-//! How many readings of a meter were held, by the cause of it.
+//! Counts the rejected readings of a meter by cause.
 ghost use Rattle.std.specs.Prelude.{◌≡◌, ◌&&◌, ◌==◌};
 ghost use Rattle.energy_core.specs.Verdict.{cause_number};
 ghost use Rattle.energy_report.specs.Held as held;
@@ -7,28 +7,28 @@ ghost use Rattle.energy_report.specs.RowLines.{one_more_if};
 use crate::tallies::{both, tallied};
 use energy_core::Cause;
 
-/// How many readings were held for each cause. A count stays at the greatest number.
+/// The number of rejected readings for each cause. A count stays at 2^64 - 1.
 #[derive(Clone, Copy, Debug, PartialEq, Eq)]
 pub struct HeldCounts {
-    /// The counter showed 0, as one does that does not count.
+    /// The counter showed 0, as a counter does that does not count.
     pub not_accumulated: u64,
-    /// The scale was another than at the last entry.
+    /// The scale differed from that of the last entry.
     pub scale_changed: u64,
-    /// The last entry was as late, or later.
+    /// The reading was not later than the last entry.
     pub not_later: u64,
     /// Too many quarter hours had passed since the last entry.
     pub span_too_long: u64,
     /// The counter could have made a full turn.
     pub gap_too_long: u64,
-    /// The counter went further than the ceiling allows.
+    /// The counter advanced further than the ceiling allows.
     pub too_fast: u64,
-    /// The energy would have passed the most that a meter can have.
+    /// The energy would have passed the largest total of a meter.
     pub total_full: u64,
     /// The counter showed a number that is not below its range.
     pub not_below_range: u64,
 }
 
-/// How many readings were held for a cause.
+/// The number of rejected readings for one cause.
 #[derive(Clone, Copy, Debug, PartialEq, Eq)]
 pub struct HeldCount {
     pub cause: Cause,
@@ -36,7 +36,7 @@ pub struct HeldCount {
 }
 
 impl HeldCounts {
-    /// No readings.
+    /// Creates counts without readings.
     pub fn none() -> HeldCounts
         ensures { result ≡ held.none_held }
     {
@@ -52,7 +52,7 @@ impl HeldCounts {
         }
     }
 
-    /// The counts with their causes, in order of the causes' numbers.
+    /// Returns the counts with their causes, in order of the causes' numbers.
     pub fn by_cause(&self) -> [HeldCount; 8]
         ensures { result ≡ held.by_cause self.now }
     {
@@ -92,7 +92,7 @@ impl HeldCounts {
         ]
     }
 
-    // With one reading more for a cause, where it counts.
+    // The counts with one more reading for a cause, if the reading counts.
     pub(crate) fn with_one(&self, counts: bool, cause: Cause) -> HeldCounts
         ensures { result ≡ held.with_one self.now counts cause }
     {
@@ -119,7 +119,7 @@ impl HeldCounts {
     }
 }
 
-// One more, where the reading counts and its cause is that of the count.
+// One more, if the reading counts and has the cause of the count.
 fn one_more_for(count: u64, counts: bool, cause: Cause, counted_cause: Cause) -> u64
     ensures { result ≡ one_more_if (counts && held.is_one cause counted_cause) count }
 {

@@ -1,11 +1,12 @@
-//! The readings in a range that were held.
+//! Counts the rejected readings in a range.
 
 use crate::held_counts::HeldCounts;
 use interval_core::{DayRange, Zone};
 use office_books::RowSink;
 use office_events::HeldReading;
 
-/// Counts the held readings whose moments a range has, by the clocks of a zone, each by the cause for which it was held.
+/// Counts the rejected readings with timestamps in a range, by the clocks of a zone, for each
+/// cause.
 #[derive(Drop)]
 pub struct HeldWithin {
     zone: Zone,
@@ -17,7 +18,7 @@ impl HeldWithin {
     ghost use Rattle.std.specs.Prelude.{◌≡◌};
     ghost use Rattle.energy_report.specs.HeldSinks.{HasCountedNone};
 
-    /// No readings yet.
+    /// Creates a counter without readings.
     pub fn new(zone: Zone, range: DayRange) -> HeldWithin
         ensures { HasCountedNone zone range result }
     {
@@ -28,7 +29,7 @@ impl HeldWithin {
         }
     }
 
-    /// How many there were for each cause.
+    /// Returns the number of readings for each cause.
     pub fn counts(&self) -> HeldCounts
         ensures { result ≡ self.now.counts }
     {

@@ -1,4 +1,5 @@
-//! What the rows of an energy report are, for a range of civil days and by periods, and how they are written.
+//! The rows of an energy report for a range of civil days, by period, and how reports and
+//! statements are written.
 #![tactic(auto)]
 
 mod energy_within;

@@ -1,4 +1,4 @@
-//! What a statement tells of a meter.
+//! The statement of one meter.
 ghost use Rattle.std.specs.Prelude.{◌≡◌};
 ghost use Rattle.energy_report.specs.Statements as statements;
 
@@ -7,7 +7,8 @@ use crate::tallies::EntryTally;
 use interval_core::{DayRange, Zone};
 use office_events::{Installation, Name};
 
-/// A meter, what its entries in a range come to, its energy in it, in mWh, and how many of its readings in it were held.
+/// A meter in a range: its tally of entries, its energy in mWh, and its number of rejected
+/// readings.
 #[derive(Clone, Copy, Debug, PartialEq, Eq)]
 pub struct MeterStatement {
     pub meter: Name,
@@ -16,8 +17,9 @@ pub struct MeterStatement {
     pub held: HeldCounts,
 }
 
-/// Whether a meter was there on a day of a range, by the clocks of a zone: it was installed before the range ends, and was not
-/// ended before it begins.
+/// Returns whether a meter was installed on some day of a range, by the clocks of a zone.
+///
+/// The meter was installed before the range ends, and was not closed before it begins.
 pub fn was_there(zone: &Zone, range: &DayRange, row: &Installation) -> bool
     ensures { result ≡ statements.was_there zone.now range.now row.now }
 {

@@ -1,4 +1,4 @@
-//! A report that is written as its days come.
+//! Writes a report while its days arrive.
 ghost use Rattle.std.specs.Prelude.{◌≡◌};
 
 use crate::form::ReportForm;
@@ -10,8 +10,9 @@ use script_text::Line;
 use std::io::Write;
 use sun_points::Sink;
 
-/// Writes the rows of the days that a report is of, each as soon as a day of another period comes. It keeps that a write
-/// failed, and drops the days that come after it.
+/// Writes the rows of a report. Each row is written as soon as a day of another period arrives.
+///
+/// After a failed write, all later days are dropped.
 #[derive(Drop)]
 pub struct ReportRows<'o, W> {
     form: ReportForm,
@@ -25,7 +26,7 @@ impl<'o, W: Write> ReportRows<'o, W> {
     ghost use Rattle.energy_report.specs.Texts.{last_text};
     ghost use Rattle.energy_report.specs.Writing.{Finishes, IsFresh, WritesRow, WritesText};
 
-    /// No days yet.
+    /// Creates a report without days, which is written to `output`.
     pub fn to(form: ReportForm, output: &'o mut W) -> ReportRows<'o, W>
         ensures output { result.output.ghost_name ≡ output.entry.ghost_name }
         ensures fresh { IsFresh W.contents form output.old result }
@@ -39,14 +40,14 @@ impl<'o, W: Write> ReportRows<'o, W> {
         }
     }
 
-    /// Whether a write failed.
+    /// Returns whether a write failed.
     pub fn has_failed(&self) -> bool
         ensures { result ≡ self.now.failed }
     {
         self.failed
     }
 
-    /// Writes what is left of the report, once all its days were taken.
+    /// Writes the rest of the report, once all its days were passed.
     pub fn finish(&mut self)
         ensures { Finishes W.contents self.old self.new }
     {
@@ -59,7 +60,7 @@ impl<'o, W: Write> ReportRows<'o, W> {
         }
     }
 
-    // Writes a row, and counts it.
+    // Writes a row and counts it.
     fn write_row(&mut self, row: &Row)
         ensures { WritesRow W.contents row.now self.old self.new }
     {
@@ -69,7 +70,7 @@ impl<'o, W: Write> ReportRows<'o, W> {
         self.count = self.count.saturating_add(1);
     }
 
-    // Writes what stands after the rows.
+    // Writes the text after the rows.
     fn write_last(&mut self)
         ensures { WritesText W.contents (last_text self.old.form self.old.count)
             self.old self.new }
@@ -79,7 +80,7 @@ impl<'o, W: Write> ReportRows<'o, W> {
         self.write(&text);
     }
 
-    // Writes a text, unless a write failed before.
+    // Writes a text, unless an earlier write failed.
     fn write(&mut self, text: &Line)
         ensures { WritesText W.contents text.now self.old self.new }
     {

@@ -4,7 +4,10 @@ ghost use Rattle.energy_report.specs.Rows.{joined, row_of, shown};
 
 use interval_core::{Day, DayTotal};
 
-/// The energy of the days of one period, in mWh: the first of them that has a row, and how many intervals of them have one.
+/// A row of a report: the days of one period.
+///
+/// `first` is the first of the days, `count` the number of their intervals, and `mwh` their energy
+/// in mWh.
 #[derive(Clone, Copy, Debug, PartialEq, Eq)]
 pub struct Row {
     pub first: Day,
@@ -13,7 +16,7 @@ pub struct Row {
 }
 
 impl Row {
-    /// The row of a day alone.
+    /// Returns the row of a single day.
     pub fn of(total: &DayTotal) -> Row
         ensures { result ≡ shown (row_of total.now) }
     {
@@ -25,7 +28,7 @@ impl Row {
         none.and(total)
     }
 
-    /// The row with one more day. Past the greatest number of its bits a sum stays there.
+    /// Returns the row with one more day. The count stays at 2^64 - 1, the energy at 2^128 - 1 mWh.
     pub fn and(&self, total: &DayTotal) -> Row
         ensures { result ≡ shown (joined self.now (row_of total.now)) }
     {

@@ -1,4 +1,4 @@
-//! Rows that are written as they come.
+//! Writes rows while they arrive.
 ghost use Rattle.std.specs.Prelude.{◌≡◌};
 
 use interval_core::{DayTotal, Share};
@@ -6,8 +6,9 @@ use office_books::RowSink;
 use script_text::{write_day, write_interval};
 use std::io::Write;
 
-/// Writes a line for each row, and counts them, up to 2^64 - 1. It keeps that a write failed, and drops
-/// the rows that come after it.
+/// Writes a line for each row, and counts the rows, up to 2^64 - 1.
+///
+/// After a failed write, all later rows are dropped.
 #[derive(Drop)]
 pub struct RowLines<'o, W> {
     pub output: &'o mut W,
@@ -18,7 +19,7 @@ pub struct RowLines<'o, W> {
 impl<'o, W: Write> RowLines<'o, W> {
     ghost use Rattle.std.specs.Prelude.{false};
 
-    /// No rows yet.
+    /// Creates a sink without rows, which writes to `output`.
     pub fn to(output: &'o mut W) -> RowLines<'o, W>
         ensures output { result.output.ghost_name ≡ output.entry.ghost_name }
         ensures same { result.output.now ≡ output.old }

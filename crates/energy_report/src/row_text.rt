@@ -1,4 +1,4 @@
-//! The texts of rows, and of what stands around them. No call takes memory.
+//! Formats rows, and the texts around them. No call allocates memory.
 ghost use Rattle.std.specs.Prelude.{◌≡◌, ◌≤◌, ◌<◌, ◌+◌, ◌++◌, length, replicate};
 ghost use Rattle.sun_points.specs.Decimal.{low_digits};
 ghost use Rattle.interval_core.specs.Report.{right};
@@ -9,10 +9,10 @@ use crate::row::Row;
 use interval_core::Day;
 use script_text::{Line, Text, day_of_month, month_of, push_part, push_year};
 
-// The text of an energy, which has at most 46 characters.
+// The text of an energy, of at most 46 characters.
 pub(crate) type Energy = Text<48>;
 
-/// A row, and before it what stands before the first one or between two.
+/// A row, preceded by the text before the first row or between two rows.
 pub(crate) fn row_piece(form: &ReportForm, is_first: bool, row: &Row) -> Line
     ensures { result ≡ text.lead is_first form.now ++ text.row_text form.now row.now }
 {
@@ -22,7 +22,7 @@ pub(crate) fn row_piece(form: &ReportForm, is_first: bool, row: &Row) -> Line
     line
 }
 
-/// What stands after so many rows. Where there are none, what stands before the first comes before it.
+/// The text after `count` rows. Without rows it begins with the text before the first row.
 pub(crate) fn last_piece(form: &ReportForm, count: u64) -> Line
     ensures { result ≡ text.last_text form.now count }
 {
@@ -157,7 +157,8 @@ fn count_width(period: Period) -> usize
 
 // ---- periods
 
-/// The text of the period in which a day falls, as rows have it: `2026-11-25`, `2026-11` or `2026`.
+/// Returns the text of the period that contains a day, as in rows: `2026-11-25`, `2026-11` or
+/// `2026`.
 pub fn period_name(period: Period, day: Day) -> Line
     ensures { result ≡ text.period_text period day }
 {
@@ -200,7 +201,7 @@ pub(crate) fn energy(unit: EnergyUnit, mwh: u128) -> Energy
     energy
 }
 
-// A number below a million in six digits.
+// A number below a million, in six digits.
 fn push_decimals(energy: &mut Energy, number: u32)
     requires room { length energy.old ≤ 40 }
     requires few { number < 1_000_000 }
@@ -212,7 +213,7 @@ fn push_decimals(energy: &mut Energy, number: u32)
     energy.push_pair((number % 100) as u8);
 }
 
-// The energy with so many spaces before it that it takes 24 places.
+// An energy, right-aligned in 24 columns.
 fn push_energy_right(line: &mut Line, unit: EnergyUnit, mwh: u128)
     requires { length line.old ≤ 70 }
     ensures bytes { line.new ≡ line.old ++ right 24 (text.energy_text unit mwh) }

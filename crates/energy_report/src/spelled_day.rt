@@ -1,9 +1,10 @@
-//! Days that are spelled.
+//! Parses days.
 ghost use Rattle.energy_report.specs.Days.{DigitIs, IsReadAs, PairIs, PartsAre};
 
 use interval_core::Day;
 
-// The numbers of a day's parts, two digits each: the first and the last of the year, the month, the day.
+// The numbers of a day's parts, two digits each: the first and the last two of the year, the month,
+// the day.
 #[derive(Clone, Copy)]
 struct Parts {
     century: u8,
@@ -29,7 +30,7 @@ fn pair_of(tens: u8, ones: u8) -> Option<u8>
     Some(tens * 10 + ones)
 }
 
-// The parts that a text of ten characters spells, with hyphens between year, month and day.
+// The parts of a text of ten characters, with hyphens between year, month and day.
 fn parts_of(text: &[u8]) -> Option<Parts>
     ensures { PartsAre text.now result }
 {
@@ -54,7 +55,7 @@ fn parts_of(text: &[u8]) -> Option<Parts>
     })
 }
 
-/// The day that a text spells as `YYYY-MM-DD`, of the years 0000 to 9999.
+/// Parses a day as `YYYY-MM-DD`, in the years 0000 to 9999.
 pub fn read_day(text: &str) -> Option<Day>
     ensures { IsReadAs text.now result }
 {

@@ -1,4 +1,4 @@
-//! Ranges of days that are spelled.
+//! Parses ranges of days.
 ghost use Rattle.std.specs.Prelude.{MatchResult};
 ghost use Rattle.energy_report.specs.Days.{IsEnd, IsNoEnd, IsRange, IsRangeFault};
 
@@ -19,7 +19,7 @@ pub enum RangeFault {
 #[derive(Clone, Copy)]
 struct NoDay;
 
-// The end of a range that a word spells, if there is a word.
+// The end of a range that a word spells; open if there is no word.
 fn read_end(word: Option<&str>) -> Result<Option<Day>, NoDay>
     ensures { MatchResult result (IsEnd word.entry) (λ none. IsNoEnd word.entry) }
 {
@@ -32,7 +32,9 @@ fn read_end(word: Option<&str>) -> Result<Option<Day>, NoDay>
     }
 }
 
-/// The range from one day until another, each as `YYYY-MM-DD`. Where a word is missing, there is no bound.
+/// Parses the range from one day up to, not including, another, each as `YYYY-MM-DD`.
+///
+/// The range is open at an end whose word is missing.
 pub fn read_range(from: Option<&str>, till: Option<&str>) -> Result<DayRange, RangeFault>
     ensures { MatchResult result (IsRange from.entry till.entry)
         (IsRangeFault from.entry till.entry) }

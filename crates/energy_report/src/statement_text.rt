@@ -1,4 +1,4 @@
-//! The text of a statement. No call takes memory.
+//! Writes statements. No call allocates memory.
 ghost use Rattle.std.specs.Prelude.{◌≡◌, ◌≤◌, ◌+◌, ◌++◌, ◌&&◌, ◌==◌, length};
 ghost use Rattle.sun_points.specs.Writing.{GotText};
 ghost use Rattle.energy_core.specs.Verdict.{cause_number};
@@ -16,10 +16,10 @@ use script_text::Text;
 use std::io::{self, Write};
 use sun_points::Sink;
 
-// A row, or what stands around rows: it has at most 900 characters.
+// A row, or the text around rows, of at most 900 characters.
 type Page = Text<1024>;
 
-/// Writes the statement of meters: all of it, or a beginning where a write fails.
+/// Writes the statement of meters completely, or its beginning if a write fails.
 pub fn write_statement<W: Write>(
     form: &StatementForm,
     rows: &[MeterStatement],
@@ -77,7 +77,7 @@ fn ending_page(form: &StatementForm, count: u64) -> Page
     page
 }
 
-// A row, and before it what stands between two.
+// A row, preceded by the text between two rows.
 fn row_page(form: &StatementForm, is_first: bool, row: &MeterStatement) -> Page
     ensures { result ≡ text.lead is_first form.now ++ text.row_text form.now row.now }
 {
@@ -118,9 +118,9 @@ fn push_row(page: &mut Page, form: &StatementForm, row: &MeterStatement)
     }
 }
 
-// ---- where a counter stood
+// ---- the reading of a counter
 
-// What it was worth, in mWh.
+// The value of a counter's reading, in mWh; 0 if its scale is out of range.
 fn worth(stand: &Last) -> u128
     ensures { result ≡ worth_of stand.now }
 {
@@ -182,7 +182,7 @@ fn push_worth(page: &mut Page, format: Format, unit: EnergyUnit, stand: &Option<
     }
 }
 
-// ---- readings that were held
+// ---- rejected readings
 
 fn held_mark(format: Format) -> &'static [u8]
     ensures word { result.now ≡ text.held_mark format }
@@ -230,7 +230,7 @@ fn push_counts_or_zero(page: &mut Page, format: Format, held: &HeldCounts)
     }
 }
 
-// The counts of those causes for which some were held; and whether there are none.
+// Appends the counts that are not 0, and returns whether there are none.
 fn push_counts(page: &mut Page, format: Format, held: &HeldCounts) -> bool
     requires { length page.old ≤ 710 }
     ensures bytes { page.new ≡ page.old ++ text.counts_text format (text.held_some held.now) }
@@ -246,7 +246,7 @@ fn push_counts(page: &mut Page, format: Format, held: &HeldCounts) -> bool
     are_none
 }
 
-// A count that is not 0, and before it what stands between two.
+// Appends a count that is not 0, preceded by the text between two counts.
 fn push_count(page: &mut Page, format: Format, is_first: bool, one: &HeldCount)
     requires { length page.old ≤ 910 }
     ensures bytes { page.new ≡ page.old ++ text.count_piece format is_first one.now }

@@ -1,4 +1,4 @@
-//! What the entries of a meter in a range come to.
+//! Adds up the entries of a meter in a range.
 ghost use Rattle.std.specs.Prelude.{◌≡◌, ◌&&◌, ◌++◌, ◌∷◌, [], List, Some, None, if◌then◌else◌};
 ghost use Rattle.std.specs.Option.{option_or};
 ghost use Rattle.office_books.specs.declared.entries.MeterEntry.{MeterEntry as Listed};
@@ -11,24 +11,26 @@ use interval_core::{DayRange, Zone};
 use meter_journal::EntryKind;
 use office_books::MeterEntry;
 
-/// Where a counter stood at its first and its last entry in a range of days, and how many corrections were made in it. A count
-/// stays at the greatest number.
+/// The entries of a meter in a range of days: the first and the last, and the number of
+/// corrections.
+///
+/// A count stays at 2^64 - 1.
 #[derive(Clone, Copy, Debug, PartialEq, Eq)]
 pub struct EntryTally {
-    /// The first entry that stands, and the last: the counter after it.
+    /// The counter after the first and after the last valid entry.
     pub first: Option<Last>,
     pub last: Option<Last>,
-    /// Numbers that someone read and handed in, and that stand.
+    /// Valid readings by hand.
     pub by_hand: u64,
-    /// Resets and rescalings that stand.
+    /// Valid resets and rescalings.
     pub resets: u64,
     pub rescales: u64,
-    /// Entries that were voided, by their own moments.
+    /// Voided entries, by the timestamps of the entries.
     pub voids: u64,
 }
 
 impl EntryTally {
-    /// No entries yet.
+    /// Creates a tally without entries.
     pub fn new() -> EntryTally
         ensures none { (zone : Zone) (range : DayRange) → result ≡ tally_of zone range [] }
     {
@@ -42,7 +44,7 @@ impl EntryTally {
         }
     }
 
-    /// Takes the next entries of the meter, in their order.
+    /// Adds the next entries of the meter, in order.
     pub fn take_all(&mut self, zone: &Zone, range: &DayRange, entries: &[MeterEntry])
         ensures { (before : List Listed) → self.old ≡ tally_of zone.now range.now before
             → self.new ≡ tally_of zone.now range.now (before ++ entries.now) }
@@ -52,7 +54,7 @@ impl EntryTally {
         }
     }
 
-    // Takes the next entry.
+    // Adds the next entry.
     fn take(&mut self, zone: &Zone, range: &DayRange, entry: &MeterEntry)
         ensures { (before : List Listed) → self.old ≡ tally_of zone.now range.now before
             → self.new ≡ tally_of zone.now range.now (before ++ entry.now ∷ []) }
@@ -73,7 +75,7 @@ impl EntryTally {
 
 // ---- an entry
 
-// Where the counter stood after it.
+// The counter after an entry.
 fn stand_of(entry: &MeterEntry) -> Last
     ensures { result ≡ statements.stand_of entry.now }
 {
@@ -139,7 +141,7 @@ fn is_rescale(entry: &MeterEntry) -> bool
     }
 }
 
-// ---- one entry more
+// ---- one more entry
 
 pub(crate) fn both(one: bool, other: bool) -> bool
     ensures { result ≡ one && other }

@@ -1,4 +1,4 @@
-//! Carrying out the commands that an office accepts.
+//! Executes the commands that an office accepts.
 
 mod additions;
 mod effects;

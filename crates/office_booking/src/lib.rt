@@ -1,4 +1,6 @@
-//! What an office carries out: sessions with devices, reads that are started, what events settle, commands and openings, each booked whole.
+//! What an office executes: sessions, reads, the polls that events settle, commands and openings.
+//!
+//! Each event, command or opening is recorded completely or not at all.
 #![tactic(auto)]
 
 mod commands;

@@ -1,4 +1,4 @@
-//! The opening of an office over the books that it left.
+//! Opens an office over an existing store.
 
 mod opened_office;
 

@@ -1,4 +1,4 @@
-//! The devices of an office, and the session of each that is connected.
+//! The devices of an office, and the session of each connected device.
 
 mod places;
 mod slots;

@@ -1,4 +1,4 @@
-//! What the events of devices settle: polls that end, and the readings of their replies, booked all at once.
+//! Settles the polls that events of devices end, and records their readings all at once.
 
 mod drafts;
 mod events;

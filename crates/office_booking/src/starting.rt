@@ -1,4 +1,4 @@
-//! The reads that are started on the session of a device.
+//! Starts reads on the session of a device.
 
 mod output;
 mod starts;

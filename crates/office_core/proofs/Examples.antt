@@ -1,4 +1,4 @@
--- The headline of one meter, worked out: its counter turns over, is rescaled, and is reset.
+-- The headline of one meter as a worked example: its counter turns over, is rescaled, and is reset.
 use Rattle.std.proofs.Common.{◌≡◌, pos, List, ℕ, [], ◌∷◌, refl}
 use Rattle.energy_core.specs.Value.{unit_of}
 use Rattle.energy_core.specs.declared.entries.Entry.{Entry}
@@ -17,19 +17,21 @@ m1 = 109 ∷ 49 ∷ []
 abbrev main : List ℕ
 main = 109 ∷ 97 ∷ 105 ∷ 110 ∷ []
 
--- installed at 4294967000, 296 counts before the counter turns over
+-- The meter is installed at 4294967000, 296 counts before the counter turns over.
 abbrev meter : Opening
 meter = record { meter = m1; register = main; ceiling = 100000; range = 4294967296; at = 1000; raw = 4294967000; sf = pos 0 }
 
 abbrev entry : EntryKind → Entry → Fact
 entry kind e = fact.Entry (record { meter = m1; kind = kind; entry = e })
 
--- It is read at 200 after it turned over. At 300 it is rescaled to tens of Wh, where it shows 31; at 40 it is reset to 5.
+-- The meter is read at 200 after the counter turned over. At 300 it is rescaled to tens of Wh,
+-- where it shows 31; at 40 it is reset to 5.
 abbrev facts : List Fact
 facts = entry Reset (Change 4600 40 5 (pos 1)) ∷ entry Manual (Step 3700 35 0)
     ∷ entry Rescale (Change 2800 300 31 (pos 1)) ∷ entry Reading (Step 1900 200 1) ∷ fact.Opening meter ∷ []
 
--- 496 Wh up to the reading, 100 Wh to the rescaling, 40 Wh to the number by hand, and 50 Wh to the reset
+-- 496 Wh up to the reading, 100 Wh to the rescaling, 40 Wh to the reading by hand, and 50 Wh to the
+-- reset.
 booked : energy_booked facts meter ≡ 686000
 unfolding unit_of
 booked = refl

@@ -1,4 +1,4 @@
--- All quarter hours of a meter, as a span of them.
+-- All quarter hours of a meter, as a span.
 use Rattle.std.proofs.Common.{◌≡◌, ℕ, List, refl, subst}
 use Rattle.std.specs.Prelude.{Option, Some, None, Result}
 use Rattle.std.specs.Option.{option_map}

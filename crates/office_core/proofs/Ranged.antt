@@ -1,4 +1,4 @@
--- The days that a range has, by rows of a span that lies around theirs.
+-- The days of a range, from the rows of a span around it.
 use Rattle.std.proofs.Common.{◌≡◌, ℕ, ◌<◌, Bool, true, false, cond, Some, None, List, [], ◌∷◌, length, refl, sym, ap, subst, ◌∙◌, inl, inr, arith}
 use Rattle.std.specs.Prelude.{ℤ, ◌<ℤ◌, ◌&&◌, Contains, filter, map}
 use Rattle.std.specs.Ordering.{int_eq}
@@ -18,7 +18,7 @@ use Rattle.office_books.specs.declared.spans.Span.TheVariants as span
 use Rattle.office_books.specs.Spans.{is_within, rows_within}
 use Rattle.office_core.specs.DayRange.{accounts_within}
 
--- ---- filters after one another
+-- ---- filters in succession
 
 filter_through : {X : Type 0} (p q : X → Bool) → ((x : X) → p x ≡ true → q x ≡ true) → (xs : List X) → filter p (filter q xs) ≡ filter p xs
 filter_through p q through [] = refl
@@ -117,7 +117,7 @@ module _ (zone : Zone) (asked : ℤ → Bool) where
   abbrev of_rows : ℤ → List Share → DayAccount
   of_rows day rows = record { day = day; count = distinct_count (starts_of rows); mwh = energy_of rows }
 
-  -- the accounts of the rows whose days are asked for
+  -- The accounts of the rows whose days are requested.
   pub accounts_asked : (rows : List Share) (accounts : List DayAccount) → AreAccounts zone rows accounts → AreAccounts zone (filter row_asked rows) (filter account_asked accounts)
   accounts_asked rows accounts are = record {
     in_order = in_order accounts are.in_order;
@@ -137,7 +137,7 @@ module _ (zone : Zone) (asked : ℤ → Bool) where
         whole ∙ sym (ap (of_rows _) (rows_asked rows _ is));
   }
 
-  -- of rows among which are all those whose days are asked for, the days that are asked for are the same
+  -- If a filter keeps all rows whose days are requested, the requested days are the same.
   pub same_days : (among : Share → Bool) → ((row : Share) → row_asked row ≡ true → among row ≡ true)
       → AccountsAreOne → (rows : List Share) (some all : List DayAccount)
       → AreAccounts zone (filter among rows) some → AreAccounts zone rows all → filter account_asked some ≡ filter account_asked all
@@ -148,9 +148,9 @@ module _ (zone : Zone) (asked : ℤ → Bool) where
       let unique = one zone (filter row_asked rows) in
       unique.2 _ left ∙ sym (unique.2 _ right)
 
--- ---- the days that are asked for
+-- ---- the requested days
 
--- a span keeps what passes its test
+-- A span keeps what passes its test.
 all_kept : {X : Type 0} (xs : List X) → filter (λ x. true) xs ≡ xs
 all_kept [] = refl
 all_kept (x ∷ xs) = ap (λ l. x ∷ l) (all_kept xs)
@@ -159,7 +159,7 @@ by_test : (asked : Span) (rows : List Share) → rows_within asked rows ≡ filt
 by_test span.All rows = sym (all_kept rows)
 by_test (span.Between from till) rows = refl
 
--- a range has a day by its date if it has it by its number
+-- A range contains a day by its date if it contains it by its number.
 is_in_number : (range : DayRange) (total : DayTotal) → is_in range total.day ≡ has_day range (account_of total).day
 is_in_number range total =
     elim range.from as (λ from. (begins_by from total.day && ends_after range.till total.day)

@@ -1,4 +1,4 @@
--- A run, one more event at its end.
+-- A run with one more event at its end.
 use Rattle.std.proofs.Common.{◌≡◌, ◌↔◌, ◌||◌, ℕ, ◌+◌, ◌<◌, Bool, true, false, List, [], ◌∷◌, ◌++◌, take, length, ◌≤◌, get_or, Result, Err, refl, ap, sym, subst, ◌∙◌, arith, take_all}
 use Rattle.std.specs.Prelude.{All, IfErr}
 use Rattle.std.proofs.lemmas.List.{take_more}
@@ -62,7 +62,7 @@ left_push past before between after [] one h k = (after, rw (sym h) k, refl)
 left_push past before between after (f ∷ fed) one h k =
     (h.0, h.1, left_push (with_answer past f.at f.event f.result) h.0 between after fed one h.2 k)
 
--- one event more, after what a run has left so far
+-- One more event, after what a run has left so far.
 run_push : (old between new : Ledger) (past : History) (opened : ℕ) (fed : List Answered) (one : Answered)
     → Leaves old between (LeftByRun past opened fed)
     → Leaves between new (LeftByEvent (history_after (Opened opened ∷ past) fed) one.at one.event one.result)
@@ -90,14 +90,14 @@ counts_push : (before between after : Failures) (fed : List Answered) (one : Ans
 counts_push before between after [] one h k = (after, rw (sym h) k, refl)
 counts_push before between after (f ∷ fed) one h k = (h.0, h.1, counts_push h.0 between after fed one h.2 k)
 
--- none of them was refused since a row has no civil day
+-- No event was refused because a row has no civil day.
 abbrev pub HasItsDay : Answered → Type 0
 HasItsDay fed = IfErr fed.result IsNotForWantOfDay
 
 no_day_push : (fed : List Answered) (one : Answered) → All HasItsDay fed → HasItsDay one → All HasItsDay (fed ++ one ∷ [])
 no_day_push fed one h k = All-append HasItsDay fed (one ∷ []) h (All-cons HasItsDay one [] k (All-nil HasItsDay))
 
--- How far a run has come with these events.
+-- The state of a run after these events.
 pub record SoFar {B : Type 0} (ledger : B → Ledger) (books : B) (opened : ℕ) (fed : List Answered) (office : Office B) : Type 0 where
   pub stands : (past : History) → BooksStand (ledger books) past → (ledger (books_in office)).is_clean
       → Stands ledger (history_after (Opened opened ∷ past) fed) office
@@ -113,7 +113,7 @@ pub record SoFar {B : Type 0} (ledger : B → Ledger) (books : B) (opened : ℕ)
   pub clean : (ledger (books_in office)).is_clean → (ledger books).is_clean
   pub zone : (ledger (books_in office)).zone ≡ (ledger books).zone
 
--- what feeding one more event promises
+-- The contract of feeding one more event.
 pub record Feeds {B : Type 0} (ledger : B → Ledger) (old new : Office B) (one : Answered) : Type 0 where
   pub answers : After ledger old new (λ past. IsAnswer past one.at one.event (failures_of ledger old) (failures_of ledger new) one.result)
   pub stands : After ledger old new (λ past. Stands ledger (with_answer past one.at one.event one.result) new)
@@ -123,7 +123,7 @@ pub record Feeds {B : Type 0} (ledger : B → Ledger) (old new : Office B) (one 
       → IsQuiet old new one.result
   pub ends : Ends ledger old new one.event one.result
 
--- an office that had stopped says so, which is no failure
+-- An office that had stopped answers so, which is no failure.
 not_failing : {B : Type 0} (ledger : B → Ledger) (past : History) (old new : Office B) (one : Answered) → Feeds ledger old new one
     → Stands ledger past old → SettlesNothing past one.at one.event → (stopped : Bool) → is_stopped old ≡ stopped
     → is_failure one.result ≡ false
@@ -158,7 +158,7 @@ further ledger books opened fed old new one so feeds = record {
   zone = feeds.ends.zone ∙ so.zone;
 }
 
--- the last event was fed
+-- The last event was fed.
 pub all_fed : {B : Type 0} (ledger : B → Ledger) (books : B) (opened : ℕ) (events : Events) (i : ℕ) (results : Results) (office : Office B)
     → length events ≤ i → SoFar ledger books opened (in_turn (take i events) results) office
     → SoFar ledger books opened (in_turn events results) office

@@ -1,4 +1,4 @@
--- Questions that are asked one after the other.
+-- Queries in succession.
 use Rattle.std.proofs.Common.{◌≡◌, inl, inr, true, Option, Some, None, refl, sym, ap, subst, ◌∙◌}
 use Rattle.std.specs.Prelude.{Result, Ok, Err}
 use Rattle.office_events.specs.declared.refusals.Refusal.{Refusal}
@@ -13,7 +13,7 @@ use Rattle.office_core.specs.Taking.{failures_of}
 use Rattle.office_core.specs.declared.office.Office.{Office}
 use Rattle.office_core.proofs.Taken.{outside_more}
 
--- ---- what was found
+-- ---- the answers of queries
 
 abbrev value_of : {T : Type 0} → Result T Refusal → Option T
 value_of (Ok x) = Some x
@@ -43,7 +43,7 @@ pub found_so : {T : Type 0} (m : Type 0) (found : Option T) (before after : Fail
     → IsFound m found before after (Ok x)
 found_so m found before after x is same = inl (ap or_not_found (sym is), same)
 
--- what is refused is refused after what was found before it
+-- A refusal after a query that found something is the refusal of both.
 pub refused_on : {T U : Type 0} (few many : Type 0) (f : Option T) (g : Option U) (before mid after : Failures) (why : Refusal) → (few → many)
     → (f ≡ None → g ≡ None) → mid ≡ before → IsFound few f mid after (Err why) → IsFound many g before after (Err why)
 refused_on {T} {U} few many f g before mid after why more nothing same (inl is) =
@@ -54,7 +54,7 @@ refused_on {T} {U} few many f g before mid after why more nothing same (inl is) 
 refused_on few many f g before mid after why more nothing same (inr fails) =
     inr (subst (λ was. IsOutside many was after why) same (outside_more few many mid after why more fails))
 
--- ---- what questions leave
+-- ---- what queries leave
 
 module _ {B : Type 0} (ledger : B → Ledger) where
   pub unasked : (a : Office B) → Keeps ledger a a
@@ -96,7 +96,7 @@ module _ {B : Type 0} (ledger : B → Ledger) where
     zone = more.zone ∙ first.zone;
   }
 
-  -- a question after others
+  -- A query after others.
   pub asked_after : {T : Type 0} (a b c : Office B) (result : Result T Refusal) → Keeps ledger a b → OnlyAsks ledger b c result → OnlyAsks ledger a c result
   asked_after a b c result first more = record {
     stands = λ past stands. more.stands past (first.stands past stands);
@@ -113,11 +113,11 @@ module _ {B : Type 0} (ledger : B → Ledger) where
     zone = more.zone ∙ first.zone;
   }
 
-  -- an office that answered goes on
+  -- An office that answered is running.
   pub goes_on : {T : Type 0} (a b : Office B) (x : T) → OnlyAsks ledger a b (Ok x) → is_stopped a ≡ true → ⊥
   goes_on a b x asks stopped = let e = asks.stopped.1 stopped in cc e
 
-  -- what was left where it went on, as another answer
+  -- The same state with another answer, while the office is running.
   pub answered_as : {U : Type 0} (a b : Office B) (y : U) → (is_stopped a ≡ true → ⊥) → Keeps ledger a b → OnlyAsks ledger a b (Ok y)
   answered_as a b y goes kept = record {
     stands = kept.stands;
@@ -131,7 +131,7 @@ module _ {B : Type 0} (ledger : B → Ledger) where
     zone = kept.zone;
   }
 
-  -- no memory was left after it answered
+  -- After an answer, memory failed.
   pub without_memory : {U : Type 0} (a b : Office B) → (is_stopped a ≡ true → ⊥) → Keeps ledger a b
       → OnlyAsks {T = U} ledger a b (Err refusal.Memory)
   without_memory a b goes kept = record {
@@ -146,7 +146,7 @@ module _ {B : Type 0} (ledger : B → Ledger) where
     zone = kept.zone;
   }
 
-  -- the same refusal of another question
+  -- The same refusal as that of another query.
   pub refused_as : {T U : Type 0} (a b : Office B) (why : Refusal) → OnlyAsks {T = T} ledger a b (Err why) → OnlyAsks {T = U} ledger a b (Err why)
   refused_as {T} {U} a b why asks = record {
     stands = asks.stands;
@@ -163,6 +163,6 @@ module _ {B : Type 0} (ledger : B → Ledger) where
     zone = asks.zone;
   }
 
-  -- the same answer of a question, as another
+  -- The same state with another answer.
   pub now_as : {T U : Type 0} (a b : Office B) (x : T) (y : U) → OnlyAsks ledger a b (Ok x) → OnlyAsks ledger a b (Ok y)
   now_as a b x y asks = answered_as a b y (goes_on a b x asks) (asked a b x asks)

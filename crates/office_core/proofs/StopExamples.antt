@@ -1,4 +1,5 @@
--- What a stop leaves, worked out: a poll is started, and while it ends unanswered the store fails.
+-- What a crash leaves, as a worked example: a poll is started, and the store fails when it times
+-- out.
 use Rattle.std.proofs.Common.{◌≡◌, ◌⊎◌, ℕ, List, [], ◌∷◌, Some, inl, inr, refl, subst, ap, ◌∙◌, Ok, Err, lit≤, length}
 use Rattle.mb_wire.specs.declared.span.ReadFunction.TheVariants.{HoldingRegisters}
 use Rattle.mb_wire.specs.declared.span.ReadSpan.{ReadSpan}
@@ -27,13 +28,13 @@ span = record { function = HoldingRegisters; address = 40094; count = 2; some = 
 abbrev start : Event
 start = event.Command (command.StartPoll (record { device = Some inv; span = span }))
 
--- a device is connected
+-- A device is connected.
 abbrev connected : History
 connected = Fed 1000 (event.Connected (Some inv))
     ∷ Fed 1000 (event.Command (command.AddDevice (record { name = Some inv; unit = 1; timeout = 5; window = 1 })))
     ∷ Opened 0 ∷ []
 
--- the facts once its poll was started, and once that was given up
+-- The records once the poll was started, and once it timed out.
 abbrev waiting : List Fact
 waiting = fact.Poll (record { number = 1; device = inv; unit = 1; at = 1898; id = 0; span = span })
     ∷ fact.Device (record { name = inv; unit = 1; timeout = 5; window = 1 }) ∷ []
@@ -49,7 +50,7 @@ is_ended : facts_of (Fed 1904 event.Tick ∷ Fed 1898 start ∷ connected) ≡ e
 unfolding frames frames_in rest rest_in is_garbled is_over is_closed stream next_id frames_at ending_at settled_by pending outcomes_at
 is_ended = refl
 
--- it was started, and then a tick that was to give it up was answered 13
+-- The poll was started, and the timer event that should end it was answered 13.
 abbrev fed : List Answered
 fed = record { at = 1898; event = start; result = Ok (answer.Started 1 1 1) }
     ∷ record { at = 1904; event = event.Tick; result = Err (refusal.Store store.Refused) } ∷ []
@@ -57,7 +58,7 @@ fed = record { at = 1898; event = start; result = Ok (answer.Started 1 1 1) }
 abbrev Lists : Type 0
 Lists = List (List Fact)
 
--- starting the poll recorded a fact
+-- Starting the poll made a record.
 no_less : facts_of (Fed 1898 start ∷ connected) ≡ facts_of connected → ⊥
 unfolding frames frames_in rest rest_in is_garbled is_over is_closed stream next_id frames_at ending_at settled_by pending outcomes_at
 no_less same = let e = ap length same in cc e
@@ -76,8 +77,8 @@ then_ended : (between after : Lists) → between ≡ waiting ∷ [] → LeftOnce
 then_ended between after is left =
     or_ended after (subst (λ (ls : Lists). LeftOnceFailed (Fed 1898 start ∷ connected) (Fed 1904 event.Tick) ls after) is left)
 
--- A stop then leaves the poll waiting, or, where the store kept what it didn't acknowledge, given up; and nothing else,
--- whatever it might have left before.
+-- A crash then leaves the poll pending. If the store kept what it did not acknowledge, the poll may
+-- have ended. No other result is possible, with any earlier state.
 waits_or_ended : (before after : Lists) → LeftInTurn connected fed before after
     → (after ≡ waiting ∷ []) ⊎ (after ≡ waiting ∷ ended ∷ [])
 waits_or_ended before after left =

@@ -1,4 +1,4 @@
--- Rows that a sink adds up to days, one after the other.
+-- A sink adds up rows by day, one by one.
 use Rattle.std.proofs.Common.{◌≡◌, ℕ, ◌+◌, ◌≤◌, ◌<◌, Bool, not, List, [], ◌∷◌, ◌++◌, length, get_or, Option, Some, None, inr, refl, sym, ap, subst, ◌∙◌, arith, append_assoc, length-append}
 use Rattle.std.specs.Prelude.{MatchOption, MatchResult, Result, Ok, Err, map, unwrap_or}
 use Rattle.std.specs.declared.alloc.Global.{Global}
@@ -32,7 +32,7 @@ use Rattle.office_core.specs.Asking.{ListsDays}
 use Rattle.office_core.specs.DaySums.{MayFollow, UnlessFailed, HasAdded, AddsRow, TakesShare, EndsAs}
 use Rattle.office_core.specs.Failing.{IsOutside}
 
--- a row of a list may follow those before it there
+-- A row of a list may follow those before it.
 may_follow : (done rest : List Share) (row : Share) → CanBeFolded (done ++ row ∷ rest) → MayFollow done row
 may_follow done rest row folds =
     let start : Share → ℕ = λ r. r.start in
@@ -51,7 +51,7 @@ may_follow done rest row folds =
           omega (arith, folds.energy, more, first);
     }
 
--- one row
+-- One row.
 add_one : (failed : Option DayFault) (done : List Share) (row : Share) (s next : DaySink) → s.fault ≡ failed → MayFollow done row
     → UnlessFailed failed (HasTaken s.zone done s.fold) → MatchOption failed (AddsRow s row next) (λ fault. next ≡ s)
     → (next.zone ≡ s.zone) × HasAdded next (done ++ row ∷ [])
@@ -62,7 +62,7 @@ add_one (Some fault.Memory) done row s next is may added step =
     subst Q (sym step) (refl, subst P (sym is) tt)
 add_one (Some fault.Zone) done row s next is may added step = absurd added
 
--- all of them
+-- All rows.
 add_all : (zone : Zone) (done rest : List Share) (s after : DaySink) → s.zone ≡ zone → CanBeFolded (done ++ rest) → HasAdded s done
     → TakesAll TakesShare s rest after → (after.zone ≡ zone) × HasAdded after (done ++ rest)
 add_all zone done [] s after is folds added took =
@@ -74,14 +74,14 @@ add_all zone done (row ∷ rest) s after is folds added took =
     let all = add_all zone (done ++ row ∷ []) rest took.0 after (step.0 ∙ is) (subst CanBeFolded (sym same) folds) step.1 took.2 in
     (all.0, subst (HasAdded after) same all.1)
 
--- what a new sink has after rows of which days can be made
+-- The state of a new sink after rows whose days can be added up.
 pub added_up : (fresh after : DaySink) (rows : List Share) → CanBeFolded rows → fresh.fault ≡ None → HasTaken fresh.zone [] fresh.fold
     → TakesAll TakesShare fresh rows after → (after.zone ≡ fresh.zone) × HasAdded after rows
 added_up fresh after rows folds works empty took =
     let P : Option DayFault → Type 0 = λ f. UnlessFailed f (HasTaken fresh.zone [] fresh.fold) in
     add_all fresh.zone [] rows fresh after refl folds (subst P (sym works) empty) took
 
--- a row that may follow starts no earlier than the latest
+-- A row that may follow starts no earlier than the latest one.
 after_latest : (rows : List Share) (latest : Option ℕ) (row : Share) → IsLatest rows latest → MayFollow rows row → unwrap_or latest 0 ≤ row.start
 after_latest rows None row at may = omega arith
 after_latest rows (Some start) row at may =
@@ -92,7 +92,7 @@ pub no_earlier : (zone : Zone) (rows : List Share) (fold : FoldState) (latest : 
     → MayFollow rows row → unwrap_or latest 0 ≤ row.start
 no_earlier zone rows fold latest row same taken may = after_latest rows latest row (subst (IsLatest rows) same taken.latest) may
 
--- the days that the sink has in the end are those of the rows
+-- The sink's final days are those of the rows.
 days_by : (failed : Option DayFault) (old new : Ledger) (zone : Zone) (rows : List Share) (fold : FoldState)
     (result : Result (Vec DayTotal Global) Refusal) → new.failures ≡ old.failures → UnlessFailed failed (HasTaken zone rows fold)
     → EndsAs failed fold.accounts result
@@ -105,7 +105,7 @@ days_by (Some fault.Memory) old new zone rows fold (Err why) same added ends =
     subst (IsOutside (Unit {0}) old.failures new.failures) (sym ends) (inr (tt, same))
 days_by (Some fault.Zone) old new zone rows fold (Err why) same added ends = absurd added
 
--- days can be made of those that are asked for
+-- The days of the requested rows can be added up.
 folds_within : (span : Span) (rows : List Share) → CanBeFolded rows → CanBeFolded (rows_within span rows)
 folds_within All rows folds = folds
 folds_within (Between from till) rows folds =

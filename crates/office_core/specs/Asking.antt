@@ -1,4 +1,4 @@
--- How questions are answered, and what they leave.
+-- How the office answers a query, and what a query leaves.
 use Rattle.std.specs.Prelude.{◌≡◌, ◌⊎◌, ◌↔◌, ℕ, ◌<◌, ◌^◌, length, true, List, [], map, Option, Some, None, Result, Ok, Err, MatchResult, IfErr, OnOk, OnErr}
 use Rattle.std.specs.Option.{option_map, option_and_then}
 use Rattle.std.specs.declared.alloc.Global.{Global}
@@ -28,56 +28,57 @@ use Rattle.office_core.specs.Failing.{FailsOutside, IsNotStopped, IsOutside, Mem
 use Rattle.office_core.specs.Standing.{Stands, After, books_in, is_stopped, notes_in, outgoing_in}
 use Rattle.office_core.specs.Taking.{failures_of}
 
--- What is answered where the facts have this, or nothing.
+-- The answer if the records have the row: the row, or not found.
 abbrev pub or_not_found : {T : Type 0} → Option T → Result T Refusal
 or_not_found None = Err refusal.NotFound
 or_not_found (Some found) = Ok found
 
--- what is answered where a look-up gave this
+-- The answer to a lookup with this result.
 abbrev pub answered : {T : Type 0} → Result (Option T) BooksFault → Result T Refusal
 answered (Ok found) = or_not_found found
 answered (Err why) = Err (as_refusal why)
 
--- So a question is answered, and the books did not fail; or it failed outside.
+-- A query's answer: the row or not found, without a failure; or the failure of the store or of
+-- memory.
 abbrev pub IsFound : {T : Type 0} → (takes_memory : Type 0) → Option T → (before after : Failures)
     → Result T Refusal → Type 0
 IsFound takes_memory found before after result =
     ((result ≡ or_not_found found) × (after ≡ before))
     ⊎ FailsOutside takes_memory before after result
 
--- that something is there, whatever it is
+-- Whether a row exists, without its content.
 abbrev pub is_there : {T : Type 0} → Option T → Option (Unit {0})
 is_there found = option_map (λ x. tt) found
 
--- the rows that are there; where there is no list, there are none
+-- The rows of a list; none if the list does not exist.
 abbrev pub rows_in : {T : Type 0} → Option (List T) → List T
 rows_in None = []
 rows_in (Some rows) = rows
 
--- The energy of a meter by quarter hours, where there is a meter of the name.
+-- The energy of a meter by quarter hour, if a meter has the name.
 abbrev pub intervals_of : List Fact → (meter : Option (List ℕ)) → Option (List Share)
 intervals_of facts meter =
     option_map (rows_of_opening facts) (option_and_then (opening_of facts) meter)
 
--- A question for a row takes no memory of the office's own.
+-- The answer to a query for a row. Such a query needs no memory outside the store.
 abbrev pub IsRowFound : {T : Type 0} → Option T → (before after : Failures) → Result T Refusal
     → Type 0
 IsRowFound found before after result = IsFound ⊥ found before after result
 
--- Rows are asked for. What the sink took begins those that are there, and at Ok is all of them.
+-- The answer to a query for rows. The sink took the first of them, and all of them on `Ok`.
 pub record HandsRows {S T : Type 0} (takes : S → T → S → Type 0) (rows : Option (List T))
     (before after : Failures) (from to : S) (result : Result (Unit {0}) Refusal) : Type 0 where
   pub answer : IsRowFound (is_there rows) before after result
   pub begun : TakesFirst takes from (rows_in rows) to
   pub whole : OnOk result (TakesAll takes from (rows_in rows) to)
 
--- These are the days of the register of a name, by the clocks of a zone.
+-- The days of the register with the name, by the clocks of a zone.
 abbrev pub AreDaysNamed : Zone → List Fact → (register : Option (List ℕ)) → List DayAccount → Type 0
 AreDaysNamed zone facts None days = ⊥
 AreDaysNamed zone facts (Some register) days = AreDaysOf zone facts register days
 
--- The sink took the days of a register, one for each civil day on which one of its interval rows begins, in order. A number
--- of 64 bits counts them.
+-- The sink took the days of a register in order: one for each civil day on which an interval row
+-- begins. Their number fits 64 bits.
 pub record TakesDays {S : Type 0} (takes : S → DayTotal → S → Type 0) (zone : Zone)
     (facts : List Fact) (register : Option (List ℕ)) (from to : S) : Type 0 where
   pub days : List DayTotal
@@ -85,8 +86,8 @@ pub record TakesDays {S : Type 0} (takes : S → DayTotal → S → Type 0) (zon
   pub few : length days < 2 ^ 64
   pub took : TakesAll takes from days to
 
--- Days are asked for. The sink took all of them at Ok, and else none. Where there is a register of the name, they take memory
--- of the office's own.
+-- The answer to a query for days. The sink took all of them on `Ok`, and otherwise none. If a
+-- register has the name, the query needs memory outside the store.
 pub record HandsDays {S : Type 0} (takes : S → DayTotal → S → Type 0) (zone : Zone)
     (facts : List Fact) (register : Option (List ℕ)) (before after : Failures) (from to : S)
     (result : Result (Unit {0}) Refusal) : Type 0 where
@@ -95,26 +96,30 @@ pub record HandsDays {S : Type 0} (takes : S → DayTotal → S → Type 0) (zon
   pub whole : OnOk result (TakesDays takes zone facts register from to)
   pub none : OnErr result (to ≡ from)
 
--- Books tell what the facts that they hold say, if no wrong answer of a store was taken as true: a row, rows, or days.
+-- What the store answers to a query for a row, from the records that it holds. This assumes that no
+-- wrong result of a store was taken as true.
 abbrev pub FoundIn : {T : Type 0} → (old new : Ledger) → Result T Refusal → (List Fact → Option T)
     → Type 0
 FoundIn old new result row =
     (known : List Fact) → old.holds known → new.is_clean
     → IsRowFound (row known) old.failures new.failures result
 
+-- The same for a query for rows.
 abbrev pub RowsIn : {S T : Type 0} → (S → T → S → Type 0) → (old new : Ledger) → (from to : S)
     → Result (Unit {0}) Refusal → (List Fact → Option (List T)) → Type 0
 RowsIn takes old new from to result rows =
     (known : List Fact) → old.holds known → new.is_clean
     → HandsRows takes (rows known) old.failures new.failures from to result
 
+-- The same for a query for days.
 abbrev pub DaysIn : {S : Type 0} → (S → DayTotal → S → Type 0) → (old new : Ledger) → (from to : S)
     → Result (Unit {0}) Refusal → (register : Option (List ℕ)) → Type 0
 DaysIn takes old new from to result register =
     (known : List Fact) → AreLawful known → old.holds known → new.is_clean
     → HandsDays takes old.zone known register old.failures new.failures from to result
 
--- the days of those rows of a register that are asked for, as a list, where the facts are lawful; or it failed outside
+-- The days of a register's rows in a span, as a list, if the records are lawful; or a failure of
+-- the store or of memory.
 abbrev pub ListsDays : (old new : Ledger) → (register : List ℕ) → Span
     → Result (Vec DayTotal Global) Refusal → Type 0
 ListsDays old new register span result =
@@ -125,12 +130,13 @@ ListsDays old new register span result =
     × (new.failures ≡ old.failures))
     (IsOutside (Unit {0}) old.failures new.failures)
 
--- So does the office, by the facts of what it accepted.
+-- What the office answers to a query for a row, from the records of the events that it accepted.
 abbrev pub TellsRow : {B T : Type 0} → (B → Ledger) → (old new : Office B) → Result T Refusal
     → (List Fact → Option T) → Type 0
 TellsRow ledger old new result row = After ledger old new (λ past.
     IsRowFound (row (facts_of past)) (failures_of ledger old) (failures_of ledger new) result)
 
+-- The same for a query for rows.
 abbrev pub TellsRows : {B S T : Type 0} → (S → T → S → Type 0) → (B → Ledger)
     → (old new : Office B) → (from to : S) → Result (Unit {0}) Refusal
     → (List Fact → Option (List T)) → Type 0
@@ -138,6 +144,7 @@ TellsRows takes ledger old new from to result rows = After ledger old new (λ pa
     HandsRows takes (rows (facts_of past))
     (failures_of ledger old) (failures_of ledger new) from to result)
 
+-- The same for a query for days.
 abbrev pub TellsDays : {B S : Type 0} → (S → DayTotal → S → Type 0) → (B → Ledger)
     → (old new : Office B) → (from to : S) → Result (Unit {0}) Refusal
     → (register : Option (List ℕ)) → Type 0
@@ -145,18 +152,18 @@ TellsDays takes ledger old new from to result register = After ledger old new (�
     HandsDays takes (ledger (books_in old)).zone (facts_of past) register
     (failures_of ledger old) (failures_of ledger new) from to result)
 
--- Whatever the books hold, the sink took rows and nothing else.
+-- The sink took rows and nothing else. This needs no premise on the store.
 abbrev pub TakesRows : {S T : Type 0} → (S → T → S → Type 0) → (from to : S) → Type 0
 TakesRows {S} {T} takes from to = (rows : List T) × TakesAll takes from rows to
 
--- Of the store's causes, that a row has no civil day is no failure of the books.
+-- A row without a civil day is a cause of the store, but no failure that the store counts.
 abbrev pub CountsCause : (before after : Failures) → StoreCause → Type 0
 CountsCause before after store.NoDay = after ≡ before
 CountsCause before after why = StoreFailed why before after
 
--- A question is refused where nothing is found, the books or memory failed, or the office had stopped, and for no other
--- reason. It tells of the books' failures, and of no others, whatever they hold; days, and the rows of the site, may take memory
--- of the office's own.
+-- The reasons to refuse a query: nothing was found, the store or memory failed, or the office had
+-- stopped. It reports every failure of the store and no other. This needs no premise on the store.
+-- Queries for days and for the site may also need memory outside the store.
 abbrev pub CountsWhy : (before after : Failures) → Refusal → Type 0
 CountsWhy before after refusal.NotFound = after ≡ before
 CountsWhy before after (refusal.Store cause) = CountsCause before after cause
@@ -164,12 +171,13 @@ CountsWhy before after refusal.Memory = MemoryLacked (Unit {0}) before after
 CountsWhy before after refusal.Stopped = after ≡ before
 CountsWhy before after _ = ⊥
 
+-- The result of a query, with the store's failure counts before and after.
 abbrev pub CountsAsked : {T : Type 0} → (before after : Failures) → Result T Refusal → Type 0
 CountsAsked before after (Ok x) = after ≡ before
 CountsAsked before after (Err why) = CountsWhy before after why
 
--- A question leaves the books as they were, whatever they hold: the facts, what a stop may leave, the zone, and that a
--- wrong answer of a store was taken as true.
+-- A query leaves the store unchanged: the records, what a crash may leave, and the zone. A wrong
+-- result that was taken as true stays noted. This needs no premise on the store.
 pub record Asks {T : Type 0} (old new : Ledger) (result : Result T Refusal) : Type 0 where
   pub keeps : KeepsFacts old new
   pub counts : CountsAsked old.failures new.failures result
@@ -177,8 +185,9 @@ pub record Asks {T : Type 0} (old new : Ledger) (result : Result T Refusal) : Ty
   pub clean : new.is_clean → old.is_clean
   pub zone : new.zone ≡ old.zone
 
--- It leaves the office as it was: it stands where it stood, a stop leaves what it left, and it tells and sends what it did.
--- It is refused as stopped exactly where the office had stopped, and stops none.
+-- A query leaves the office unchanged: its state, what a crash leaves, its notifications, and its
+-- bytes to send. The query is refused as stopped exactly if the office had stopped, and stops no
+-- office.
 pub record OnlyAsks {B T : Type 0} (ledger : B → Ledger) (old new : Office B)
     (result : Result T Refusal) : Type 0 where
   pub stands : (past : History) → Stands ledger past old → Stands ledger past new

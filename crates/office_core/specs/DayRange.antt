@@ -1,4 +1,4 @@
--- The days of a register that a range has.
+-- The days of a register that are in a range.
 use Rattle.std.specs.Prelude.{◌≡◌, ℕ, ◌*◌, ◌<◌, ◌^◌, ℤ, pos, negsuc, ◌+ℤ◌, ◌-ℤ◌, length, List, map, filter, Option, Some, None, Result, MatchResult, OnOk, OnErr}
 use Rattle.std.specs.Option.{option_and_then}
 use Rattle.std.specs.declared.alloc.Global.{Global}
@@ -26,34 +26,35 @@ use Rattle.office_core.specs.Failing.{IsOutside}
 use Rattle.office_core.specs.Standing.{After, books_in}
 use Rattle.office_core.specs.Taking.{failures_of}
 
--- Of these days those that the range has, in their order.
+-- Those of the days that are in the range, in their order.
 abbrev pub accounts_within : DayRange → List DayAccount → List DayAccount
 accounts_within range accounts = filter (λ account. has_day range account.day) accounts
 
--- when a day begins by UTC, in seconds since 1970-01-01; earlier days are put there too
+-- The start of a UTC day, in seconds since 1970-01-01 UTC. Earlier days get 0.
 abbrev pub utc_start : ℤ → ℕ
 utc_start (pos n) = n * 86_400
 utc_start (negsuc n) = 0
 
--- The moments around the days from one on and before another: two days more at each end, since the clocks of no zone are so
--- far from UTC. Where an end is open, all.
+-- The timestamps around the days from `from` up to the day before `till`: two more days at each
+-- end, since no UTC offset is larger. All timestamps if an end is open.
 abbrev pub span_between : (from till : Option Date) → Span
 span_between (Some from) (Some till) =
     span.Between (utc_start (epoch_day from -ℤ pos 2)) (utc_start (epoch_day till +ℤ pos 2))
 span_between (Some from) None = span.All
 span_between None till = span.All
 
+-- The timestamps around the days of a range.
 abbrev pub span_of : DayRange → Span
 span_of range = span_between range.from range.till
 
--- These are, of the days of the register of a name, those that the range has.
+-- Those days of the register with the name that are in the range.
 pub record AreDaysWithin (zone : Zone) (facts : List Fact) (register : Option (List ℕ))
     (range : DayRange) (days : List DayAccount) : Type 0 where
   pub all : List DayAccount
   pub are : AreDaysNamed zone facts register all
   pub asked : days ≡ accounts_within range all
 
--- The sink took them, in order. A number of 64 bits counts them.
+-- The sink took the days of the range, in order. Their number fits 64 bits.
 pub record TakesDaysWithin {S : Type 0} (takes : S → DayTotal → S → Type 0) (zone : Zone)
     (facts : List Fact) (register : Option (List ℕ)) (range : DayRange) (before after : S) :
     Type 0 where
@@ -62,7 +63,7 @@ pub record TakesDaysWithin {S : Type 0} (takes : S → DayTotal → S → Type 0
   pub few : length days < 2 ^ 64
   pub took : TakesAll takes before days after
 
--- They are asked for, and answered as all days are.
+-- The answer to a query for the days of a range, as for all days.
 pub record HandsDaysWithin {S : Type 0} (takes : S → DayTotal → S → Type 0) (zone : Zone)
     (facts : List Fact) (register : Option (List ℕ)) (range : DayRange) (old new : Failures)
     (before after : S) (result : Result (Unit {0}) Refusal) : Type 0 where
@@ -71,7 +72,8 @@ pub record HandsDaysWithin {S : Type 0} (takes : S → DayTotal → S → Type 0
   pub whole : OnOk result (TakesDaysWithin takes zone facts register range before after)
   pub none : OnErr result (after ≡ before)
 
--- So books answer of the facts that they hold, if no wrong answer of a store was taken as true,
+-- What the store answers for a range, from the records that it holds. This assumes that no wrong
+-- result of a store was taken as true.
 abbrev pub DaysWithinIn : {S : Type 0} → (S → DayTotal → S → Type 0) → (old new : Ledger)
     → (before after : S) → Result (Unit {0}) Refusal → (register : Option (List ℕ))
     → DayRange → Type 0
@@ -80,7 +82,7 @@ DaysWithinIn takes old new before after result register range =
     → HandsDaysWithin takes old.zone known register range old.failures new.failures
     before after result
 
--- as a list, where the register is recorded,
+-- The same as a list, for a recorded register.
 abbrev pub ListsDaysWithin : (old new : Ledger) → (register : List ℕ) → DayRange
     → Result (Vec DayTotal Global) Refusal → Type 0
 ListsDaysWithin old new register range result =
@@ -90,7 +92,7 @@ ListsDaysWithin old new register range result =
     × (new.failures ≡ old.failures))
     (IsOutside (Unit {0}) old.failures new.failures)
 
--- and so does the office, of what it accepted.
+-- What the office answers for a range, from the records of the events that it accepted.
 abbrev pub TellsDaysWithin : {B S : Type 0} → (S → DayTotal → S → Type 0) → (B → Ledger)
     → (old new : Office B) → (before after : S) → Result (Unit {0}) Refusal
     → (register : Option (List ℕ)) → DayRange → Type 0

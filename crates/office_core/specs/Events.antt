@@ -1,9 +1,9 @@
--- Events of devices, such as may settle polls, and such as ask a command.
+-- Events of devices, events that may settle polls, and events that request a command.
 use Rattle.std.specs.Prelude.{Bool, true, false}
 use Rattle.office_events.specs.declared.events.Event.{Event}
 use Rattle.office_events.specs.declared.events.Event.TheVariants as event
 
--- the event asks a command
+-- The event requests a command.
 abbrev pub is_command : Event → Bool
 is_command (event.Connected given) = false
 is_command (event.Bytes given piece) = false
@@ -12,7 +12,8 @@ is_command (event.Gone given closing) = false
 is_command (event.Command c) = true
 is_command (event.Asked asked) = true
 
--- The event may settle polls: time goes on, or a device sends or ends something. That it connects settles none.
+-- The event may settle polls: time passes, a device sends, or a connection ends. A new connection
+-- settles none.
 abbrev pub may_settle : Event → Bool
 may_settle (event.Connected given) = false
 may_settle (event.Bytes given piece) = true

@@ -1,11 +1,12 @@
 -- The headline, word for word:
 --
---   "Over every list of device bytes, silences and office commands, each started poll has exactly one recorded outcome
---   or is pending, and each installed meter's booked energy over all intervals is its last accepted reading less its
---   first, plus one full range for each recorded rollover and the recorded differences of its resets and rescalings."
+--   "Over every list of device bytes, silences and office commands, each started poll has exactly
+--   one recorded outcome or is pending, and each installed meter's booked energy over all intervals
+--   is its last accepted reading less its first, plus one full range for each recorded rollover and
+--   the recorded differences of its resets and rescalings."
 --
--- Here it is said of a history: what was accepted of such a list. Energy is in mWh. A reading counts where it stands: one
--- that was voided is none, and leaves no trace.
+-- The definitions state it of a history: what was accepted of such a list. Energy is in mWh. Only
+-- valid readings count: a voided reading is none, and leaves no trace.
 use Rattle.std.specs.Prelude.{◌≡◌, ℕ, ◌+◌, ◌*◌, ℤ, pos, ◌+ℤ◌, ◌-ℤ◌, List, [], ◌∷◌, All, sum_by}
 use Rattle.energy_core.specs.declared.entries.Last.{Last}
 use Rattle.energy_core.specs.declared.entries.Entry.{Entry}
@@ -20,23 +21,23 @@ use Rattle.office_rules.specs.Intervals.{rows_of_opening}
 use Rattle.office_rules.specs.History.{History, facts_of}
 use Rattle.office_rules.specs.Endings.{EndsOnce}
 
--- "booked energy over all intervals": the sum of the meter's interval rows
+-- "booked energy over all intervals": the sum of the meter's interval rows.
 abbrev pub energy_booked : List Fact → Opening → ℕ
 energy_booked facts meter = sum_by (λ row. row.mwh) (rows_of_opening facts meter)
 
--- "its first" accepted reading: what the counter showed when the meter was installed
+-- "its first" accepted reading: what the counter showed when the meter was installed.
 abbrev pub first_reading : Opening → Last
 first_reading meter = opened meter
 
--- "its last accepted reading": what it showed, or was set to, at the latest of its entries that stand
+-- "its last accepted reading": what the counter showed, or was set to, at its latest valid entry.
 abbrev pub last_reading : List Fact → Opening → Last
 last_reading facts meter = last_of (first_reading meter) (entries_of facts meter)
 
--- a reading is valued at its own scale
+-- The value of a reading, at its own scale.
 abbrev pub value : Last → ℤ
 value reading = pos (value_of reading)
 
--- "one full range for each recorded rollover", at the scale at which the counter turned over
+-- "one full range for each recorded rollover", at the scale at which the counter turned over.
 abbrev pub full_ranges : (range : ℕ) → (first : Last) → List Entry → ℕ
 full_ranges range first [] = 0
 full_ranges range first (entry.Step at raw rolls ∷ earlier) =
@@ -44,8 +45,8 @@ full_ranges range first (entry.Step at raw rolls ∷ earlier) =
 full_ranges range first (entry.Change at before after sf ∷ earlier) =
     full_ranges range first earlier
 
--- "the recorded differences of its resets and rescalings": what the counter showed before each, less what it was set
--- to, each at its own scale
+-- "the recorded differences of its resets and rescalings": what the counter showed before each,
+-- less what it was set to, each at its own scale.
 abbrev pub differences : (first : Last) → List Entry → ℤ
 differences first [] = pos 0
 differences first (entry.Step at raw rolls ∷ earlier) = differences first earlier
@@ -53,7 +54,8 @@ differences first (entry.Change at before after sf ∷ earlier) =
     pos (before * unit_of (last_of first earlier).sf) -ℤ pos (after * unit_of sf)
     +ℤ differences first earlier
 
--- The booked energy of a meter is its last accepted reading less its first, plus the full ranges, and the differences.
+-- The booked energy of a meter is its last accepted reading less its first, plus the full ranges
+-- and the differences.
 abbrev pub AddsUp : List Fact → Opening → Type 0
 AddsUp facts meter =
     pos (energy_booked facts meter)
@@ -61,7 +63,8 @@ AddsUp facts meter =
     +ℤ pos (full_ranges meter.range (first_reading meter) (entries_of facts meter))
     +ℤ differences (first_reading meter) (entries_of facts meter)
 
--- Each started poll has exactly one recorded outcome or is pending, and each installed meter's booked energy adds up.
+-- Each started poll has exactly one recorded outcome or is pending, and each installed meter's
+-- booked energy adds up.
 pub record HeadlineHolds (history : History) : Type 0 where
   pub polls : All (EndsOnce history) (polls_in (facts_of history))
   pub meters : All (AddsUp (facts_of history)) (openings_in (facts_of history))

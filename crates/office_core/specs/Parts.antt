@@ -1,5 +1,5 @@
--- Questions for a part of what there is: the quarter hours of a span, the held readings of one, entries from a place on, the
--- meters at a register.
+-- Queries for a part: the quarter hours and rejected readings in a span, entries from an index on,
+-- and the meters at a register.
 use Rattle.std.specs.Prelude.{◌≡◌, ◌⊎◌, ℕ, List, Option, Some, None, Result, Ok, Err}
 use Rattle.std.specs.Option.{option_map, option_and_then}
 use Rattle.std.specs.declared.alloc.Global.{Global}
@@ -25,35 +25,38 @@ use Rattle.office_core.specs.Failing.{IsOutside}
 use Rattle.office_core.specs.Standing.{After}
 use Rattle.office_core.specs.Taking.{failures_of}
 
--- The rows of a meter whose quarter hours are asked for, where there is a meter of the name.
+-- The interval rows of a meter in a span, if a meter has the name.
 abbrev pub intervals_within : List Fact → (meter : Option (List ℕ)) → Span → Option (List Share)
 intervals_within facts meter span = option_map (rows_within span) (intervals_of facts meter)
 
--- Its readings that were held, those whose moments are asked for, in the order in which they were recorded.
+-- The rejected readings of a meter with timestamps in a span, in the order in which they were
+-- recorded.
 abbrev pub holds_at : List Fact → (meter : List ℕ) → Span → Option (List HeldReading)
 holds_at facts meter span =
     option_map (λ opening. holds_within span (holds_of facts meter)) (opening_of facts meter)
 
+-- The same by a name, which may be invalid.
 abbrev pub holds_named : List Fact → (meter : Option (List ℕ)) → Span → Option (List HeldReading)
 holds_named facts meter span = option_and_then (λ name. holds_at facts name span) meter
 
--- Its entries from a place on, at most so many.
+-- At most `most` entries of a meter from index `from` on.
 abbrev pub entries_within : List Fact → (meter : Option (List ℕ)) → (from most : ℕ)
     → Option (List MeterEntry)
 entries_within facts meter from most =
     option_map (λ opening. first_from from most (entries_at facts (Some opening)))
     (option_and_then (opening_of facts) meter)
 
--- The installations at a register, where there is a register of the name.
+-- The installations at a register, if a register has the name.
 abbrev pub meters_at : List Fact → (register : List ℕ) → Option (List Installation)
 meters_at facts register =
     option_map (λ row. installations_of facts register) (register_of facts register)
 
+-- The same by a name, which may be invalid.
 abbrev pub meters_named : List Fact → (register : Option (List ℕ)) → Option (List Installation)
 meters_named facts register = option_and_then (meters_at facts) register
 
--- The answer has these rows, and the books did not fail; where there is nothing of the name, that is told; or the books failed,
--- or memory ran out there.
+-- The answer has these rows, and the store did not fail. If nothing has the name, the answer is not
+-- found. Otherwise the store failed or ran out of memory.
 abbrev pub IsListed : {T : Type 0} → Option (List T) → (before after : Failures)
     → Result (Vec T Global) Refusal → Type 0
 IsListed rows before after (Ok listed) = (rows ≡ Some listed.items) × (after ≡ before)
@@ -61,13 +64,14 @@ IsListed None before after (Err why) =
     ((why ≡ refusal.NotFound) × (after ≡ before)) ⊎ IsOutside ⊥ before after why
 IsListed (Some rows) before after (Err why) = IsOutside ⊥ before after why
 
--- So books answer of the facts that they hold, if no wrong answer of a store was taken as true,
+-- What the store answers, from the records that it holds. This assumes that no wrong result of a
+-- store was taken as true.
 abbrev pub ListsIn : {T : Type 0} → (old new : Ledger) → Result (Vec T Global) Refusal
     → (List Fact → Option (List T)) → Type 0
 ListsIn old new result rows = (known : List Fact) → old.holds known → new.is_clean
     → IsListed (rows known) old.failures new.failures result
 
--- and so does the office, of what it accepted.
+-- What the office answers, from the records of the events that it accepted.
 abbrev pub ListsAccepted : {B T : Type 0} → (B → Ledger) → (old new : Office B)
     → Result (Vec T Global) Refusal → (List Fact → Option (List T)) → Type 0
 ListsAccepted ledger old new result rows = After ledger old new (λ past.

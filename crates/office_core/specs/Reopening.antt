@@ -1,4 +1,4 @@
--- What the opening of an office over books leaves.
+-- What the opening of an office leaves of its store.
 use Rattle.std.specs.Prelude.{◌≡◌, ◌⊎◌, ℕ, max, List, ◌∷◌, None, Some, Result, Ok, Err, IfErr}
 use Rattle.std.specs.declared.alloc.Global.{Global}
 use Rattle.std.specs.declared.vec.Vec.{Vec}
@@ -14,9 +14,11 @@ use Rattle.office_core.specs.declared.office.Office.{Office}
 use Rattle.office_core.specs.Leaving.{BooksStand, Leaves, LeftByOpening}
 use Rattle.office_core.specs.Standing.{books_in}
 
--- An opening is refused as its definition says, or it failed outside, and takes memory of its own only where nothing speaks
--- against it; the books stand as they did. A stop then leaves
--- what it left, or, where the opening failed, also the facts with all that it would have recorded.
+-- An opening is refused by its definition, or it failed outside; the store's records are unchanged.
+-- The opening needs memory outside the store only if no reason applies against it.
+--
+-- A crash then leaves what it left before. If the opening failed, a crash may also leave the
+-- records with all that the opening would have recorded.
 pub record IsNotOpened (past : History) (at : ℕ) (old new : Ledger) (why : Refusal) : Type 0 where
   pub books : BooksStand new past
   pub leaves : Leaves old new (LeftByOpening {T = Unit {0}} past at (Err why))
@@ -24,37 +26,41 @@ pub record IsNotOpened (past : History) (at : ℕ) (old new : Ledger) (why : Ref
       ((opening_refusal_of (facts_of past) at ≡ Some why) × (new.failures ≡ old.failures))
       ⊎ IsOutside (opening_refusal_of (facts_of past) at ≡ None) old.failures new.failures why
 
--- So it is of books that are handed back with the reason, if no wrong answer of a store was taken as true.
+-- The caller gets the store of a refused opening back, if no wrong result of a store was taken as
+-- true.
 abbrev pub HandsBackUnopened : {B : Type 0} → (B → Ledger) → (books : B) → (at : ℕ) → History
     → B × Refusal → Type 0
 HandsBackUnopened ledger books at past back =
     (ledger back.0).is_clean → IsNotOpened past at (ledger books) (ledger back.0) back.1
 
--- A stop that comes after an opening leaves the facts with what it recorded; where it recorded nothing, what it left before.
+-- A crash after an opening leaves the records with those of the opening. If it recorded nothing, a
+-- crash leaves what it left before.
 abbrev pub LeavesOpening : {B : Type 0} → (B → Ledger) → (books : B) → (at : ℕ) → History
     → Office B → Type 0
 LeavesOpening ledger books at past office = (ledger (books_in office)).is_clean
     → Leaves (ledger books) (ledger (books_in office)) (LeftByOpening past at (Ok office))
 
--- The moment at which an office is opened to be asked: the one that is given, or the latest that is recorded where that is later.
+-- The timestamp of an opening for queries: the given one, or the latest recorded one if that is
+-- later.
 abbrev pub asking_moment : History → (given : ℕ) → ℕ
 asking_moment past given = max given (latest_in (facts_of past))
 
--- The books stand after the opening, and there is a slot for each device.
+-- The store is in the state after the opening, and each device has a slot.
 pub record IsReopened (past : History) (at : ℕ) (old new : Ledger) (slots : List Slot) :
     Type 0 where
   pub books : BooksStand new (Opened at ∷ past)
   pub leaves : Leaves old new (LeftByOpening past at (Ok slots))
   pub keeps : KeepsSlots slots (slots_of (Opened at ∷ past))
 
+-- The office is opened, or it is not.
 abbrev pub Reopens : History → (at : ℕ) → (old new : Ledger) → Result (Vec Slot Global) Refusal
     → Type 0
 Reopens past at old new (Ok slots) = IsReopened past at old new slots.items
 Reopens past at old new (Err why) = IsNotOpened past at old new why
 
--- Whatever the books hold: their failures are told, and no others; a wrong answer of a store that was taken
--- as true stays one, and so does the zone. It isn't refused since an office had stopped, nor since a row has no civil
--- day.
+-- Properties of an opening that need no premise on the store. It reports the store's failures and
+-- no others. A wrong result that was taken as true stays noted, and the zone stays. No refusal says
+-- that an office had stopped, or that a row has no civil day.
 pub record Passed {T : Type 0} (old new : Ledger) (result : Result T Refusal) : Type 0 where
   pub counts : CountsFailures old.failures new.failures result
   pub clean : new.is_clean → old.is_clean

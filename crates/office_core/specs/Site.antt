@@ -1,4 +1,4 @@
--- What the office answers to the question which registers and meters there are.
+-- The office's answer to the query for all registers and meters.
 use Rattle.std.specs.Prelude.{◌≡◌, List, ◌++◌, map, reverse, Result, MatchResult, OnOk}
 use Rattle.std.specs.List.{flat_map}
 use Rattle.std.specs.declared.alloc.Global.{Global}
@@ -18,44 +18,48 @@ use Rattle.office_core.specs.Failing.{IsOutside}
 use Rattle.office_core.specs.Standing.{After}
 use Rattle.office_core.specs.Taking.{failures_of}
 
--- a register, and the latest installation at it, if there is any
+-- A register with the latest installation at it, if any.
 abbrev pub row_at : List Fact → Register → SiteRow
 row_at facts register =
     record { register = register; meter = installation_at facts register.name }
 
--- the registers of a device, in the order in which they were added
+-- The rows of some registers.
 abbrev pub rows_at : List Fact → List Register → List SiteRow
 rows_at facts registers = map (row_at facts) registers
 
+-- The rows of a device's registers, in the order in which they were added.
 abbrev pub rows_of : List Fact → Device → List SiteRow
 rows_of facts device = rows_at facts (registers_of facts device.name)
 
+-- The rows of several devices.
 abbrev pub rows_of_all : List Fact → List Device → List SiteRow
 rows_of_all facts devices = flat_map (rows_of facts) devices
 
--- all of them, the devices in the order in which they were added
+-- All registers, with the devices in the order in which they were added.
 abbrev pub site_of : List Fact → List SiteRow
 site_of facts = rows_of_all facts (reverse (devices_in facts))
 
--- The answer has all rows, and the books did not fail; or it failed outside. The rows take memory of the office's own.
+-- The answer has all rows, and the store did not fail; or it failed outside. The rows need memory
+-- outside the store.
 abbrev pub IsSite : List Fact → (before after : Failures) → Result (Vec SiteRow Global) Refusal
     → Type 0
 IsSite facts before after result = MatchResult result
     (λ rows. (rows.items ≡ site_of facts) × (after ≡ before))
     (IsOutside (Unit {0}) before after)
 
--- Books tell it of the facts that they hold, if no wrong answer of a store was taken as true,
+-- What the store answers, from the records that it holds. This assumes that no wrong result of a
+-- store was taken as true.
 abbrev pub SiteIn : (old new : Ledger) → Result (Vec SiteRow Global) Refusal → Type 0
 SiteIn old new result = (known : List Fact) → old.holds known → new.is_clean
     → IsSite known old.failures new.failures result
 
--- and so does the office, of what it accepted.
+-- What the office answers, from the records of the events that it accepted.
 abbrev pub TellsSite : {B : Type 0} → (B → Ledger) → (old new : Office B)
     → Result (Vec SiteRow Global) Refusal → Type 0
 TellsSite ledger old new result = After ledger old new (λ past.
     IsSite (facts_of past) (failures_of ledger old) (failures_of ledger new) result)
 
--- The rows that are added are those that the facts say.
+-- The added rows are those that the records give.
 abbrev pub AddsRows : {T E : Type 0} → (old new : Ledger) → (List Fact → List SiteRow)
     → (before after : List SiteRow) → Result T E → Type 0
 AddsRows old new says before after result = (known : List Fact) → old.holds known → new.is_clean

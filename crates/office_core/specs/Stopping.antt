@@ -1,5 +1,5 @@
--- What a stop leaves after a run, in one sentence: all that was acknowledged, with or without one event, whole, that
--- failed after the last that recorded a fact.
+-- What a crash leaves after a run, in one sentence: the records of all acknowledged events, with or
+-- without one complete event that failed after the last event with a record.
 use Rattle.std.specs.Prelude.{◌≡◌, ◌⊎◌, ℕ, true, List, [], ◌∷◌, All, Contains}
 use Rattle.office_events.specs.declared.facts.Fact.{Fact}
 use Rattle.office_rules.specs.History.{History, Opened, Fed, facts_of}
@@ -8,8 +8,8 @@ use Rattle.office_rules.specs.Lawfulness.{IsPast}
 use Rattle.office_core.specs.Failing.{is_failure}
 use Rattle.office_core.specs.EventRun.{Answered, LeftByRun, LeftInTurn, history_after}
 
--- The event was answered 13 or 14, though nothing spoke against it; none of those after it recorded a fact; and these are
--- the facts with all of it.
+-- The event was answered 13 or 14, though no reason applied against it. None of the later events
+-- made a record. The facts are the records with all of the event.
 pub record IsWithFailed (past : History) (fed : Answered) (later : List Answered)
     (facts : List Fact) : Type 0 where
   pub failed : is_failure fed.result ≡ true
@@ -17,24 +17,24 @@ pub record IsWithFailed (past : History) (fed : Answered) (later : List Answered
   pub none_later : facts_of (history_after past (fed ∷ later)) ≡ facts_of past
   pub are : facts ≡ facts_of (Fed fed.at fed.event ∷ past)
 
--- So it is of one of these events.
+-- The same for some one of the events.
 abbrev pub AreWithFailed : History → List Answered → List Fact → Type 0
 AreWithFailed past [] facts = ⊥
 AreWithFailed past (fed ∷ later) facts =
     IsWithFailed past fed later facts
     ⊎ AreWithFailed (with_answer past fed.at fed.event fed.result) later facts
 
--- the facts of all that was acknowledged, with or without those of one event that failed
+-- The records of all acknowledged events, with or without those of one event that failed.
 abbrev pub AreOfEvents : History → List Answered → List Fact → Type 0
 AreOfEvents past fed facts =
     (facts ≡ facts_of (history_after past fed)) ⊎ AreWithFailed past fed facts
 
--- no fact was recorded since, and a stop might have left these before
+-- Nothing was recorded since, and a crash might have left these records earlier.
 abbrev pub AreOfBefore : (past later : History) → (before : List (List Fact)) → List Fact → Type 0
 AreOfBefore past later before facts = (facts_of later ≡ facts_of past) × Contains before facts
 
--- Each list that a stop leaves after events is of these events; where none of them recorded a fact, it may be of those
--- before them.
+-- Each list that a crash leaves after events is of these events. If none of them made a record, it
+-- may be of those before them.
 abbrev pub EventsAreLeftWhole : Type 0
 EventsAreLeftWhole =
     (past : History) (fed : List Answered) (before after : List (List Fact))
@@ -42,7 +42,7 @@ EventsAreLeftWhole =
     → All (λ facts. AreOfEvents past fed facts
     ⊎ AreOfBefore past (history_after past fed) before facts) after
 
--- The same of a run, which is opened first.
+-- The same for a run, which begins with an opening.
 abbrev pub RunsAreLeftWhole : Type 0
 RunsAreLeftWhole =
     (past : History) (opened : ℕ) (fed : List Answered) (before after : List (List Fact))

@@ -1,4 +1,4 @@
-//! The days of a range, and the quarter hours among which theirs are.
+//! Filters the days of a range, and finds the span of quarter hours that contains them.
 ghost use Rattle.std.specs.Prelude.{◌≡◌, ℕ, true, pos, ◌+ℤ◌, ◌-ℤ◌};
 ghost use Rattle.jiff.specs.Words.{epoch_day};
 ghost use Rattle.interval_core.specs.Ranges.{days_in, has_day};
@@ -11,38 +11,38 @@ ghost use Rattle.office_core.specs.DayRange.{span_of, utc_start};
 use interval_core::{Day, DayRange, DayTotal};
 use office_books::Span;
 
-/// The clocks of no zone are so many days from UTC.
+/// No UTC offset exceeds this number of days.
 const MARGIN: i32 = 2;
 
-/// Drops the days that the range hasn't.
+/// Removes the days that are outside the range.
 pub fn keep_within(days: &mut Vec<DayTotal>, range: &DayRange)
     ensures { days.new.items ≡ days_in range.now days.old.items }
 {
     days.retain(|total| range.has(total.day));
 }
 
-/// When a day begins by UTC.
+/// The start of a UTC day, in seconds since 1970-01-01 UTC; 0 for earlier days.
 fn begin_of(day: i32) -> u64
     ensures { result ≡ utc_start day }
 {
     if day < 0 { 0 } else { day as u64 * 86_400 }
 }
 
-/// A moment before this one is on no day from this one on.
+/// No timestamp before this one falls on `day` or a later day, in any zone.
 fn earliest(day: Day) -> u64
     ensures { result ≡ utc_start (epoch_day day -ℤ pos 2) }
 {
     begin_of(day.to_plain().to_unix_epoch_day() - MARGIN)
 }
 
-/// From this moment on none is on a day before this one.
+/// No timestamp from this one on falls on a day before `day`, in any zone.
 fn latest(day: Day) -> u64
     ensures { result ≡ utc_start (epoch_day day +ℤ pos 2) }
 {
     begin_of(day.to_plain().to_unix_epoch_day() + MARGIN)
 }
 
-/// The moments around the days from one on and before another; where an end is open, all.
+/// The timestamps around the days from `from` up to the day before `till`; all if an end is open.
 fn span_between(from: Option<Day>, till: Option<Day>) -> Span
     ensures { result ≡ range.span_between from till }
 {
@@ -58,8 +58,10 @@ fn span_between(from: Option<Day>, till: Option<Day>) -> Span
     }
 }
 
-/// A span that has each quarter hour whose day the range has, whatever the zone. Of a range with both its ends it has no more
-/// than two days more at each end; where an end is open, it is all.
+/// Returns a span that contains each quarter hour whose day is in the range, in every zone.
+///
+/// For a range with both ends the span has at most two more days at each end. For a range with an
+/// open end it is `Span::All`.
 pub fn span_around(range: DayRange) -> Span
     ensures span { result ≡ span_of range }
     ensures around { (zone : Zone) (start : ℕ) → has_day range (day_at zone start) ≡ true

@@ -1,4 +1,4 @@
-//! A sink that adds interval rows up to civil days.
+//! A sink that adds up interval rows by civil day.
 ghost use Rattle.std.specs.Prelude.{◌≡◌};
 ghost use Rattle.std.proofs.Props.{props};
 
@@ -7,7 +7,8 @@ use office_books::RowSink;
 use office_events::{Refusal, StoreCause};
 use std::alloc::Global;
 
-/// Adds interval rows up to days as they come. It keeps its first failure, and drops the rows that come after it.
+/// Adds up interval rows by civil day as they arrive. The sink keeps its first failure and drops
+/// all later rows.
 #[derive(Drop)]
 pub struct DaySink {
     zone: Zone,
@@ -22,7 +23,7 @@ impl DaySink {
     ghost use Rattle.interval_core.specs.Fold.{HasTaken};
     ghost use Rattle.office_core.specs.DaySums.{AddsRow, EndsAs};
 
-    /// No rows yet. No memory is taken.
+    /// Creates a sink without rows. The call allocates no memory.
     pub fn new(alloc: Global, zone: Zone) -> DaySink
         ensures zone { result.zone ≡ zone }
         ensures works { result.fault ≡ None }
@@ -36,7 +37,8 @@ impl DaySink {
         }
     }
 
-    /// Adds a row up. One that starts before another, or past the last moment, has no day.
+    /// Adds a row. A row that starts before an earlier row, or after the last timestamp, has no
+    /// day.
     fn add(&mut self, row: Share)
         requires works { self.old.fault ≡ None }
         ensures { AddsRow self.old row self.new }
@@ -51,7 +53,7 @@ impl DaySink {
         }
     }
 
-    /// The days, in order, or what failed first.
+    /// Returns the days in order, or the first failure.
     pub fn into_days(self) -> Result<Vec<DayTotal>, Refusal>
         ensures { EndsAs self.fault self.fold.accounts result }
     {

@@ -1,4 +1,4 @@
-//! How an event is decided before anything is done.
+//! Decides on an event before anything is executed.
 ghost use Rattle.std.specs.Prelude.{◌≡◌, None, false, IfOk, IfSome};
 ghost use Rattle.office_rules.specs.Sessions.{command_in};
 ghost use Rattle.office_booking.specs.Sessions.Places.{AsksOnSlot};
@@ -14,7 +14,7 @@ use office_booking::{Slot, puts_planned};
 use office_books::{Books, BooksFault};
 use office_events::{Answer, Event, Refusal};
 
-/// Whether an event asks a command.
+/// Returns whether the event requests a command.
 pub fn is_command(event: &Event) -> bool
     ensures { result ≡ events.is_command event.now }
 {
@@ -42,21 +42,21 @@ fn may_settle(event: &Event) -> bool
     }
 }
 
-/// Whether the books or memory failed.
+/// Whether the store or memory failed.
 fn is_failure(given: &Result<Answer, Refusal>) -> bool
     ensures { result ≡ failing.is_failure given.now }
 {
     matches!(given, Err(Refusal::Store(_)) | Err(Refusal::Memory))
 }
 
-/// Whether an office stops that answers an event so.
+/// Returns whether the office stops after this answer to the event.
 pub fn stops(event: &Event, given: &Result<Answer, Refusal>) -> bool
     ensures { result ≡ failing.stops event.now given.now }
 {
     may_settle(event) && is_failure(given)
 }
 
-/// That a list that an event puts is planned.
+/// Proves that the point list in an event, if any, is planned.
 pub fn asks_planned(event: &Event)
     ensures { PutsPlanned (command_in event.now) }
 {
@@ -70,7 +70,7 @@ pub fn asks_planned(event: &Event)
     }
 }
 
-/// What an event is answered that was asked before, or is refused; `None` where it is accepted.
+/// Returns the answer to an event that is a retry or is refused; `None` if the event is accepted.
 pub fn decide<B: Books>(
     books: &mut B,
     slots: &[Slot],

@@ -1,4 +1,4 @@
-//! A run of events.
+//! Runs a list of events over a store.
 ghost use Rattle.std.specs.Prelude.{◌∷◌, Err, IfOk, IfErr};
 ghost use Rattle.office_rules.specs.History.{History, Opened};
 ghost use Rattle.office_core.specs.Leaving.{BooksStand};
@@ -13,10 +13,12 @@ use office_events::{Event, Refusal};
 use office_rules::books_are_true;
 use std::alloc::Global;
 
-/// Opens an office over books and feeds it events, each at its moment. Whatever events come, each has its answer, what
-/// the books hold in the end is what the accepted ones leave, and of this the headline holds. Room for all answers is
-/// made first, and then the office is opened; where one of these fails, the books are handed back. Moments are seconds
-/// since 1970-01-01 UTC.
+/// Opens an office over a store and feeds it events, each at its timestamp.
+///
+/// Timestamps are in seconds since 1970-01-01 UTC. Each event has one answer. In the end the store
+/// holds the records of the accepted events, and the headline holds for them. This assumes that no
+/// wrong result of the store was taken as true. The run allocates all answers first, and then opens
+/// the office. If either step fails, the caller gets the store back.
 pub fn run<B: Books>(
     alloc: Global,
     books: B,

@@ -1,14 +1,16 @@
-//! Laws of what an office leaves.
+//! Theorems on what a crash leaves of the store.
 ghost use Rattle.office_core.specs.Stopping.{EventsAreLeftWhole, RunsAreLeftWhole};
 
-/// What a stop leaves after events is the facts of all that was acknowledged, with or without those of one event, whole,
-/// that was answered 13 or 14 after the last that recorded a fact. Where none recorded one, it may be what a stop would
-/// have left before them.
+/// After a crash the store holds the records of all acknowledged events.
+///
+/// It may also hold, complete, one event that was answered 13 or 14 after the last event with a
+/// record. If no event recorded anything, the store may also hold what a crash would have left
+/// before the events.
 pub fn events_are_left_whole()
     ensures { EventsAreLeftWhole }
 {}
 
-/// So it is of a run.
+/// The same theorem for a run, which begins with an opening.
 pub fn runs_are_left_whole()
     ensures { RunsAreLeftWhole }
 {}

@@ -1,4 +1,4 @@
-//! The office: it takes events, polls devices, and books what their meters tell.
+//! The office: accepts events, polls devices, and records the energy of their meters.
 #![tactic(auto)]
 
 mod day_range;

@@ -1,4 +1,4 @@
-//! The office.
+//! The office: its opening, its events and its queries.
 ghost use Rattle.std.specs.Prelude.{◌≡◌, ◌≤◌, ◌∷◌, true, false, None, Ok, Err};
 ghost use Rattle.std.specs.Prelude.{IfOk, IfErr, MatchResult};
 ghost use Rattle.std.specs.Option.{option_and_then};
@@ -41,7 +41,7 @@ use office_events::{
 use office_rules::facts_are_lawful;
 use std::alloc::Global;
 
-/// An office: it takes events, polls devices, and books what their meters tell.
+/// An office: accepts events, polls devices, and records the energy of their meters.
 #[derive(Drop)]
 pub struct Office<B: Books> {
     alloc: Global,
@@ -54,8 +54,10 @@ pub struct Office<B: Books> {
 }
 
 impl<B: Books> Office<B> {
-    /// Opens an office over books; each poll that has no outcome is lost, and no device is connected. A refusal hands
-    /// the books back. Moments are seconds since 1970-01-01 UTC.
+    /// Opens an office over a store, at a timestamp in seconds since 1970-01-01 UTC.
+    ///
+    /// Each poll without an outcome is recorded as lost, and no device is connected. On a refusal
+    /// the caller gets the store back.
     pub fn open(alloc: Global, mut books: B, moment: u64) -> Result<Office<B>, (B, Refusal)>
         ensures opened { (past : History) → BooksStand (B.ledger books) past
             → IfOk result (StandsIfClean B.ledger (Opened moment ∷ past)) }
@@ -82,8 +84,10 @@ impl<B: Books> Office<B> {
         }
     }
 
-    /// Opens an office that is to be asked: at a moment, or at the latest that the books hold where that is later, since
-    /// questions need no clock. In all else it is an opening as any other: polls that wait are lost.
+    /// Opens an office for queries, at `moment` or at the latest timestamp in the store, whichever
+    /// is later.
+    ///
+    /// Queries need no clock. Otherwise this is an opening like any other: pending polls are lost.
     pub fn open_to_ask(alloc: Global, mut books: B, moment: u64) -> Result<Office<B>, (B, Refusal)>
         ensures opened { (past : History) → BooksStand (B.ledger books) past
             → IfOk result (StandsIfClean B.ledger (Opened (asking_moment past moment) ∷ past)) }
@@ -102,7 +106,7 @@ impl<B: Books> Office<B> {
         }
     }
 
-    /// Settles an event of a device that is accepted.
+    /// Settles an accepted event of a device.
     fn settle(&mut self, moment: u64, event: &Event) -> Result<Answer, Refusal>
         requires settling { events.is_command event.now ≡ false }
         requires limit { moment ≤ moment_limit }
@@ -122,7 +126,7 @@ impl<B: Books> Office<B> {
         }
     }
 
-    /// Carries out a command that is accepted.
+    /// Executes an accepted command.
     fn obey(&mut self, moment: u64, event: &Event) -> Result<Answer, Refusal>
         requires asks { events.is_command event.now ≡ true }
         requires range { AsksInRange moment (command_in event.now) }
@@ -141,7 +145,8 @@ impl<B: Books> Office<B> {
         }
     }
 
-    /// Takes an event while the office goes on: it is answered by what was kept, refused, settled or carried out.
+    /// Processes an event while the office is running: answers a retry, refuses the event, settles
+    /// polls, or executes a command.
     fn take(&mut self, moment: u64, event: &Event) -> Result<Answer, Refusal>
         ensures takes { TakesAny B.ledger moment event.now self.old self.new result }
         ensures quiet { (past : History) → MayTake B.ledger past event.now self.old
@@ -161,10 +166,12 @@ impl<B: Books> Office<B> {
         }
     }
 
-    /// Takes an event. A refused one changes nothing, save that nothing is told and nothing wants to be sent; so does a
-    /// request that was asked before. Where the books or memory fail while polls are settled, the office stops, and refuses
-    /// whatever comes until it is opened again. An event of a device that is refused, or settles no poll, takes no memory
-    /// and asks no books. Moments are seconds since 1970-01-01 UTC.
+    /// Processes an event at a timestamp, in seconds since 1970-01-01 UTC.
+    ///
+    /// A refused event and a retry change nothing, except that they clear `notes` and `outgoing`.
+    /// If the store or memory fails while polls are settled, the office stops: it refuses every
+    /// event until it is opened again. A device event that is refused, or that settles no poll,
+    /// makes no query of the store and needs no memory.
     pub fn feed(&mut self, moment: u64, event: &Event) -> Result<Answer, Refusal>
         ensures answers { After B.ledger self.old self.new
             (AnswersEvent B.ledger moment event.now self.old self.new result) }
@@ -190,7 +197,7 @@ impl<B: Books> Office<B> {
         answer
     }
 
-    /// The device of a name. `None` is a name that no device can have.
+    /// Returns the device with the name. `None` is a name that no device can have.
     pub fn device(&mut self, name: &Option<Name>) -> Result<Device, Refusal>
         ensures found { TellsRow B.ledger self.old self.new result
             (λ facts. option_and_then (device_of facts) name.now) }
@@ -203,7 +210,7 @@ impl<B: Books> Office<B> {
         questions::device(&mut self.books, name)
     }
 
-    /// The register of a name. `None` is a name that no register can have.
+    /// Returns the register with the name. `None` is a name that no register can have.
     pub fn register(&mut self, name: &Option<Name>) -> Result<Register, Refusal>
         ensures found { TellsRow B.ledger self.old self.new result
             (λ facts. option_and_then (register_of facts) name.now) }
@@ -216,7 +223,8 @@ impl<B: Books> Office<B> {
         questions::register(&mut self.books, name)
     }
 
-    /// The installation of a meter, as it stands. `None` is a name that no meter can have.
+    /// Returns the installation of a meter in its current state. `None` is a name that no meter can
+    /// have.
     pub fn meter(&mut self, name: &Option<Name>) -> Result<Installation, Refusal>
         ensures found { TellsRow B.ledger self.old self.new result
             (λ facts. option_and_then (meter_of facts) name.now) }
@@ -229,7 +237,8 @@ impl<B: Books> Office<B> {
         questions::meter(&mut self.books, name)
     }
 
-    /// The latest installation at a register, open or closed, as it stands. `None` is a name that no register can have.
+    /// Returns the latest installation at a register, open or closed, in its current state. `None`
+    /// is a name that no register can have.
     pub fn installation(&mut self, register: &Option<Name>) -> Result<Installation, Refusal>
         ensures found { TellsRow B.ledger self.old self.new result
             (λ facts. option_and_then (installation_at facts) register.now) }
@@ -242,8 +251,10 @@ impl<B: Books> Office<B> {
         questions::installation(&mut self.books, register)
     }
 
-    /// What a request is to the one that is kept under its caller and number: the same, or another. Where none is kept, it is
-    /// not found, and would be asked anew.
+    /// Compares a request with the stored request of the same caller and number: the same, or
+    /// another.
+    ///
+    /// The answer is `NotFound` if the store has no request with this caller and number.
     pub fn repeat(
         &mut self,
         caller: &Option<Name>,
@@ -261,7 +272,7 @@ impl<B: Books> Office<B> {
         questions::repeat(&mut self.books, caller, number, request)
     }
 
-    /// The poll of a number, and how it ended, if it has.
+    /// Returns the poll with the number, and its outcome if it has one.
     pub fn poll(&mut self, number: u64) -> Result<PollRow, Refusal>
         ensures found { TellsRow B.ledger self.old self.new result
             (λ facts. poll_row_of facts number) }
@@ -274,7 +285,7 @@ impl<B: Books> Office<B> {
         questions::poll(&mut self.books, number)
     }
 
-    /// Hands on the energy of a meter by quarter hours, in mWh, in order of their starts.
+    /// Passes the energy of a meter by quarter hour to the sink, in mWh, in order of start.
     pub fn intervals<K: RowSink<Share>>(
         &mut self,
         meter: &Option<Name>,
@@ -292,7 +303,8 @@ impl<B: Books> Office<B> {
         questions::intervals(&mut self.books, meter, sink)
     }
 
-    /// Hands on the energy of a meter by the quarter hours that are asked for, in mWh, in order of their starts.
+    /// Passes the energy of a meter in the quarter hours of `span` to the sink, in mWh, in order of
+    /// start.
     pub fn intervals_within<K: RowSink<Share>>(
         &mut self,
         meter: &Option<Name>,
@@ -311,7 +323,8 @@ impl<B: Books> Office<B> {
         questions::intervals_of_span(&mut self.books, meter, span, sink)
     }
 
-    /// Hands on the readings of a meter that were held and whose moments are asked for, in the order in which they were recorded.
+    /// Passes the rejected readings of a meter with timestamps in `span` to the sink, in the order
+    /// in which they were recorded.
     pub fn holds<K: RowSink<HeldReading>>(
         &mut self,
         meter: &Option<Name>,
@@ -330,8 +343,8 @@ impl<B: Books> Office<B> {
         questions::holds(&mut self.books, meter, span, sink)
     }
 
-    /// The installations at a register as they stand, ended ones too, in the order in which they were installed. `None` is a name
-    /// that no register can have.
+    /// Returns the installations at a register in their current state, closed ones included, in the
+    /// order in which they were installed. `None` is a name that no register can have.
     pub fn meters(&mut self, register: &Option<Name>) -> Result<Vec<Installation>, Refusal>
         ensures listed { ListsAccepted B.ledger self.old self.new result
             (λ facts. meters_named facts register.now) }
@@ -344,7 +357,8 @@ impl<B: Books> Office<B> {
         questions::meters(&mut self.books, register)
     }
 
-    /// The entries of a meter from a place on, voided ones too, in their order: at most so many. The opening has the place 1.
+    /// Returns at most `most` entries of a meter from index `from` on, voided ones included, in
+    /// order. The opening has index 1.
     pub fn entries(
         &mut self,
         meter: &Option<Name>,
@@ -362,8 +376,11 @@ impl<B: Books> Office<B> {
         questions::entries(&mut self.books, meter, from, most)
     }
 
-    /// Hands on the energy of a register by civil days of the books' zone, in mWh, in order, once all are added up. A
-    /// register at which no meter was ever installed has no days.
+    /// Passes the energy of a register by civil day of the store's zone to the sink, in mWh, in
+    /// order.
+    ///
+    /// The sink gets the days once all of them are added up. A register at which no meter was ever
+    /// installed has no days.
     pub fn days<K: RowSink<DayTotal>>(
         &mut self,
         register: &Option<Name>,
@@ -381,8 +398,10 @@ impl<B: Books> Office<B> {
         questions::days(self.alloc, &mut self.books, register, sink)
     }
 
-    /// Of the days of a register those that a range has, handed on as all of them are. Where the range has both its ends, only
-    /// the quarter hours of its days, and of two days more at each end, are read.
+    /// Passes those days of a register that are in `range` to the sink, as `days` does.
+    ///
+    /// If the range has both ends, the office reads only the quarter hours of the range's days, and
+    /// of two more days at each end.
     pub fn days_within<K: RowSink<DayTotal>>(
         &mut self,
         register: &Option<Name>,
@@ -401,8 +420,9 @@ impl<B: Books> Office<B> {
         questions::days_within(self.alloc, &mut self.books, register, range, sink)
     }
 
-    /// Each register of each device with the latest meter at it, if any ever was: the devices, and the registers of each, in
-    /// the order in which they were added.
+    /// Returns each register of each device with the latest meter at it, if any.
+    ///
+    /// The devices, and the registers of each device, are in the order in which they were added.
     pub fn site(&mut self) -> Result<Vec<SiteRow>, Refusal>
         ensures found { TellsSite B.ledger self.old self.new result }
         ensures asks { OnlyAsks B.ledger self.old self.new result }
@@ -414,21 +434,22 @@ impl<B: Books> Office<B> {
         site::rows(self.alloc, &mut self.books)
     }
 
-    /// The bytes that the last event wants sent: the frames of its polls, where it started some.
+    /// Returns the bytes to send after the last event: the frames of the polls that it started.
     pub fn outgoing(&self) -> &[u8]
         ensures { result.now ≡ outgoing_in self.now }
     {
         self.outgoing.as_slice()
     }
 
-    /// What the last event brought: outcomes of polls, each followed by its readings.
+    /// Returns the notifications of the last event: outcomes of polls, each followed by its
+    /// readings.
     pub fn notes(&self) -> &[Note]
         ensures { result.now ≡ notes_in self.now }
     {
         &self.notes
     }
 
-    /// Hands the books back.
+    /// Returns the store.
     pub fn into_books(self) -> B
         ensures { result ≡ books_in self }
     {

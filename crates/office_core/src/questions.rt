@@ -1,4 +1,4 @@
-//! Questions, asked of the books.
+//! Queries of the store.
 ghost use Rattle.std.specs.Prelude.{◌≡◌, ◌<◌, ◌^◌, length, find, reverse, IfErr};
 ghost use Rattle.std.specs.Option.{option_and_then};
 ghost use Rattle.office_rules.specs.Facts.{device_of, register_of, same};
@@ -22,7 +22,7 @@ use office_events::{Device, HeldReading, Installation, Name, PollRow, Refusal, R
 use office_rules::registers_are_in_turn;
 use std::alloc::Global;
 
-/// What a look-up is answered as.
+/// Turns the result of a lookup into an answer.
 fn found<T: Drop>(answer: Result<Option<T>, BooksFault>) -> Result<T, Refusal>
     ensures { result ≡ answered answer }
 {
@@ -33,7 +33,7 @@ fn found<T: Drop>(answer: Result<Option<T>, BooksFault>) -> Result<T, Refusal>
     }
 }
 
-/// The last of the devices that has a name.
+/// The last device with the name.
 #[tactic(auto, using(office_rules::proofs::Lists::find_more))]
 fn last_named(devices: &[Device], name: &Name) -> Option<Device>
     ensures { result ≡ find (λ device. same device.name name.now) (reverse devices.now) }
@@ -47,7 +47,7 @@ fn last_named(devices: &[Device], name: &Name) -> Option<Device>
     last
 }
 
-/// The device of a name, among all: there are at most 64.
+/// The device with the name, searched among all devices: a store has at most 64.
 fn device_in<B: Books>(books: &mut B, name: &Name) -> Result<Option<Device>, BooksFault>
     ensures found { Finds (B.ledger books.old) (B.ledger books.new) result
         (λ known row. row ≡ device_of known name.now) }
@@ -59,7 +59,7 @@ fn device_in<B: Books>(books: &mut B, name: &Name) -> Result<Option<Device>, Boo
     }
 }
 
-/// The device of a name.
+/// Returns the device with the name.
 pub fn device<B: Books>(books: &mut B, name: &Option<Name>) -> Result<Device, Refusal>
     ensures found { FoundIn (B.ledger books.old) (B.ledger books.new) result
         (λ known. option_and_then (device_of known) name.now) }
@@ -72,7 +72,7 @@ pub fn device<B: Books>(books: &mut B, name: &Option<Name>) -> Result<Device, Re
     found(device_in(books, name))
 }
 
-/// The register of a name.
+/// Returns the register with the name.
 pub fn register<B: Books>(books: &mut B, name: &Option<Name>) -> Result<Register, Refusal>
     ensures found { FoundIn (B.ledger books.old) (B.ledger books.new) result
         (λ known. option_and_then (register_of known) name.now) }
@@ -85,7 +85,7 @@ pub fn register<B: Books>(books: &mut B, name: &Option<Name>) -> Result<Register
     found(books.register(name))
 }
 
-/// The installation of a meter, as it stands.
+/// Returns the installation of a meter in its current state.
 pub fn meter<B: Books>(books: &mut B, name: &Option<Name>) -> Result<Installation, Refusal>
     ensures found { FoundIn (B.ledger books.old) (B.ledger books.new) result
         (λ known. option_and_then (meter_of known) name.now) }
@@ -98,7 +98,7 @@ pub fn meter<B: Books>(books: &mut B, name: &Option<Name>) -> Result<Installatio
     found(books.meter(name))
 }
 
-/// The latest installation at a register, as it stands.
+/// Returns the latest installation at a register, in its current state.
 pub fn installation<B: Books>(
     books: &mut B,
     register: &Option<Name>,
@@ -114,7 +114,7 @@ pub fn installation<B: Books>(
     found(books.installation(name))
 }
 
-/// What a request is to the one that is kept under its caller and number.
+/// Compares a request with the stored request of the same caller and number.
 pub fn repeat<B: Books>(
     books: &mut B,
     caller: &Option<Name>,
@@ -132,7 +132,7 @@ pub fn repeat<B: Books>(
     found(books.repeat(name, number, request))
 }
 
-/// The poll of a number, and how it ended, if it has.
+/// Returns the poll with the number, and its outcome if it has one.
 pub fn poll<B: Books>(books: &mut B, number: u64) -> Result<PollRow, Refusal>
     ensures found { FoundIn (B.ledger books.old) (B.ledger books.new) result
         (λ known. poll_row_of known number) }
@@ -142,7 +142,7 @@ pub fn poll<B: Books>(books: &mut B, number: u64) -> Result<PollRow, Refusal>
     found(books.poll(number))
 }
 
-/// Hands on the energy of a meter by quarter hours, in order of their starts.
+/// Passes the energy of a meter by quarter hour to the sink, in order of start.
 pub fn intervals<B: Books, K: RowSink<Share>>(
     books: &mut B,
     meter: &Option<Name>,
@@ -157,7 +157,7 @@ pub fn intervals<B: Books, K: RowSink<Share>>(
     intervals_of_span(books, meter, Span::All, sink)
 }
 
-/// Hands on the energy of a meter by the quarter hours that are asked for, in order of their starts.
+/// Passes the energy of a meter in the quarter hours of `span` to the sink, in order of start.
 pub fn intervals_of_span<B: Books, K: RowSink<Share>>(
     books: &mut B,
     meter: &Option<Name>,
@@ -178,7 +178,8 @@ pub fn intervals_of_span<B: Books, K: RowSink<Share>>(
     Ok(())
 }
 
-/// Hands on the readings of a meter that were held and whose moments are asked for, in the order in which they were recorded.
+/// Passes the rejected readings of a meter with timestamps in `span` to the sink, in the order in
+/// which they were recorded.
 pub fn holds<B: Books, K: RowSink<HeldReading>>(
     books: &mut B,
     meter: &Option<Name>,
@@ -199,7 +200,8 @@ pub fn holds<B: Books, K: RowSink<HeldReading>>(
     Ok(())
 }
 
-/// The installations at a register as they stand, ended ones too, in the order in which they were installed.
+/// Returns the installations at a register in their current state, closed ones included, in the
+/// order in which they were installed.
 pub fn meters<B: Books>(
     books: &mut B,
     register: &Option<Name>,
@@ -216,7 +218,8 @@ pub fn meters<B: Books>(
     Ok(books.meters(register)?)
 }
 
-/// The entries of a meter from a place on, voided ones too, in their order: at most so many. The opening has the place 1.
+/// Returns at most `most` entries of a meter from index `from` on, voided ones included, in order.
+/// The opening has index 1.
 pub fn entries<B: Books>(
     books: &mut B,
     meter: &Option<Name>,
@@ -235,7 +238,7 @@ pub fn entries<B: Books>(
     Ok(books.entries(meter, from, most)?)
 }
 
-/// Hands on all days, in their order.
+/// Passes all days to the sink, in order.
 fn hand_on<K: RowSink<DayTotal>>(days: &[DayTotal], sink: &mut K)
     ensures took { TakesAll K.takes sink.old days.now sink.new }
     ensures few { length days.now < 2 ^ 64 }
@@ -245,7 +248,7 @@ fn hand_on<K: RowSink<DayTotal>>(days: &[DayTotal], sink: &mut K)
     }
 }
 
-/// The days of a register that is recorded, by those of its quarter hours that are asked for.
+/// The days of a recorded register, added up from its quarter hours in `span`.
 fn days_of<B: Books>(
     alloc: Global,
     books: &mut B,
@@ -261,7 +264,7 @@ fn days_of<B: Books>(
     days.into_days()
 }
 
-/// Hands on the energy of a register by civil days of the books' zone, in order.
+/// Passes the energy of a register by civil day of the store's zone to the sink, in order.
 pub fn days<B: Books, K: RowSink<DayTotal>>(
     alloc: Global,
     books: &mut B,
@@ -282,7 +285,7 @@ pub fn days<B: Books, K: RowSink<DayTotal>>(
     Ok(())
 }
 
-/// Of the days of a register that is recorded those that a range has.
+/// Those days of a recorded register that are in the range.
 fn days_in<B: Books>(
     alloc: Global,
     books: &mut B,
@@ -299,7 +302,8 @@ fn days_in<B: Books>(
     Ok(days)
 }
 
-/// Hands on the energy of a register by the civil days of the books' zone that a range has, in order.
+/// Passes the energy of a register by civil day of the store's zone to the sink, in order, for the
+/// days of a range.
 pub fn days_within<B: Books, K: RowSink<DayTotal>>(
     alloc: Global,
     books: &mut B,

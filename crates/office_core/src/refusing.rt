@@ -1,4 +1,4 @@
-//! Why an office refuses an event, and how it answers a request that was asked before.
+//! Finds why the office refuses an event, and how it answers a retry.
 
 mod arrivals;
 mod commands;

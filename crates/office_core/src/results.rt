@@ -1,9 +1,9 @@
-//! What a run leaves. It stands apart from `run`, since one module can't have both names.
+//! The results of a run. They are in a module apart from `run`: one module can't have both names.
 use crate::office::Office;
 use office_books::Books;
 use office_events::{Answer, Refusal};
 
-/// The office after a run, and what each event was answered, in turn.
+/// The office after a run, and the answer to each event, in order.
 #[derive(Drop)]
 pub struct Run<B: Books> {
     pub office: Office<B>,

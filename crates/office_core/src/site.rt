@@ -1,4 +1,4 @@
-//! Which registers and meters there are, asked of the books.
+//! Queries the store for all registers and meters.
 ghost use Rattle.std.specs.Prelude.{◌≡◌, ◌∷◌, [], IfErr};
 ghost use Rattle.office_books.specs.Ledgers.{Consults, Finds};
 ghost use Rattle.office_core.specs.Asking.{Asks};
@@ -10,7 +10,8 @@ use office_books::{Books, BooksFault};
 use office_events::{Device, Installation, Refusal, Register};
 use std::alloc::Global;
 
-/// A register, and the latest meter that was installed at it, open or closed; `None` where none ever was.
+/// A register with the latest meter that was installed at it, open or closed; `None` if there was
+/// none.
 #[derive(Clone, Copy, Debug, PartialEq, Eq)]
 pub struct SiteRow {
     pub register: Register,
@@ -35,7 +36,7 @@ fn add_register<B: Books>(
     Ok(())
 }
 
-/// Adds the rows of registers.
+/// Adds the rows of a list of registers.
 fn add_registers<B: Books>(
     rows: &mut Vec<SiteRow>,
     books: &mut B,
@@ -65,7 +66,7 @@ fn add_device<B: Books>(
     add_registers(rows, books, &registers)
 }
 
-/// Adds the rows of devices.
+/// Adds the rows of a list of devices.
 fn add_devices<B: Books>(
     rows: &mut Vec<SiteRow>,
     books: &mut B,
@@ -93,8 +94,8 @@ fn rows_in<B: Books>(alloc: Global, books: &mut B) -> Result<Vec<SiteRow>, Books
     Ok(rows)
 }
 
-/// Each register of each device with its meter: the devices, and the registers of each, in the order in which they were
-/// added.
+/// Returns each register of each device with its meter. The devices, and the registers of each
+/// device, are in the order in which they were added.
 pub fn rows<B: Books>(alloc: Global, books: &mut B) -> Result<Vec<SiteRow>, Refusal>
     ensures found { SiteIn (B.ledger books.old) (B.ledger books.new) result }
     ensures asks { Asks (B.ledger books.old) (B.ledger books.new) result }

@@ -1,4 +1,4 @@
--- What was done with an office that was opened.
+-- What was done with an opened office.
 use Rattle.std.proofs.Common.{◌≡◌, inr, ℕ, List, Option, ◌∷◌, subst}
 use Rattle.command_io.specs.declared.status.ExitStatus.{ExitStatus}
 use Rattle.office_events.specs.Names.{named}
@@ -27,7 +27,7 @@ use Rattle.office_program.specs.PortRound.{PollsPort, TellsPolling}
 use Rattle.office_program.specs.declared.port_round.PollEnd.{PollEnd}
 use Rattle.office_program.specs.declared.port_round.PollEnd.TheVariants as polling
 
--- books that are handed back are as clean as those of the office that was left
+-- The returned store is as clean as that of the final office.
 kept : {B : Type 0} (ledger : B → Ledger) (left : Office B) (back : B) → back ≡ books_in left → (ledger back).is_clean
     → (ledger (books_in left)).is_clean
 kept {B = B} ledger left back is clean = let P : B → Type 0 = λ b. (ledger b).is_clean in subst P is clean

@@ -1,4 +1,5 @@
--- Worked examples, computed from the definitions: an entry by hand is asked up to what the ceiling allows, and doubted from there on.
+-- Worked examples, computed from the definitions: an entry by hand is requested up to what the
+-- ceiling allows, and doubted above.
 use Rattle.std.proofs.Common.{◌≡◌, ℕ, ℤ, pos, negsuc, true, false, List, [], ◌∷◌, Option, Some, None, refl}
 use Rattle.std.specs.Prelude.{codes}
 use Rattle.energy_core.specs.Value.{unit_of}
@@ -24,7 +25,7 @@ m1 = codes "m1"
 abbrev desk : List ℕ
 desk = codes "desk"
 
--- ---- A meter that counts Wh, and at whose register at most 100 kW can flow: 100,000 counts an hour
+-- ---- A meter that counts Wh, with at most 100 kW at its register: 100,000 counts an hour
 
 abbrev opening : (sf : ℤ) → (raw range : ℕ) → Opening
 opening sf raw range = record { meter = m1; register = main; ceiling = 100000; range = range; at = 1000; raw = raw; sf = sf }
@@ -55,7 +56,7 @@ exchange last rolls = command.Exchange (record {
   range = 4294967296;
 })
 
--- The first count may have been all but due, so that it takes no energy.
+-- The first count may have been almost due, so it may need no energy.
 the_most_in_an_hour : doubted_at 4600 (manual 105001 0 None) wh ≡ None
 unfolding unit_of
 the_most_in_an_hour = refl
@@ -68,7 +69,7 @@ a_second_later : doubted_at 4601 (manual 105002 0 None) wh ≡ None
 unfolding unit_of
 a_second_later = refl
 
--- what was read half an hour before now
+-- A reading from half an hour ago.
 the_most_half_an_hour_ago : doubted_at 4600 (manual 55001 0 (Some 2800)) wh ≡ None
 unfolding unit_of
 the_most_half_an_hour_ago = refl
@@ -77,7 +78,7 @@ one_more_half_an_hour_ago : doubted_at 4600 (manual 55002 0 (Some 2800)) wh ≡ 
 unfolding unit_of
 one_more_half_an_hour_ago = refl
 
--- of the other entries by hand, the last number of the meter and the number before a change
+-- The other entries by hand: the last number of a meter, and the number before a change.
 the_most_before_an_exchange : doubted_at 4600 (exchange 105001 0) wh ≡ None
 unfolding unit_of
 the_most_before_an_exchange = refl
@@ -112,7 +113,8 @@ one_more_before_another_scale :
 unfolding unit_of
 one_more_before_another_scale = refl
 
--- A full turn of the counter counts. A meter that turns over at 65,536 and counts thousandths of a Wh, a second after it showed 65,000:
+-- A full turn of the counter counts. The meter turns over at 65,536 and counts thousandths of a Wh.
+-- A second ago it showed 65,000.
 the_most_over_a_turn : doubted_at 1001 (manual 27242 1 None) (meter (negsuc 2) 65000 65536) ≡ None
 unfolding unit_of
 the_most_over_a_turn = refl
@@ -125,7 +127,8 @@ another_turn : doubted_at 1001 (manual 27242 2 None) (meter (negsuc 2) 65000 655
 unfolding unit_of
 another_turn = refl
 
--- What the office refuses is asked: it is no later, or goes back. No other command is doubted.
+-- Entries that the office refuses are requested: they are not later, or decrease the counter. No
+-- other command is doubted.
 no_later : doubted_at 1000 (manual 4000000000 0 None) wh ≡ None
 unfolding unit_of
 no_later = refl

@@ -1,4 +1,4 @@
--- What the meters at a register have in a range, and what its days have.
+-- The energy of a register's meters in a range, and the energy of its days.
 use Rattle.std.proofs.Common.{◌≡◌, ℕ, ℤ, zero, suc, ◌+◌, ◌-◌, ◌<◌, ◌≤◌, ◌^◌, inl, inr, Bool, true, false, cond, Some, None, List, [], ◌∷◌, ◌++◌, map, length, get_or, refl, sym, ◌∙◌, ap, subst, arith}
 use Rattle.std.specs.Prelude.{◌<ℤ◌, ◌&&◌, All, Contains, filter, nat_le, sum_by}
 use Rattle.jiff_core.proofs.SignedLemmas.{signed_arith}
@@ -28,15 +28,15 @@ module _ (zone : Zone) (range : DayRange) where
   abbrev day_of : Share → ℤ
   day_of row = day_at zone row.start
 
-  -- what the rows of a day come to, where the range has it
+  -- The energy of the rows of a day, if the range contains the day.
   abbrev on_day : List Share → DayAccount → ℕ
   on_day rows account = cond (asked account.day) (energy_of (rows_on zone rows account.day)) 0
 
-  -- what a row adds to that
+  -- What a row adds to that energy.
   abbrev adds : Share → DayAccount → ℕ
   adds row account = cond (asked account.day) (cond (int_eq (day_of row) account.day) row.mwh 0) 0
 
-  -- ---- one row more
+  -- ---- one more row
 
   one_day : (p b : Bool) (row : Share) (rows : List Share)
       → cond p (energy_of (cond b (row ∷ rows) rows)) 0 ≡ cond p (cond b row.mwh 0) 0 + cond p (energy_of rows) 0
@@ -52,7 +52,7 @@ module _ (zone : Zone) (range : DayRange) where
       let rest = one_row row rows accounts in
       omega (arith, here, rest, sum_by-cons (on_day (row ∷ rows)) account accounts, sum_by-cons (adds row) account accounts, sum_by-cons (on_day rows) account accounts)
 
-  -- ---- a row counts on its own day alone
+  -- ---- a row counts only on its day
 
   nothing : (p : Bool) → ◌≡◌ {A = ℕ} (cond p 0 0) 0
   nothing true = refl
@@ -127,7 +127,7 @@ module _ (zone : Zone) (range : DayRange) where
       let rest = by_days accounts order rows (All-tail P row rows has) in
       omega (arith, here, rest, one_row row rows accounts, kept (in_range row) row (filter in_range rows))
 
-  -- each row is one of its day
+  -- Each row is a row of its day.
   longer : (b : Bool) (row : Share) (rows : List Share) → 0 < length rows → 0 < length (cond b (row ∷ rows) rows)
   longer true row rows some = omega arith
   longer false row rows some = some

@@ -1,4 +1,4 @@
--- What is told of meters, question by question.
+-- The answers on meters, query by query.
 use Rattle.std.proofs.Common.{◌≡◌, inl, inr, ℕ, zero, suc, ◌+◌, ◌-◌, ◌^◌, ◌<◌, Bool, true, false, cond, Option, Some, None, List, [], ◌∷◌, ◌++◌, map, reverse, take, drop, length, get_or, refl, sym, ap, subst, ◌∙◌, append-nil, append_assoc, arith}
 use Rattle.std.specs.Prelude.{Result, Ok, Err, ◌&&◌, All, filter, is_ok, is_some, min, nat_le, sum_by}
 use Rattle.command_io.specs.declared.status.ExitStatus.{ExitStatus}
@@ -65,7 +65,7 @@ use Rattle.office_core.proofs.SeveralAsked.{found_ok, found_so, now_as, refused_
 some_same : {X : Type 0} (x y : X) → Some x ≡ Some y → x ≡ y
 some_same x y is = cc is
 
--- what a list or a row was made of
+-- The source of a mapped list or row.
 mapped : {X Y : Type 0} (f : X → Y) (o : Option X) (y : Y) → option_map f o ≡ Some y → (x : X) × (o ≡ Some x) × (f x ≡ y)
 mapped f None y is = absurd (cc is)
 mapped f (Some x) y is = (x, refl, some_same (f x) y is)
@@ -80,13 +80,13 @@ listed_err None before after why (inl is) = inl (ap (λ w. Err w) is.0, is.1)
 listed_err None before after why (inr out) = inr out
 listed_err (Some rows) before after why out = inr out
 
--- ---- lists of which some pass
+-- ---- lists that are filtered
 
 fails_too : (p q : Bool) → (p ≡ true → q ≡ true) → q ≡ false → p ≡ false
 fails_too true q implies isnt = absurd (let e : false ≡ true = sym isnt ∙ implies refl in cc e)
 fails_too false q implies isnt = refl
 
--- what passes one test is among what passes another that it implies
+-- Items that pass a test also pass any test that it implies.
 filter_among : {X : Type 0} (p q : X → Bool) → ((x : X) → p x ≡ true → q x ≡ true) → (xs : List X) → filter p (filter q xs) ≡ filter p xs
 filter_among p q implies [] = refl
 filter_among p q implies (x ∷ xs) =
@@ -166,7 +166,7 @@ module _ {B : Type 0} (ledger : B → Ledger) (zone : Zone) (range : DayRange) w
 
   -- ---- energy
 
-  -- the rows of the range are among those of a span around it
+  -- The rows of the range are among those of a span around it.
   abbrev pub IsAround : Span → Type 0
   IsAround span = (zone : Zone) (start : ℕ) → has_day range (day_at zone start) ≡ true → is_within span start ≡ true
 
@@ -207,7 +207,7 @@ module _ {B : Type 0} (ledger : B → Ledger) (zone : Zone) (range : DayRange) w
       refused_on ⊥ (Unit {0}) (is_there (intervals_within facts meter span)) (energy_in zone range facts meter)
       (failures_of ledger a) (failures_of ledger a) (failures_of ledger d) why (λ none. tt) (no_rows span (intervals_of facts meter)) refl hands.answer
 
-  -- ---- readings that were held
+  -- ---- rejected readings
 
   abbrev holds_if : List Fact → (name : List ℕ) → Opening → List HeldReading
   holds_if facts name opening = holds_within span.All (holds_of facts name)
@@ -383,7 +383,7 @@ module _ {B : Type 0} (ledger : B → Ledger) (zone : Zone) (range : DayRange) w
       ap (map (λ (r : Installation). statement_of zone range facts r.opening.meter)) (filter-append (was_there zone range) xs ys)
       ∙ map-append (λ (r : Installation). statement_of zone range facts r.opening.meter) (filter (was_there zone range) xs) (filter (was_there zone range) ys)
 
-  -- the first of them, and one more
+  -- The first statements, and one more.
   abbrev pub AreStated : (a b : Office B) → List Installation → (before after : List MeterStatement) → (i : ℕ) → Type 0
   AreStated a b rows before after i = After ledger a b (λ past. AreRecorded (facts_of past) rows
       → after ≡ before ++ statements_of zone range (facts_of past) (take i rows))
@@ -455,7 +455,7 @@ module _ {B : Type 0} (ledger : B → Ledger) (zone : Zone) (range : DayRange) w
       let found = mapped (λ r. installations_of facts register) (register_of facts register) rows is in
       subst (AreRecorded facts) found.2 (are_recorded facts register)
 
-  -- ---- all of them
+  -- ---- all of the meters
 
   pub statements_told : (a b d : Office B) (register : Option (List ℕ)) (v : Vec Installation Global) (listed : List Installation) (rows : List MeterStatement)
       → listed ≡ v.items → OnlyAsks ledger a b (Ok v) → Keeps ledger b d
@@ -496,13 +496,13 @@ module _ {B : Type 0} (ledger : B → Ledger) (zone : Zone) (range : DayRange) w
       (failures_of ledger a) (failures_of ledger a) (failures_of ledger b) why (λ none. tt) (gone_meters facts (meters_named facts register)) refl
       (listed_err (meters_named facts register) (failures_of ledger a) (failures_of ledger b) why (lists past stands clean))
 
--- a statement that was written, or a part of it
+-- A statement that was written, completely or in part.
 pub written_so : {E : Type 0} (written : Result (Unit {0}) E) (text : List ℕ) (meant status : ExitStatus) (old new : Option (List ℕ))
     → status ≡ cond (is_ok written) meant Failed → GotText written text old new → IsTold text meant status old new
 written_so (Ok done) text meant status old new ends got = inl (ends, got)
 written_so (Err error) text meant status old new ends got = inr (ends, got)
 
--- what a report's question is
+-- The query of a report.
 pub only_asked : {B T : Type 0} (ledger : B → Ledger) (a b : Office B) (result : Result T Refusal) → OnlyAsks ledger a b result → Asks ledger a b
 only_asked ledger a b (Ok x) asks = record { reply = Ok tt; only = now_as ledger a b x tt asks }
 only_asked ledger a b (Err why) asks = record { reply = Err why; only = refused_as ledger a b why asks }

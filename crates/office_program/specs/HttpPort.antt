@@ -1,4 +1,4 @@
--- ServeEnd over books.
+-- Serving on a port, over a store.
 use Rattle.std.specs.Prelude.{◌≡◌, ℕ, List, Option}
 use Rattle.office_rules.specs.History.{History}
 use Rattle.office_books.specs.Ledgers.{Ledger}
@@ -10,16 +10,17 @@ use Rattle.office_program.specs.Opened.{WithOffice}
 use Rattle.office_program.specs.declared.http_port.ServeEnd.{ServeEnd}
 use Rattle.office_program.specs.declared.http_port.ServeEnd.TheVariants.{Served, Unopened, NoPort, Broken}
 
--- What is served on a port: by which names it may be asked besides those of this machine, and how many connections.
+-- The host names of a port besides those of this machine, and the number of connections.
 pub record Port : Type 0 where
   pub names : List (List ℕ)
   pub connections : ℕ
 
+-- The port with these parts.
 abbrev pub port : (names : List (List ℕ)) → (connections : ℕ) → Port
 port names connections = record { names = names; connections = connections }
 
--- What serving on a port leaves of an office: as many connections at most, each at the moment that the clock told for it,
--- or none where there is no port.
+-- What serving on a port leaves of an office: at most this many connections, each at the clock's
+-- time; or no change if there is no port.
 abbrev pub ServesPort : {B : Type 0} → Port → (then later : Option (List ℕ)) → (B → Ledger)
     → (past : History) → (opened left : Office B) → ServeEnd → Type 0
 ServesPort at then later ledger past opened left NoPort = left ≡ opened
@@ -29,14 +30,14 @@ ServesPort at then later ledger past opened left Broken =
     ServesUpTo at.names at.connections then later ledger past left
 ServesPort at then later ledger past opened left (Unopened status) = ⊥
 
--- The office served so on a port, and nothing was printed.
+-- The office served on a port, and nothing was printed.
 pub record Serves {B : Type 0} (ledger : B → Ledger) (at : Port)
     (later had holds : Option (List ℕ)) (end : ServeEnd)
     (following : History) (then : Option (List ℕ)) (opened left : Office B) : Type 0 where
   pub serves : ServesPort at then later ledger following opened left end
   pub silent : holds ≡ had
 
--- The opening was refused, and that alone was printed; or the office was opened, and served.
+-- Either the opening was refused and only that was printed, or the office was opened and served.
 abbrev pub TellsServing : {B : Type 0} → (B → Ledger) → (past : History) → Port
     → (moments later : Option (List ℕ)) → (books back : B) → (had holds : Option (List ℕ))
     → ServeEnd → Type 0
@@ -45,17 +46,18 @@ TellsServing ledger past at moments later books back had holds (Unopened status)
 TellsServing ledger past at moments later books back had holds end =
     WithOffice ledger past moments back (Serves ledger at later had holds end)
 
--- What a command finds and what it leaves: the books, the moments that the clock tells, and what was
--- written.
+-- What a command finds and leaves: the store, the clock's timestamps, and the written text.
 pub record Scene (B : Type 0) : Type 0 where
   pub books : B
   pub moments : Option (List ℕ)
   pub written : Option (List ℕ)
 
+-- The scene with these parts.
 abbrev pub scene : {B : Type 0} → B → (moments written : Option (List ℕ)) → Scene B
 scene books moments written = record { books = books; moments = moments; written = written }
 
--- Books that stood after a past are opened and served, whenever they are handed back clean.
+-- A store in the state of a past is opened and served. This assumes that no wrong result of a store
+-- was taken as true by the end.
 abbrev pub ServesBooks : {B : Type 0} → (B → Ledger) → Port → ServeEnd → (old new : Scene B)
     → Type 0
 ServesBooks ledger at end old new =

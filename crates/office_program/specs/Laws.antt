@@ -1,4 +1,4 @@
--- What the energies of statements and of the report on the same days have to do with each other.
+-- The energies of statements, and those of the report on the same days.
 use Rattle.std.specs.Prelude.{◌≡◌, ◌<◌, ◌≤◌, ◌^◌, List, map, All, sum_by}
 use Rattle.std.specs.List.{flat_map}
 use Rattle.interval_core.specs.Days.{account_of, AreAccounts}
@@ -11,12 +11,12 @@ use Rattle.interval_core.specs.declared.zone.Zone.{Zone}
 use Rattle.energy_report.specs.Laws.{energy_of_days}
 use Rattle.energy_report.specs.Statements.{energy_within}
 
--- a moment past the last has no day
+-- A timestamp past the last has no day.
 abbrev pub HasDay : Share → Type 0
 HasDay row = row.start ≤ LAST_MOMENT
 
--- The rows of a register are those of its meters, one meter after the other. The energies of the meters' statements on a range
--- add up to that of the report on it: to the days of all these rows that the range has, below 2^128 mWh.
+-- The rows of a register are those of its meters. The energies of the meters' statements on a range
+-- add up to the energy of the report: that of all the rows' days in the range, below 2^128 mWh.
 abbrev pub StatementsAddUp : Type 0
 StatementsAddUp = (zone : Zone) (range : DayRange) (meters : List (List Share))
     (days : List DayTotal) → let rows = flat_map (λ rows. rows) meters in

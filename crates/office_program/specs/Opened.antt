@@ -1,4 +1,4 @@
--- What a command over an office does: it opens one over books, does something with it, and hands the books back.
+-- A command over an office: it opens the office over a store, acts on it, and returns the store.
 use Rattle.std.specs.Prelude.{◌≡◌, ℕ, List, ◌∷◌, Option}
 use Rattle.office_rules.specs.History.{History, Opened}
 use Rattle.office_books.specs.Ledgers.{Ledger}
@@ -9,8 +9,9 @@ use Rattle.office_core.specs.declared.office.Office.{Office}
 use Rattle.office_program.specs.Texts.AskedOffice.{OpensToAsk}
 use Rattle.office_program.specs.Texts.OpenedOffice.{Opens}
 
--- The office was opened, and printed nothing of it; this was done with it after its opening, between what was opened and
--- what was left, from what the clock would tell then on; and the books of that are handed back.
+-- The office was opened, and nothing was printed of it. The action took place after its opening,
+-- from the opened to the final office, with the clock's later timestamps. The store of the final
+-- office is returned.
 pub record WithOffice {B : Type 0} (ledger : B → Ledger) (past : History)
     (moments : Option (List ℕ)) (back : B)
     (Does : (following : History) → (then : Option (List ℕ)) → (opened left : Office B) → Type 0)
@@ -22,8 +23,8 @@ pub record WithOffice {B : Type 0} (ledger : B → Ledger) (past : History)
   pub does : Does (Opened opens.at ∷ past) then opened left
   pub handed : back ≡ books_in left
 
--- The office was opened to be asked, and printed nothing of it; this was done with it, and the books of what was left are handed
--- back. The clock was asked once.
+-- The office was opened for queries, and nothing was printed of it. The action took place, and the
+-- store of the final office is returned. The clock was read once.
 pub record WithAsked {B : Type 0} (ledger : B → Ledger) (past : History)
     (moments later : Option (List ℕ)) (back : B)
     (Does : (following : History) → (opened left : Office B) → Type 0) : Type 0 where
@@ -33,8 +34,8 @@ pub record WithAsked {B : Type 0} (ledger : B → Ledger) (past : History)
   pub does : Does (Opened (asking_moment past opens.told) ∷ past) opened left
   pub handed : back ≡ books_in left
 
--- Of books that stand after what was accepted before this is told, if no wrong answer of a store was taken as true by the
--- time that they are handed back.
+-- The statement is true over a store in the state of a past. This assumes that no wrong result of a
+-- store was taken as true until it is returned.
 abbrev pub OverStanding : {B : Type 0} → (B → Ledger) → (books back : B)
     → (Holds : (past : History) → Type 0) → Type 0
 OverStanding ledger books back Holds =

@@ -1,4 +1,4 @@
--- A report on a range of days over books.
+-- A report on a range of days, over a store.
 use Rattle.std.specs.Prelude.{◌⊎◌, ℕ, List, Option}
 use Rattle.std.specs.declared.io.Write as writers
 use Rattle.socket_link.specs.declared.clock.Clock as clocks
@@ -16,7 +16,8 @@ use Rattle.office_program.specs.Texts.RangedReports.{RangePrints}
 use Rattle.office_program.specs.Texts.EndTexts.{TellsEnd}
 use Rattle.office_program.specs.Opened.{OverStanding, WithAsked}
 
--- All rows of the register's days in the form were printed, or why there are none; and the office was only asked.
+-- All rows of the register's days in the form were printed, or why there are none. The office was
+-- only queried.
 pub record ReportsRange {B : Type 0} (ledger : B → Ledger) (register : Option (List ℕ))
     (form : ReportForm) (had holds : Option (List ℕ)) (status : ExitStatus) (following : History)
     (opened left : Office B) : Type 0 where
@@ -24,7 +25,8 @@ pub record ReportsRange {B : Type 0} (ledger : B → Ledger) (register : Option 
       (failures_of ledger opened) (failures_of ledger left)) status had holds
   pub stands : Stands ledger following left
 
--- The opening was refused, and that alone was printed; or the office was opened to be asked, and reported.
+-- Either the opening was refused and only that was printed, or the office was opened for queries
+-- and reported.
 abbrev pub TellsRange : {B : Type 0} → (B → Ledger) → (past : History) → (register : List ℕ)
     → ReportForm → (moments later : Option (List ℕ)) → (books back : B)
     → (had holds : Option (List ℕ)) → ExitStatus → Type 0
@@ -33,7 +35,7 @@ TellsRange ledger past register form moments later books back had holds status =
     ⊎ WithAsked ledger past moments later back
     (ReportsRange ledger (named register) form had holds status)
 
--- So it is of the books, the clock and the writer, each as it was found and as it was left.
+-- The same for the store, the clock and the writer, each before and after.
 abbrev pub RangeOver : {B C W : Type 0} → stores.Ghosts B → clocks.Ghosts C → writers.Ghosts W
     → (register : List ℕ) → ReportForm → (books back : B) → (before after : C) → (had holds : W)
     → ExitStatus → Type 0

@@ -1,4 +1,4 @@
--- A report over books.
+-- A report over a store.
 use Rattle.std.specs.Prelude.{◌⊎◌, ℕ, List, Option}
 use Rattle.std.specs.declared.io.Write as writers
 use Rattle.socket_link.specs.declared.clock.Clock as clocks
@@ -15,14 +15,15 @@ use Rattle.office_program.specs.Texts.Reports.{ReportPrints}
 use Rattle.office_program.specs.Texts.EndTexts.{TellsEnd}
 use Rattle.office_program.specs.Opened.{OverStanding, WithAsked}
 
--- All days of the register were printed, or why there are none; and the office was only asked.
+-- All days of the register were printed, or why there are none. The office was only queried.
 pub record Reports {B : Type 0} (ledger : B → Ledger) (register had holds : Option (List ℕ))
     (status : ExitStatus) (following : History) (opened left : Office B) : Type 0 where
   pub prints : TellsEnd (ReportPrints (ledger (books_in opened)).zone following register
       (failures_of ledger opened) (failures_of ledger left)) status had holds
   pub stands : Stands ledger following left
 
--- The opening was refused, and that alone was printed; or the office was opened to be asked, and reported.
+-- Either the opening was refused and only that was printed, or the office was opened for queries
+-- and reported.
 abbrev pub TellsReport : {B : Type 0} → (B → Ledger) → (past : History) → (register : List ℕ)
     → (moments later : Option (List ℕ)) → (books back : B) → (had holds : Option (List ℕ))
     → ExitStatus → Type 0
@@ -30,7 +31,7 @@ TellsReport ledger past register moments later books back had holds status =
     TellsUnasked past moments later (ledger books) (ledger back) status had holds
     ⊎ WithAsked ledger past moments later back (Reports ledger (named register) had holds status)
 
--- So it is of the books, the clock and the writer, each as it was found and as it was left.
+-- The same for the store, the clock and the writer, each before and after.
 abbrev pub ReportsOver : {B C W : Type 0} → stores.Ghosts B → clocks.Ghosts C → writers.Ghosts W
     → (register : List ℕ) → (books back : B) → (before after : C) → (had holds : W) → ExitStatus
     → Type 0

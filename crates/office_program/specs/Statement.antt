@@ -1,4 +1,4 @@
--- A statement over books.
+-- A statement over a store.
 use Rattle.std.specs.Prelude.{◌⊎◌, ℕ, List, Option}
 use Rattle.std.specs.declared.io.Write as writers
 use Rattle.socket_link.specs.declared.clock.Clock as clocks
@@ -17,7 +17,8 @@ use Rattle.office_program.specs.Texts.EndTexts.{TellsEnd}
 use Rattle.office_program.specs.Texts.Statements.{StatementPrints}
 use Rattle.office_program.specs.Opened.{OverStanding, WithAsked}
 
--- The statements of the register's meters were printed, or why there are none; and the office was only asked.
+-- The statements of the register's meters were printed, or why there are none. The office was only
+-- queried.
 pub record StatesMeters {B : Type 0} (ledger : B → Ledger) (zone : Zone)
     (register : Option (List ℕ)) (form : StatementForm) (had holds : Option (List ℕ))
     (status : ExitStatus) (following : History) (opened left : Office B) : Type 0 where
@@ -25,8 +26,8 @@ pub record StatesMeters {B : Type 0} (ledger : B → Ledger) (zone : Zone)
       (failures_of ledger opened) (failures_of ledger left)) status had holds
   pub stands : Stands ledger following left
 
--- The opening was refused, and that alone was printed; or the office was opened to be asked, and stated its meters by the zone
--- of the books.
+-- Either the opening was refused and only that was printed, or the office was opened for queries.
+-- Then it stated its meters by the zone of the store.
 abbrev pub TellsStatement : {B : Type 0} → (B → Ledger) → (past : History) → (register : List ℕ)
     → StatementForm → (moments later : Option (List ℕ)) → (books back : B)
     → (had holds : Option (List ℕ)) → ExitStatus → Type 0
@@ -35,7 +36,7 @@ TellsStatement ledger past register form moments later books back had holds stat
     ⊎ WithAsked ledger past moments later back
     (StatesMeters ledger (ledger books).zone (named register) form had holds status)
 
--- So it is of the books, the clock and the writer, each as it was found and as it was left.
+-- The same for the store, the clock and the writer, each before and after.
 abbrev pub StatementOver : {B C W : Type 0} → stores.Ghosts B → clocks.Ghosts C → writers.Ghosts W
     → (register : List ℕ) → StatementForm → (books back : B) → (before after : C) → (had holds : W)
     → ExitStatus → Type 0

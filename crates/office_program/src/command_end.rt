@@ -1,6 +1,6 @@
-//! How a command over an office ended.
+//! The result of a command over an office.
 
-/// The books that a command hands back, and how it ended.
+/// The store that a command returns, and how the command ended.
 #[derive(Drop)]
 pub struct CommandEnd<B, E> {
     pub books: B,

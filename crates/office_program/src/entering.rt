@@ -1,4 +1,4 @@
-//! Lines of an input, each asked of an office as a request under a caller and a number.
+//! Enters the lines of an input: each is a request to an office, with a caller and a number.
 
 mod asking;
 mod checking;

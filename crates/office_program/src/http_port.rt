@@ -1,4 +1,4 @@
-//! HTTP on a port.
+//! Serves HTTP on a port.
 ghost use Rattle.http_request.specs.Hosts.{texts};
 ghost use Rattle.office_core.specs.Standing.{After};
 ghost use Rattle.office_http.specs.Serving as http;
@@ -19,17 +19,16 @@ use std::net::{Net, TcpListener};
 /// How serving ended.
 #[derive(Clone, Copy, Debug, PartialEq, Eq)]
 pub enum ServeEnd {
-    /// So many connections came and went.
+    /// The given number of connections was served.
     Served,
-    /// The office was not opened, and the command ends so.
+    /// The office was not opened. The command ends with this exit status.
     Unopened(ExitStatus),
-    /// The port can't be listened on.
+    /// The program can't listen on the port.
     NoPort,
     /// The listener failed.
     Broken,
 }
 
-// Serves on a port.
 fn serve_port<R: Net + std::rt::Clock, B: Books, C: Clock>(
     rt: &R,
     alloc: Global,
@@ -61,9 +60,11 @@ fn serve_port<R: Net + std::rt::Clock, B: Books, C: Clock>(
     }
 }
 
-/// Opens an office over books at the moment that the clock tells, and then serves requests by HTTP/1.1 on so many connections
-/// at a port of a host, as `serve_named_on` does by these names. Where the opening is refused, `refused N` is printed, and the port stays
-/// untouched; nothing else is printed. The books are handed back.
+/// Opens an office over a store at the clock's time, and serves requests by HTTP/1.1 on a port.
+///
+/// It serves `connections` connections on the port of a host, by these names, as `serve_named_on`
+/// does. If the opening is refused, the command prints `refused N` and leaves the port alone. It
+/// prints nothing else. Returns the store.
 pub fn serve_books<R: Net + std::rt::Clock, B: Books, C: Clock, W: Write>(
     rt: &R,
     alloc: Global,

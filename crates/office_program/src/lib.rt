@@ -1,4 +1,4 @@
-//! What the program's commands over an office do: over any books, clock, sockets and writer.
+//! The program's commands over an office, for any store, clock, sockets and writer.
 #![tactic(auto)]
 
 mod command_end;

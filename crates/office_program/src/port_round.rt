@@ -1,4 +1,4 @@
-//! A round of a device at a port.
+//! Polls a device at a port once.
 ghost use Rattle.office_rounds.specs.Passing as rounds;
 ghost use Rattle.office_program.specs.Texts.Passing.{Lasts};
 ghost use Rattle.office_program.specs.PortRound.{PollsOver, PollsPortOf};
@@ -16,21 +16,21 @@ use std::io::{self, Write};
 use std::net::{Net, TcpStream, ToSocketAddrs};
 use std::time::Duration;
 
-/// How many seconds a device may take, at each address of its host, until it is connected.
+/// The number of seconds to wait for a connection, at each address of a device's host.
 pub const PATIENCE: u64 = 5;
 
 /// How a round ended.
 #[derive(Clone, Copy, Debug, PartialEq, Eq)]
 pub enum PollEnd {
-    /// The round came to its end, or to a fault.
+    /// The round ended, or was broken off by a fault.
     Polled(Result<(), RoundFault>),
-    /// The office was not opened, and the command ends so.
+    /// The office was not opened. The command ends with this exit status.
     Unopened(ExitStatus),
     /// The device was not connected.
     Unconnected,
 }
 
-// A link to a device, by the first of its host's addresses that answers.
+// A link to the first address of the device's host that accepts a connection.
 fn connect<R: Net>(net: &R, place: (&str, u16)) -> io::Result<SocketLink<R::Stream>> {
     for address in place.to_socket_addrs(net)? {
         if let Ok(stream) = TcpStream::connect_timeout(
@@ -44,7 +44,6 @@ fn connect<R: Net>(net: &R, place: (&str, u16)) -> io::Result<SocketLink<R::Stre
     Err(io::Error::from(io::ErrorKind::ConnectionRefused))
 }
 
-// Polls a device at a port.
 fn poll_port<R: Net, B: Books, C: Clock, W: Write>(
     net: &R,
     alloc: Global,
@@ -65,9 +64,11 @@ fn poll_port<R: Net, B: Books, C: Clock, W: Write>(
     PollEnd::Polled(poll_round(alloc, &mut link, office, name, clock, output))
 }
 
-/// Opens an office over books at the moment that the clock tells, and then polls the whole plan of a device at a port of a
-/// host once, as `poll_round` does. Where the opening is refused, `refused N` alone is printed, and the device stays
-/// untouched. A text that is no name is a device that isn't there. The books are handed back.
+/// Opens an office over a store at the clock's time, and polls the complete plan of a device once.
+///
+/// The device is at a port of a host, and is polled as by `poll_round`. If the opening is refused,
+/// the command prints only `refused N` and does not connect to the device. A text that is no name
+/// is an unknown device. Returns the store.
 pub fn poll_books<R: Net, B: Books, C: Clock, W: Write>(
     net: &R,
     alloc: Global,

@@ -1,4 +1,4 @@
-//! The report of a register on a range of days.
+//! Reports a register on a range of days.
 ghost use Rattle.office_program.specs.Texts.Passing.{Lasts};
 ghost use Rattle.office_program.specs.RangedReport.{RangeOver};
 
@@ -12,10 +12,13 @@ use socket_link::Clock;
 use std::alloc::Global;
 use std::io::Write;
 
-/// Opens an office over books to ask it, as `report_books` does, and prints the energy of a register on the days of a range,
-/// by periods, in a unit and a format. Where the range has both ends, only the quarter hours of its days, and of two days more
-/// at each end, are read. Where the opening or the report is refused, `refused N` alone is printed. A text that is no name is a
-/// register that isn't there. The books are handed back.
+/// Opens an office for queries, as `report_books` does, and prints the energy of a register on a
+/// range.
+///
+/// The form gives the days of the range, the period, the unit and the format. If the range has both
+/// ends, the command reads only the quarter hours of the range's days, and of two more days at each
+/// end. If the opening or the report is refused, it prints only `refused N`. A text that is no name
+/// is an unknown register. Returns the store.
 pub fn report_range_books<B: Books, C: Clock, W: Write>(
     alloc: Global,
     books: B,

@@ -1,4 +1,4 @@
-//! The report of a register.
+//! Reports a register by civil day.
 ghost use Rattle.office_program.specs.Texts.Passing.{Lasts};
 ghost use Rattle.office_program.specs.Report.{ReportsOver};
 
@@ -11,10 +11,12 @@ use socket_link::Clock;
 use std::alloc::Global;
 use std::io::Write;
 
-/// Opens an office over books to ask it, and prints the energy of a register by civil days, a line a day, and then how many
-/// they are. It is opened at the moment that the clock tells, or at the latest that the books hold where that is later: a clock
-/// that was set back hides no energy. Where the opening or the report is refused, `refused N` alone is printed. A text that is
-/// no name is a register that isn't there. The books are handed back.
+/// Opens an office for queries, and prints the energy of a register by civil day.
+///
+/// Each day is a line, and the last line has the number of days. The office is opened at the
+/// clock's time, or at the latest timestamp in the store if that is later: a clock that was set
+/// back hides no energy. If the opening or the report is refused, the command prints only `refused
+/// N`. A text that is no name is an unknown register. Returns the store.
 pub fn report_books<B: Books, C: Clock, W: Write>(
     alloc: Global,
     books: B,

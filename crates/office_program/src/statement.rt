@@ -1,4 +1,4 @@
-//! The statement of the meters at a register, over books.
+//! Prints the statement of the meters at a register, over a store.
 ghost use Rattle.office_program.specs.Texts.Passing.{Lasts};
 ghost use Rattle.office_program.specs.Statement.{StatementOver};
 
@@ -12,9 +12,11 @@ use socket_link::Clock;
 use std::alloc::Global;
 use std::io::Write;
 
-/// Opens an office over books to ask it, as `report_books` does, and prints the statement of the meters at a register on the days
-/// of a range, by the clocks of the books' zone. Where the opening or a question is refused, `refused N` alone is printed. A text that
-/// is no name is a register that isn't there. The books are handed back.
+/// Opens an office for queries, as `report_books` does, and prints the statement of a register's
+/// meters on the days of a range.
+///
+/// Days are those of the store's zone. If the opening or a query is refused, the command prints
+/// only `refused N`. A text that is no name is an unknown register. Returns the store.
 pub fn statement_books<B: Books, C: Clock, W: Write>(
     alloc: Global,
     books: B,

@@ -1,4 +1,4 @@
-//! What the commands over an office print, and how they end.
+//! The texts of the commands over an office, and their exit statuses.
 
 mod asked_office;
 mod end_texts;

@@ -1,4 +1,4 @@
--- No outcome is recorded of a poll that was not started, and no more than one of any.
+-- A poll that was not started has no recorded outcome, and no poll has more than one.
 use Rattle.std.proofs.Common.{◌≡◌, inl, inr, ℕ, ◌<◌, ◌≤◌, ◌==◌, true, List, [], ◌∷◌, length, Option, Some, None, refl, sym, ap, ◌∙◌, arith}
 use Rattle.std.specs.List.{find}
 use Rattle.std.specs.Option.{is_some, option_to_list}

@@ -1,4 +1,4 @@
--- A round of three reads, on a device with room for two: what waits, and what it does next.
+-- A round of three reads, on a device with room for two: its pending polls, and what it does next.
 use Rattle.std.proofs.Common.{◌≡◌, [], ◌∷◌, None, Some, Ok, refl}
 use Rattle.poll_core.specs.declared.outcome.Closing.TheVariants as closing
 use Rattle.poll_core.specs.declared.outcome.Outcome.TheVariants as outcome
@@ -23,7 +23,7 @@ two_started = answered (Ok (answer.Started 7 2 3)) connected
 abbrev one_ended : Round
 one_ended = heard (note.Outcome 7 outcome.Answered ∷ []) two_started
 
--- Polls 9 to 11 are of other devices.
+-- Polls 9 to 11 belong to other devices.
 abbrev all_started : Round
 all_started = answered (Ok (answer.Started 12 1 3)) one_ended
 

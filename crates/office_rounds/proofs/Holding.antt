@@ -1,4 +1,4 @@
--- A round stands after each event as its definition says, and goes on with what is next.
+-- After each event a round is in its defined state, and continues with what is next.
 use Rattle.std.proofs.Common.{◌≡◌, ◌⊎◌, inl, inr, ℕ, zero, suc, ◌+◌, ◌-◌, ◌^◌, min, ◌<◌, ◌≤◌, ◌==◌, nat_le, nat_lt, not, Bool, true, false, cond, List, [], ◌∷◌, ◌++◌, length, map, Option, Some, None, Ok, refl, sym, ap, ◌∙◌, subst, arith}
 use Rattle.std.specs.List.{count_by, filter}
 use Rattle.std.specs.Option.{is_none, option_and_then}
@@ -55,7 +55,7 @@ use Rattle.office_rounds.proofs.Starts.{can_be_started, ends_kept, few_sent, nar
 use Rattle.office_rounds.proofs.Timely.{connected_noted}
 use Rattle.office_rounds.proofs.Told.{ends_settled, told, waits_told}
 
--- the laws of what the office accepted, and of sessions
+-- The theorems on accepted events and on sessions.
 pub record Laws : Type 0 where
   pub session : SessionLaws
   pub once : (history : History) → AreAccepted history → PollsEndOnce history
@@ -72,7 +72,7 @@ round_at device stage polls started planned sum = record {
   sum = sum;
 }
 
--- What is next where replies are waited for.
+-- What is next while responses are pending.
 abbrev stage_by : (none start leave : Bool) → Stage
 stage_by none start leave = cond none Waiting (cond start Starting (cond leave (Leaving closing.Gone) Waiting))
 
@@ -109,7 +109,7 @@ stands_by false true leave device past fed round way = way
 stands_by false false true device past fed round way = refl
 stands_by false false false device past fed round way = way
 
--- where some have ended, fewer wait
+-- If some polls have ended, fewer are pending.
 fewer : (after before endings : ℕ) → before ≡ after + endings → nat_lt after before ≡ not (endings == 0)
 fewer after before endings is =
     elim (cases_eq endings 0) [
@@ -121,7 +121,7 @@ fewer after before endings is =
           lt-ltb after before more ∙ sym (ap not (ne_eqb endings 0 some))
     ]
 
--- where none is left to be started, all have ended where none waits
+-- If no read remains and no poll is pending, all polls have ended.
 all_ended : (started planned ended left : ℕ) → ended + left ≡ started → started ≤ planned → nat_lt started planned ≡ false
     → (left == 0) ≡ nat_le planned ended
 all_ended started planned ended left sum within none =
@@ -150,7 +150,7 @@ quiet_note first (note.Outcome poll outcome) h = absurd (let no = h poll in let 
 quiet_note first (note.Reading meter raw rolls step) h = refl
 quiet_note first (note.Held meter raw cause) h = refl
 
--- All ends that are told of the numbers of a round are those of its polls.
+-- All outcomes that are reported for the numbers of a round are those of its polls.
 ends_told : (first : Option ℕ) (number started : ℕ) (notes : List Note) → IsFirst first number started
     → ((n : ℕ) → number + started ≤ n → told n notes ≡ 0) → count_by (is_ending first) notes ≡ told_from number started notes
 ends_told None number started notes is beyond =
@@ -449,7 +449,7 @@ started_round laws device past fed at before after given polls started planned s
     (started_as laws device past fed at polls started planned sum way is_past.accepted
     (record { accepted = is_past.accepted.1; planned = is_past.planned.1 }))
 
--- What is taken from the link.
+-- An event from the link.
 pub noted_by : (history : History) (at : ℕ) (device : Option (List ℕ)) (e : Event) (before after : Failures) (given : Answer) → IsTaken device e
     → IsAnswer history at e before after (Ok given) → given ≡ answer.Noted
 noted_by history at device (event.Connected d) before after given taken told = absurd taken
@@ -462,7 +462,7 @@ noted_by history at device (event.Gone d cause) before after given taken (inr fa
 noted_by history at device (event.Command c) before after given taken told = absurd taken
 noted_by history at device (event.Asked asked) before after given taken told = absurd taken
 
--- the round after an event, where it was noted
+-- The round after an event, if the event was noted.
 abbrev HoldsAfter : (device : Option (List ℕ)) → History → List Answered → (at : ℕ) → Event → Round → Answer → Type 0
 HoldsAfter device past fed at e round given =
     Holds device past (fed_one at e (Ok given) ∷ fed) (round_after e given (notes_after (history_with past fed) at e (Ok given)) round)
@@ -518,7 +518,7 @@ by_stage laws device past fed at e before after given (Leaving cause) polls star
     subst (λ x. HoldsAfter device past fed at x (round_at device (Leaving cause) polls started planned sum) given) (sym does)
     (record { device_is = refl; next = refl; stands = tt })
 
--- One event more: the round that stood still stands.
+-- One more event keeps the state of the round.
 pub holds_on : (laws : Laws) (device : Option (List ℕ)) (past : History) (fed : List Answered) (round : Round) (at : ℕ) (e : Event) (before after : Failures)
     (given : Answer) → Holds device past fed round → Does device (next_in past fed) e
     → IsAnswer (history_with past fed) at e before after (Ok given) → IsPast (Fed at e ∷ history_with past fed)

@@ -1,4 +1,4 @@
--- What is next after an event, and what it brings.
+-- What is next after an event, and the bytes in the event.
 use Rattle.std.proofs.Common.{◌≡◌, ℕ, ◌==◌, nat_le, nat_lt, Bool, true, false, cond, List, [], ◌∷◌, Option, Result, Ok, Err, refl, sym, ap, subst}
 use Rattle.std.specs.List.{count_by}
 use Rattle.poll_core.specs.declared.outcome.Closing.{Closing}
@@ -27,7 +27,7 @@ takes_on : (first : Option ℕ) (h : History) (at : ℕ) (device : Option (List 
     ≡ Take
 takes_on first h at device read result started ended planned = rw (no_notes h at device read result) refl
 
--- after a start something is taken
+-- After a start an event is read from the link.
 pub start_next : (past : History) (fed : List Answered) (one : Answered) (device : Option (List ℕ)) (read : ℕ)
     → one.event ≡ start_from device read → next_in past (one ∷ fed) ≡ Take
 start_next past fed one device read is =
@@ -38,19 +38,19 @@ start_next past fed one device read is =
     subst P (sym is)
     (takes_on (first_poll fed) (history_with past fed) one.at device read one.result (reads_started (one ∷ fed)) ended (reads_planned (one ∷ fed)))
 
--- after the end the round is over
+-- After the end the round is over.
 pub end_next : (past : History) (fed : List Answered) (one : Answered) (given : Option (List ℕ)) (c : Closing) → one.event ≡ event.Gone given c
     → next_in past (one ∷ fed) ≡ Over
 end_next past fed one given c is =
     ap (λ e. next_by e (next_after (endings_of past fed one) (reads_started (one ∷ fed)) (polls_ended past (one ∷ fed)) (reads_planned (one ∷ fed)))) is
 
--- after the connection the reads are started from the first on
+-- After the connection the reads are started from the first on.
 pub connection_next : (past : History) (fed : List Answered) (one : Answered) (given : Option (List ℕ)) → one.event ≡ event.Connected given
     → next_in past (one ∷ fed) ≡ StartFrom 0
 connection_next past fed one given is =
     ap (λ e. next_by e (next_after (endings_of past fed one) (reads_started (one ∷ fed)) (polls_ended past (one ∷ fed)) (reads_planned (one ∷ fed)))) is
 
--- After what was taken the round doesn't begin anew.
+-- After an event from the link the round does not begin again.
 left_not : (start leave : Bool) (n : ℕ) → cond start (StartFrom n) (cond leave Leave Take) ≡ Connect → ⊥
 left_not true leave n h = absurd (cc)
 left_not false true n h = absurd (cc)

@@ -30,7 +30,7 @@ goes_after : (none : Bool) (started ended planned : ℕ) → cond none Take (nex
 goes_after true started ended planned h = absurd (cc)
 goes_after false started ended planned h = goes_left (nat_lt started planned) (nat_le planned ended) started h
 
--- after what a round is over
+-- The event after which a round is over.
 pub record IsGone (e : Event) : Type 0 where
   pub given : Option (List ℕ)
   pub cause : Closing
@@ -62,7 +62,7 @@ gone_so device given c past at e (Ok answer) before after is same ok told =
     subst Q (sym is)
     (subst R same (gone_accepted past at given c before after answer (one_accepted past at (event.Gone given c) before after answer tt mine)))
 
--- none of the device's polls waits then
+-- None of the device's polls is pending then.
 pub over_settled : (device : Option (List ℕ)) (past : History) (fed : List Answered) (before after : Failures) → next_in past fed ≡ Over
     → AreNext device past fed → AreAnswered past before after fed → NoneWaits device (history_with past fed)
 over_settled device past [] before after over next told = absurd (cc)
@@ -87,7 +87,7 @@ is_round ledger device past begun now from to office fed round going wired over 
   settled = inr (over_settled device past fed begun.failures now.failures over going.next going.leaves.answered);
 }
 
--- a round that was broken off, and closed
+-- A round that was broken off and closed.
 pub is_broken_off : {B : Type 0} (ledger : B → Ledger) (device : Option (List ℕ)) (past : History) (begun was now : RoundState) (from to : Wire)
     (before office : Office B) (earlier : List Answered) (round : Progress) (cause fault : RoundFault)
     → Broken ledger device past begun was before earlier round cause → IsWired {X = Unit {0}} past from to earlier (Err cause)

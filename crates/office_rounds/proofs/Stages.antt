@@ -33,7 +33,7 @@ use Rattle.office_rounds.proofs.Goings.{part_more}
 use Rattle.office_rounds.proofs.Nexts.{connection_next, end_next, start_next}
 use Rattle.office_rounds.proofs.Wires.{appends_nothing, consumes_nothing, part_of_all}
 
--- a round that was going is broken off
+-- A running round is broken off.
 pub broken : {B : Type 0} (ledger : B → Ledger) (device : Option (List ℕ)) (past : History) (begun now : RoundState) (office : Office B)
     (fed : List Answered) (round : Progress) (cause : RoundFault) → Going ledger device past begun now office fed round
     → BreaksOff device past cause fed → IsPrinted {X = Unit {0}} (Err cause) (text_after past fed) begun.printed now.printed
@@ -55,7 +55,7 @@ given_broken Link h at e result a b frames unsent got = absurd unsent
 given_broken Output h at e result a b frames unsent got = (frames, outgoing_after h at e result, refl, got)
 given_broken TurnsUsed h at e result a b frames unsent got = absurd unsent
 
--- The link of a round that was broken off while an event was told.
+-- The link of a round that was broken off while an event was fed.
 pub wired_broken : (past : History) (from to : Wire) (fed : List Answered) (one : Answered) (e : Event) (cause : RoundFault)
     → Consumes from.remaining to.remaining (pieces_after fed ++ piece_in e) → Appends from.given to.given (frames_after past fed)
     → one.event ≡ e → IsUnsent cause one.result → IsWired {X = Unit {0}} past from to (one ∷ fed) (Err cause)
@@ -66,7 +66,7 @@ wired_broken past from to fed one e cause taken given is unsent = record {
   given = given_broken cause (history_with past fed) one.at one.event one.result from.given to.given (frames_after past fed) unsent given;
 }
 
--- The link of a round that has given the frames of an event, or not all of them.
+-- The link of a round that wrote all frames of an event.
 pub wired_sent : (past : History) (from mid to : Wire) (fed : List Answered) (one : Answered) (e : Event) (frames : List ℕ)
     → Consumes from.remaining mid.remaining (pieces_after fed ++ piece_in e) → Appends from.given mid.given (frames_after past fed) → one.event ≡ e
     → frames ≡ outgoing_after (history_with past fed) one.at one.event one.result → Keeps mid.remaining to.remaining
@@ -96,7 +96,7 @@ does_take device same next e is equal taken =
     let P : Option (List ℕ) → Type 0 = λ d. IsTaken d e in
     rw is (subst P equal taken)
 
--- What a round wants is next, and brings nothing from the link.
+-- The event that a round requests is next, and has no bytes of the link.
 pub record Wanted (device : Option (List ℕ)) (past : History) (fed : List Answered) (e : Event) : Type 0 where
   pub does : Does device (next_in past fed) e
   pub piece : piece_in e ≡ []
@@ -138,13 +138,13 @@ rests_at device Starting started wish = absurd (cc)
 rests_at device Waiting started wish = refl
 rests_at device (Leaving cause) started wish = absurd (cc)
 
--- Where it wants nothing, what is next stays.
+-- If a round requests nothing, what is next stays.
 pub rests : (device : Option (List ℕ)) (past : History) (fed : List Answered) (round : Round) (now : Next) → Holds device past fed round
     → wish_of round ≡ None → next_in past fed ≡ now → next_in past fed ≡ settled now
 rests device past fed round now holds wish is =
     holds.next ∙ sym (rests_at round.device round.stage round.started wish) ∙ ap settled (sym holds.next ∙ is)
 
--- After what was taken a round that wants nothing more is over, or takes on.
+-- After an event from the link, a round that requests nothing is over or reads on.
 over_by : (now : Next) (stage : Stage) (started : ℕ) → (now ≡ Connect → ⊥) → settled now ≡ next_at stage started
     → next_at stage started ≡ over_or_take (is_over stage)
 over_by now Off started anew is = refl
@@ -174,7 +174,7 @@ pub nothing_left : (fed : List Answered) (e : Event) (from to : Wire) → piece_
     → Consumes from.remaining to.remaining (pieces_after fed ++ piece_in e)
 nothing_left fed e from to none taken = consumes_nothing from.remaining to.remaining (pieces_after fed) (piece_in e) taken none
 
--- what a take brought
+-- What a read brought.
 pub taken_wire : (past : History) (from old new : Wire) (fed : List Answered) (e : Event) → IsWired {X = Unit {0}} past from old fed (Ok tt)
     → Consumes old.remaining new.remaining (piece_in e) → Keeps old.given new.given
     → Consumes from.remaining new.remaining (pieces_after fed ++ piece_in e) × Appends from.given new.given (frames_after past fed)
@@ -183,7 +183,7 @@ taken_wire past from old new fed e wired taken kept = (
   Appends-kept from.given old.given new.given (frames_after past fed) wired.given kept,
 )
 
--- and where it brought nothing
+-- The same if it brought nothing.
 pub kept_wire : (past : History) (from old new : Wire) (fed : List Answered) → IsWired {X = Unit {0}} past from old fed (Ok tt)
     → Consumes old.remaining new.remaining [] → Keeps old.given new.given
     → Consumes from.remaining new.remaining (pieces_after fed) × Appends from.given new.given (frames_after past fed)
@@ -205,7 +205,7 @@ compose ledger old mid new now x after next result final first meets second last
     let between = first device past begun from fed going wired is (lasts clean) in
     second device past begun from between.0 between.1.0 between.1.1 (between.1.2 ∙ meets) clean
 
--- A round that is going ends, since its takes are used up.
+-- A running round ends because its reads are used up.
 pub used_up : {B X Y : Type 0} (ledger : B → Ledger) (old new : Scene B) (now : Next) (x : X)
     (after : X → Next) (final : Y → Next) → StepsFrom ledger old new now (Ok x) after
     → StepsFrom {X = Y} ledger old new now (Err TurnsUsed) final
@@ -218,7 +218,7 @@ used_up ledger old new now x after final first = λ device past begun from fed g
       ),
     )
 
--- The frames of an event were given, or not all of them.
+-- The frames of an event were written, completely or in part.
 pub sent : {B : Type 0} (ledger : B → Ledger) (device : Option (List ℕ)) (past : History) (begun : RoundState) (from mid to : Wire) (now : RoundState)
     (office : Office B) (fed : List Answered) (one : Answered) (progress : Progress) (e : Event)
     (result : Result (Unit {0}) RoundFault) (frames : List ℕ) → Consumes from.remaining mid.remaining (pieces_after fed ++ piece_in e)
@@ -236,14 +236,14 @@ sent ledger device past begun from mid to now office fed one progress e (Err Lin
 sent ledger device past begun from mid to now office fed one progress e (Err Output) frames taken had is going told are kept given only = absurd only
 sent ledger device past begun from mid to now office fed one progress e (Err TurnsUsed) frames taken had is going told are kept given only = absurd only
 
--- What comes to be next is told otherwise.
+-- The same with another form of what is next.
 pub next_as : {B X : Type 0} (ledger : B → Ledger) (device : Option (List ℕ)) (past : History) (begun now : RoundState) (from to : Wire) (office : Office B)
     (fed : List Answered) (progress : Progress) (result : Result X RoundFault) (first second : X → Next) → ((x : X) → first x ≡ second x)
     → Steps ledger device past begun now from to office fed progress result first → Steps ledger device past begun now from to office fed progress result second
 next_as ledger device past begun now from to office fed progress (Ok x) first second same steps = (steps.0, steps.1, steps.2 ∙ same x)
 next_as ledger device past begun now from to office fed progress (Err cause) first second same steps = steps
 
--- A turn that took nothing breaks the round off.
+-- A turn that read nothing breaks the round off.
 pub not_taken : {B : Type 0} (ledger : B → Ledger) (device : Option (List ℕ)) (past : History) (begun now : RoundState) (from to : Wire)
     (office : Office B) (fed : List Answered) (round : Progress) (same : Option (List ℕ)) (cause : RoundFault) (before after : ℕ)
     (last : Option LastTake) → Brings same (Err cause) before after last → Going ledger device past begun now office fed round
@@ -260,7 +260,7 @@ not_taken ledger device past begun now from to office fed round same Link before
 not_taken ledger device past begun now from to office fed round same Output before after last brings going taken given = absurd brings
 not_taken ledger device past begun now from to office fed round same TurnsUsed before after last brings going taken given = absurd brings
 
--- what a turn has told
+-- The result of a turn.
 pub as_turn : {B : Type 0} (ledger : B → Ledger) (old new : Scene B) (now : Next) (over b : Bool)
     → StepsFrom ledger old new now (Ok over) over_or_take → over ≡ b
     → StepsFrom {X = Unit {0}} ledger old new now (Ok tt) (λ done. over_or_take b)
@@ -268,7 +268,7 @@ as_turn ledger old new now over b first same = λ device past begun from fed goi
     let so = first device past begun from fed going wired is clean in
     (so.0, (so.1.0, so.1.1, so.1.2 ∙ ap over_or_take same))
 
--- how many takes there were, where a turn broke the round off
+-- The number of reads, if a turn broke the round off.
 pub at_most : (fault : RoundFault) (turn old mid new : ℕ) → turn < 100000 → AreTakes turn old mid → TurnTakes {X = Bool} (Err fault) mid new
     → AreAtMost 100000 old new
 at_most (Refused why) turn old mid new few takes (inl one) = (turn + 1, omega arith, λ count is. omega (arith, takes count is, one))

@@ -1,4 +1,5 @@
--- A start of a round that is accepted: it starts a read or more, under the next numbers, and no more than the session has room for.
+-- An accepted start of a round: it starts one read or more, with the next numbers, and at most as
+-- many as the session has room for.
 use Rattle.std.proofs.Common.{◌≡◌, ◌⊎◌, inl, inr, ℕ, zero, suc, ◌+◌, ◌<◌, ◌≤◌, ◌==◌, nat_le, nat_lt, not, ◌||◌, Bool, true, false, cond, List, [], ◌∷◌, ◌++◌, length, map, reverse, Option, Some, None, refl, sym, ap, ◌∙◌, subst, arith, append_assoc}
 use Rattle.std.specs.List.{filter}
 use Rattle.std.specs.Option.{is_none}
@@ -76,7 +77,7 @@ can_be_started history at c h =
     on_slot history at c (slot_of slots c.device) refl (not-false (can_start slots c.device) busy) crowded.1
     (ltb-false poll_limit (length (polls_in facts) + sent_count slots facts at (command.StartRound c)) few)
 
--- It sends a read or more, and none but those that are left.
+-- The start sends one read or more, and only remaining reads.
 pub some_sent : (number at : ℕ) (device : Device) (before : List session.Event) (spans : List ReadSpan) → is_startable device (Some before) ≡ true
     → (length spans == 0) ≡ false → 1 ≤ length (sends_on number at device before spans)
 some_sent number at device before [] ready some = absurd (cc)
@@ -98,7 +99,7 @@ few_sent number at device before (span ∷ spans) =
     few_step (is_startable device (Some before)) send (sends_on (number + 1) at device (before ++ start_by at device send ∷ []) spans) (length spans)
     (few_sent (number + 1) at device (before ++ start_by at device send ∷ []) spans)
 
--- So many reads are left of those of the plan.
+-- The number of reads of the plan that remain.
 pub reads_left : (from : ℕ) (list : Option Planned) → length (round_spans from list) + from ≤ length (round_spans 0 list)
     ⊎ (length (round_spans from list) ≡ 0)
 reads_left from None = inr refl
@@ -109,7 +110,7 @@ reads_left from (Some list) =
       | inr past ↦ inr (omega (arith, past, length-drop from reads))
     ]
 
--- Their numbers follow one another.
+-- The numbers are consecutive.
 from_next : (first n : ℕ) → from_on first (suc n) ≡ first ∷ from_on (first + 1) n
 from_next first zero = ap (λ k. k ∷ []) (omega arith)
 from_next first (suc n) =
@@ -129,7 +130,7 @@ sent_from number at device before (span ∷ spans) =
     numbers_step (is_startable device (Some before)) send (sends_on (number + 1) at device (before ++ start_by at device send ∷ []) spans)
     (sent_from (number + 1) at device (before ++ start_by at device send ∷ []) spans)
 
--- What the start records: so many polls more, and no end.
+-- What the start records: these polls, and no outcome.
 pub polls_more : (at : ℕ) (history : History) (c : StartRound) → AreNumbered (polls_in (facts_of history))
     → length (polls_in (reverse (added_by (next_poll (facts_of history)) at (slots_of history) (facts_of history) (command.StartRound c)) ++ facts_of history))
     ≡ length (polls_in (facts_of history)) + sent_count (slots_of history) (facts_of history) at (command.StartRound c)
@@ -153,7 +154,7 @@ pub ends_kept : (at : ℕ) (history : History) (c : StartRound) → AreNumbered 
 ends_kept at history c numbered n =
     ap (λ es. filter (λ e. e.poll == n) es) (command_adds at (slots_of history) (facts_of history) (command.StartRound c) numbered).ended
 
--- The session has room for them.
+-- The session has room for the polls.
 has_room : (full : Bool) (others : Option StartFault) → is_none (cond full (Some WindowFull) others) ≡ true → full ≡ false
 has_room true others h = absurd (cc)
 has_room false others h = refl

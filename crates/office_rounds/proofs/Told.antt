@@ -1,4 +1,5 @@
--- How often an event tells that a poll ended, and how many of its outcomes are recorded then.
+-- How often an event reports the outcome of a poll, and how many of the poll's outcomes are
+-- recorded then.
 use Rattle.std.proofs.Common.{◌≡◌, ℕ, suc, ◌+◌, ◌==◌, not, ◌||◌, Bool, true, false, cond, List, [], ◌∷◌, ◌++◌, length, Option, Some, None, refl, sym, ap, ◌∙◌, arith, if◌then◌else◌}
 use Rattle.std.specs.List.{filter, list_any}
 use Rattle.std.specs.Option.{option_map, option_to_list}
@@ -27,7 +28,7 @@ use Rattle.office_rules.specs.Sessions.{Slot}
 use Rattle.office_rules.proofs.EndedFacts.{end_fact, ended-with_outcome}
 use Rattle.office_rounds.specs.DeviceRounds.Polls.{ends, waits}
 
--- how often the notes tell that a poll ended
+-- How often the notifications report the outcome of a poll.
 abbrev pub told : ℕ → List Note → ℕ
 told n notes = length (filter (ends n) notes)
 
@@ -37,7 +38,7 @@ told_both n xs ys = ap length (filter-append (ends n) xs ys) ∙ length-append (
 both_none : (a b c : ℕ) → a ≡ b + c → b ≡ 0 → c ≡ 0 → a ≡ 0
 both_none a b c is first second = omega arith
 
--- The notes of readings tell no end.
+-- Notifications of readings report no outcome.
 quiet : (n : ℕ) (meter : List ℕ) (reading : Reading) (verdict : Verdict) → ends n (as_note meter reading verdict) ≡ false
 quiet n meter reading (Accepted rolls step) = refl
 quiet n meter reading (Held cause) = refl
@@ -72,7 +73,7 @@ words_quiet n at number session.Silent facts = refl
 words_quiet n at number (session.Malformed malformation) facts = refl
 words_quiet n at number (session.Lost cause) facts = refl
 
--- Each end that is told is recorded, and no other.
+-- Each reported outcome is recorded, and no other.
 one_more : {X Y : Type 0} (b : Bool) (x : X) (xs : List X) (y : Y) (ys : List Y) → length ys ≡ 0
     → length (cond b (x ∷ xs) xs) ≡ length (cond b (y ∷ ys) ys) + length xs
 one_more true x xs y ys h = omega (arith, h)
@@ -108,7 +109,7 @@ ends_settled n number at e (slot ∷ slots) facts =
     (told n (settled_notes number at e slots mid)) (told n (outcomes_notes at here facts ++ settled_notes number at e slots mid))
     (ends_settled n number at e slots mid) (ends_all n at here facts) (told_both n (outcomes_notes at here facts) (settled_notes number at e slots mid))
 
--- A poll waits on where none is told of it.
+-- A poll stays pending if no notification reports its outcome.
 waits_step : (b : Bool) (any : Bool) (one : Note) (notes : List Note) → not any ≡ (length notes == 0)
     → not (b || any) ≡ (length (cond b (one ∷ notes) notes) == 0)
 waits_step true any one notes h = sym (ne_eqb (suc (length notes)) 0 (λ e. absurd (omega (arith, e))))

@@ -21,7 +21,7 @@ use Rattle.office_rounds.specs.declared.progress.Progress.{Progress}
 use Rattle.office_rounds.proofs.Overs.{is_broken_off}
 use Rattle.office_rounds.proofs.Wires.{appends_nothing, part_of_all}
 
--- a connection wants nothing sent
+-- A connection sends nothing.
 no_frames : (h : History) (at : ℕ) (d : Option (List ℕ)) (given : Answer) → outgoing_after h at (event.Connected d) (Ok given) ≡ []
 no_frames h at d answer.Noted = refl
 no_frames h at d (answer.Done kind) = refl
@@ -48,7 +48,7 @@ pub unconnected : {B : Type 0} (ledger : B → Ledger) (device : Option (List �
 unconnected ledger device past begun now w office round why h =
     inl (record { at = h.0; leaves = h.1; timed = h.2; same = refl; printed = h.3 })
 
--- It was told, and not printed.
+-- The connection was fed, and not printed.
 pub unprinted : {B : Type 0} (ledger : B → Ledger) (device : Option (List ℕ)) (past : History) (begun was now : RoundState) (w : Wire)
     (before office : Office B) (round : Progress) (fault : RoundFault) → (h : Connects ledger device past begun was before round (Err Output))
     → Closes ledger device past begun now office (connection device h.0 (Ok h.1.0) ∷ []) Output fault
@@ -77,11 +77,11 @@ pub connects_same : {B : Type 0} (ledger : B → Ledger) (device same : Option (
 connects_same ledger device same past begun now office round result equal h =
     let P : Option (List ℕ) → Type 0 = λ d. Connects ledger d past begun now office round result in subst P equal h
 
--- The takes are used up.
+-- The reads are used up.
 abbrev pub IsUsed : Result (Unit {0}) RoundFault → Type 0
 IsUsed result = result ≡ Err TurnsUsed
 
--- That is told only where it broke the round off.
+-- This is reported only if it broke the round off.
 pub told_used : (fault told : RoundFault) → IsToldOf fault told → IsUsed (Err told) → IsUsed (Err fault)
 told_used fault told (inl is) h = cc
 told_used fault told (inr is) h = absurd (cc)
@@ -97,7 +97,7 @@ failures_by : (fault told : RoundFault) (before after : ℕ) → told ≡ fault 
 failures_by fault told before after is h =
     let P : RoundFault → Type 0 = λ f. CountsFailures {X = Unit {0}} (Err f) before after in subst P (sym is) h
 
--- The link's failures, where a round was broken off and closed.
+-- The link's failures, if a round was broken off and closed.
 pub counts_failures : (fault told : RoundFault) (before after : ℕ) → after ≡ risen (is_link_fault {X = Unit {0}} (Err fault)) before
     → IsToldOf fault told → CountsFailures {X = Unit {0}} (Err told) before after
 counts_failures (Refused why) told before after h (inl is) = failures_by (Refused why) told before after is h

@@ -11,14 +11,14 @@ appends_nothing a b x y got none = subst (Appends a b) (sym (ap (λ z. x ++ z) n
 pub consumes_nothing : (a b : Option (List ℕ)) (x y : List ℕ) → Consumes a b x → y ≡ [] → Consumes a b (x ++ y)
 consumes_nothing a b x y got none = subst (Consumes a b) (sym (ap (λ z. x ++ z) none ∙ append-nil x)) got
 
--- of what was not given whole, a part was got
+-- If bytes were not written completely, a part was.
 pub part_given : (a b : Option (List ℕ)) (bytes : List ℕ) → GivesPart a b bytes → GotPart bytes a b
 part_given a b bytes gives = (gives.part, gives.unsent, gives.whole, gives.given)
 
--- all of a text that was got is a part of it
+-- The complete text is a part of itself.
 pub part_of_all : (a b : Option (List ℕ)) (x : List ℕ) → Appends a b x → GotPart x a b
 part_of_all a b x got = (x, [], sym (append-nil x), got)
 
--- where nothing was taken
+-- Nothing was read.
 pub kept_none : (a b : Option (List ℕ)) → Keeps a b → Consumes a b []
 kept_none a b h = Consumes-kept a a b [] (Consumes-nil a) h

@@ -1,5 +1,5 @@
--- What each call of a round does between what it found and what it left: of the round, its link, the office, the clock and
--- the writer. A result comes last.
+-- What each call of a round changes between its start and its end: the round, its link, the office,
+-- the clock and the writer. A result comes last.
 use Rattle.std.specs.Prelude.{◌≡◌, ℕ, Bool, List, ◌∷◌, ◌++◌, Option, Result, Ok, Err}
 use Rattle.std.specs.Io.KnownBytes.{Appends, Consumes}
 use Rattle.std.specs.declared.io.Write as writers
@@ -24,18 +24,18 @@ use Rattle.office_rounds.specs.Taking.{over_or_take}
 use Rattle.office_rounds.specs.declared.fault.RoundFault.{RoundFault}
 use Rattle.office_rounds.specs.declared.progress.Progress.{Progress}
 
--- what is known of a link
+-- What is known of a link.
 abbrev pub wire_of : {L : Type 0} → links.Ghosts L → L → Wire
 wire_of l link = wire (l.remaining link) (l.given link)
 
--- What the office tells of an event that it accepted is printed.
+-- What the office reports of an accepted event is printed.
 abbrev pub PrintsTold : {B W : Type 0} → writers.Ghosts W → Office B → Answer → (had holds : W)
     → Result Answer RoundFault → Type 0
 PrintsTold w office given had holds result =
     Prints given (accepted_text given (notes_in office) (outgoing_in office))
     (w.contents had) (w.contents holds) result
 
--- The end of a round whose writing had failed is told, and not printed.
+-- After a failed write, the end of a round is fed but not printed.
 abbrev pub EndsSilently : {B : Type 0} → stores.Ghosts B → (at : ℕ) → Event → (old new : Office B)
     → Type 0
 EndsSilently b at gone old new = (printed moments later : Option (List ℕ))
@@ -44,7 +44,7 @@ EndsSilently b at gone old new = (printed moments later : Option (List ℕ))
     (round_state printed later (failures_of b.ledger new)) old new)
 
 module _ {B W : Type 0} (b : stores.Ghosts B) (w : writers.Ghosts W) where
-  -- An event is fed, and what is told of it is printed, whatever a clock told meanwhile.
+  -- An event is fed, and what the office reports is printed, for any reading of the clock.
   abbrev pub FeedsAndPrints : (at : ℕ) → Event → (old new : Office B) → (had holds : W)
       → Result Answer RoundFault → Type 0
   FeedsAndPrints at e old new had holds result = (moments later : Option (List ℕ))
@@ -52,7 +52,7 @@ module _ {B W : Type 0} (b : stores.Ghosts B) (w : writers.Ghosts W) where
       (round_state (w.contents had) moments (failures_of b.ledger old))
       (round_state (w.contents holds) later (failures_of b.ledger new)) new result)
 
-  -- The end of a round is fed, and what is told of it is printed.
+  -- The end of a round is fed, and what the office reports is printed.
   abbrev pub EndsAndPrints : (at : ℕ) → Event → (cause : RoundFault) → (old new : Office B)
       → (had holds : W) → (fault : RoundFault) → Type 0
   EndsAndPrints at gone cause old new had holds fault = (moments later : Option (List ℕ))
@@ -61,28 +61,28 @@ module _ {B W : Type 0} (b : stores.Ghosts B) (w : writers.Ghosts W) where
       (round_state (w.contents holds) later (failures_of b.ledger new)) old new fault)
 
 module _ {B C W : Type 0} (b : stores.Ghosts B) (c : clocks.Ghosts C) (w : writers.Ghosts W) where
-  -- what is known of the writer, the clock and the books
+  -- What is known of the writer, the clock and the store.
   abbrev pub desk_of : Office B → C → W → RoundState
   desk_of office clock output =
       round_state (w.contents output) (c.moments clock) (failures_of b.ledger office)
 
-  -- of an office, a clock and a writer, each as it was found and as it was left
+  -- A relation on an office, a clock and a writer, each before and after a call.
   abbrev pub Leaves : Type 0 → Type 1
   Leaves X = (old new : Office B) → (before after : C) → (had holds : W) → X → Type 0
 
-  -- The office is told of a new round that its device is connected.
+  -- The office is fed the connection of the device of a new round.
   abbrev pub TellsConnection : (from to : Progress) → Leaves (Result (Unit {0}) RoundFault)
   TellsConnection from to old new before after had holds result =
       After b.ledger old new (λ past. Connects b.ledger from.round.device past
       (desk_of old before had) (desk_of new after holds) new to result)
 
-  -- So it is of a round of which nothing was fed, if the event is that.
+  -- The same if nothing was fed for the round, and the event is the connection.
   abbrev pub TellsFirst : Event → (from to : Progress) → Leaves (Result (Unit {0}) RoundFault)
   TellsFirst e from to old new before after had holds result =
       IsNew from → e ≡ event.Connected from.round.device
       → TellsConnection from to old new before after had holds result
 
-  -- Where an event is next in a round that goes on, it is fed and printed.
+  -- If an event is next in a running round, it is fed and printed.
   abbrev pub TellsNext : Event → (from to : Progress) → Leaves (Result (Unit {0}) RoundFault)
   TellsNext e from to old new before after had holds result =
       (device : Option (List ℕ)) (past : History) (begun : RoundState) (fed : List Answered)
@@ -91,7 +91,7 @@ module _ {B C W : Type 0} (b : stores.Ghosts B) (c : clocks.Ghosts C) (w : write
       → (one : Answered) × (one.event ≡ e)
       × Told b.ledger device past begun (desk_of new after holds) new fed one to result
 
-  -- A round that was broken off is closed: the last thing that is fed is that its device is gone.
+  -- A round that was broken off is closed: the last event says that its device is gone.
   abbrev pub ClosesBroken : Progress → (cause : RoundFault) → Leaves RoundFault
   ClosesBroken progress cause old new before after had holds fault =
       (device : Option (List ℕ)) (past : History) (begun : RoundState) (fed : List Answered)
@@ -99,7 +99,7 @@ module _ {B C W : Type 0} (b : stores.Ghosts B) (c : clocks.Ghosts C) (w : write
       → (b.ledger (books_in new)).is_clean
       → Closes b.ledger device past begun (desk_of new after holds) new fed cause fault
 
-  -- A round whose connection was not told is over, and its link is as it was.
+  -- A round whose connection was not accepted is over, and its link is unchanged.
   abbrev pub EndsUnconnected : Progress → (cause : RoundFault) → Leaves RoundFault
   EndsUnconnected progress cause old new before after had holds fault =
       (device : Option (List ℕ)) (past : History) (begun : RoundState) (wire : Wire)
@@ -110,29 +110,30 @@ module _ {B C W : Type 0} (b : stores.Ghosts B) (c : clocks.Ghosts C) (w : write
 
 module _ {L B C W : Type 0} (l : links.Ghosts L) (b : stores.Ghosts B) (c : clocks.Ghosts C)
     (w : writers.Ghosts W) where
-  -- where a step finds a round, or leaves it
+  -- The state in which a step finds or leaves a round.
   abbrev pub scene_of : Progress → L → Office B → C → W → Scene B
   scene_of progress link office clock output =
       scene office (desk_of b c w office clock output) (wire_of l link) progress
 
-  -- the passage of a round from what it found to what it left
+  -- The passage of a round from its start to its end.
   abbrev pub passage_of : (from to : L) → (old new : Office B) → (before after : C)
       → (had holds : W) → Passage
   passage_of from to old new before after had holds =
       passage (desk_of b c w old before had) (desk_of b c w new after holds)
       (wire_of l from) (wire_of l to)
 
-  -- of a round, its link, the office, the clock and the writer, each as it was found and as it was left
+  -- A relation on a round, its link, the office, the clock and the writer, each before and after a
+  -- call.
   abbrev pub StepsBetween : Type 0 → Type 1
   StepsBetween X = (here there : Progress) → (from to : L) → Leaves b c w (Result X RoundFault)
 
-  -- A step does this, which is next, and that comes to be next.
+  -- A step does what is next, and leaves what is next then.
   abbrev pub StepsOn : {X : Type 0} → (now : Next) → (then : X → Next) → StepsBetween X
   StepsOn now then here there from to old new before after had holds result =
       StepsFrom b.ledger (scene_of here from old before had) (scene_of there to new after holds)
       now result then
 
-  -- An event is fed where it is next, after what it brings was taken, and what the office wants sent is given.
+  -- An event is fed if it is next, after its bytes were read, and the office's frames are written.
   abbrev pub Puts : Event → StepsBetween (Unit {0})
   Puts e here there from to old new before after had holds result =
       (device : Option (List ℕ)) (past : History) (begun : RoundState) (first : Wire)
@@ -145,19 +146,21 @@ module _ {L B C W : Type 0} (l : links.Ghosts L) (b : stores.Ghosts B) (c : cloc
       × Steps b.ledger device past begun (desk_of b c w new after holds) first
       (wire_of l to) new (one ∷ fed) there result (λ done. next_in past (one ∷ fed))
 
-  -- What the round wants is fed, whatever is next.
+  -- The event that the round requests is fed, for anything that is next.
   abbrev pub FeedsWanted : StepsBetween (Unit {0})
   FeedsWanted here there from to old new before after had holds result =
       (now : Next) → StepsOn now (λ done. settled now) here there from to old new before after had
       holds result
 
-  -- After what was taken from the link what the round wants is fed, and the result says whether the round is over.
+  -- After an event from the link, the event that the round requests is fed. The result says whether
+  -- the round is over.
   abbrev pub Follows : StepsBetween Bool
   Follows here there from to old new before after had holds result =
       (now : Next) → (now ≡ Connect → ⊥)
       → StepsOn now over_or_take here there from to old new before after had holds result
 
-  -- What is taken from the link is fed, and what the round wants thereafter; the result says whether the round is over.
+  -- An event from the link is fed, and then the event that the round requests. The result says
+  -- whether the round is over.
   abbrev pub FeedsTaken : Event → StepsBetween Bool
   FeedsTaken e here there from to old new before after had holds result =
       (device : Option (List ℕ)) (past : History) (begun : RoundState) (first : Wire)
@@ -182,7 +185,7 @@ module _ {L B C W : Type 0} (l : links.Ghosts L) (b : stores.Ghosts B) (c : cloc
   abbrev pub PollsOut : StepsBetween (Unit {0})
   PollsOut = StepsOn (StartFrom 0) (λ done. Over)
 
-  -- A round whose reads are to be started is polled to its end.
+  -- A round whose reads are yet to be started is polled to its end.
   abbrev pub PollsToEnd : Progress → (from to : L) → Leaves b c w (Result (Unit {0}) RoundFault)
   PollsToEnd progress from to old new before after had holds result =
       (device : Option (List ℕ)) (past : History) (begun : RoundState) (first : Wire)

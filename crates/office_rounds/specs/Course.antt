@@ -1,4 +1,4 @@
--- What a round feeds next, after what it fed.
+-- The event that a round feeds next, after the events that it fed.
 use Rattle.std.specs.Prelude.{◌≡◌, ℕ, ◌+◌, ◌==◌, nat_lt, nat_le, Bool, false, List, [], ◌∷◌, Option, None, Some, Result, Ok, Err, IsOk, if◌then◌else◌}
 use Rattle.std.specs.List.{count_by}
 use Rattle.poll_core.specs.declared.outcome.Closing.TheVariants as closing
@@ -15,7 +15,7 @@ use Rattle.office_rules.specs.Notes.{notes_after}
 use Rattle.office_core.specs.EventRun.{Answered}
 use Rattle.office_rounds.specs.FedEvents.{history_with}
 
--- What a start tells: the number of its first poll, how many reads it started, and how many the plan has.
+-- The number of the first poll, by an answer, or as known before.
 abbrev pub first_by : Option ℕ → Answer → Option ℕ
 first_by (Some first) given = Some first
 first_by None answer.Noted = None
@@ -23,69 +23,74 @@ first_by None (answer.Done kind) = None
 first_by None (answer.Again kind) = None
 first_by None (answer.Started first count of) = Some first
 
+-- The number of reads that an answer starts.
 abbrev pub started_by : Answer → ℕ
 started_by answer.Noted = 0
 started_by (answer.Done kind) = 0
 started_by (answer.Again kind) = 0
 started_by (answer.Started first count of) = count
 
+-- The number of reads in the plan, by an answer, or as known before.
 abbrev pub planned_by : ℕ → Answer → ℕ
 planned_by planned answer.Noted = planned
 planned_by planned (answer.Done kind) = planned
 planned_by planned (answer.Again kind) = planned
 planned_by planned (answer.Started first count of) = of
 
--- So it is with an answer, and a refusal tells nothing.
+-- The first poll after a result; a refusal changes nothing.
 abbrev pub first_after : Option ℕ → Result Answer Refusal → Option ℕ
 first_after first (Ok given) = first_by first given
 first_after first (Err why) = first
 
+-- The number of reads that were started, after a result.
 abbrev pub started_after : ℕ → Result Answer Refusal → ℕ
 started_after started (Ok given) = started + started_by given
 started_after started (Err why) = started
 
+-- The number of reads in the plan, after a result.
 abbrev pub planned_after : ℕ → Result Answer Refusal → ℕ
 planned_after planned (Ok given) = planned_by planned given
 planned_after planned (Err why) = planned
 
--- the first poll of a round, once it has started one
+-- The first poll of a round, once the round has started one.
 abbrev pub first_poll : List Answered → Option ℕ
 first_poll [] = None
 first_poll (one ∷ earlier) = first_after (first_poll earlier) one.result
 
--- how many reads it has started
+-- The number of reads that the round has started.
 abbrev pub reads_started : List Answered → ℕ
 reads_started [] = 0
 reads_started (one ∷ earlier) = started_after (reads_started earlier) one.result
 
--- how many reads the plan has
+-- The number of reads in the plan.
 abbrev pub reads_planned : List Answered → ℕ
 reads_planned [] = 0
 reads_planned (one ∷ earlier) = planned_after (reads_planned earlier) one.result
 
--- the note tells how a poll ended, and it is one from the first of the round on
+-- The poll is not before the first of the round.
 abbrev pub is_from : (first : Option ℕ) → ℕ → Bool
 is_from None poll = false
 is_from (Some first) poll = nat_le first poll
 
+-- The notification reports the outcome of such a poll.
 abbrev pub is_ending : (first : Option ℕ) → Note → Bool
 is_ending first (note.Outcome poll outcome) = is_from first poll
 is_ending first (note.Reading meter raw rolls step) = false
 is_ending first (note.Held meter raw cause) = false
 
--- how many polls of the round ended with an event
+-- The number of polls of the round that ended with an event.
 abbrev pub endings_of : (past : History) → (earlier : List Answered) → Answered → ℕ
 endings_of past earlier one =
     count_by (is_ending (first_poll earlier))
     (notes_after (history_with past earlier) one.at one.event one.result)
 
--- how many of its polls have ended
+-- The number of polls of the round that have ended.
 abbrev pub polls_ended : (past : History) → List Answered → ℕ
 polls_ended past [] = 0
 polls_ended past (one ∷ earlier) = polls_ended past earlier + endings_of past earlier one
 
--- What is next: the connection is told; the reads from a number on are started; the device is gone, since all have ended;
--- something is taken from the link; or the round is over.
+-- What is next: the connection is fed; the reads from a number on are started; the device is gone,
+-- since all polls have ended; an event is read from the link; or the round is over.
 pub data Next : Type 0 where
   Connect : Next
   StartFrom : (read : ℕ) → Next
@@ -93,14 +98,14 @@ pub data Next : Type 0 where
   Take : Next
   Over : Next
 
--- The reads that are left are started. Where none is left and all have ended, the device is gone.
+-- The remaining reads are started. If none remains and all polls have ended, the device is gone.
 abbrev pub next_left : (started ended planned : ℕ) → Next
 next_left started ended planned =
     if nat_lt started planned then StartFrom started
     else if nat_le planned ended then Leave
     else Take
 
--- So it is after an event with which a poll of the round has ended.
+-- The same after an event that ended a poll of the round.
 abbrev pub next_after : (endings started ended planned : ℕ) → Next
 next_after endings started ended planned =
     if endings == 0 then Take else next_left started ended planned
@@ -114,13 +119,14 @@ next_by (event.Gone given closing) next = Over
 next_by (event.Command c) next = next
 next_by (event.Asked asked) next = next
 
+-- What is next after these events.
 abbrev pub next_in : (past : History) → List Answered → Next
 next_in past [] = Connect
 next_in past (one ∷ earlier) = next_by one.event (next_after (endings_of past earlier one)
     (reads_started (one ∷ earlier)) (polls_ended past (one ∷ earlier))
     (reads_planned (one ∷ earlier)))
 
--- What is taken from the link: a piece, a tick where nothing came, or the end.
+-- An event from the link: bytes, a timer event if nothing came, or the end.
 abbrev pub IsTaken : (device : Option (List ℕ)) → Event → Type 0
 IsTaken device (event.Connected given) = ⊥
 IsTaken device (event.Bytes given piece) = given ≡ device
@@ -129,11 +135,12 @@ IsTaken device (event.Gone given cause) = (given ≡ device) × (cause ≡ closi
 IsTaken device (event.Command c) = ⊥
 IsTaken device (event.Asked asked) = ⊥
 
+-- The event that starts the reads of a device from a number on.
 abbrev pub start_from : (device : Option (List ℕ)) → ℕ → Event
 start_from device read =
     event.Command (command.StartRound (record { device = device; from = read }))
 
--- the event does what is next
+-- The event does what is next.
 abbrev pub Does : (device : Option (List ℕ)) → Next → Event → Type 0
 Does device Connect e = e ≡ event.Connected device
 Does device (StartFrom read) e = e ≡ start_from device read
@@ -141,7 +148,7 @@ Does device Leave e = e ≡ event.Gone device closing.Gone
 Does device Take e = IsTaken device e
 Does device Over e = ⊥
 
--- Each of these was next after those before it, and was accepted.
+-- Each event was next after the earlier ones, and was accepted.
 abbrev pub AreNext : (device : Option (List ℕ)) → (past : History) → List Answered → Type 0
 AreNext device past [] = Unit {0}
 AreNext device past (one ∷ earlier) =

@@ -1,18 +1,18 @@
--- Why a round was broken off, and what of its text and its frames came through.
+-- Why a round was broken off, and which part of its text and its frames came through.
 use Rattle.std.specs.Prelude.{ℕ, Bool, true, false, List, Option, Result, Ok, Err}
 use Rattle.std.specs.Io.KnownBytes.{Appends}
 use Rattle.sun_points.specs.Writing.{GotPart}
 use Rattle.office_rounds.specs.declared.fault.RoundFault.{RoundFault}
 use Rattle.office_rounds.specs.declared.fault.RoundFault.TheVariants.{Refused, Link, Output, TurnsUsed}
 
--- the number under which a fault is told
+-- The number of a fault.
 abbrev pub fault_number : RoundFault → ℕ
 fault_number (Refused why) = 1
 fault_number Link = 2
 fault_number Output = 3
 fault_number TurnsUsed = 4
 
--- the link failed
+-- The link failed.
 abbrev pub is_link_fault : {X : Type 0} → Result X RoundFault → Bool
 is_link_fault (Ok x) = false
 is_link_fault (Err (Refused why)) = false
@@ -20,7 +20,7 @@ is_link_fault (Err Link) = true
 is_link_fault (Err Output) = false
 is_link_fault (Err TurnsUsed) = false
 
--- the text was printed whole, or a part of it where a writing failed
+-- The text was printed completely, or in part if a write failed.
 abbrev pub IsPrinted : {X : Type 0} → Result X RoundFault → (text : List ℕ)
     → (old new : Option (List ℕ)) → Type 0
 IsPrinted (Ok x) text old new = Appends old new text
@@ -29,8 +29,8 @@ IsPrinted (Err Link) text old new = Appends old new text
 IsPrinted (Err Output) text old new = GotPart text old new
 IsPrinted (Err TurnsUsed) text old new = Appends old new text
 
--- The frames were given whole; or a part of them where the link failed, or where a writing did, so that the latest start
--- was not printed.
+-- The frames were written completely. They were written in part if the link failed, or if printing
+-- failed, so that the latest start was not printed.
 abbrev pub AreGiven : {X : Type 0} → Result X RoundFault → (frames : List ℕ)
     → (old new : Option (List ℕ)) → Type 0
 AreGiven (Ok x) frames old new = Appends old new frames
@@ -39,7 +39,7 @@ AreGiven (Err Link) frames old new = GotPart frames old new
 AreGiven (Err Output) frames old new = GotPart frames old new
 AreGiven (Err TurnsUsed) frames old new = Appends old new frames
 
--- no fault but the link's
+-- No fault but the link's.
 abbrev pub OnlyLink : {X : Type 0} → Result X RoundFault → Type 0
 OnlyLink (Ok x) = Unit {0}
 OnlyLink (Err (Refused why)) = ⊥
@@ -47,7 +47,7 @@ OnlyLink (Err Link) = Unit {0}
 OnlyLink (Err Output) = ⊥
 OnlyLink (Err TurnsUsed) = ⊥
 
--- neither the link's fault nor that its takes are used up
+-- A fault other than a failed link or used up reads.
 abbrev pub OfOffice : {X : Type 0} → Result X RoundFault → Type 0
 OfOffice (Ok x) = Unit {0}
 OfOffice (Err (Refused why)) = Unit {0}
@@ -55,7 +55,7 @@ OfOffice (Err Link) = ⊥
 OfOffice (Err Output) = Unit {0}
 OfOffice (Err TurnsUsed) = ⊥
 
--- the takes are not used up
+-- The reads are not used up.
 abbrev pub TakesOn : {X : Type 0} → Result X RoundFault → Type 0
 TakesOn (Ok x) = Unit {0}
 TakesOn (Err (Refused why)) = Unit {0}

@@ -1,5 +1,5 @@
--- The events that a round fed to an office, with what they were answered, and what comes of them. Lists of them stand
--- latest first.
+-- The events that a round fed to an office, with their answers and effects. Lists have the latest
+-- event first.
 use Rattle.std.specs.Prelude.{◌≡◌, ℕ, List, [], ◌∷◌, ◌++◌, Option, Result, Ok, Err}
 use Rattle.socket_link.specs.Clocks.{TellsMoment}
 use Rattle.script_text.specs.AnswerText.{accepted_text}
@@ -14,38 +14,40 @@ use Rattle.office_books.specs.declared.failures.Failures.{Failures}
 use Rattle.office_core.specs.EventRun.{Answered}
 use Rattle.office_core.specs.Taking.{IsAnswer}
 
--- what the office has accepted after these events, where it had accepted `past` before them
+-- What the office has accepted after these events, if it had accepted `past` earlier.
 abbrev pub history_with : (past : History) → List Answered → History
 history_with past [] = past
 history_with past (one ∷ earlier) =
     with_answer (history_with past earlier) one.at one.event one.result
 
--- Each event is answered as its definition says after those before it, or it failed outside, which is counted.
+-- Each event has the answer of the definition after the earlier ones, or it failed outside, which
+-- is counted.
 abbrev pub AreAnswered : (past : History) → (before after : Failures) → List Answered → Type 0
 AreAnswered past before after [] = after ≡ before
 AreAnswered past before after (one ∷ earlier) =
     (between : Failures) × AreAnswered past before between earlier
     × IsAnswer (history_with past earlier) one.at one.event between after one.result
 
--- What is printed of an answer: of an accepted event what a script prints, of a refused one nothing.
+-- The printed text of an answer: as in a script for an accepted event, nothing for a refused one.
 abbrev pub told_text : History → (at : ℕ) → Event → Result Answer Refusal → List ℕ
 told_text past at e (Ok given) =
     accepted_text given (notes_after past at e (Ok given)) (outgoing_after past at e (Ok given))
 told_text past at e (Err why) = []
 
+-- The printed text of these events.
 abbrev pub text_after : (past : History) → List Answered → List ℕ
 text_after past [] = []
 text_after past (one ∷ earlier) =
     text_after past earlier ++ told_text (history_with past earlier) one.at one.event one.result
 
--- the frames that the office wants sent
+-- The frames that the office sends.
 abbrev pub frames_after : (past : History) → List Answered → List ℕ
 frames_after past [] = []
 frames_after past (one ∷ earlier) =
     frames_after past earlier
     ++ outgoing_after (history_with past earlier) one.at one.event one.result
 
--- the bytes of the device that they bring
+-- The bytes of the device in an event.
 abbrev pub piece_in : Event → List ℕ
 piece_in (event.Connected given) = []
 piece_in (event.Bytes given piece) = piece
@@ -54,11 +56,12 @@ piece_in (event.Gone given closing) = []
 piece_in (event.Command c) = []
 piece_in (event.Asked asked) = []
 
+-- The bytes of the device in these events.
 abbrev pub pieces_after : List Answered → List ℕ
 pieces_after [] = []
 pieces_after (one ∷ earlier) = pieces_after earlier ++ piece_in one.event
 
--- each comes at the moment that the clock tells for it
+-- Each event has the clock's time.
 abbrev pub AreTimed : (begun now : Option (List ℕ)) → List Answered → Type 0
 AreTimed begun now [] = now ≡ begun
 AreTimed begun now (one ∷ earlier) =

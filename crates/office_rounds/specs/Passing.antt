@@ -1,4 +1,4 @@
--- What holds of a round whatever the books hold.
+-- Properties of a round that need no premise on the store.
 use Rattle.std.specs.Prelude.{◌≡◌, ◌⊎◌, ◌≤◌, ℕ, ◌+◌, ◌-◌, ◌^◌, min, true, Result, Ok, Err}
 use Rattle.mb_wire.specs.Links.{risen}
 use Rattle.office_books.specs.Ledgers.{Ledger}
@@ -7,20 +7,22 @@ use Rattle.office_core.specs.declared.office.Office.{Office}
 use Rattle.office_rounds.specs.declared.fault.RoundFault.{RoundFault}
 use Rattle.office_rounds.specs.declared.fault.RoundFault.TheVariants.{Refused, Link, Output, TurnsUsed}
 
--- A wrong answer of a store that was taken as true stays one, and the zone stays.
+-- A wrong result that was taken as true stays noted, and the zone stays.
 pub record Lasts {B : Type 0} (ledger : B → Ledger) (old new : Office B) : Type 0 where
   pub clean : (ledger (books_in new)).is_clean → (ledger (books_in old)).is_clean
   pub zone : (ledger (books_in new)).zone ≡ (ledger (books_in old)).zone
 
--- so many takes, of a count that stays at 2^64 - 1
+-- The number of reads of the link, by a count that stays at 2^64 - 1.
 abbrev pub AreTakes : (takes before after : ℕ) → Type 0
 AreTakes takes before after = (count : ℕ) → before ≡ min count (2 ^ 64 - 1)
     → after ≡ min (count + takes) (2 ^ 64 - 1)
 
+-- At most `most` reads were made.
 abbrev pub AreAtMost : (most before after : ℕ) → Type 0
 AreAtMost most before after = (takes : ℕ) × (takes ≤ most) × AreTakes takes before after
 
--- The link's failures rise by one where it failed, and else only where a writing failed thereafter.
+-- The link's failures grow by one if the link failed. Otherwise they grow only if printing failed
+-- later.
 abbrev pub CountsFailures : {X : Type 0} → Result X RoundFault → (before after : ℕ) → Type 0
 CountsFailures (Ok x) before after = after ≡ before
 CountsFailures (Err (Refused why)) before after = after ≡ before

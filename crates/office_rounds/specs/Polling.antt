@@ -1,4 +1,4 @@
--- How a round stands after what it fed: which polls wait, and what it does next.
+-- The state of a round after what it fed: its pending polls, and its next event.
 use Rattle.std.specs.Prelude.{◌≡◌, ℕ, zero, suc, ◌+◌, ◌≤◌, ◌==◌, Bool, true, false, List, [], ◌∷◌, ◌++◌, map, length, Option, Some, None, Ok}
 use Rattle.std.specs.List.{filter}
 use Rattle.poll_core.specs.declared.outcome.Closing.TheVariants as closing
@@ -23,7 +23,7 @@ use Rattle.office_rounds.specs.declared.device_rounds.round.Round.{Round}
 use Rattle.office_rounds.specs.declared.device_rounds.stage.Stage.{Stage}
 use Rattle.office_rounds.specs.declared.device_rounds.stage.Stage.TheVariants.{Off, Joining, Starting, Waiting, Leaving}
 
--- what a round does next
+-- What a round does next.
 abbrev pub next_at : Stage → (started : ℕ) → Next
 next_at Off started = Over
 next_at Joining started = Connect
@@ -31,15 +31,16 @@ next_at Starting started = StartFrom started
 next_at Waiting started = Take
 next_at (Leaving closing) started = Leave
 
+-- What a round does next.
 abbrev pub next_of : Round → Next
 next_of round = next_at round.stage round.started
 
--- so many numbers from one on
+-- Consecutive numbers from `first` on.
 abbrev pub from_on : (first count : ℕ) → List ℕ
 from_on first zero = []
 from_on first (suc n) = from_on first n ++ (first + n) ∷ []
 
--- a poll of this number has no outcome
+-- The poll with this number has no outcome.
 abbrev pub is_open : List Fact → ℕ → Bool
 is_open facts number = length (ends_of facts number) == 0
 
@@ -50,13 +51,13 @@ pub record IsOnSession (slots : List Slot) (device : Option (List ℕ)) (numbers
     pub found : slot_of slots device ≡ Some slot
     pub are : map (λ poll. poll.0) (polls_on_present slot.device slot.present) ≡ numbers
 
--- the first poll of a round, once it has started one, has this number
+-- The first poll of a round, once the round has started one, has this number.
 abbrev pub IsFirst : (first : Option ℕ) → (number started : ℕ) → Type 0
 IsFirst None number started = started ≡ 0
 IsFirst (Some first) number started = first ≡ number
 
--- The polls of the round have the numbers from one on, and are all that were started on the device's session; those that it
--- waits for have no outcome.
+-- The polls of the round have consecutive numbers, and are all that were started on the device's
+-- session. The pending ones are those without an outcome.
 pub record IsUnderWay (device : Option (List ℕ)) (past : History) (fed : List Answered)
     (round : Round) : Type 0 where
   pub number : ℕ
@@ -72,13 +73,14 @@ pub record IsUnderWay (device : Option (List ℕ)) (past : History) (fed : List 
   pub session : IsOnSession (slots_of (history_with past fed)) device
       (from_on number (reads_started fed))
 
--- nothing was fed, and nothing waits
+-- Nothing was fed, and no poll is pending.
 pub record IsUnfed (fed : List Answered) (round : Round) : Type 0 where
   pub none : fed ≡ []
   pub polls : round.polls.items ≡ []
   pub started : round.started ≡ 0
   pub planned : round.planned ≡ 0
 
+-- The state of a round at a stage, after what it fed.
 abbrev pub StandsAt : Stage → (device : Option (List ℕ)) → History → List Answered → Round → Type 0
 StandsAt Off device past fed round = Unit {0}
 StandsAt Joining device past fed round = IsUnfed fed round
@@ -86,14 +88,14 @@ StandsAt Starting device past fed round = IsUnderWay device past fed round
 StandsAt Waiting device past fed round = IsUnderWay device past fed round
 StandsAt (Leaving cause) device past fed round = cause ≡ closing.Gone
 
--- What is next after what was fed is what the round does next.
+-- What is next after the fed events is what the round does next.
 pub record Holds (device : Option (List ℕ)) (past : History) (fed : List Answered)
     (round : Round) : Type 0 where
   pub device_is : round.device ≡ device
   pub next : next_in past fed ≡ next_of round
   pub stands : StandsAt round.stage device past fed round
 
--- the connection ends with an event
+-- The round after an event that may end the connection.
 abbrev pub ended_by : Event → Round → Round
 ended_by (event.Connected given) round = round
 ended_by (event.Bytes given piece) round = round
@@ -102,11 +104,11 @@ ended_by (event.Gone given cause) round = leaving cause round
 ended_by (event.Command c) round = round
 ended_by (event.Asked asked) round = round
 
--- the round after an event that was accepted, and what the office told of it
+-- The round after an accepted event and the office's notifications.
 abbrev pub round_after : Event → Answer → List Note → Round → Round
 round_after e given notes round = heard notes (answered (Ok given) (ended_by e round))
 
--- what is next once a round has fed what it wants
+-- What is next once a round has fed the event that it requests.
 abbrev pub settled : Next → Next
 settled Connect = StartFrom 0
 settled (StartFrom read) = Take
@@ -114,7 +116,7 @@ settled Leave = Over
 settled Take = Take
 settled Over = Over
 
--- it is over
+-- The round is over.
 abbrev pub is_over : Stage → Bool
 is_over Off = true
 is_over Joining = false
@@ -122,7 +124,8 @@ is_over Starting = false
 is_over Waiting = false
 is_over (Leaving cause) = false
 
--- A round that stands so, and feeds what is next, stands so after it was accepted.
+-- If a round is in its state and feeds the next event, it is in its state after the event was
+-- accepted.
 abbrev pub RoundsHold : Type 0
 RoundsHold = (device : Option (List ℕ)) (past : History) (fed : List Answered) (round : Round)
     (at : ℕ) (e : Event) (before after : Failures) (given : Answer)

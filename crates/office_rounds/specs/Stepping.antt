@@ -1,4 +1,4 @@
--- How far a round has come, between its steps.
+-- The progress of a round, between its steps.
 use Rattle.std.specs.Prelude.{◌≡◌, ◌⊎◌, ◌||◌, ℕ, Bool, true, false, List, [], ◌∷◌, Option, Result, Ok, Err}
 use Rattle.std.specs.Io.KnownBytes.{Appends, Consumes}
 use Rattle.office_events.specs.declared.events.Event.{Event}
@@ -28,10 +28,11 @@ use Rattle.office_rounds.specs.declared.fault.RoundFault.{RoundFault}
 use Rattle.office_rounds.specs.declared.fault.RoundFault.TheVariants.{Refused, Link, Output, TurnsUsed}
 use Rattle.office_rounds.specs.declared.progress.Progress.{Progress}
 
+-- The connection of a device at a timestamp, with its answer.
 abbrev pub connection : (device : Option (List ℕ)) → (at : ℕ) → Result Answer Refusal → Answered
 connection device at result = record { at = at; event = event.Connected device; result = result }
 
--- the office stands after the answer to an event, and tells of it
+-- The office is in the state after the answer to an event, and reports it.
 pub record IsTaken {B : Type 0} (ledger : B → Ledger) (past : History) (at : ℕ) (e : Event)
     (reply : Result Answer Refusal)
     (begun now : RoundState) (office : Office B) : Type 0 where
@@ -39,7 +40,7 @@ pub record IsTaken {B : Type 0} (ledger : B → Ledger) (past : History) (at : �
   pub answer : IsAnswer past at e begun.failures now.failures reply
   pub told : IsTold past at e reply office
 
--- what feeding an event does, and printing what is told of it
+-- An event was fed, and a write of its report failed.
 pub record IsUnprinted {B : Type 0} (ledger : B → Ledger) (past : History) (at : ℕ) (e : Event)
     (begun now : RoundState)
     (office : Office B) : Type 0 where
@@ -48,6 +49,7 @@ pub record IsUnprinted {B : Type 0} (ledger : B → Ledger) (past : History) (at
   pub printed : IsPrinted {X = Unit {0}} (Err Output) (told_text past at e (Ok given)) begun.printed
       now.printed
 
+-- An event was fed, and its report printed completely, or in part if the write failed.
 abbrev pub Feeds : {B : Type 0} → (B → Ledger) → History → (at : ℕ) → Event
     → (begun now : RoundState) → Office B
     → Result Answer RoundFault → Type 0
@@ -60,12 +62,14 @@ Feeds ledger past at e begun now office (Err Output) = IsUnprinted ledger past a
 Feeds ledger past at e begun now office (Err Link) = ⊥
 Feeds ledger past at e begun now office (Err TurnsUsed) = ⊥
 
--- Where an event of a device is refused since the office has stopped, it had; it stops where such an event fails.
+-- An event of a device is refused as stopped only if the office had stopped. The office stops if
+-- such an event fails.
 pub record Stops (was : Bool) (e : Event) (reply : Result Answer Refusal) (now : Bool) : Type 0
   where
     pub before : reply ≡ Err refusal.Stopped → was ≡ true
     pub after : now ≡ (was || stops e reply)
 
+-- The same by the result of feeding the event.
 abbrev pub FeedStops : (was : Bool) → Event → Result Answer RoundFault → (now : Bool) → Type 0
 FeedStops was e (Ok given) now = Unit {0}
 FeedStops was e (Err (Refused why)) now = Stops was e (Err why) now
@@ -73,10 +77,11 @@ FeedStops was e (Err Link) now = Unit {0}
 FeedStops was e (Err Output) now = Unit {0}
 FeedStops was e (Err TurnsUsed) now = Unit {0}
 
+-- The same for a refused event.
 abbrev pub RefusedStops : (was : Bool) → Event → Result Answer Refusal → (now : Bool) → Type 0
 RefusedStops was e reply now = (why : Refusal) → reply ≡ Err why → Stops was e reply now
 
--- The end of a round was told, and printed; or not printed, since a writing had failed.
+-- The end of a round was fed and printed, or printed in part if a write failed.
 pub record EndsPrinted {B : Type 0} (ledger : B → Ledger) (past : History) (at : ℕ) (e : Event)
     (cause : RoundFault)
     (begun now : RoundState) (old new : Office B) (fault : RoundFault) : Type 0 where
@@ -86,27 +91,28 @@ pub record EndsPrinted {B : Type 0} (ledger : B → Ledger) (past : History) (at
   pub printed : ((fault ≡ cause) × Appends begun.printed now.printed (told_text past at e reply))
       ⊎ ((fault ≡ Output) × GotPart (told_text past at e reply) begun.printed now.printed)
 
+-- The end of a round was fed and not printed, since a write had failed.
 pub record EndsUnprinted {B : Type 0} (ledger : B → Ledger) (past : History) (at : ℕ) (e : Event)
     (begun now : RoundState) (old new : Office B) : Type 0 where
   pub reply : Result Answer Refusal
   pub taken : IsTaken ledger past at e reply begun now new
   pub stops : RefusedStops (is_stopped old) e reply (is_stopped new)
 
--- the fault that is told: that a writing has failed now, or the one that broke the round off
+-- The reported fault: a failed write now, or else the cause.
 abbrev pub fault_after : (cause fault : RoundFault) → RoundFault
 fault_after cause (Refused why) = cause
 fault_after cause Link = cause
 fault_after cause Output = Output
 fault_after cause TurnsUsed = cause
 
--- a writing failed
+-- A write of the output failed.
 abbrev pub is_output : RoundFault → Bool
 is_output (Refused why) = false
 is_output Link = false
 is_output Output = true
 is_output TurnsUsed = false
 
--- an answer is printed, or a part of it where a writing failed
+-- An answer is printed completely, or in part if a write failed.
 abbrev pub Prints : Answer → (text : List ℕ) → (old new : Option (List ℕ))
     → Result Answer RoundFault → Type 0
 Prints given text old new (Ok told) = (told ≡ given) × Appends old new text
@@ -115,22 +121,22 @@ Prints given text old new (Err Link) = ⊥
 Prints given text old new (Err Output) = GotPart text old new
 Prints given text old new (Err TurnsUsed) = ⊥
 
--- the moment of the latest event that was accepted, after one that broke the round off
+-- The timestamp of the latest accepted event, after an event that broke the round off.
 abbrev pub latest_after : RoundFault → (at latest : ℕ) → ℕ
 latest_after (Refused why) at latest = latest
 latest_after Link at latest = latest
 latest_after Output at latest = at
 latest_after TurnsUsed at latest = latest
 
--- before anything was fed
+-- The progress before anything was fed.
 abbrev pub unfed : (device : Option (List ℕ)) → Progress
 unfed device = record { round = joined (unconnected device); latest = 0 }
 
--- nothing was fed yet
+-- Nothing was fed yet.
 abbrev pub IsNew : Progress → Type 0
 IsNew progress = progress.round ≡ joined (unconnected progress.round.device)
 
--- All that was next was fed so far, and printed.
+-- Everything that was next was fed so far, and printed.
 pub record Going {B : Type 0} (ledger : B → Ledger) (device : Option (List ℕ)) (past : History)
     (begun now : RoundState)
     (office : Office B) (fed : List Answered) (progress : Progress) : Type 0 where
@@ -141,7 +147,7 @@ pub record Going {B : Type 0} (ledger : B → Ledger) (device : Option (List ℕ
   pub holds : Holds device past fed progress.round
   pub latest : progress.latest ≡ latest_of (history_with past fed)
 
--- It was broken off.
+-- The round was broken off.
 pub record Broken {B : Type 0} (ledger : B → Ledger) (device : Option (List ℕ)) (past : History)
     (begun now : RoundState)
     (office : Office B) (fed : List Answered) (progress : Progress) (cause : RoundFault) : Type 0
@@ -154,7 +160,8 @@ pub record Broken {B : Type 0} (ledger : B → Ledger) (device : Option (List �
     pub device_is : progress.round.device ≡ device
     pub latest : progress.latest ≡ latest_of (history_with past fed)
 
--- what was taken from the link is what was fed, and what was given to it is what the office wanted sent
+-- The bytes read from the link are those that were fed, and the bytes written are the office's
+-- frames.
 pub record IsWired {X : Type 0} (past : History) (from to : Wire) (fed : List Answered)
     (result : Result X RoundFault) : Type 0 where
   pub taken : Consumes from.remaining to.remaining (pieces_after fed)
@@ -168,13 +175,14 @@ pub record RoundGoesOn {B : Type 0} (ledger : B → Ledger) (device : Option (Li
   pub told : outgoing_in office
       ≡ outgoing_after (history_with past fed) one.at one.event one.result
 
--- of an event that was refused no frames are sent; of one that was not printed they are not sent either
+-- A refused event sends no frames. An event that was not printed sends none either.
 abbrev pub IsUnsent : RoundFault → Result Answer Refusal → Type 0
 IsUnsent (Refused why) result = result ≡ Err why
 IsUnsent Link result = ⊥
 IsUnsent Output result = Unit {0}
 IsUnsent TurnsUsed result = ⊥
 
+-- An event of a round was fed: the round continues, or is broken off.
 abbrev pub Told : {B : Type 0} → (B → Ledger) → (device : Option (List ℕ)) → History
     → (begun now : RoundState) → Office B
     → List Answered → Answered → Progress → Result (Unit {0}) RoundFault → Type 0
@@ -184,7 +192,7 @@ Told ledger device past begun now office fed one progress (Err cause) =
     Broken ledger device past begun now office (one ∷ fed) progress cause
     × IsUnsent cause one.result
 
--- What a step of a round does that was going: it goes on, or is broken off.
+-- A step of a running round: the round keeps running, or is broken off.
 abbrev pub Steps : {B X : Type 0} → (B → Ledger) → (device : Option (List ℕ)) → History
     → (begun now : RoundState) → (from to : Wire)
     → Office B → List Answered → Progress → Result X RoundFault → (X → Next) → Type 0
@@ -195,19 +203,20 @@ Steps ledger device past begun now from to office fed progress (Err cause) next 
     Broken ledger device past begun now office fed progress cause
     × IsWired {X = Unit {0}} past from to fed (Err cause)
 
--- where a step of a round finds it and leaves it
+-- The state in which a step finds or leaves a round.
 pub record Scene (B : Type 0) : Type 0 where
   pub office : Office B
   pub round_state : RoundState
   pub wire : Wire
   pub progress : Progress
 
+-- The scene with these parts.
 abbrev pub scene : {B : Type 0} → Office B → RoundState → Wire → Progress → Scene B
 scene office round_state wire progress =
     record { office = office; round_state = round_state; wire = wire; progress = progress }
 
--- A step does so of every round that has come so far and is to do this next, if no wrong answer of a store was taken as
--- true until now.
+-- A step does so for every round with this progress that is to do this next. This assumes that no
+-- wrong result of a store was taken as true so far.
 abbrev pub StepsFrom : {B X : Type 0} → (B → Ledger) → (old new : Scene B) → (now : Next)
     → Result X RoundFault → (X → Next) → Type 0
 StepsFrom ledger old new now result next =
@@ -220,7 +229,7 @@ StepsFrom ledger old new now result next =
     × Steps ledger device past begun new.round_state from new.wire new.office later new.progress
     result next
 
--- what the connection of a device does
+-- What the connection of a device does.
 abbrev pub Connects : {B : Type 0} → (B → Ledger) → (device : Option (List ℕ)) → History
     → (begun now : RoundState) → Office B → Progress
     → Result (Unit {0}) RoundFault → Type 0
@@ -238,7 +247,7 @@ Connects ledger device past begun now office progress (Err Output) =
 Connects ledger device past begun now office progress (Err Link) = ⊥
 Connects ledger device past begun now office progress (Err TurnsUsed) = ⊥
 
--- A round that was broken off is closed: the last thing that was fed is that the device is gone.
+-- A round that was broken off is closed: the last event says that the device is gone.
 pub record Closes {B : Type 0} (ledger : B → Ledger) (device : Option (List ℕ)) (past : History)
     (begun now : RoundState)
     (office : Office B) (earlier : List Answered) (cause fault : RoundFault) : Type 0 where

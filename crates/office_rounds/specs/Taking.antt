@@ -1,4 +1,4 @@
--- What a turn of a round brings from the link, and what its takes count.
+-- The event that a turn reads from the link, and how its reads are counted.
 use Rattle.std.specs.Prelude.{◌≡◌, ◌⊎◌, ℕ, Bool, true, false, List, [], length, Option, Some, Result, Ok, Err}
 use Rattle.mb_wire.specs.Links.{risen}
 use Rattle.mb_wire.specs.declared.link.LastTake.{LastTake}
@@ -14,12 +14,13 @@ use Rattle.office_rounds.specs.FedEvents.{piece_in}
 use Rattle.office_rounds.specs.declared.fault.RoundFault.{RoundFault}
 use Rattle.office_rounds.specs.declared.fault.RoundFault.TheVariants.{Refused, Link, Output, TurnsUsed}
 
--- a round is over, or takes on
+-- A round is over, or reads on.
 abbrev pub over_or_take : Bool → Next
 over_or_take true = Over
 over_or_take false = Take
 
--- what the answer of a take is to the office: a piece of the device, that it is gone at the end, a tick where nothing came
+-- The event for the result of a read: bytes of the device, the end, or a timer event if nothing
+-- came.
 abbrev pub IsEventOf : (device : Option (List ℕ)) → Result Took LinkFailed → Event → Type 0
 IsEventOf device (Ok (Bytes count)) e =
     (piece : List ℕ) × (length piece ≡ count) × (e ≡ event.Bytes device piece)
@@ -27,11 +28,11 @@ IsEventOf device (Ok End) e = e ≡ event.Gone device closing.Gone
 IsEventOf device (Ok Idle) e = e ≡ event.Tick
 IsEventOf device (Err failed) e = ⊥
 
--- the last take had room for 260 bytes, and was answered so
+-- The last read had room for 260 bytes, and had this result.
 abbrev pub IsLast : Option LastTake → Result Took LinkFailed → Type 0
 IsLast last answer = last ≡ Some (record { room = 260; answer = answer })
 
--- One take, and the event of its answer; or none, since there was no memory for a piece.
+-- One read, and the event for its result; or no read, since memory for a chunk was missing.
 abbrev pub Brings : (device : Option (List ℕ)) → Result Event RoundFault → (before after : ℕ)
     → Option LastTake → Type 0
 Brings device (Ok e) before after last =
@@ -43,12 +44,12 @@ Brings device (Err Link) before after last =
 Brings device (Err Output) before after last = ⊥
 Brings device (Err TurnsUsed) before after last = ⊥
 
--- the bytes of the event
+-- The bytes of the event.
 abbrev pub brought : Result Event RoundFault → List ℕ
 brought (Ok e) = piece_in e
 brought (Err fault) = []
 
--- how a turn counts the takes
+-- The reads that a turn counts.
 abbrev pub TurnTakes : {X : Type 0} → Result X RoundFault → (before after : ℕ) → Type 0
 TurnTakes (Ok x) before after = after ≡ risen true before
 TurnTakes (Err (Refused why)) before after = (after ≡ risen true before) ⊎ (after ≡ before)

@@ -1,4 +1,4 @@
-//! How far the rounds of some devices have come, and what each wants the office to be told next.
+//! The progress of the rounds of several devices, and the event that each round requests next.
 
 mod polls;
 mod round;

@@ -1,5 +1,5 @@
-//! What is fed to an office that polls several devices at once: by what happens, and by what the rounds of the devices want
-//! to be told.
+//! Drives an office that polls several devices at once: feeds device events, and the events that
+//! rounds request.
 
 mod device_events;
 mod feed;

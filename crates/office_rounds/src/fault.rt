@@ -1,4 +1,4 @@
-//! Why a round was broken off.
+//! Reasons to break off a round.
 ghost use Rattle.std.specs.Prelude.{◌≡◌};
 ghost use Rattle.office_rounds.specs.Faults.{fault_number};
 
@@ -13,16 +13,16 @@ use std::fmt::{Display, Formatter};
 pub enum RoundFault {
     /// The office refused an event of the round.
     Refused(Refusal),
-    /// A take or a give of the link failed, or a give took nothing.
+    /// A read or a write of the link failed, or a write accepted no bytes.
     Link,
-    /// What the office told could not be printed.
+    /// The output of the office could not be printed.
     Output,
-    /// There were 100,000 takes.
+    /// The round used all of its 100,000 reads of the link.
     TurnsUsed,
 }
 
 impl RoundFault {
-    /// Its number. No text of the program shows it.
+    /// Returns the number of the fault. No text of the program shows the number.
     pub fn number(self) -> u8
         ensures { result ≡ fault_number self }
     {

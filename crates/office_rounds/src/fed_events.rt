@@ -1,4 +1,4 @@
-//! Events that are fed to the office, and what it tells of them.
+//! Feeds events to the office, and prints what it reports of them.
 ghost use Rattle.std.specs.Prelude.{◌≡◌};
 ghost use Rattle.office_core.specs.Standing.{is_stopped};
 ghost use Rattle.office_rounds.specs.Between.{FeedsAndPrints, PrintsTold, TellsFirst, TellsNext};
@@ -17,7 +17,7 @@ use script_text::write_accepted;
 use socket_link::Clock;
 use std::io::Write;
 
-// Prints what the office tells of an event that it has accepted.
+// Prints what the office reports of an event that it has accepted.
 fn print<B: Books, W: Write>(
     office: &Office<B>,
     answer: Answer,
@@ -32,7 +32,7 @@ fn print<B: Books, W: Write>(
     }
 }
 
-/// Feeds an event, and prints what is told of it where it is accepted.
+/// Feeds an event, and prints what the office reports of it if it is accepted.
 pub(crate) fn feed<B: Books, W: Write>(
     office: &mut Office<B>,
     at: u64,
@@ -51,7 +51,7 @@ pub(crate) fn feed<B: Books, W: Write>(
     }
 }
 
-/// The moment of the latest event that was accepted, after one that broke the round off.
+/// The timestamp of the latest accepted event, after an event that broke the round off.
 pub(crate) fn latest_after(fault: RoundFault, at: u64, latest: u64) -> u64
     ensures { result ≡ stepping.latest_after fault at latest }
 {
@@ -63,7 +63,7 @@ pub(crate) fn latest_after(fault: RoundFault, at: u64, latest: u64) -> u64
     }
 }
 
-/// Feeds the next event of a round at the moment that the clock tells.
+/// Feeds the next event of a round, at the clock's time.
 pub(crate) fn tell<B: Books, C: Clock, W: Write>(
     progress: &mut Progress,
     event: &Event,

@@ -1,4 +1,4 @@
-//! Rounds: the whole plan of a device, polled once over a link.
+//! Rounds: the complete plan of a device, polled once over a link.
 #![tactic(auto)]
 
 mod device_rounds;

@@ -1,4 +1,4 @@
-//! How far a round over a link has come.
+//! The progress of a round over a link.
 ghost use Rattle.std.specs.Prelude.{◌≡◌};
 ghost use Rattle.office_rounds.specs.Polling as polling;
 ghost use Rattle.office_rounds.specs.Polling.{ended_by, round_after};
@@ -11,11 +11,11 @@ use office_events::{Answer, Event, Name, Note};
 #[derive(Drop)]
 pub(crate) struct Progress {
     pub(crate) round: Round,
-    /// The moment of the latest event that was accepted.
+    /// The timestamp of the latest accepted event.
     pub(crate) latest: u64,
 }
 
-// The connection ends with an event, if it is one of its end.
+// Marks the round as leaving if the event ends the connection.
 fn end_by(round: &mut Round, event: &Event)
     ensures { round.new ≡ ended_by event.now round.old }
 {
@@ -30,7 +30,7 @@ fn end_by(round: &mut Round, event: &Event)
 }
 
 impl Progress {
-    /// The connection stands, and nothing was fed.
+    /// Creates the progress of a new connection; nothing was fed yet.
     pub(crate) fn new(device: Option<Name>) -> Progress
         ensures { result ≡ unfed device }
     {
@@ -39,7 +39,7 @@ impl Progress {
         Progress { round, latest: 0 }
     }
 
-    /// Takes note of an accepted event, and of what the office told of it.
+    /// Updates the round by an accepted event, and by what the office reported of it.
     pub(crate) fn note(&mut self, at: u64, event: &Event, answer: Answer, notes: &[Note])
         ensures round { self.new.round ≡ round_after event.now answer notes.now self.old.round }
         ensures latest { self.new.latest ≡ at }

@@ -1,4 +1,4 @@
-//! A round.
+//! Polls the plan of one device over a link.
 ghost use Rattle.std.specs.Prelude.{◌≡◌, Err};
 ghost use Rattle.mb_wire.specs.Links.{risen};
 ghost use Rattle.office_rounds.specs.Between.{EndsUnconnected, PollsOut, PollsToEnd, RoundsOver, TakesTurns, TellsConnection};
@@ -20,10 +20,10 @@ use socket_link::Clock;
 use std::alloc::Global;
 use std::io::Write;
 
-/// How many takes a round may have.
+/// The largest number of reads of the link in a round.
 pub const MOST_TAKES: u32 = 100_000;
 
-// Tells the office that the device is connected.
+// Feeds the office the connection of the device.
 fn connect<B: Books, C: Clock, W: Write>(
     progress: &mut Progress,
     office: &mut Office<B>,
@@ -42,7 +42,6 @@ fn connect<B: Books, C: Clock, W: Write>(
     }
 }
 
-// Takes turns, until the round is over.
 fn take_turns<L: Link, B: Books, C: Clock, W: Write>(
     alloc: Global,
     progress: &mut Progress,
@@ -68,7 +67,7 @@ fn take_turns<L: Link, B: Books, C: Clock, W: Write>(
     Err(RoundFault::TurnsUsed)
 }
 
-// Polls a device that is connected, until the round is over.
+// Polls a connected device until the round is over.
 fn poll_connected<L: Link, B: Books, C: Clock, W: Write>(
     alloc: Global,
     progress: &mut Progress,
@@ -91,7 +90,7 @@ fn poll_connected<L: Link, B: Books, C: Clock, W: Write>(
     }
 }
 
-// Polls a device that is connected, and tells that it is gone where the round is broken off.
+// Polls a connected device. If the round is broken off, the office is fed that the device is gone.
 fn poll_to_end<L: Link, B: Books, C: Clock, W: Write>(
     alloc: Global,
     progress: &mut Progress,
@@ -114,7 +113,7 @@ fn poll_to_end<L: Link, B: Books, C: Clock, W: Write>(
     }
 }
 
-// Tells that a device is gone, unless its connection was refused.
+// Feeds that the device is gone, unless the office refused its connection.
 fn end_unconnected<B: Books, C: Clock, W: Write>(
     progress: &Progress,
     fault: RoundFault,
@@ -135,18 +134,21 @@ fn end_unconnected<B: Books, C: Clock, W: Write>(
     }
 }
 
-/// Polls the whole plan of a device once, over a link to it that was just made. The office is told that the device is
-/// connected, and the reads of its plan are started from the first on; what the link brings is fed, a take that brings
-/// nothing as a tick, and after each event that ends a poll of the round the next reads are started. Once all have ended,
-/// or the link has come to its end, the device is gone. Each event comes at the moment that the clock tells.
+/// Polls the complete plan of a device once, over a new link to the device.
 ///
-/// What is told of accepted events is printed as a script prints it: their notes, and `ok` or what was started. A refusal
-/// isn't printed.
+/// The round feeds the office the connection, and starts the reads of the plan from the first on.
+/// It feeds the bytes of the link as they arrive, and a timer event for a read that times out.
+/// After each event that ends a poll of the round, it starts the next reads. Once all polls have
+/// ended, or the link has ended, it feeds that the device is gone. Each event has the clock's time.
 ///
-/// `None` is a name that no device can have. After a fault the device is gone as by a failed read or write, and what is
-/// told of that is printed too, save where the office refused the connection: then nothing else is fed. Where the clock
-/// was set back, or is past the last moment of all, it is gone at the moment of the latest event. So at the end none of
-/// the device's polls waits, unless the books or memory failed and the office has stopped.
+/// Accepted events are printed as a script prints them: their notifications, and `ok` or what was
+/// started. Refusals are not printed.
+///
+/// `None` is a name that no device can have. After a fault the round feeds that the device is gone,
+/// as after a failed read or write, and prints that too, unless printing failed. If the office
+/// refused the connection, nothing else is fed. If the clock was set back, or is past the last
+/// timestamp, the device is gone at the timestamp of the latest event. At the end none of the
+/// device's polls is pending, unless the store or memory failed and the office has stopped.
 pub fn round_over<L: Link, B: Books, C: Clock, W: Write>(
     alloc: Global,
     link: &mut L,

@@ -1,4 +1,4 @@
-//! The end of a round that was broken off.
+//! Ends a round that was broken off.
 ghost use Rattle.std.specs.Prelude.{◌≡◌};
 ghost use Rattle.office_rounds.specs.Between.{ClosesBroken, EndsAndPrints, EndsSilently};
 ghost use Rattle.office_rounds.specs.Passing.{Lasts};
@@ -16,8 +16,8 @@ use poll_core::{Closing, LAST_MOMENT};
 use socket_link::Clock;
 use std::io::Write;
 
-// The moment at which a device is gone: the clock's, or where that was set back, or is past the last moment of all, that
-// of the latest event.
+// The timestamp at which a device is gone: the clock's time. If that was set back, or is past the
+// last timestamp, it is that of the latest event.
 fn gone_at(latest: u64, moment: u64) -> u64
     ensures { result ≡ rounds.gone_at latest moment }
 {
@@ -28,7 +28,7 @@ fn gone_at(latest: u64, moment: u64) -> u64
     }
 }
 
-// The fault that is told: that a writing has failed now, or the one that broke the round off.
+// The fault to report: a failed write now, or else the cause.
 fn fault_after(cause: RoundFault, fault: RoundFault) -> RoundFault
     ensures { result ≡ stepping.fault_after cause fault }
 {
@@ -40,7 +40,7 @@ fn fault_after(cause: RoundFault, fault: RoundFault) -> RoundFault
     }
 }
 
-// Whether a writing failed.
+// Whether writing the output failed.
 fn is_output(fault: RoundFault) -> bool
     ensures { result ≡ stepping.is_output fault }
 {
@@ -52,7 +52,7 @@ fn is_output(fault: RoundFault) -> bool
     }
 }
 
-// Tells the end, and prints what is told of it.
+// Feeds the end, and prints what the office reports of it.
 fn end_printed<B: Books, W: Write>(
     at: u64,
     gone: &Event,
@@ -71,7 +71,7 @@ fn end_printed<B: Books, W: Write>(
     }
 }
 
-// Tells the end, and prints nothing.
+// Feeds the end, and prints nothing.
 fn end_unprinted<B: Books>(at: u64, gone: &Event, office: &mut Office<B>)
     ensures ends { EndsSilently B.Books at gone.now office.old office.new }
     ensures lasts { Lasts B.ledger office.old office.new }
@@ -79,8 +79,11 @@ fn end_unprinted<B: Books>(at: u64, gone: &Event, office: &mut Office<B>)
     let _answer = office.feed(at, gone);
 }
 
-/// Feeds that the device is gone, as by a failed read or write, and prints what is told of it, unless a writing was what
-/// failed. It answers the fault, or that a writing has failed now.
+/// Feeds that the device is gone, as after a failed read or write, and prints what the office
+/// reports.
+///
+/// Nothing is printed if writing the output was what failed. Returns the fault, or `Output` if
+/// writing failed now.
 pub(crate) fn close<B: Books, C: Clock, W: Write>(
     progress: &Progress,
     cause: RoundFault,

@@ -20,7 +20,7 @@ use socket_link::Clock;
 use std::alloc::Global;
 use std::io::Write;
 
-// Gives frames.
+// Writes frames to the link.
 fn send<L: Link>(link: &mut L, frames: &[u8]) -> Result<(), RoundFault>
     ensures given { AreGiven result frames.now (L.given link.old) (L.given link.new) }
     ensures kind { OnlyLink result }
@@ -34,7 +34,7 @@ fn send<L: Link>(link: &mut L, frames: &[u8]) -> Result<(), RoundFault>
     }
 }
 
-/// What the link brings.
+/// Reads the next event from the link.
 pub(crate) fn take_event<L: Link>(
     alloc: Global,
     device: Option<Name>,
@@ -60,7 +60,7 @@ pub(crate) fn take_event<L: Link>(
     }
 }
 
-// Feeds the next event of a round, and gives the frames that the office wants sent.
+// Feeds the next event of a round, and writes the frames that the office sends.
 fn put<L: Link, B: Books, C: Clock, W: Write>(
     event: &Event,
     progress: &mut Progress,
@@ -82,7 +82,7 @@ fn put<L: Link, B: Books, C: Clock, W: Write>(
     }
 }
 
-/// Feeds what the round wants the office to be told, if anything.
+/// Feeds the event that the round requests, if any.
 pub(crate) fn go_on<L: Link, B: Books, C: Clock, W: Write>(
     progress: &mut Progress,
     link: &mut L,
@@ -103,7 +103,7 @@ pub(crate) fn go_on<L: Link, B: Books, C: Clock, W: Write>(
     }
 }
 
-// After what the link has brought: feeds what the round wants, and says whether it is over.
+// After an event from the link: feeds what the round requests, and returns whether it is over.
 fn follow<L: Link, B: Books, C: Clock, W: Write>(
     progress: &mut Progress,
     link: &mut L,
@@ -124,7 +124,7 @@ fn follow<L: Link, B: Books, C: Clock, W: Write>(
     }
 }
 
-// Feeds what the link has brought, and then what the round wants.
+// Feeds an event from the link, and then what the round requests.
 fn feed_taken<L: Link, B: Books, C: Clock, W: Write>(
     event: &Event,
     progress: &mut Progress,
@@ -146,7 +146,9 @@ fn feed_taken<L: Link, B: Books, C: Clock, W: Write>(
     }
 }
 
-/// A turn of a round: what the link brings is fed, and then what the round wants. It answers whether the round is over.
+/// Takes a turn of a round: feeds an event from the link, and then what the round requests.
+///
+/// Returns whether the round is over.
 pub(crate) fn turn<L: Link, B: Books, C: Clock, W: Write>(
     alloc: Global,
     progress: &mut Progress,

@@ -1,4 +1,4 @@
--- Books that hold nothing stand after nothing.
+-- An empty store is in the state of the empty past.
 use Rattle.std.proofs.Common.{zero, suc, [], ◌∷◌, inl, refl, arith}
 use Rattle.std.specs.Prelude.{All}
 use Rattle.memory_books.specs.declared.list_books.ListBooks.{ListBooks}

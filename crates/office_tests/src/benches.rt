@@ -1,4 +1,4 @@
-//! Two devices that are polled at once, and an observer that is shown every event.
+//! A bench of two devices that are polled at once, with an observer of every event.
 use crate::links::{SECOND_REPLY, first_reply};
 use crate::offices::{assert_list_accepted, inv, office_after};
 use office_books::Books;
@@ -8,15 +8,15 @@ use poll_core::Closing;
 use std::alloc::Global;
 use std::process::Abort;
 
-/// An event of the device of a slot.
+/// An event of the device in a slot.
 #[derive(Clone, Copy)]
 pub(crate) enum Step {
     Stands(usize),
-    /// The reply to its first read comes: 125 registers of 0.
+    /// The response to the first read arrives: 125 registers of 0.
     First(usize),
-    /// The reply to its second: one of 7.
+    /// The response to the second read arrives: one register of 7.
     Second(usize),
-    /// These bytes come.
+    /// These bytes arrive.
     Came(usize, &'static [u8]),
     Ended(usize, Closing),
     /// A second has passed.
@@ -26,7 +26,7 @@ pub(crate) enum Step {
 /// An event and its time.
 pub(crate) type Moment = (u64, Step);
 
-/// The lines that add the devices.
+/// The lines that add the two devices.
 static DEVICES: [&str; 2] = ["1000 device inv 1 5 1", "1000 device two 1 5 1"];
 
 const NAMES: [&[u8]; 2] = [b"inv", b"two"];
@@ -36,7 +36,7 @@ pub(crate) fn names() -> [Option<Name>; 2] {
     [inv(), Name::new(b"two")]
 }
 
-/// The rounds of the devices, and the observer.
+/// The rounds of the two devices, and the observer.
 #[derive(Drop)]
 pub(crate) struct Bench<W> {
     pub(crate) rounds: Vec<Round>,
@@ -59,7 +59,8 @@ fn device_event(rt: &impl Abort, alloc: Global, step: Step) -> DeviceEvent {
     }
 }
 
-/// Feeds all this to an office with both devices, whose point lists take two reads each.
+/// Feeds these events to an office with both devices. The point list of each device needs two
+/// reads.
 pub(crate) fn play<B: Books, W: Observer + Drop>(
     rt: &impl Abort,
     alloc: Global,

@@ -1,4 +1,4 @@
-//! Records of stores.
+//! Builds the records of stores.
 use crate::offices::name_of;
 use energy_core::{Cause, Entry};
 use mb_wire::{ReadFunction, ReadSpan};
@@ -11,24 +11,25 @@ use poll_core::Outcome;
 use std::alloc::Global;
 use std::process::Abort;
 
-/// A record.
+/// A record of a store.
 #[derive(Clone, Copy)]
 pub(crate) enum Booked {
-    /// The device of a name.
+    /// The device with a name.
     Device(&'static [u8]),
-    /// The register of a name, its device, and where it is read.
+    /// The register with a name, its device, and where it is read.
     Register(&'static [u8], &'static [u8], ReadFunction, u16, ScaleSource),
-    /// The meter of a name is installed at the register `main` at a time. It shows 0, and a count is 1 Wh.
+    /// The meter with a name is installed at the register `main` at a time. It shows 0, and a count
+    /// is 1 Wh.
     Opening(&'static [u8], u64),
-    /// It shows a number at a time.
+    /// The meter shows a number at a time.
     Entry(&'static [u8], EntryKind, u64, u32),
-    /// Its entry of a sequence number is voided at a time.
+    /// The meter's entry with a sequence number is voided at a time.
     Void(&'static [u8], u64, u64),
     /// A poll of `inv`.
     Poll(u64),
-    /// It timed out.
+    /// The poll timed out.
     Ended(u64),
-    /// A reading of a meter by a poll, its time and number, and why it was rejected.
+    /// A rejected reading of a meter by a poll: its time, its number, and the cause.
     Hold(&'static [u8], u64, u64, u32, Cause),
 }
 

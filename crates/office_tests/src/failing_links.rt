@@ -1,4 +1,4 @@
-//! Rounds whose link fails at each of its calls in turn.
+//! Tests rounds whose link fails at each of its calls in turn.
 use crate::links::replies;
 use crate::offices::opened;
 use crate::rounds::{ANSWERED, BOTH_AT_ONCE, Ends, LOST, ends, listed, round};
@@ -9,12 +9,13 @@ use office_rounds::RoundFault;
 use std::alloc::Global;
 use std::process::Abort;
 
-// Gives and takes of 7 bytes: 4 for both requests, 37 up to the end of the first reply, 2 for the second.
+// Writes and reads of 7 bytes: 4 for both requests, 37 up to the end of the first response, 2 for
+// the second.
 const CALLS: u64 = 43;
 
 const UP_TO_FIRST: u64 = 41;
 
-// Whether both polls ended as they do where the call of the link of a number fails.
+// Whether both polls ended as they must if this call of the link fails.
 fn are_ends(polls: Ends, number: u64) -> bool {
     if number <= UP_TO_FIRST {
         polls == [LOST, LOST, None]
@@ -25,8 +26,8 @@ fn are_ends(polls: Ends, number: u64) -> bool {
     }
 }
 
-/// Runs a round in which both polls wait at once, and the call of the link of a number fails. The fault is the link's, each poll
-/// that waited is lost by the failure, and a restart adds nothing.
+/// Runs a round in which both polls are pending at once, and this call of the link fails. The fault
+/// is `Link`, each pending poll is lost by the failure, and a restart adds nothing.
 pub(crate) fn fail_call<B: Books>(rt: &impl Abort, alloc: Global, books: B, number: u64) {
     let mut office = listed(rt, alloc, books, BOTH_AT_ONCE);
     let mut given = [0; 24];
@@ -44,6 +45,7 @@ pub(crate) fn fail_call<B: Books>(rt: &impl Abort, alloc: Global, books: B, numb
     assert!(rt; are_ends(ends(&mut again), number), "call {number}");
 }
 
+/// A link that fails at any of its calls loses the pending polls.
 #[test]
 fn a_failing_link_loses_what_waits(rt: HostRuntime) {
     for number in 1..=CALLS + 1 {

@@ -1,4 +1,4 @@
-//! Stores that fail at each of their calls in turn, under each kind of event and question.
+//! Tests stores that fail at each of their calls in turn, under each kind of event and query.
 use crate::offices::{inv, opened, request_of};
 use crate::scripts::{print_event, print_line};
 use crate::tried::{Trial, try_failing};
@@ -10,11 +10,12 @@ use std::process::Abort;
 use std::str;
 
 enum Kind {
-    /// A command or a question. Where the store refuses a call, it is sent again.
+    /// A command or a query. If the store refuses a call, the line is sent again.
     Asks,
-    /// A command under this number.
+    /// A command with this number.
     Requests(u64),
-    /// An event of a device. Where the store refuses a call, these rows exist after the office is opened again.
+    /// An event of a device. If the store refuses a call, these rows exist after the office is
+    /// opened again.
     Happens(&'static str),
 }
 
@@ -145,14 +146,14 @@ meter m2 last 1 sf 1 at 3600 total 0 open
     ),
 ];
 
-// Asked after the office is opened again: the opening has ended the poll that waited.
+// A query after the office is opened again: the opening has ended the pending poll.
 static END: Line = asks!("poll 5", "poll 5 lost 4\n");
 
 static ROWS: [&str; 6] = [
     "poll 1", "poll 2", "poll 3", "poll 4", "meter m1", "meter m2",
 ];
 
-// What a stopped office refuses.
+// Lines that a stopped office refuses.
 static ASKED: [&str; 7] = [
     "9000 tick",
     "9000 connect inv",
@@ -167,7 +168,7 @@ fn is_stopped<T: Drop>(answer: Result<T, Refusal>) -> bool {
     matches!(answer, Err(Refusal::Stopped))
 }
 
-// Whether an office refuses the questions that no line asks, since it has stopped.
+// Whether a stopped office refuses the queries that no line makes.
 fn has_stopped<B: Books>(office: &mut Office<B>) -> bool {
     is_stopped(office.device(&inv()))
         && is_stopped(office.register(&inv()))
@@ -176,7 +177,7 @@ fn has_stopped<B: Books>(office: &mut Office<B>) -> bool {
         && is_stopped(office.repeat(&inv(), 1, b""))
 }
 
-/// A stopped office refuses every event and every question.
+/// Asserts that a stopped office refuses every event and every query.
 pub(crate) fn assert_stopped<B: Books>(rt: &impl Abort, alloc: Global, office: &mut Office<B>) {
     for line in ASKED {
         let printed = print_line(rt, alloc, office, line);
@@ -200,7 +201,7 @@ fn print_kind<B: Books>(
     }
 }
 
-// Plays a line. Where its event has stopped the office, returns the rows that exist afterwards.
+// Plays a line. If its event has stopped the office, returns the rows that exist afterwards.
 fn play_line<B: Books>(
     rt: &impl Abort,
     alloc: Global,
@@ -222,7 +223,8 @@ fn play_line<B: Books>(
     None
 }
 
-// Opens an office again that has stopped: it has the rows of before, and no poll waits. Returns how often the store has failed.
+// Opens a stopped office again: it has its earlier rows, and no poll is pending. Returns how often
+// the store has failed.
 fn open_again<B: Books>(rt: &impl Abort, alloc: Global, mut office: Office<B>, rows: &str) -> u64 {
     assert_stopped(rt, alloc, &mut office);
     let mut again = opened(rt, alloc, office.into_books(), 9000);
@@ -235,7 +237,7 @@ fn open_again<B: Books>(rt: &impl Abort, alloc: Global, mut office: Office<B>, r
     again.into_books().faults()
 }
 
-/// Plays all lines over a store, and returns how often it has failed.
+/// Plays all lines over a store, and returns how often the store has failed.
 pub(crate) fn play<B: Books>(rt: &impl Abort, alloc: Global, books: B) -> u64 {
     let mut office = opened(rt, alloc, books, 0);
     for line in &LINES {
@@ -248,6 +250,8 @@ pub(crate) fn play<B: Books>(rt: &impl Abort, alloc: Global, books: B) -> u64 {
     last.into_books().faults()
 }
 
+/// If any one call of the store fails, a command succeeds when it is repeated. A device event stops
+/// the office; opened again, the office has its earlier rows.
 #[test]
 fn each_call_of_the_books_may_fail(rt: HostRuntime) {
     for failing in 1..1000 {

@@ -1,4 +1,5 @@
-//! The numbers and the sentences of refusals and faults, and how the failures of a store are counted.
+//! Tests the numbers and the sentences of refusals and faults, and how a store's failures are
+//! counted.
 use energy_core::Cause;
 use office_books::{BooksFault, Failures, StoreFault};
 use office_events::{Refusal, StoreCause};
@@ -15,7 +16,7 @@ const NO_DAY: &str = "an interval row has no civil day in the zone of the books"
 
 const MEMORY: &str = "memory ran out";
 
-// Their numbers go from 1 to 17.
+// The refusals, in the order of their numbers, from 1 to 17.
 static REFUSALS: [Refusal; 17] = [
     Refusal::NotFound,
     Refusal::Exists,
@@ -82,13 +83,14 @@ static STORES: [(StoreFault, &str); 2] = [
     (StoreFault::Damaged, DAMAGED),
 ];
 
-// A fault has this sentence, which has no full stop.
+// Asserts that a fault has this sentence, without a full stop.
 fn assert_text<F: Display>(rt: &impl Abort, alloc: Global, fault: &F, text: &str) {
     let said = format!(in alloc; "{fault}").expect(rt, "a text");
     assert!(rt; said.as_str() == text);
     assert!(rt; !text.ends_with('.'));
 }
 
+/// Each refusal has its number from 1 to 17, and its sentence.
 #[test]
 fn refusals_have_numbers_and_sentences(rt: HostRuntime) {
     let mut number = 0u8;
@@ -104,6 +106,7 @@ fn refusals_have_numbers_and_sentences(rt: HostRuntime) {
     }
 }
 
+/// Each fault of a round or a store has its sentence, and a round's fault its number.
 #[test]
 fn faults_have_numbers_and_sentences(rt: HostRuntime) {
     for (fault, number, text) in &ROUNDS {
@@ -121,7 +124,7 @@ const STORE_REFUSED: BooksFault = BooksFault::Store(StoreFault::Refused);
 
 const STORE_DAMAGED: BooksFault = BooksFault::Store(StoreFault::Damaged);
 
-// What books answer, one call after the other; how often their store has failed then, and what the last failure was.
+// What a store answers, call by call; how often it has failed then, and its last failure.
 static CALLS: [(Result<u8, BooksFault>, u64, Option<BooksFault>); 5] = [
     (Ok(7), 0, None),
     (Err(STORE_REFUSED), 1, Some(STORE_REFUSED)),
@@ -130,6 +133,8 @@ static CALLS: [(Result<u8, BooksFault>, u64, Option<BooksFault>); 5] = [
     (Ok(9), 2, Some(STORE_DAMAGED)),
 ];
 
+/// Each failure of a store is counted, and the last one is kept. Out of memory is kept but not
+/// counted.
 #[test]
 fn each_failure_is_counted_with_its_kind(rt: HostRuntime) {
     let mut failures = Failures::new();

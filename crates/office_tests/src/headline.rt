@@ -1,4 +1,4 @@
-//! A device is polled in a run, and its meter's reading is booked.
+//! Tests a run: a device is polled, and the reading of its meter is recorded.
 use crate::offices::event_of;
 use crate::runs::run_anew;
 use interval_core::Zone;
@@ -9,7 +9,7 @@ use poll_core::{LostCause, Outcome};
 use std::alloc::Global;
 use std::process::Abort;
 
-// What comes, and what it is answered.
+// The events, each with its answer.
 static EVENTS: [(&str, Result<Answer, Refusal>); 8] = [
     (
         "1000 device inv 1 5 1",
@@ -32,7 +32,7 @@ static EVENTS: [(&str, Result<Answer, Refusal>); 8] = [
             of: 1,
         }),
     ),
-    // the counter shows 5200, at the scale 0
+    // The counter shows 5200, at the scale 0.
     (
         "1900 bytes inv 000000000009010306000014500000",
         Ok(Answer::Noted),
@@ -56,7 +56,7 @@ fn events(rt: &impl Abort, alloc: Global) -> Vec<(u64, Event)> {
     events
 }
 
-// The events have these answers, in their order.
+// Asserts that the events have these answers, in their order.
 fn assert_answers(rt: &impl Abort, answers: &[Result<Answer, Refusal>]) {
     assert!(rt; answers.len() == EVENTS.len());
     for (answer, (line, expected)) in answers.iter().zip(&EVENTS) {
@@ -64,14 +64,14 @@ fn assert_answers(rt: &impl Abort, answers: &[Result<Answer, Refusal>]) {
     }
 }
 
-// The poll that waited is lost when the books are opened again.
+// The pending poll is lost when the store is opened again.
 const LOST: EndedPoll = EndedPoll {
     poll: 2,
     at: 1902,
     outcome: Outcome::Lost(LostCause::Restart),
 };
 
-// The books of a run are refused before its latest event, and then opened again.
+// Asserts that the store of a run is refused before its latest event, and then opened again.
 fn assert_opened_again<B: Books>(rt: &impl Abort, alloc: Global, books: B) {
     let (books, why) = run(alloc, books, 1900, &[]).err().expect(rt, "a refusal");
     assert!(rt; why == Refusal::ClockBack);
@@ -92,6 +92,7 @@ fn assert_run<B: Books>(rt: &impl Abort, alloc: Global, mut done: Run<B>) {
     assert_opened_again(rt, alloc, done.office.into_books());
 }
 
+/// A run returns each answer; its store opens again, with the pending poll lost.
 #[test]
 fn a_run_keeps_each_answer(rt: HostRuntime) {
     let zone = Zone::read("UTC0").expect(&rt, "a zone");

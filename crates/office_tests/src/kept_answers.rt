@@ -1,4 +1,4 @@
-//! A store that keeps what look-ups answered, over a store one of whose calls is refused.
+//! Tests a store that caches the answers of lookups, over a store that refuses one of its calls.
 use crate::facts::Booked;
 use crate::offices::LIST;
 use crate::steps::{Step, try_step};
@@ -12,7 +12,7 @@ use office_events::ScaleSource;
 use std::alloc::Global;
 use std::process::Abort;
 
-// A list whose plan has one read.
+// A point list whose plan has one read.
 const SHORT: &[u8] = b"name,function,area,address,type,scale\na,3,0,0,acc32,\n";
 
 const HOLDING: ReadFunction = ReadFunction::HoldingRegisters;
@@ -97,8 +97,8 @@ static STEPS: [Step; 49] = [
     Step::Held(b"old", Span::All, &[]),
 ];
 
-// The calls of the store beneath: a call for each step whose answer was not kept, two for each entry that does not exist, and
-// three for an entry by the rows around it.
+// The calls of the store below. A step without a cached answer makes one, an entry that does not
+// exist two, and an entry by the rows around it three.
 const CALLS: u64 = 41;
 
 // The registers of `inv`, and a register of another device at the address of the first.
@@ -130,7 +130,8 @@ static READS: [Step; 12] = [
 
 const REFUSED: BooksFault = BooksFault::Store(StoreFault::Refused);
 
-// Each step has its answer. Where a call of the store is refused, the step is tried again.
+// Asserts that each step has its answer. If a call of the store is refused, the step is tried
+// again.
 fn assert_steps<B: Books>(rt: &impl Abort, alloc: Global, books: &mut B, steps: &[Step]) {
     for (place, step) in steps.iter().enumerate() {
         match try_step(rt, alloc, books, *step) {
@@ -144,8 +145,8 @@ fn assert_steps<B: Books>(rt: &impl Abort, alloc: Global, books: &mut B, steps: 
     }
 }
 
-// Plays steps over a store that keeps answers, and the last one over the store beneath too. Returns how often that has failed
-// before.
+// Plays steps over a caching store, and the last step also over the store below. Returns how often
+// the store below had failed before that.
 fn play<B: Books>(rt: &impl Abort, alloc: Global, beneath: B, steps: &[Step]) -> u64 {
     let mut books = KeptBooks::new(alloc, beneath);
     assert_steps(rt, alloc, &mut books, steps);
@@ -157,12 +158,12 @@ fn play<B: Books>(rt: &impl Abort, alloc: Global, beneath: B, steps: &[Step]) ->
     faults
 }
 
-/// Plays all steps over a store that keeps answers, and returns how often the store beneath has failed.
+/// Plays all steps over a caching store, and returns how often the store below has failed.
 pub(crate) fn play_all<B: Books>(rt: &impl Abort, alloc: Global, beneath: B) -> u64 {
     play(rt, alloc, beneath, &STEPS)
 }
 
-/// Plays a read, by its place, where the registers of its device are not kept yet, and where they are.
+/// Plays a read, by its index, before the registers of its device are cached and after.
 pub(crate) fn read_twice<B: Books>(
     rt: &impl Abort,
     alloc: Global,
@@ -175,7 +176,7 @@ pub(crate) fn read_twice<B: Books>(
     }
 }
 
-// Each of so many calls of the store beneath is refused in turn, and a later one is never made.
+// Asserts that each of these calls of the store below is made, and no later one.
 fn assert_calls(rt: &impl Abort, alloc: Global, trial: Trial, calls: u64) {
     for failing in 1..=calls.saturating_add(1) {
         let faults = try_failing(rt, alloc, failing, trial);
@@ -186,11 +187,13 @@ fn assert_calls(rt: &impl Abort, alloc: Global, trial: Trial, calls: u64) {
     }
 }
 
+/// Answers are right although any one call of the store below is refused.
 #[test]
 fn kept_answers_outlive_failures(rt: HostRuntime) {
     assert_calls(&rt, rt.alloc(), Trial::Kept, CALLS);
 }
 
+/// The registers of a read are queried once from the store below.
 #[test]
 fn a_read_is_asked_of_the_store_once(rt: HostRuntime) {
     for place in 0..READS.len() {

@@ -1,5 +1,7 @@
-//! Tests of the office that no script shows: stores and links that fail at each of their calls, stores that keep what look-ups
-//! answered, rounds, schedules, and what a run reports. What a script shows is a golden test of `script_cases` or `http_cases`.
+//! Tests of the office that no script shows: failing links and stores, caching stores, rounds,
+//! schedules, and the reports of a run.
+//!
+//! What a script shows is a golden test of `script_cases` or `http_cases`.
 #![tactic(auto)]
 
 #[cfg(test)]

@@ -1,12 +1,12 @@
-//! Links to devices that answer nothing, and what a device sends that does.
+//! Links to devices that time out, and the responses of a device.
 use mb_wire::{LastTake, Link, LinkFailed, Took};
 use std::alloc::Global;
 use std::process::Abort;
 
-/// The reply to the second read of the list: a register of 7.
+/// The response to the second read of the list: a register of 7.
 pub(crate) const SECOND_REPLY: &[u8] = b"\x00\x01\x00\x00\x00\x05\x01\x03\x02\x00\x07";
 
-/// The reply to the first read of the list: 125 registers of 0.
+/// Returns the response to the first read of the list: 125 registers of 0.
 pub(crate) fn first_reply(rt: &impl Abort, alloc: Global) -> Vec<u8> {
     let mut bytes = b"\x00\x00\x00\x00\x00\xfd\x01\x03\xfa"
         .to_vec(alloc)
@@ -15,14 +15,14 @@ pub(crate) fn first_reply(rt: &impl Abort, alloc: Global) -> Vec<u8> {
     bytes
 }
 
-/// The replies to both.
+/// Returns the responses to both reads.
 pub(crate) fn replies(rt: &impl Abort, alloc: Global) -> Vec<u8> {
     let mut bytes = first_reply(rt, alloc);
     bytes.extend_from_slice(SECOND_REPLY).expect(rt, "memory");
     bytes
 }
 
-/// A link that takes whatever it is given, and brings nothing.
+/// A link that accepts all writes, and whose reads time out.
 #[derive(Drop)]
 pub(crate) struct IdleLink {
     takes: u64,

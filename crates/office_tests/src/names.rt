@@ -1,8 +1,9 @@
-//! Names and copies.
+//! Tests names, and copies of values.
 use crate::offices::{LIST, name_of, planned};
 use office_events::{Piece, Timeout, Window};
 use read_plan::lists_are_planned_once;
 
+/// A name equals only a name with the same text.
 #[test]
 fn a_name_is_its_text(rt: HostRuntime) {
     let name = name_of(&rt, b"m1");
@@ -11,6 +12,7 @@ fn a_name_is_its_text(rt: HostRuntime) {
     assert!(rt; !name.is(&name_of(&rt, b"m2")));
 }
 
+/// A timeout and a window return their numbers.
 #[test]
 fn a_timeout_and_a_window_are_their_numbers(rt: HostRuntime) {
     let (timeout, window) = (Timeout::new(60), Window::new(16));
@@ -18,6 +20,7 @@ fn a_timeout_and_a_window_are_their_numbers(rt: HostRuntime) {
     assert!(rt; window.expect(&rt, "a window").polls() == 16);
 }
 
+/// A copy of bytes or of a planned list equals the original.
 #[test]
 fn copies_are_the_same(rt: HostRuntime) {
     let bytes = b"abc".to_vec(rt.alloc()).expect(&rt, "bytes");

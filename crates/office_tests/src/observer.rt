@@ -1,10 +1,13 @@
-//! An observer that writes down what it is shown.
+//! An observer that writes a letter for each event.
 use office_events::{Answer, Command, Event, Note, Observer, Refusal};
 use poll_core::{Closing, Outcome};
 use std::alloc::Global;
 
-/// A letter for each event, after the place for which it was: C connected, S a start, B bytes, T a tick, G gone, F failed,
-/// with `!` where it was refused; and a letter for each poll that ended: a answered, s silent, l lost.
+/// The letters of the observed events.
+///
+/// Each event has the slot of its round, if any, and a letter: C connected, S a start, B bytes, T a
+/// timer event, G gone, F failed. `!` follows if the event was refused. A letter follows for each
+/// poll that ended: a answered, s silent (timed out), l lost.
 #[derive(Drop)]
 pub(crate) struct Seen {
     pub(crate) text: String,

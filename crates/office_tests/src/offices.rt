@@ -1,4 +1,4 @@
-//! Offices over stores in memory, and the events that are fed to them.
+//! Offices over stores in memory, and the events that tests feed to them.
 use failing_books::FailingBooks;
 use interval_core::Zone;
 use memory_books::ListBooks;
@@ -19,7 +19,8 @@ b,3,0,124,uint16,
 c,3,0,125,uint16,
 ";
 
-/// A device, its register and its meter; a poll is sent, and its response shows 5200 at the scale 0.
+/// A device, its register and its meter; a poll is sent, and its response shows 5200 at the scale
+/// 0.
 pub(crate) static READ: [&str; 6] = [
     "1000 device inv 1 5 1",
     "1000 register main inv 3 40094 @40096",
@@ -38,17 +39,18 @@ pub(crate) fn name_of(rt: &impl Abort, name: &[u8]) -> Name {
     Name::new(name).expect(rt, "a name")
 }
 
-/// Returns a store in memory that has no record.
+/// Returns an empty store in memory.
 pub(crate) fn new_books(rt: &impl Abort, alloc: Global) -> ListBooks {
     ListBooks::new(alloc, Zone::read("UTC0").expect(rt, "a zone"))
 }
 
-/// Returns a store in memory that refuses the call of this number; 0: none.
+/// Returns a store in memory that refuses the call with this number; with 0 it refuses none.
 pub(crate) fn books_failing_at(rt: &impl Abort, alloc: Global, call: u64) -> FailingBooks {
     FailingBooks::new(new_books(rt, alloc), call)
 }
 
-/// Opens an office. Where the store refuses a call, it returns the store, and the office is opened again.
+/// Opens an office. If the store refuses a call, the office is opened again over the returned
+/// store.
 pub(crate) fn opened<B: Books>(rt: &impl Abort, alloc: Global, books: B, moment: u64) -> Office<B> {
     let (books, why) = match Office::open(alloc, books, moment) {
         Ok(office) => return office,
@@ -77,7 +79,8 @@ pub(crate) fn event_of(rt: &impl Abort, alloc: Global, line: &str) -> (u64, Even
     }
 }
 
-/// Returns the time and the command of a line, asked under a caller and a number. The line's bytes are those of the request.
+/// Returns the time and the command of a line, as a request of a caller with a number. The
+/// request's bytes are those of the line.
 pub(crate) fn request_of(
     rt: &impl Abort,
     alloc: Global,
@@ -106,7 +109,7 @@ pub(crate) fn planned(rt: &impl Abort, alloc: Global, text: &[u8]) -> PlannedLis
     PlannedList::new(alloc, list).ok().expect(rt, "a plan")
 }
 
-/// Feeds an event; again, where the store refuses a call.
+/// Feeds an event, and once more if the store refuses a call. Asserts that the event is accepted.
 pub(crate) fn assert_accepted<B: Books>(
     rt: &impl Abort,
     office: &mut Office<B>,
@@ -133,7 +136,7 @@ pub(crate) fn office_after<B: Books>(
     office
 }
 
-/// Puts the point list of a device.
+/// Stores the point list of a device.
 pub(crate) fn assert_list_accepted<B: Books>(
     rt: &impl Abort,
     alloc: Global,

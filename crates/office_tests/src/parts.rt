@@ -1,4 +1,4 @@
-//! Questions for some of a meter's entries and quarter hours, for which HTTP has no target.
+//! Tests queries for some of a meter's entries and quarter hours, for which HTTP has no target.
 use crate::offices::{READ, event_of, office_after};
 use crate::site::LINES;
 use crate::tried::{Trial, try_in_memory};
@@ -55,7 +55,7 @@ const RESCALED: MeterEntry = later!(
     }
 );
 
-// A place, how many entries of m1 are asked for from it on at most, and those.
+// An index, the largest number of entries of m1 to return from there, and these entries.
 type Asked = (u64, u32, &'static [MeterEntry]);
 
 static ENTRIES: [Asked; 7] = [
@@ -82,7 +82,7 @@ fn assert_entries<B: Books>(rt: &impl Abort, office: &mut Office<B>, asked: &[As
     }
 }
 
-// The quarter hours that begin in a span.
+// Spans, each with the quarter hours that begin in it.
 static SPANS: [(u64, u64, &[u8]); 3] = [
     (900, 900, b""),
     (901, u64::MAX, b"1800 22223\n"),
@@ -109,7 +109,7 @@ fn assert_spans<B: Books>(rt: &impl Abort, alloc: Global, office: &mut Office<B>
     }
 }
 
-// Entries and quarter hours are asked of meters alone.
+// Asserts that entries and quarter hours exist for meters only.
 fn assert_none<B: Books>(rt: &impl Abort, alloc: Global, office: &mut Office<B>) {
     for name in [Name::new(b"main"), None] {
         assert!(rt; matches!(office.entries(&name, 1, 9), Err(Refusal::NotFound)));
@@ -136,6 +136,7 @@ pub(crate) fn ask_changed<B: Books>(rt: &impl Abort, alloc: Global, books: B) {
     assert_entries(rt, &mut office, &CHANGED);
 }
 
+/// Queries for a part return exactly the entries from an index on, and the quarter hours in a span.
 #[test]
 fn some_entries_and_quarter_hours_are_listed(rt: HostRuntime) {
     try_in_memory(&rt, rt.alloc(), Trial::Parts);

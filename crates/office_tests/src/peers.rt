@@ -1,4 +1,4 @@
-//! Places of connections.
+//! Tests the slots of HTTP connections.
 use run_schedule::{Admission, Peers};
 
 fn at(place: usize) -> Option<Admission> {
@@ -8,7 +8,7 @@ fn at(place: usize) -> Option<Admission> {
     })
 }
 
-// 64 connections that say nothing, one a second.
+// 64 connections without a request, one a second.
 fn full() -> Peers {
     let mut peers = Peers::new();
     for second in 0..64 {
@@ -17,6 +17,7 @@ fn full() -> Peers {
     peers
 }
 
+/// New connections get the first free slot.
 #[test]
 fn places_are_given_in_order(rt: HostRuntime) {
     let mut peers = Peers::new();
@@ -27,6 +28,7 @@ fn places_are_given_in_order(rt: HostRuntime) {
     assert!(rt; peers.admit(101, 10) == at(7));
 }
 
+/// If no slot is free, the oldest connection without a request is dropped.
 #[test]
 fn the_oldest_that_has_not_asked_makes_room(rt: HostRuntime) {
     let mut peers = full();
@@ -37,6 +39,7 @@ fn the_oldest_that_has_not_asked_makes_room(rt: HostRuntime) {
     }
 }
 
+/// If the connections of all slots have sent requests, none is dropped and none is admitted.
 #[test]
 fn none_makes_room_where_all_have_asked(rt: HostRuntime) {
     let mut peers = full();
@@ -48,6 +51,7 @@ fn none_makes_room_where_all_have_asked(rt: HostRuntime) {
     assert!(rt; peers.admit(64, 10) == at(63));
 }
 
+/// A connection lasts ten seconds here, with or without a request; a freed slot is never over.
 #[test]
 fn a_silent_connection_lasts_ten_seconds(rt: HostRuntime) {
     let mut peers = full();

@@ -1,4 +1,4 @@
-//! When periods of the calendar are over, and how their files are called.
+//! Tests when periods of the calendar end, and the names of their files.
 use energy_report::{Period, period_name, periods_end_with_their_last_day};
 use interval_core::{Day, LAST_MOMENT, Zone, day_of};
 use run_schedule::{file_of_period, last_round, period_end, period_of_file};
@@ -7,14 +7,15 @@ use std::process::Abort;
 
 const CENTRAL_EUROPE: &str = "CET-1CEST,M3.5.0,M10.5.0/3";
 
-/// On 1 December its clocks go back at half past midnight by an hour, so that the day begins twice.
+/// A zone whose clocks go back by an hour on 1 December, at half past midnight: the day begins
+/// twice.
 const TWICE: &str = "AAA0BBB,J100/0,J335/0:30";
 
-// A zone, a period, a time in it, and when the period is over; 0 where it is not.
+// A zone, a period, a time in the period, and the end of the period; 0 if it has none.
 type Case = (&'static str, Period, u64, u64);
 
 static ENDS: [Case; 21] = [
-    // months end at local midnight
+    // Months end at local midnight.
     (CENTRAL_EUROPE, Period::Month, 1_795_780_800, 1_796_079_600),
     (CENTRAL_EUROPE, Period::Month, 1_796_079_599, 1_796_079_600),
     (CENTRAL_EUROPE, Period::Month, 1_798_757_999, 1_798_758_000),
@@ -27,7 +28,7 @@ static ENDS: [Case; 21] = [
     ("AAA12", Period::Month, 1_796_032_800, 1_796_126_400),
     ("UTC0", Period::Month, 4_102_444_799, 4_102_444_800),
     ("AAA5", Period::Month, 4_102_444_799, 0),
-    // years and days end so too
+    // Years and days end at local midnight too.
     (CENTRAL_EUROPE, Period::Year, 1_795_780_800, 1_798_758_000),
     (CENTRAL_EUROPE, Period::Year, 1_798_758_000, 1_830_294_000),
     ("UTC0", Period::Year, 4_083_955_200, 4_102_444_800),
@@ -46,6 +47,7 @@ fn end_of(rt: &impl Abort, zone: &str, period: Period, time: u64) -> Option<u64>
     period_end(&zone, period, day, time)
 }
 
+/// Months, years and days end at local midnight, also if the clocks change.
 #[test]
 fn periods_end_at_local_midnight(rt: HostRuntime) {
     for (zone, period, time, end) in ENDS {
@@ -68,6 +70,7 @@ static LAST_DAYS: [(i16, i8, i8, i8); 6] = [
     (2100, 2, 1, 28),
 ];
 
+/// The last day of a month or a year follows the calendar, with leap years.
 #[test]
 fn periods_have_a_last_day(rt: HostRuntime) {
     periods_end_with_their_last_day();
@@ -79,6 +82,7 @@ fn periods_have_a_last_day(rt: HostRuntime) {
     }
 }
 
+/// A period has no end at a time past the last timestamp.
 #[test]
 fn nothing_ends_past_the_last_moment(rt: HostRuntime) {
     let zone = Zone::read("UTC0").expect(&rt, "a zone");
@@ -87,6 +91,7 @@ fn nothing_ends_past_the_last_moment(rt: HostRuntime) {
     assert!(rt; period_end(&zone, Period::Day, day, u64::MAX) == None);
 }
 
+/// The last round of a file may take half its interval, and at most 30 seconds.
 #[test]
 fn a_last_round_has_half_the_time_to_the_next(rt: HostRuntime) {
     for (every, seconds) in [(1, 0), (2, 1), (10, 5), (60, 30), (61, 30), (86_400, 30)] {
@@ -94,6 +99,7 @@ fn a_last_round_has_half_the_time_to_the_next(rt: HostRuntime) {
     }
 }
 
+/// A period has the text that reports show.
 #[test]
 fn periods_have_the_names_of_rows(rt: HostRuntime) {
     let day = day(&rt, 2026, 3, 7);
@@ -129,6 +135,7 @@ fn file_of(rt: &impl Abort, alloc: Global, file: &str, text: &str) -> Vec<u8> {
     file_of_period(alloc, file.as_bytes(), text.as_bytes()).expect(rt, "memory")
 }
 
+/// A file's name has the period before its `.db`, and the period is found there again.
 #[test]
 fn files_have_their_period_before_the_end(rt: HostRuntime) {
     for (file, text, name) in NAMES {
@@ -139,7 +146,7 @@ fn files_have_their_period_before_the_end(rt: HostRuntime) {
     }
 }
 
-/// None of these is the file of a month of `office.db`.
+/// Names that are not the file of a month of `office.db`.
 static NO_MONTHS: [&str; 18] = [
     "office.db",
     "office-2026.db",
@@ -161,6 +168,7 @@ static NO_MONTHS: [&str; 18] = [
     "",
 ];
 
+/// Other names are not taken for the file of a month.
 #[test]
 fn other_files_are_of_no_month(rt: HostRuntime) {
     for name in &NO_MONTHS {
@@ -190,6 +198,7 @@ static PERIODS: [(&str, bool); 17] = [
     ("2026-01-1", false),
 ];
 
+/// A text is a period only in the form of a year, a month or a day.
 #[test]
 fn periods_are_known_by_their_form(rt: HostRuntime) {
     for (text, is_period) in PERIODS {

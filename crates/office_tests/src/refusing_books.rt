@@ -1,4 +1,4 @@
-//! Rounds whose books refuse each of their calls in turn.
+//! Tests rounds whose store refuses each of its calls in turn.
 use crate::failures::assert_stopped;
 use crate::links::replies;
 use crate::offices::opened;
@@ -11,7 +11,7 @@ use office_rounds::RoundFault;
 use std::alloc::Global;
 use std::process::Abort;
 
-// Why a round is broken off whose books refuse a call.
+// The fault of a round whose store refuses a call.
 const REFUSED: Result<(), RoundFault> = Err(RoundFault::Refused(Refusal::Store(
     StoreCause::Refused,
 )));
@@ -20,8 +20,8 @@ const STOPPED: Result<(), RoundFault> = Err(RoundFault::Refused(Refusal::Stopped
 
 const NONE: Ends = [None, None, None];
 
-// The polls that a round leaves whose books refuse a call: at the first start, at the first reply, at the second start, and
-// at the second reply.
+// The polls that such a round leaves: at the first start, at the first response, at the second
+// start, and at the second response.
 static LEFT: [Ends; 4] = [
     NONE,
     [RESTARTED, None, None],
@@ -45,9 +45,12 @@ fn place_of(left: Ends) -> u64 {
     place
 }
 
-/// Runs a round over a store that refuses a call; before the round the event that was refused comes again. Where a start is
-/// refused, nothing waits, and a restart adds nothing; where a reply is settled, the office stops, and the restart loses the poll.
-/// Returns the place in `LEFT` of the polls that the restart finds.
+/// Runs a round over a store that refuses a call; an event that is refused before the round is fed
+/// again.
+///
+/// If a start is refused, no poll is pending, and a restart adds nothing. If the call fails while a
+/// response is settled, the office stops, and the restart loses the poll. Returns the index in
+/// `LEFT` of the polls that the restart finds.
 pub(crate) fn refuse_call<B: Books>(rt: &impl Abort, alloc: Global, books: B) -> u64 {
     let mut office = listed(rt, alloc, books, ONE_BY_ONE);
     let mut given = [0; 24];
@@ -73,7 +76,7 @@ pub(crate) fn refuse_call<B: Books>(rt: &impl Abort, alloc: Global, books: B) ->
     place_of(left)
 }
 
-/// Whichever call of the books is refused, the round is broken off, and leaves what it had got to.
+/// Each call of the store that is refused breaks the round off, and the completed polls stay.
 #[test]
 fn failing_books_break_the_round_off(rt: HostRuntime) {
     let mut last = 0;

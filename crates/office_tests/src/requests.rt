@@ -1,4 +1,5 @@
-//! Requests that no client can send by HTTP, and what a request is to the one under its caller and number.
+//! Tests requests that no client can send by HTTP, and the comparison of a request with the stored
+//! one.
 use crate::offices::{READ, office_after, request_of};
 use crate::tried::{Trial, try_in_memory};
 use office_books::{Books, Repeat};
@@ -9,7 +10,8 @@ use std::process::Abort;
 
 const START: &str = "3700 start inv 3 40094 3";
 
-// A command under a caller and a number, its answer, and how many bytes are sent. The retry of a start sends nothing.
+// A command with its caller and number, its answer, and the number of bytes that are sent. The
+// retry of a start sends nothing.
 static REQUESTS: [(&[u8], u64, &str, Result<Answer, Refusal>, usize); 4] = [
     (
         b"desk",
@@ -56,13 +58,14 @@ fn assert_repeats<B: Books>(rt: &impl Abort, office: &mut Office<B>) {
     }
 }
 
-/// Sends the requests to an office whose meter was read, and asks what each was.
+/// Sends the requests to an office whose meter was read, and compares each with the stored one.
 pub(crate) fn play<B: Books>(rt: &impl Abort, alloc: Global, books: B) {
     let mut office = office_after(rt, alloc, books, &READ);
     assert_requests(rt, alloc, &mut office);
     assert_repeats(rt, &mut office);
 }
 
+/// A request acts once, and a retry of a start sends nothing.
 #[test]
 fn requests_act_once(rt: HostRuntime) {
     try_in_memory(&rt, rt.alloc(), Trial::Requests);

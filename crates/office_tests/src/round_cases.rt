@@ -1,4 +1,4 @@
-//! Rounds that come to their end or are broken off: what they print, and how their polls end.
+//! Tests rounds that end or are broken off: what they print, and how their polls end.
 use crate::links::{IdleLink, replies};
 use crate::offices::{inv, office_after};
 use crate::rounds::{ANSWERED, Done, Ends, LOST, ONE_BY_ONE, ends, listed, round};
@@ -31,7 +31,7 @@ poll 1 lost 1
 ok
 ";
 
-// Five seconds are the device's patience.
+// The device's timeout is five seconds.
 const SILENT: &str = "ok
 started 1 1 2 00000000000601030000007d
 ok
@@ -62,17 +62,18 @@ ok
 /// What a device does in a round.
 #[derive(Clone, Copy)]
 enum Does {
-    /// It replies to both reads; the call of the link of this number fails.
+    /// The device responds to both reads; the call of the link with this number fails.
     Replies(Option<u64>),
-    /// It ends the link.
+    /// The device closes the link.
     Ends,
-    /// It takes nothing of what is given.
+    /// The device accepts no bytes.
     TakesNothing,
-    /// It says nothing.
+    /// The device does not respond.
     IsSilent,
 }
 
-/// What the device does, the times that the clock shows, how the round ends, what it prints, and how its polls end.
+/// What the device does, the clock's times, the result of the round, the printed text, and how the
+/// polls end.
 type Case = (
     Does,
     &'static [u64],
@@ -102,7 +103,7 @@ const FIRST: Ends = [LOST, None, None];
 const SECOND: Ends = [ANSWERED, LOST, None];
 
 static CASES: [Case; 11] = [
-    // each read of the plan is answered
+    // Each read of the plan is answered.
     (
         Does::Replies(None),
         &[1000, 1001],
@@ -110,9 +111,9 @@ static CASES: [Case; 11] = [
         BOTH_ANSWERED,
         BOTH,
     ),
-    // an end of the link is the device's
+    // If the link ends, the device has ended it.
     (Does::Ends, &[1000], Ok(()), GONE, [WENT, None, None]),
-    // a silent device is asked for each read
+    // A device that does not respond still gets each read.
     (
         Does::IsSilent,
         &[1000, 1000, 1004, 1005, 1005, 1009, 1010],
@@ -120,7 +121,7 @@ static CASES: [Case; 11] = [
         SILENT,
         [WAS_SILENT, WAS_SILENT, None],
     ),
-    // a time that is refused loses the poll: the clock is set back, or past the last time of all
+    // A refused time loses the poll: the clock was set back, or is past the last time of all.
     (
         Does::IsSilent,
         &[1000, 1002, 1001],
@@ -135,17 +136,18 @@ static CASES: [Case; 11] = [
         BROKEN_OFF,
         FIRST,
     ),
-    // each call of the link may fail: a give and a take for each read; the fifth never comes
+    // Each call of the link may fail: a write and a read for each poll; the fifth is never made.
     (Does::Replies(Some(1)), &[1000], LINK, BROKEN_OFF, FIRST),
     (Does::Replies(Some(2)), &[1000], LINK, BROKEN_OFF, FIRST),
     (Does::Replies(Some(3)), &[1000], LINK, SECOND_LOST, SECOND),
     (Does::Replies(Some(4)), &[1000], LINK, SECOND_LOST, SECOND),
     (Does::Replies(Some(5)), &[1000], Ok(()), BOTH_ANSWERED, BOTH),
-    // a give that takes nothing is the link's
+    // A write that accepts no bytes is a failure of the link.
     (Does::TakesNothing, &[1000], LINK, BROKEN_OFF, FIRST),
 ];
 
-// Runs a round over a link in memory that brings these bytes and of which a call fails. Returns how many calls failed.
+// Runs a round over a link in memory with this input; one of its calls may fail. Returns the number
+// of failed calls.
 fn round_over_memory<B: Books>(
     alloc: Global,
     office: &mut Office<B>,
@@ -159,7 +161,7 @@ fn round_over_memory<B: Books>(
     (done, link.failures())
 }
 
-// Runs a round in which the device does this. Returns how many calls of its link failed.
+// Runs a round in which the device does this. Returns the number of failed calls of the link.
 fn round_of<B: Books>(
     alloc: Global,
     office: &mut Office<B>,
@@ -197,7 +199,7 @@ pub(crate) fn assert_case<B: Books>(rt: &impl Abort, alloc: Global, books: B, pl
 static FRAMES: &[u8] =
     b"\x00\x00\x00\x00\x00\x06\x01\x03\x00\x00\x00\x7d\x00\x01\x00\x00\x00\x06\x01\x03\x00\x7d\x00\x01";
 
-// Each read of the plan is sent once, also where responses come in pieces of so many bytes.
+// Asserts that each read of the plan is sent once, for responses in chunks of `piece` bytes.
 pub(crate) fn assert_pieces<B: Books>(rt: &impl Abort, alloc: Global, books: B, piece: usize) {
     let input = replies(rt, alloc);
     let mut office = listed(rt, alloc, books, ONE_BY_ONE);
@@ -209,7 +211,7 @@ pub(crate) fn assert_pieces<B: Books>(rt: &impl Abort, alloc: Global, books: B, 
     assert!(rt; ends(&mut office) == BOTH, "{piece}");
 }
 
-// A device without a point list is gone again, and no other device exists.
+// Asserts that a device without a point list is gone again, and that unknown devices are refused.
 pub(crate) fn assert_not_found<B: Books>(rt: &impl Abort, alloc: Global, books: B) {
     let mut office = office_after(rt, alloc, books, &[ONE_BY_ONE]);
     for _round in 0..2 {
@@ -224,7 +226,7 @@ pub(crate) fn assert_not_found<B: Books>(rt: &impl Abort, alloc: Global, books: 
     }
 }
 
-// Runs a round whose writer has so much room.
+// Runs a round whose writer accepts `room` bytes.
 fn round_into<B: Books, L: Link>(
     alloc: Global,
     office: &mut Office<B>,
@@ -237,7 +239,7 @@ fn round_into<B: Books, L: Link>(
     round_over(alloc, link, office, name, &mut clock, &mut output)
 }
 
-// A round whose writer has too little room is broken off.
+// Asserts that a round whose writer accepts too few bytes is broken off.
 pub(crate) fn assert_narrow<B: Books>(
     rt: &impl Abort,
     alloc: Global,
@@ -254,7 +256,7 @@ pub(crate) fn assert_narrow<B: Books>(
     assert!(rt; ends(&mut office) == polls, "room for {room}");
 }
 
-// A round reads its link 100,000 times at most.
+// Asserts that a round reads its link 100,000 times at most.
 pub(crate) fn assert_takes<B: Books>(rt: &impl Abort, alloc: Global, books: B) {
     let mut office = listed(rt, alloc, books, ONE_BY_ONE);
     let mut link = IdleLink::new();
@@ -264,6 +266,7 @@ pub(crate) fn assert_takes<B: Books>(rt: &impl Abort, alloc: Global, books: B) {
     assert!(rt; ends(&mut office) == [LOST, None, None]);
 }
 
+/// Each round ends, prints and settles its polls as its case says.
 #[test]
 fn rounds_end_so(rt: HostRuntime) {
     for place in 0..CASES.len() {
@@ -271,6 +274,7 @@ fn rounds_end_so(rt: HostRuntime) {
     }
 }
 
+/// Responses may come complete or byte by byte.
 #[test]
 fn replies_come_byte_by_byte(rt: HostRuntime) {
     for piece in [259, 1] {
@@ -278,12 +282,14 @@ fn replies_come_byte_by_byte(rt: HostRuntime) {
     }
 }
 
+/// A device without a point list, or an unknown device, is refused.
 #[test]
 fn a_device_that_is_not_found_is_refused(rt: HostRuntime) {
     try_in_memory(&rt, rt.alloc(), Trial::NoDevice);
 }
 
-// The lines that say `ok`, that a poll was started, and that it was answered.
+/// A round is broken off at each line that can't be written: `ok`, the started poll, and the
+/// answered poll.
 #[test]
 fn each_line_may_fail(rt: HostRuntime) {
     for (room, polls) in [(2, NONE), (20, FIRST), (50, [ANSWERED, None, None])] {
@@ -291,6 +297,7 @@ fn each_line_may_fail(rt: HostRuntime) {
     }
 }
 
+/// A round is broken off after 100,000 reads of its link.
 #[test]
 fn a_round_has_so_many_takes(rt: HostRuntime) {
     try_in_memory(&rt, rt.alloc(), Trial::Takes);

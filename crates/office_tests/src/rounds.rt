@@ -9,10 +9,10 @@ use socket_link::FixedClock;
 use std::alloc::Global;
 use std::process::Abort;
 
-/// A device that may have one poll at a time.
+/// A device that may have one pending poll.
 pub(crate) const ONE_BY_ONE: &str = "1000 device inv 1 5 1";
 
-/// A device that may have two.
+/// A device that may have two pending polls.
 pub(crate) const BOTH_AT_ONCE: &str = "1000 device inv 1 5 2";
 
 /// Returns an office with this device and its point list.
@@ -27,14 +27,14 @@ pub(crate) fn listed<B: Books>(
     office
 }
 
-/// How a round ended, and what it printed.
+/// The result of a round, and what it printed.
 #[derive(Drop)]
 pub(crate) struct Done {
     pub(crate) done: Result<(), RoundFault>,
     pub(crate) printed: Vec<u8>,
 }
 
-/// Runs a round of `inv` by a clock that shows these times.
+/// Runs a round of `inv` with a clock that shows these times.
 pub(crate) fn round<B: Books, L: Link>(
     alloc: Global,
     office: &mut Office<B>,
@@ -47,15 +47,16 @@ pub(crate) fn round<B: Books, L: Link>(
     Done { done, printed }
 }
 
-/// How the first three polls ended, of those that exist; a poll that waits has not.
+/// The outcomes of the first three polls: `None` for a poll that does not exist, `Some(None)` for a
+/// pending one.
 pub(crate) type Ends = [Option<Option<Outcome>>; 3];
 
 pub(crate) const ANSWERED: Option<Option<Outcome>> = Some(Some(Outcome::Answered));
 
-/// A failure of the link ended it.
+/// A failure of the link ended the poll.
 pub(crate) const LOST: Option<Option<Outcome>> = Some(Some(Outcome::Lost(LostCause::Failed)));
 
-/// It waited when the office was opened again.
+/// The poll was pending when the office was opened again.
 pub(crate) const RESTARTED: Option<Option<Outcome>> = Some(Some(Outcome::Lost(LostCause::Restart)));
 
 fn end_of<B: Books>(office: &mut Office<B>, number: u64) -> Option<Option<Outcome>> {

@@ -1,4 +1,4 @@
-//! What a run's monitor keeps of turns, and the lines that it writes.
+//! Tests what a run's monitor keeps of turns, and the lines that it writes.
 use crate::benches::{Bench, Moment, Step, names, play};
 use crate::offices::{inv, new_books};
 use office_events::{Answer, Event, Refusal};
@@ -9,7 +9,7 @@ use std::alloc::Global;
 use std::process::Abort;
 use std::str;
 
-// Both devices after all this, before a monitor.
+// Plays these events for both devices, with a monitor as the observer.
 fn polled(rt: &impl Abort, alloc: Global, moments: &[Moment]) -> Bench<RunMonitor> {
     let monitor = RunMonitor::new(alloc, &names()).expect(rt, "a monitor");
     play(rt, alloc, new_books(rt, alloc), moments, monitor)
@@ -17,7 +17,7 @@ fn polled(rt: &impl Abort, alloc: Global, moments: &[Moment]) -> Bench<RunMonito
 
 const STANDS: Moment = (1001, Step::Stands(0));
 
-// What is taken from the slots, one after the other.
+// The frames that are taken from the slots, in order.
 static FRAMES: [(usize, &[u8]); 4] = [
     (0, b"\x00\x00\x00\x00\x00\x06\x01\x03\x00\x00\x00\x7d"),
     (0, b""),
@@ -25,12 +25,13 @@ static FRAMES: [(usize, &[u8]); 4] = [
     (2, b""),
 ];
 
-// Whether a device is connected, by its slot.
+// Whether the device in a slot is connected.
 fn is_connected(polled: &Bench<RunMonitor>, place: usize) -> Option<bool> {
     let state = polled.observer.states.get(place)?;
     Some(state.connected)
 }
 
+/// Frames wait for the device that they are sent to, and are taken once.
 #[test]
 fn frames_wait_for_their_device(rt: HostRuntime) {
     let mut polled = polled(&rt, rt.alloc(), &[STANDS]);
@@ -43,12 +44,13 @@ fn frames_wait_for_their_device(rt: HostRuntime) {
     }
 }
 
-// What happens after a device is connected, and how many polls are lost and time out then.
+// Events after a device is connected, and the numbers of polls that are lost and that time out.
 static ENDINGS: [(&[Moment], u64, u64); 2] = [
     (&[STANDS, (1002, Step::Ended(0, Closing::Failed))], 1, 0),
     (&[STANDS, (1006, Step::Tick), (1011, Step::Tick)], 0, 2),
 ];
 
+/// Frames for a connection that has ended are dropped.
 #[test]
 fn frames_of_an_ended_connection_are_dropped(rt: HostRuntime) {
     for (moments, lost, silent) in ENDINGS {
@@ -61,7 +63,7 @@ fn frames_of_an_ended_connection_are_dropped(rt: HostRuntime) {
     }
 }
 
-// A frame whose unit is another's, and then the end.
+// A frame with another unit, and then the end.
 static WRONG_UNIT: [Moment; 3] = [
     STANDS,
     (1002, Step::Came(0, b"\x00\x00\x00\x00\x00\x03\x02\x83\x02")),
@@ -73,6 +75,7 @@ fn first_sum(polled: &Bench<RunMonitor>) -> Option<Sum> {
     Some(round.sum)
 }
 
+/// A round counts its polls by outcome.
 #[test]
 fn a_round_has_a_sum(rt: HostRuntime) {
     let polled = polled(&rt, rt.alloc(), &WRONG_UNIT);
@@ -90,7 +93,8 @@ const LINES: &str = "1700000000 inv connected
 1700000002 inv round answered 3 silent 1 failed 0
 ";
 
-// The lines of two events that were accepted, of one that was refused, and of an end with its sum.
+/// A monitor writes a line for a connection, a refusal, an end, and the sum of a round. A timer
+/// event has none.
 #[test]
 fn lines_are_for_people(rt: HostRuntime) {
     let noted = Ok(Answer::Noted);

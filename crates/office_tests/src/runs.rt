@@ -1,4 +1,4 @@
-//! Runs from nothing.
+//! Runs over an empty store.
 ghost use Rattle.std.specs.Prelude.{[], IfOk};
 ghost use Rattle.memory_books.specs.Listed.{ledger_of};
 ghost use Rattle.office_core.specs.EventRun.{RecordsAccepted};
@@ -9,7 +9,7 @@ use office_core::{Run, run};
 use office_events::{Event, Refusal};
 use std::alloc::Global;
 
-/// Over new books in memory the headline holds, whatever events come: no premise is left.
+/// Runs events over a new store in memory. The headline holds for any events, without a premise.
 pub(crate) fn run_anew(
     alloc: Global,
     zone: Zone,

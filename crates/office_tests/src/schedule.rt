@@ -1,14 +1,15 @@
-//! When devices are due.
+//! Tests when devices are due.
 use run_schedule::{Phase, SteadyClock, Timing, next_due, next_pause, retry_at, round_until};
 
-// The last is a quarter of an hour after 2023-11-14 22:13:20 UTC, which is no multiple.
+/// A device is due at multiples of its interval. The last case is a quarter of an hour after
+/// 2023-11-14 22:13:20 UTC, which is no multiple.
 #[test]
 fn a_device_is_due_at_multiples(rt: HostRuntime) {
     let cases = [
         (60, 0, 60),
         (60, 59, 60),
         (60, 60, 120),
-        // what is late is not made up for
+        // Missed times are not made up for.
         (60, 187, 240),
         (1, 41, 42),
         (900, 1_700_000_000, 1_700_000_100),
@@ -21,6 +22,7 @@ fn a_device_is_due_at_multiples(rt: HostRuntime) {
     }
 }
 
+/// Pauses between attempts double up to a minute, and never pass the next due time.
 #[test]
 fn pauses_grow(rt: HostRuntime) {
     let mut pause = 0;
@@ -32,13 +34,14 @@ fn pauses_grow(rt: HostRuntime) {
     assert!(rt; retry_at(100, 32, 120) == 120);
 }
 
+/// A round may take its interval, and at least a minute.
 #[test]
 fn a_round_lasts_a_minute_at_least(rt: HostRuntime) {
     assert!(rt; round_until(10, 1000) == 1060);
     assert!(rt; round_until(900, 1000) == 1900);
 }
 
-// The clock is set back by 40 seconds, and catches up.
+/// A clock that is set back is reported once. Here it is set back by 40 seconds, and catches up.
 #[test]
 fn a_clock_that_is_set_back_is_told_once(rt: HostRuntime) {
     let mut steady_clock = SteadyClock::new(1000);
@@ -57,7 +60,8 @@ fn a_clock_that_is_set_back_is_told_once(rt: HostRuntime) {
     }
 }
 
-// It goes ahead by a minute, by a minute and a second, and by an hour after it was set back.
+/// A clock that jumps ahead by more than a minute is reported. Here it jumps by a minute, by a
+/// minute and a second, and by an hour after it was set back.
 #[test]
 fn a_clock_that_goes_ahead_is_told(rt: HostRuntime) {
     let mut steady_clock = SteadyClock::new(1000);
@@ -73,7 +77,8 @@ fn a_clock_that_goes_ahead_is_told(rt: HostRuntime) {
     }
 }
 
-// A connection takes five seconds at most; it fails three times, and stands then.
+/// A device is tried again after longer and longer pauses. A connection may take five seconds; here
+/// it fails three times, and then succeeds.
 #[test]
 fn a_device_is_tried_again(rt: HostRuntime) {
     let mut timing = Timing::new(60, 100);

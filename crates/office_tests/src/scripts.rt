@@ -1,4 +1,4 @@
-//! What an office prints of a script's line.
+//! Prints an office's answers to a script's lines.
 use crate::offices::start_of;
 use energy_report::RowLines;
 use office_books::Books;
@@ -10,7 +10,7 @@ use std::alloc::Global;
 use std::io;
 use std::process::Abort;
 
-// Feeds an event, and prints its notes and its answer.
+// Feeds an event, and prints its notifications and its answer.
 fn feed<B: Books>(
     office: &mut Office<B>,
     at: u64,
@@ -26,7 +26,7 @@ fn feed<B: Books>(
     }
 }
 
-// Prints the number of rows, or why the question is refused.
+// Prints the number of rows, or why the query is refused.
 fn write_count(answer: Result<(), Refusal>, count: u64, output: &mut Vec<u8>) -> io::Result<()> {
     match answer {
         Ok(()) => write_end(count, output),
@@ -34,7 +34,7 @@ fn write_count(answer: Result<(), Refusal>, count: u64, output: &mut Vec<u8>) ->
     }
 }
 
-// Prints the answer to a question.
+// Prints the answer to a query.
 fn ask<B: Books>(
     office: &mut Office<B>,
     said: &ScriptLine,
@@ -63,7 +63,7 @@ fn ask<B: Books>(
     }
 }
 
-/// Returns what an office prints of an event.
+/// Returns what an office prints for an event.
 pub(crate) fn print_event<B: Books>(
     rt: &impl Abort,
     alloc: Global,
@@ -76,7 +76,7 @@ pub(crate) fn print_event<B: Books>(
     output
 }
 
-/// Returns what an office prints of a line.
+/// Returns what an office prints for a line.
 pub(crate) fn print_line<B: Books>(
     rt: &impl Abort,
     alloc: Global,

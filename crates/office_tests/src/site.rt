@@ -1,4 +1,4 @@
-//! The registers and meters of a site, also where the store refuses a call.
+//! Tests the registers and meters of a site, also if the store refuses a call.
 use crate::offices::office_after;
 use crate::tried::{Trial, try_failing, try_in_memory};
 use office_books::Books;
@@ -9,8 +9,8 @@ use std::alloc::Global;
 use std::process::Abort;
 use std::str;
 
-/// Two devices, whose names are not in order. Of three registers one never had a meter, one has its second, and the meter of one
-/// was closed.
+/// Two devices whose names are not in order, and three registers. One register never had a meter,
+/// one has its second, and the meter of one was closed.
 pub(crate) static LINES: [&str; 9] = [
     "1000 device roof 1 5 1",
     "1000 device inv 2 5 1",
@@ -23,8 +23,8 @@ pub(crate) static LINES: [&str; 9] = [
     "1900 close solo 9 0",
 ];
 
-// Each register with its device and its latest meter: solo has gone from 7 to 9 at the scale 2, which is 200 Wh, and m2 has only
-// begun.
+// Each register with its device and its latest meter. The meter at solo advanced from 7 to 9 at the
+// scale 2, which is 200 Wh; m2 has just begun.
 const SITE: &str = "roof main meter m2 last 10 sf -1 at 1900 total 0 open
 roof export refused 1
 inv solo meter m3 last 9 sf 2 at 1900 total 200000 ended
@@ -53,7 +53,8 @@ fn assert_rows(rt: &impl Abort, alloc: Global, rows: &[SiteRow]) {
     assert!(rt; str::from_utf8(&text) == Ok(SITE));
 }
 
-/// Asks for the site; again, where the store refuses a call. Returns 1 where it does, and else 0.
+/// Queries the site, and once more if the store refuses a call. Returns 1 if it does, and otherwise
+/// 0.
 pub(crate) fn ask<B: Books>(rt: &impl Abort, alloc: Global, books: B) -> u64 {
     let mut office = office_after(rt, alloc, books, &LINES);
     match office.site() {
@@ -70,6 +71,8 @@ pub(crate) fn ask<B: Books>(rt: &impl Abort, alloc: Global, books: B) -> u64 {
     }
 }
 
+/// A query for the site makes six calls of the store; if one is refused, the query succeeds when it
+/// is repeated.
 #[test]
 fn a_site_is_told_where_the_store_refuses_a_call(rt: HostRuntime) {
     let mut refused = 0u64;
@@ -77,11 +80,11 @@ fn a_site_is_told_where_the_store_refuses_a_call(rt: HostRuntime) {
         let asked = try_failing(&rt, rt.alloc(), failing, Trial::Site);
         refused = refused.saturating_add(asked);
     }
-    // The devices, the registers of two, and the meters of three.
+    // The calls for the devices, for the registers of two, and for the meters of three.
     assert!(rt; refused == 6);
 }
 
-// Names, and the latest meter at the register of each.
+// Names, and the latest meter at the register with each name.
 static METERS: [(&[u8], &str); 5] = [
     (b"main", "meter m2 last 10 sf -1 at 1900 total 0 open\n"),
     (b"export", "refused 1\n"),
@@ -98,7 +101,7 @@ fn assert_meters<B: Books>(rt: &impl Abort, alloc: Global, office: &mut Office<B
     }
 }
 
-// Names, and the unit of the device of each.
+// Names, and the unit of the device with each name.
 static UNITS: [(&[u8], Option<u8>); 4] = [
     (b"roof", Some(1)),
     (b"inv", Some(2)),
@@ -116,7 +119,7 @@ fn has_unit<B: Books>(office: &mut Office<B>, device: &Option<Name>, unit: Optio
 // The address and the scale of a register.
 type Place = (u16, ScaleSource);
 
-// The names of the registers, and no register's.
+// Names, and the place of the register with each name.
 static PLACES: [(&[u8], Option<Place>); 5] = [
     (b"main", Some((40094, ScaleSource::Register(40096)))),
     (b"export", Some((40098, ScaleSource::Fixed(-3)))),
@@ -159,6 +162,7 @@ pub(crate) fn look_up<B: Books>(rt: &impl Abort, alloc: Global, books: B) {
     }
 }
 
+/// Devices, registers and meters are found by their names, and nothing else is.
 #[test]
 fn devices_registers_and_meters_are_found_by_their_names(rt: HostRuntime) {
     try_in_memory(&rt, rt.alloc(), Trial::Names);

@@ -1,4 +1,4 @@
-//! The status and the metrics of a known history.
+//! Tests the status and the metrics of a known history.
 use energy_core::{Cause, Last};
 use mb_wire::ReadFunction;
 use office_core::SiteRow;
@@ -12,7 +12,8 @@ fn outcome(outcome: Outcome) -> Note {
     Note::Outcome { poll: 1, outcome }
 }
 
-// Two polls were answered, and one each ended otherwise; a reading was accepted, two were held.
+// Two polls were answered, and one each had another outcome; one reading was accepted, two were
+// rejected.
 fn counts() -> Counts {
     let mut counts = Counts::new();
     counts.note_all(&[
@@ -64,6 +65,7 @@ fn devices() -> [DeviceState; 2] {
 const STATUS: &str =
     "{\"devices\":[{\"name\":\"inv\",\"connected\":true,\"last_reading\":1700000000},{\"name\":\"roof-2\",\"connected\":false,\"last_reading\":null}],\"polls\":{\"answered\":2,\"exception\":1,\"silent\":1,\"malformed\":0,\"lost\":1},\"readings\":1,\"held\":{\"not_accumulated\":1,\"scale_changed\":0,\"not_later\":0,\"span_too_long\":0,\"gap_too_long\":0,\"too_fast\":0,\"total_full\":0,\"not_below_range\":1},\"refusals\":1,\"lacks\":[]}\n";
 
+/// The status of a known history is this JSON text.
 #[test]
 fn the_status_is_json(rt: HostRuntime) {
     let mut text = Vec::new(rt.alloc());
@@ -136,7 +138,7 @@ fn site_row(meter: &[u8], total: u64, ended: bool) -> Option<SiteRow> {
     })
 }
 
-// A register without a meter, and three meters, of which one was closed.
+// A register without a meter, and three meters, one of them closed.
 fn site() -> Option<[SiteRow; 4]> {
     Some([
         SiteRow {
@@ -149,6 +151,7 @@ fn site() -> Option<[SiteRow; 4]> {
     ])
 }
 
+/// The metrics of a known history are this text, with the open meters only.
 #[test]
 fn the_metrics_are_in_text_format(rt: HostRuntime) {
     let mut text = Vec::new(rt.alloc());
@@ -184,7 +187,7 @@ fn no_meter(import: &Register) -> DeviceLack {
     lack(b"grid", Lack::NoMeter(*import))
 }
 
-// One of each.
+// One of each kind.
 fn lacks(import: &Register) -> [DeviceLack; 5] {
     [
         lack(b"none", Lack::NoDevice),
@@ -198,6 +201,7 @@ fn lacks(import: &Register) -> [DeviceLack; 5] {
 const LACKS: &str =
     "\"refusals\":0,\"lacks\":[{\"device\":\"none\",\"lack\":\"no_device\"},{\"device\":\"inv\",\"lack\":\"no_list\"},{\"device\":\"inv\",\"lack\":\"no_register\"},{\"device\":\"grid\",\"lack\":\"not_in_list\",\"register\":\"import\"},{\"device\":\"grid\",\"lack\":\"no_meter\",\"register\":\"import\"}]}\n";
 
+/// The status has what each device lacks.
 #[test]
 fn what_devices_lack_is_in_the_status(rt: HostRuntime) {
     let mut text = Vec::new(rt.alloc());
@@ -215,6 +219,7 @@ sunreg: register import: missing from the point list of grid; add function 3, re
 sunreg: register import: no open meter; install one with POST /registers/import/install
 ";
 
+/// Each lack of a device has its sentence.
 #[test]
 fn what_devices_lack_is_said(rt: HostRuntime) {
     let mut text = Vec::new(rt.alloc());

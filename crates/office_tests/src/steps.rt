@@ -1,4 +1,4 @@
-//! Records that are booked, and look-ups with their answers.
+//! Steps over a store: records to write, and lookups with their answers.
 use crate::facts::{Booked, facts};
 use crate::offices::{name_of, planned};
 use energy_core::Cause;
@@ -10,42 +10,43 @@ use office_events::{
 use std::alloc::Global;
 use std::process::Abort;
 
-/// What is booked, or looked up with this answer. The device is `inv`.
+/// Records to write, or a lookup with this answer. The device is `inv`.
 #[derive(Clone, Copy)]
 pub(crate) enum Step {
     Books(&'static [Booked]),
     /// The device gets the point list of a text.
     Lists(&'static [u8]),
-    /// Its point list has so many reads.
+    /// The point list of the device has this number of reads.
     Reads(usize),
-    /// It has so many registers.
+    /// The device has this number of registers.
     Registers(usize),
-    /// A read of it, by its function, address and count, gives readings of these registers.
+    /// A read of the device, by function, address and count, gives readings of these registers.
     Read(u8, u16, u16, &'static [&'static str]),
     /// The latest meter at the register `main`, its energy in mWh, and whether it was closed.
     Installed(&'static [u8], u64, bool),
-    /// The same of the meter of a name.
+    /// The meter with a name, its energy in mWh, and whether it was closed.
     Meter(&'static [u8], u64, bool),
-    /// So many meters were installed.
+    /// This number of meters was installed.
     Meters(usize),
-    /// An entry of a meter, by its sequence number: the energy in mWh before it, and whether it was voided.
+    /// An entry of a meter, by its sequence number: the energy in mWh before it, and whether it was
+    /// voided.
     Entry(&'static [u8], u64, u64, bool),
-    /// An entry by the rows around it: the number before it, and the energy in mWh of the whole meter.
+    /// An entry by the rows around it: the number before it, and the meter's total energy in mWh.
     EntryNear(&'static [u8], u64, u32, u64),
     NoEntry(&'static [u8], u64),
     /// The times and causes of the rejected readings of a meter in a span.
     Held(&'static [u8], Span, &'static [(u64, Cause)]),
-    /// So many polls were started.
+    /// This number of polls was started.
     Started(u64),
-    /// The poll of a number waits, or has ended.
+    /// The poll with a number is pending, or has ended.
     Waits(u64, bool),
-    /// These polls wait.
+    /// These polls are pending.
     Pending(&'static [u64]),
     /// The latest time of a record.
     Latest(u64),
 }
 
-/// Keeps the times and causes of rejected readings.
+/// Collects the times and causes of rejected readings.
 #[derive(Drop)]
 struct HeldRows {
     rows: Vec<(u64, Cause)>,
@@ -125,7 +126,7 @@ fn is_entry(found: &Option<EntryPlace>, total: u64, is_voided: bool) -> bool {
     }
 }
 
-// Whether an entry is this by the rows around it, and has the energy of the whole meter.
+// Whether the rows around an entry give this entry, with the meter's total energy.
 fn is_near<B: Books>(
     books: &mut B,
     meter: &Name,
@@ -171,7 +172,7 @@ fn is_waiting<B: Books>(books: &mut B, number: u64, waits: bool) -> Result<bool,
     }
 }
 
-// Books what a step of the device books, or compares what it looks up.
+// Writes the records of a step of the device, or compares what it looks up.
 fn try_device<B: Books>(
     rt: &impl Abort,
     alloc: Global,
@@ -206,7 +207,7 @@ fn try_device<B: Books>(
     }
 }
 
-/// Books what a step books, or compares what it looks up with its answer.
+/// Writes the records of a step, or compares what it looks up with its answer.
 pub(crate) fn try_step<B: Books>(
     rt: &impl Abort,
     alloc: Global,

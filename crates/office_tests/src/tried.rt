@@ -1,4 +1,5 @@
-//! What is tried over an office's store, and the one call of it for a store in memory: each such call takes seconds to prove.
+//! The trials over an office's store. They are called here once for a store in memory, since each
+//! such call takes seconds to prove.
 use crate::offices::books_failing_at;
 use crate::rounds::Ends;
 use crate::{
@@ -8,28 +9,28 @@ use office_books::Books;
 use std::alloc::Global;
 use std::process::Abort;
 
-/// What is tried.
+/// A trial.
 #[derive(Clone, Copy)]
 pub(crate) enum Trial {
-    /// A script, each of whose lines may fail.
+    /// A script; each of its lines may fail.
     Script,
     /// A round whose store refuses a call.
     RefusedRound,
-    /// A round whose call of the link of this number fails.
+    /// A round in which the call of the link with this number fails.
     Link(u64),
-    /// The round of a case, by its place among them.
+    /// The round of a case, by its index.
     Round(usize),
-    /// A round whose responses come in pieces of so many bytes.
+    /// A round with responses in chunks of this number of bytes.
     Pieces(usize),
-    /// Rounds of devices that are not found.
+    /// Rounds of devices that do not exist.
     NoDevice,
-    /// A round whose writer has so much room, and how its polls end.
+    /// A round whose writer accepts this number of bytes, and how its polls end.
     Narrow(usize, Ends),
-    /// A round that is never over.
+    /// A round that never ends.
     Takes,
-    /// Steps over a store that keeps answers.
+    /// Steps over a caching store.
     Kept,
-    /// A read of registers, by its place among the reads.
+    /// A read of registers, by its index.
     Read(usize),
     Site,
     Names,
@@ -38,7 +39,7 @@ pub(crate) enum Trial {
     Requests,
 }
 
-/// Tries this over a store, and returns what the trial's function does; 0 where it returns nothing.
+/// Runs a trial over a store, and returns what the trial's function does; 0 if it returns nothing.
 fn try_over<B: Books>(rt: &impl Abort, alloc: Global, books: B, trial: Trial) -> u64 {
     match trial {
         Trial::Script => return failures::play(rt, alloc, books),
@@ -60,12 +61,13 @@ fn try_over<B: Books>(rt: &impl Abort, alloc: Global, books: B, trial: Trial) ->
     0
 }
 
-/// Tries this over a store in memory that refuses the call of this number; 0: none.
+/// Runs a trial over a store in memory that refuses the call with this number; with 0 it refuses
+/// none.
 pub(crate) fn try_failing(rt: &impl Abort, alloc: Global, failing: u64, trial: Trial) -> u64 {
     try_over(rt, alloc, books_failing_at(rt, alloc, failing), trial)
 }
 
-/// Tries this over a store in memory that refuses nothing.
+/// Runs a trial over a store in memory that refuses nothing.
 pub(crate) fn try_in_memory(rt: &impl Abort, alloc: Global, trial: Trial) {
     let _returned = try_failing(rt, alloc, 0, trial);
 }

@@ -1,4 +1,4 @@
-//! Turns over made-up happenings.
+//! Tests turns over made-up events.
 use crate::benches::{Bench, Moment, Step, play};
 use crate::observer::Seen;
 use crate::offices::new_books;
@@ -11,9 +11,9 @@ fn seen(rt: &impl Abort, alloc: Global, moments: &[Moment]) -> Bench<Seen> {
     play(rt, alloc, new_books(rt, alloc), moments, Seen::new(alloc))
 }
 
-// What happens, what is seen of it, and the bytes of the frames: 12 for each read.
+// Events, what the observer writes of them, and the bytes of the frames: 12 for each read.
 static TURNS: [(&[Moment], &str, usize); 7] = [
-    // a device is polled to its end
+    // A device is polled to the end of its round.
     (
         &[
             (1001, Step::Stands(0)),
@@ -23,7 +23,7 @@ static TURNS: [(&[Moment], &str, usize); 7] = [
         "0C 0S 0Ba 0S 0Ba 0G ",
         24,
     ),
-    // two devices are polled at once
+    // Two devices are polled at once.
     (
         &[
             (1001, Step::Stands(1)),
@@ -36,7 +36,7 @@ static TURNS: [(&[Moment], &str, usize); 7] = [
         "1C 1S 0C 0S 1Ba 1S 0Ba 0S 0Ba 0G 1Ba 1G ",
         48,
     ),
-    // both wait at once, and both are silent at one tick
+    // Two polls are pending at once, and both time out at one timer event.
     (
         &[
             (1001, Step::Stands(0)),
@@ -48,7 +48,7 @@ static TURNS: [(&[Moment], &str, usize); 7] = [
         "0C 0S 1C 1S T Tss 0S 1S Tss 0G 1G ",
         48,
     ),
-    // an end loses the polls of that device alone
+    // The end of a connection loses only the polls of its device.
     (
         &[
             (1001, Step::Stands(0)),
@@ -60,7 +60,7 @@ static TURNS: [(&[Moment], &str, usize); 7] = [
         "0C 0S 1C 1S 0Fl 1Ba 1S ",
         36,
     ),
-    // a device comes again after it failed
+    // A device is connected again after it failed.
     (
         &[
             (1001, Step::Stands(0)),
@@ -70,7 +70,7 @@ static TURNS: [(&[Moment], &str, usize); 7] = [
         "0C 0S 0Fl 0C 0S ",
         24,
     ),
-    // bytes of a device that is not polled, and a place at which no device is
+    // Bytes of a device that is not polled, and an empty slot.
     (
         &[
             (1001, Step::First(0)),
@@ -80,7 +80,8 @@ static TURNS: [(&[Moment], &str, usize); 7] = [
         "",
         0,
     ),
-    // a moment before the latest breaks the round off; the hub itself never feeds one: `SteadyClock` sees to that
+    // A time before the latest breaks the round off. A run never feeds one: `SteadyClock` prevents
+    // it.
     (
         &[(1001, Step::Stands(0)), (999, Step::First(0))],
         "0C 0S 0B! 0F! ",
@@ -88,6 +89,7 @@ static TURNS: [(&[Moment], &str, usize); 7] = [
     ),
 ];
 
+/// A turn feeds its event, and then the events that rounds request.
 #[test]
 fn turns_feed_what_rounds_wish(rt: HostRuntime) {
     for (moments, text, frames) in TURNS {
@@ -97,13 +99,13 @@ fn turns_feed_what_rounds_wish(rt: HostRuntime) {
     }
 }
 
-// How far the round of a device is, by its place.
+// The stage of the device in a slot.
 fn stage(bench: &Bench<Seen>, place: usize) -> Option<Stage> {
     let round = bench.rounds.get(place)?;
     Some(round.stage)
 }
 
-// The device comes again after it failed, as in the fifth of the turns.
+/// After its second connection a device has pending responses, as in the fifth of the turns.
 #[test]
 fn a_device_that_came_again_waits(rt: HostRuntime) {
     let bench = seen(&rt, rt.alloc(), TURNS[4].0);

@@ -1,7 +1,7 @@
-//! Writers with little room.
+//! Writers that accept few bytes.
 use std::io::{self, ErrorKind, Write};
 
-/// A writer that fails once it has got so many bytes.
+/// A writer that fails once it has accepted `room` bytes.
 #[derive(Drop)]
 pub(crate) struct Narrow {
     pub(crate) room: usize,

@@ -1,4 +1,4 @@
--- An office that is carried into a new one: what was asked of the old, and what the new took.
+-- A rollover: what was queried from the old office, and what the new one executed.
 use Rattle.std.proofs.Common.{◌≡◌, ℕ, List, Option, Ok, Err, subst, sym}
 use Rattle.std.specs.Prelude.{Result}
 use Rattle.office_events.specs.declared.refusals.Refusal.{Refusal}
@@ -16,7 +16,7 @@ use Rattle.carried_books.specs.declared.carrying.plans.Plan.{Plan}
 use Rattle.carried_books.specs.declared.carrying.plans.Plan.TheVariants as plan
 
 module _ {N : Type 0} (old new : Ledger) (until : Option ℕ) (ledger : N → Ledger) (before after : Office N) where
-  -- by the plan, whatever comes of it
+  -- By the plan, with any result.
   pub carries : (p : Plan) (result : Result ℕ CarryFault) → OfOld old new (λ known. IsPlan known until p) → Follows ledger p before after result
       → Carries old new until ledger before after result
   carries (plan.Ready commands meters) (Ok n) is follows = record {
@@ -40,7 +40,7 @@ module _ {N : Type 0} (old new : Ledger) (until : Option ℕ) (ledger : N → Le
     are = λ known holds clean. subst (λ (those : List ℕ). IsNotYet known until (open_meters known) those) (sym follows.0) (is known holds clean);
   }
 
-  -- the old books were asked without a failure
+  -- The old store was queried without a failure.
   pub asked : (p : Plan) (result : Result ℕ CarryFault) → Follows ledger p before after result → Consults old new (Ok p) → OnlyAsked old new result
   asked p (Ok n) follows reads = record { keeps = reads.keeps; failures = reads.goes.faults; clean = reads.goes.clean; zone = reads.goes.zone }
   asked p (Err (New why)) follows reads = record {
@@ -58,7 +58,7 @@ module _ {N : Type 0} (old new : Ledger) (until : Option ℕ) (ledger : N → Le
   asked (plan.Ready commands meters) (Err (Old why)) follows reads = absurd follows
   asked (plan.NotYet meter) (Err (Old why)) follows reads = absurd follows
 
--- they failed
+-- The old store failed.
 pub not_asked : (old new : Ledger) (fault : BooksFault) (why : Refusal) → why ≡ as_refusal fault → Consults {T = Plan} old new (Err fault)
     → OnlyAsked old new (Err (Old why))
 not_asked old new fault why is reads = record {

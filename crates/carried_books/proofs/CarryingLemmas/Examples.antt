@@ -1,4 +1,5 @@
--- Worked examples, computed from the definitions: an office with one device, at whose register a second meter came after a first.
+-- Worked examples, computed from the definitions: an office with one device, at whose register a
+-- second meter followed a first.
 use Rattle.std.proofs.Common.{◌≡◌, ℕ, pos, List, [], ◌∷◌, map, Option, Some, None, refl}
 use Rattle.std.specs.Prelude.{codes}
 use Rattle.energy_core.specs.declared.entries.Entry.TheVariants as entry
@@ -62,11 +63,11 @@ carried at raw = record { meter = m2; register = main; ceiling = 50000; range = 
 abbrev openings : List Fact → (until : Option ℕ) → List (Option Opening)
 openings known until = map (opening_until known until) (open_meters known)
 
--- The first meter is closed, and not carried; the second is opened where it was read last.
+-- The first meter is closed and not rolled over; the second is opened at its last reading.
 at_the_last : openings facts None ≡ Some (carried 3000 60) ∷ []
 at_the_last = refl
 
--- A moment of a reading counts it; the second before it counts the one before.
+-- The timestamp of a reading counts the reading; the second before it counts the one before.
 up_to_a_reading : openings facts (Some 3000) ≡ Some (carried 3000 60) ∷ []
 up_to_a_reading = refl
 
@@ -76,15 +77,15 @@ before_a_reading = refl
 at_the_opening : openings facts (Some 2899) ≡ Some (carried 2000 7) ∷ []
 at_the_opening = refl
 
--- Before its opening it can't be carried.
+-- Before its opening a meter can't be rolled over.
 not_yet : openings facts (Some 1999) ≡ None ∷ []
 not_yet = refl
 
--- A voided reading doesn't count.
+-- A voided reading does not count.
 past_a_void : openings voided None ≡ Some (carried 2900 50) ∷ []
 past_a_void = refl
 
--- The device and its register come at the moment of the first opening, and then the meter.
+-- The device and its register come at the timestamp of the first opening, followed by the meter.
 all_commands : commands_for facts (devices_of facts) (carried 3000 60 ∷ [])
     ≡ timed 3000 (command.AddDevice (record { name = Some roof; unit = 17; timeout = 5; window = 2 }))
     ∷ timed 3000

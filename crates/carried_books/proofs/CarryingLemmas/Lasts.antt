@@ -1,4 +1,4 @@
--- The last entry that stands, up to a moment.
+-- The last valid entry, up to a timestamp.
 use Rattle.std.proofs.Common.{◌≡◌, ℕ, ◌+◌, ◌<◌, true, false, ◌&&◌, List, [], ◌∷◌, ◌++◌, map, take, drop, length, Option, Some, None, inl, inr, refl, sym, ap, subst, ◌∙◌, arith}
 use Rattle.std.specs.List.{find}
 use Rattle.std.specs.Option.{option_map}
@@ -22,7 +22,7 @@ use Rattle.office_books.proofs.Listing.{none_listed}
 use Rattle.office_books.proofs.Pieces.{last_piece, one_piece_more, piece_at}
 use Rattle.carried_books.specs.Carrying.Standings.{counts, is_until, last_among, last_until, set_by, shown_by}
 
--- ---- one entry more
+-- ---- one more entry
 
 module _ (until : Option ℕ) where
   abbrev latest : List MeterEntry → Option Last
@@ -34,7 +34,7 @@ module _ (until : Option ℕ) where
   pub last_same : (before : List MeterEntry) (e : MeterEntry) → counts until e ≡ false → last_among until (before ++ e ∷ []) ≡ last_among until before
   last_same before e is = ap latest (reverse-append before (e ∷ [])) ∙ ap (option_map shown_by) (cond-false _ _ _ is)
 
-  -- ---- where a meter stands is where it stood at its last entry that stands
+  -- ---- the state of a meter is that at its last valid entry
 
   set_after : (last : Last) (e : Entry) → set_by e (after last e).sf ≡ after last e
   set_after last (entry.Step at raw rolls) = refl
@@ -103,14 +103,14 @@ module _ (until : Option ℕ) where
   pub not_there : (facts : List Fact) (meter : List ℕ) → meter_of facts meter ≡ None → last_until facts until meter ≡ None
   not_there facts meter is = no_last facts (opening_of facts meter) is
 
-  -- ---- entries that are asked for piece by piece
+  -- ---- entries that are queried in chunks
 
   pub piece_of : (facts : List Fact) (found : Option Opening) (n most : ℕ)
       → first_from (n + 1) most (entries_at facts found) ≡ take most (drop n (entries_at facts found))
   piece_of facts None n most = none_listed (n + 1) most ∙ sym (ap (take most) (drop_all n [] (omega arith)) ∙ take_all most [] (omega arith))
   piece_of facts (Some opening) n most = piece_at facts opening n most
 
-  -- a piece more
+  -- One more chunk.
   pub piece_more : (facts : List Fact) (meter : List ℕ) (n : ℕ) (piece : List MeterEntry) (found more : Option Last)
       → piece ≡ entries_from facts meter (n + 1) 65536 → found ≡ last_among until (take n (all_entries facts meter))
       → ((before : List MeterEntry) → found ≡ last_among until before → more ≡ last_among until (before ++ piece))
@@ -121,7 +121,7 @@ module _ (until : Option ℕ) where
       ∙ ap (λ (those : List MeterEntry). last_among until (take n es ++ those)) (are ∙ piece_of facts (opening_of facts meter) n 65536)
       ∙ ap (last_among until) (one_piece_more n 65536 es)
 
-  -- the last
+  -- The last chunk.
   pub piece_last : (facts : List Fact) (meter : List ℕ) (n : ℕ) (piece : List MeterEntry) (found more : Option Last)
       → piece ≡ entries_from facts meter (n + 1) 65536 → found ≡ last_among until (take n (all_entries facts meter))
       → ((before : List MeterEntry) → found ≡ last_among until before → more ≡ last_among until (before ++ piece))

@@ -1,4 +1,4 @@
--- What is answered of what is kept.
+-- The results for stored values.
 use Rattle.std.proofs.Common.{◌≡◌, List, Option, Some, None, Result, Ok, Err, ◌∙◌}
 use Rattle.std.specs.Prelude.{IfOk}
 use Rattle.interval_core.specs.declared.zone.Zone.{Zone}

@@ -1,4 +1,5 @@
--- A worked example, computed from the definitions: a meter was read in an old file, carried into a new one, and read there by hand.
+-- A worked example, computed from the definitions: a meter was read in an old file, rolled over
+-- into a new one, and read there by hand.
 use Rattle.std.proofs.Common.{◌≡◌, ℕ, pos, List, [], ◌∷◌, Some, inl, inr, refl, arith}
 use Rattle.std.specs.Prelude.{codes}
 use Rattle.energy_core.specs.Value.{unit_of}
@@ -29,7 +30,7 @@ register = record { name = main; device = codes "roof"; function = InputRegister
 abbrev opening : (at raw : ℕ) → Opening
 opening at raw = record { meter = codes "m1"; register = main; ceiling = 100000; range = 65536; at = at; raw = raw; sf = pos 0 }
 
--- It was opened at 1000, and read at 1900, where it showed 10 Wh.
+-- The meter was opened at 1000, and read at 1900, where it showed 10 Wh.
 abbrev old : List Fact
 old =
     fact.Entry (record { meter = codes "m1"; kind = kind.Reading; entry = entry.Step 1900 10 0 })
@@ -38,7 +39,7 @@ old =
     ∷ fact.Device device
     ∷ []
 
--- So it was opened anew, and read by hand at 2800, where it showed 25 Wh.
+-- The meter was opened in this state, and read by hand at 2800, where it showed 25 Wh.
 abbrev new : List Fact
 new =
     fact.Entry (record { meter = codes "m1"; kind = kind.Manual; entry = entry.Step 2800 25 0 })
@@ -53,7 +54,7 @@ in_old = meter_in old (installation_of old (opening 1000 0))
 abbrev in_new : MeterOver
 in_new = meter_in new (installation_of new (opening 1900 10))
 
--- It is one meter of both files,
+-- The meter is one meter of both files.
 one_meter : AreMetersOver main (new ∷ old ∷ []) (both_of in_old in_new ∷ [])
 unfolding unit_of
 one_meter = record {
@@ -75,7 +76,7 @@ one_meter = record {
   );
 }
 
--- stated from its opening to the number by hand.
+-- The statement goes from the opening to the reading by hand.
 stated : (zone : Zone) → statement_over zone all_days (both_of in_old in_new) ≡ record {
   meter = codes "m1";
   entries = record {

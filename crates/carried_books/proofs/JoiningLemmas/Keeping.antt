@@ -1,4 +1,4 @@
--- What is kept of files, as it is told of the meters and the days.
+-- What is stored of files, in terms of the meters and the days.
 use Rattle.std.proofs.Common.{ℕ, List, Option, Some, None}
 use Rattle.interval_core.specs.declared.zone.Zone.{Zone}
 use Rattle.office_events.specs.declared.facts.Fact.{Fact}

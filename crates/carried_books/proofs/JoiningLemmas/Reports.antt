@@ -1,4 +1,4 @@
--- Days that are reported of files that join.
+-- The reported days of files that join.
 use Rattle.std.proofs.Common.{◌≡◌, ℕ, ◌+◌, ◌<◌, ◌^◌, ◌==◌, Bool, true, false, cond, not, List, [], ◌∷◌, ◌++◌, length, Option, inl, inr, refl, sym, ap, subst, ◌∙◌, arith}
 use Rattle.std.specs.Prelude.{filter, map, if◌then◌else◌}
 use Rattle.std.specs.List.{list_any}
@@ -40,7 +40,7 @@ use Rattle.carried_books.specs.Joining.Files.{HasJoined, rows_over, rows_over_wi
 use Rattle.carried_books.specs.Joining.Reports.{IsReportOver}
 use Rattle.carried_books.specs.declared.joining.files.JoinedFiles.{JoinedFiles}
 
--- ---- the rows that are asked for
+-- ---- the requested rows
 
 pub both_within : (span : Span) (rows more : List Share) → rows_within span (rows ++ more) ≡ rows_within span rows ++ rows_within span more
 both_within All rows more = refl
@@ -87,7 +87,7 @@ same_text form days =
 
 -- ---- the report
 
--- days of the rows that are asked for are shown as those of all rows that the range has
+-- The days of the requested rows are shown as those of all rows in the range.
 pub report_over : (zone : Zone) (register : List ℕ) (files : List (List Fact)) (form : ReportForm) (days : List DayTotal) → AccountsAreOne
     → AreAccounts zone (rows_within (span_of form.range) (rows_over register files)) (map account_of days)
     → IsReportOver zone register files form (report_text form days)
@@ -99,7 +99,7 @@ report_over zone register files form days one totals =
       sym (same_text form days),
     )
 
--- ---- days of all rows of earlier files, and of those of the latest that are asked for
+-- ---- days of all rows of earlier files, and of the requested rows of the latest
 
 days_with : (zone : Zone) (range : DayRange) (asked : Span) → ((start : ℕ) → has_day range (day_at zone start) ≡ true → is_within asked start ≡ true)
     → AccountsAreOne → (rows more : List Share) (days : List DayTotal) → AreAccounts zone (rows ++ rows_within asked more) (map account_of days)
@@ -141,7 +141,7 @@ is_over zone register files form joined days one has fits are =
     let totals = subst (λ (accounts : List DayAccount). AreAccounts zone (rows_over_within span register files) accounts) (sym are) taken.accounts in
     report_over zone register files form days one (subst (λ (those : List Share). AreAccounts zone those (map account_of days)) same totals)
 
--- the writer is the one that it was
+-- The writer stays the same.
 pub taken_by : {W : Type 0} (contents : W → Option (List ℕ)) (days : List DayTotal) (from to : ReportRows W) → TakesAll (TakesDay contents) from days to
     → to.output.ghost_name ≡ from.output.ghost_name
 taken_by {W} contents [] from to took = ap (λ (rows : ReportRows W). rows.output.ghost_name) took
@@ -161,9 +161,9 @@ told_over contents form days from to left output status fresh took few last =
     let told = told_by left.failed status (report_text from.form days) (contents from.output.now) (contents left.output.now) last.means got in
     rw (sym fresh.form, sym fresh.output) told
 
--- ---- a meter that is carried
+-- ---- a meter that is rolled over
 
--- how many different numbers there are is none exactly where there is no number
+-- The number of different numbers is 0 exactly if there is no number.
 positive : (ns : List ℕ) → 0 < length ns → 0 < distinct_count ns
 positive [] less = absurd (omega (arith, less))
 positive (n ∷ []) less = omega arith
@@ -178,7 +178,7 @@ some_there : (ns : List ℕ) → 0 < distinct_count ns → 0 < length ns
 some_there [] less = absurd (omega (arith, less))
 some_there (n ∷ ns) less = omega arith
 
--- rows of as many quarter hours are there, where others are
+-- Rows with as many quarter hours as others exist if the others do.
 there_too : (rows others : List Share) → distinct_count (starts_of rows) ≡ distinct_count (starts_of others) → 0 < length rows → 0 < length others
 there_too rows others same less =
     let counted = positive (starts_of rows) (subst (λ n. 0 < n) (sym (length-map rows (λ (row : Share). row.start))) less) in

@@ -1,4 +1,4 @@
--- What is told of a register is the last of the meters that all files have at it.
+-- The reported meter of a register is the last meter of all files.
 use Rattle.std.proofs.Common.{◌≡◌, ℕ, ◌-◌, Bool, true, false, suc, List, [], ◌∷◌, ◌++◌, map, reverse, length, Option, Some, None, inl, inr, refl, sym, ap, subst, ◌∙◌, arith}
 use Rattle.std.specs.Prelude.{◌⊎◌, ◌≢◌, ◌&&◌, not, All, filter}
 use Rattle.std.specs.List.{AllPairs, find, slice_get}
@@ -49,7 +49,7 @@ split_last (x ∷ xs) = elim (split_last xs) [
   | inr at ↦ inr (record { front = x ∷ at.front; last = at.last; is = ap (λ l. x ∷ l) at.is })
 ]
 
--- the first that passes a test is the first of those that do
+-- The first item that passes a test is the first of those that pass.
 found_first : {X : Type 0} (p : X → Bool) (xs : List X) → find p xs ≡ slice_get (filter p xs) 0
 found_first p [] = refl
 found_first p (x ∷ xs) = elim (cases_Bool (p x)) [
@@ -71,7 +71,7 @@ not_left : (ended a b : Bool) → (ended && a) ≡ true → (not ended && b) ≡
 not_left true a b is = refl
 not_left false a b is = absurd (cc is)
 
--- none of these is the one that was left open, where the last is not
+-- None of these meters is the meter that was left open, if the last is not.
 told_as_new : (known : List Installation) (row : Installation)
     → ((front : List Installation) (stands : Installation) → known ≡ front ++ stands ∷ [] → is_left stands row ≡ false)
     → option_map meter_of (latest_meter known (Some row)) ≡ Some row
@@ -103,7 +103,7 @@ told_of_one known row all (inr is) =
 
 -- ---- several
 
--- the last of the meters after one more is of its name
+-- After one more meter, the last of the meters has its name.
 record EndsAs (rows : List Installation) (P : List ℕ → Type 0) : Type 0 where
   last : Installation
   is : last_of rows ≡ Some last
@@ -134,7 +134,7 @@ comes_last mid row all ends (inl is) =
     absurd (ends.named (is.goes.name ∙ ap (λ (meter : Installation). meter.opening.meter) one))
 comes_last mid row all ends (inr is) = ap last_of is.after_is ∙ last_pushed mid row
 
--- the first meter of the office stands between the last of the earlier files and one after it
+-- The first meter of the office is between the last of the earlier files and a later one.
 first_between : (known : List Installation) (first row : Installation) (next : List Installation) → row.opening.meter ≢ first.opening.meter
     → AddsMeter known first next → (front : List Installation) (stands : Installation) → known ≡ front ++ stands ∷ [] → is_left stands row ≡ false
 first_between known first row next other (inl is) front stands at =
@@ -159,7 +159,7 @@ told_of_several known (first ∷ rest) row mid all others took step =
     told_as_new known row (first_between known first row took.0 (All-head P first rest others) took.1)
     ∙ sym (comes_last mid row all (after_several (λ name. row.opening.meter ≢ name) known first rest mid others took) step)
 
--- ---- all that the office has
+-- ---- all meters of the office
 
 none_told : (stands : Option Installation) → option_map meter_of (latest stands None) ≡ stands
 none_told None = refl

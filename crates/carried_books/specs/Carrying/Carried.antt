@@ -1,4 +1,4 @@
--- What carrying an office into a new one leaves of both.
+-- What a rollover leaves of both offices.
 use Rattle.std.specs.Prelude.{◌≡◌, ℕ, List, Option, Result, Ok, Err}
 use Rattle.office_events.specs.declared.facts.Fact.{Fact}
 use Rattle.office_events.specs.declared.refusals.Refusal.{Refusal}
@@ -18,18 +18,19 @@ use Rattle.carried_books.specs.declared.carrying.plans.Plan.{Plan}
 use Rattle.carried_books.specs.declared.carrying.plans.Plan.TheVariants as plan
 use Rattle.carried_books.specs.declared.carrying.plans.Plan.TheVariants.{Ready}
 
--- The facts that the old books held say so, if no wrong answer of their store was taken as true.
+-- The statement is true of the old store's records. This assumes that no wrong result of the store
+-- was taken as true.
 abbrev pub OfOld : (old new : Ledger) → (List Fact → Type 0) → Type 0
 OfOld old new says = (known : List Fact) → old.holds known → new.is_clean → says known
 
--- The new office stands after what it had accepted and each of the commands by which the old one is carried.
+-- The new office is in the state after its past and each command of the rollover.
 pub record IsCarried {N : Type 0} (old new : Ledger) (until : Option ℕ) (ledger : N → Ledger)
     (before after : Office N) (meters : ℕ) : Type 0 where
   pub commands : List TimedCommand
   pub are : OfOld old new (λ known. AreCarried known until commands meters)
   pub fed : After ledger before after (λ past. AreFed ledger past commands before after)
 
--- It refused one of them, and stands after those before it.
+-- The new office refused one of the commands, and is in the state after those before it.
 pub record IsBrokenOff {N : Type 0} (old new : Ledger) (until : Option ℕ) (ledger : N → Ledger)
     (before after : Office N) (why : Refusal) : Type 0 where
   pub commands : List TimedCommand
@@ -37,13 +38,13 @@ pub record IsBrokenOff {N : Type 0} (old new : Ledger) (until : Option ℕ) (led
   pub are : OfOld old new (λ known. AreCarried known until commands meters)
   pub fed : After ledger before after (λ past. AreFedUpTo ledger past commands before after why)
 
--- A meter that is open can't be carried yet, and the new office was given nothing.
+-- An open meter can't be rolled over yet, and the new office was given no command.
 pub record WaitsFor {N : Type 0} (old new : Ledger) (until : Option ℕ) (before after : Office N)
     (meter : List ℕ) : Type 0 where
   pub none : after ≡ before
   pub are : OfOld old new (λ known. IsNotYet known until (open_meters known) meter)
 
--- Where the old books or memory failed, the new office was given nothing either.
+-- If the old store or memory failed, the new office was given no command either.
 abbrev pub Carries : {N : Type 0} → (old new : Ledger) → (until : Option ℕ) → (N → Ledger)
     → (before after : Office N) → Result ℕ CarryFault → Type 0
 Carries old new until ledger before after (Ok meters) =
@@ -54,7 +55,8 @@ Carries old new until ledger before after (Err (NotYet meter)) =
     WaitsFor old new until before after meter
 Carries old new until ledger before after (Err (Old why)) = after ≡ before
 
--- So a new office follows a plan: it takes the commands, or refuses one; or a meter can't be carried yet.
+-- A new office follows a plan: it executes the commands, or refuses one; or a meter can't be rolled
+-- over yet.
 abbrev pub Follows : {N : Type 0} → (N → Ledger) → Plan → (before after : Office N)
     → Result ℕ CarryFault → Type 0
 Follows ledger (Ready commands meters) before after (Ok n) =
@@ -66,20 +68,20 @@ Follows ledger (plan.NotYet meter) before after (Err (NotYet name)) =
     (name ≡ meter) × (after ≡ before)
 Follows ledger _ before after _ = ⊥
 
--- The old books, or memory, failed by a fault that is refused so.
+-- The old store, or memory, failed with a fault that gives this refusal.
 pub record FailedBy (before after : Failures) (why : Refusal) : Type 0 where
   pub fault : BooksFault
   pub is : why ≡ as_refusal fault
   pub failures : FailuresAfterCalls {T = Unit {0}} (Err fault) before after
 
--- They failed where that is told, and not otherwise.
+-- The old store counts a failure exactly if the result reports one.
 abbrev pub TellsFailures : (before after : Failures) → Result ℕ CarryFault → Type 0
 TellsFailures before after (Ok meters) = after ≡ before
 TellsFailures before after (Err (New why)) = after ≡ before
 TellsFailures before after (Err (NotYet meter)) = after ≡ before
 TellsFailures before after (Err (Old why)) = FailedBy before after why
 
--- The old books are only asked: they hold what they held, and a stop leaves no more than it left.
+-- The old store is only queried: its records are the same, and so is what a crash may leave.
 pub record OnlyAsked (old new : Ledger) (result : Result ℕ CarryFault) : Type 0 where
   pub keeps : KeepsFacts old new
   pub failures : TellsFailures old.failures new.failures result

@@ -1,4 +1,4 @@
--- The commands by which an office is set up as another stands.
+-- The commands that set up an office like another.
 use Rattle.std.specs.Prelude.{ℕ, List, [], ◌∷◌, ◌++◌, map, Some}
 use Rattle.std.specs.Option.{option_map, option_to_list}
 use Rattle.std.specs.List.{flat_map}
@@ -17,12 +17,13 @@ use Rattle.office_events.specs.declared.facts.ScaleSource.TheVariants as source
 use Rattle.office_rules.specs.Facts.{latest_in, list_of, registers_of}
 use Rattle.carried_books.specs.declared.carrying.commands.TimedCommand.{TimedCommand}
 
--- a command at a moment
+-- A command with a timestamp.
 abbrev pub timed : (at : ℕ) → Command → TimedCommand
 timed at c = record { at = at; command = c }
 
--- ---- what each row was made by
+-- ---- the command of each row
 
+-- The command that adds a device.
 abbrev pub device_command : Device → Command
 device_command device = command.AddDevice (record {
   name = Some device.name;
@@ -31,13 +32,16 @@ device_command device = command.AddDevice (record {
   window = device.window;
 })
 
+-- The command that stores a device's point list.
 abbrev pub list_command : (device : List ℕ) → Planned → Command
 list_command device list = command.PutList (record { device = Some device; list = list })
 
+-- The scale of a register, as a command gives it.
 abbrev pub scale_given : ScaleSource → GivenScale
 scale_given (source.Fixed sf) = given.Fixed sf
 scale_given (source.Register address) = given.Register address
 
+-- The command that adds a register.
 abbrev pub register_command : Register → Command
 register_command register = command.AddRegister (record {
   name = Some register.name;
@@ -47,6 +51,7 @@ register_command register = command.AddRegister (record {
   scale = scale_given register.scale;
 })
 
+-- The command that installs a meter.
 abbrev pub install_command : Opening → Command
 install_command opening = command.Install (record {
   register = Some opening.register;
@@ -57,42 +62,51 @@ install_command opening = command.Install (record {
   range = opening.range;
 })
 
--- ---- a device, its list where it has one, and its registers, all at one moment
+-- ---- a device, its list if it has one, and its registers, all at one timestamp
 
+-- The command for a device, with its timestamp.
 abbrev pub add_device : (at : ℕ) → Device → TimedCommand
 add_device at device = timed at (device_command device)
 
+-- The command for a point list, with its timestamp.
 abbrev pub put_list : (at : ℕ) → (device : List ℕ) → Planned → TimedCommand
 put_list at device list = timed at (list_command device list)
 
+-- The command for a device's point list, if it has one.
 abbrev pub put_lists : (at : ℕ) → List Fact → Device → List TimedCommand
 put_lists at facts device =
     option_to_list (option_map (put_list at device.name) (list_of facts device.name))
 
+-- The command for a register, with its timestamp.
 abbrev pub add_register : (at : ℕ) → Register → TimedCommand
 add_register at register = timed at (register_command register)
 
+-- The commands for a device's registers.
 abbrev pub add_registers : (at : ℕ) → List Fact → Device → List TimedCommand
 add_registers at facts device = map (add_register at) (registers_of facts device.name)
 
+-- The commands for a device, its list and its registers.
 abbrev pub set_up_device : (at : ℕ) → List Fact → Device → List TimedCommand
 set_up_device at facts device =
     add_device at device ∷ (put_lists at facts device ++ add_registers at facts device)
 
+-- The commands for several devices.
 abbrev pub set_up_devices : (at : ℕ) → List Fact → List Device → List TimedCommand
 set_up_devices at facts devices = flat_map (set_up_device at facts) devices
 
--- ---- a meter, at the moment of its opening
+-- ---- a meter, at the timestamp of its opening
 
+-- The command for a meter, with its timestamp.
 abbrev pub install : Opening → TimedCommand
 install opening = timed opening.at (install_command opening)
 
--- Devices are set up at the moment of the first opening, or where there is none, at the latest that is recorded.
+-- Devices are set up at the timestamp of the first opening. Without openings it is the latest
+-- recorded one.
 abbrev pub first_moment : List Fact → List Opening → ℕ
 first_moment facts [] = latest_in facts
 first_moment facts (opening ∷ openings) = opening.at
 
--- The commands for these devices, and after them for these openings.
+-- The commands for these devices, followed by those for these openings.
 abbrev pub commands_for : List Fact → List Device → List Opening → List TimedCommand
 commands_for facts devices openings =
     set_up_devices (first_moment facts openings) facts devices ++ map install openings

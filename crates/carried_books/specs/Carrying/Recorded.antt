@@ -1,4 +1,4 @@
--- What the books of a new office record once an old one is carried into it.
+-- What the store of a new office records after a rollover.
 use Rattle.std.specs.Prelude.{◌≡◌, ℕ, List, ◌∷◌, ◌++◌, map, reverse, Some, None}
 use Rattle.std.specs.List.{flat_map}
 use Rattle.std.specs.Option.{option_map, option_to_list}
@@ -15,29 +15,31 @@ use Rattle.carried_books.specs.Carrying.Commands.{commands_for}
 use Rattle.carried_books.specs.Carrying.Feeding.{history_with}
 use Rattle.carried_books.specs.Carrying.Standings.{last_until}
 
--- a device, its list where it has one, and its registers, in this order
+-- The record of a device's point list.
 abbrev pub list_fact : (device : List ℕ) → Planned → Fact
 list_fact device list = fact.List (record { device = device; list = list })
 
+-- The records of a device, its list if it has one, and its registers, in this order.
 abbrev pub device_facts : List Fact → Device → List Fact
 device_facts facts device =
     fact.Device device
     ∷ (option_to_list (option_map (list_fact device.name) (list_of facts device.name))
     ++ map fact.Register (registers_of facts device.name))
 
--- All of them, and after them the openings of the meters.
+-- All devices, followed by the openings of the meters.
 abbrev pub carried_facts : List Fact → List Device → List Opening → List Fact
 carried_facts facts devices openings =
     flat_map (device_facts facts) devices ++ map fact.Opening openings
 
--- The commands record the very devices, lists and registers of the old office, and these openings; nothing else.
+-- The commands record exactly the devices, lists and registers of the old office, and these
+-- openings.
 abbrev pub CommandsRecordTheSame : Type 0
 CommandsRecordTheSame =
     (past : History) (facts : List Fact) (devices : List Device) (openings : List Opening)
     → facts_of (history_with past (commands_for facts devices openings))
     ≡ reverse (carried_facts facts devices openings) ++ facts_of past
 
--- Where no moment is given, a meter is opened anew where it stands.
+-- Without a given timestamp, a meter is opened in its current state.
 abbrev pub MetersGoOnWhereTheyStand : Type 0
 MetersGoOnWhereTheyStand =
     (facts : List Fact) (meter : List ℕ) (row : Installation)

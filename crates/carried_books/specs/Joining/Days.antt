@@ -1,4 +1,4 @@
--- A sink that adds the interval rows of one file after the other up to civil days.
+-- A sink that adds up the interval rows of several files by civil day.
 use Rattle.std.specs.Prelude.{◌≡◌, ◌⊎◌, ℕ, ◌+◌, ◌<◌, ◌^◌, List, [], ◌∷◌, ◌++◌, Contains, Option, Some, None, MatchOption}
 use Rattle.interval_core.specs.Account.{energy_of, starts_of}
 use Rattle.interval_core.specs.Fold.{FoldState, HasTaken}
@@ -10,15 +10,15 @@ use Rattle.interval_core.specs.declared.zone.Zone.{Zone}
 use Rattle.carried_books.specs.declared.joining.days.EarlierDays.{EarlierDays}
 use Rattle.carried_books.specs.declared.joining.days.JoinedDays.{JoinedDays}
 
--- ---- rows out of turn
+-- ---- rows out of order
 
--- The row starts before one of these, or past the last moment.
+-- The row starts before one of these rows, or after the last timestamp.
 abbrev pub IsOutOfTurn : List Share → Share → Type 0
 IsOutOfTurn rows row =
     ((earlier : ℕ) × Contains (starts_of rows) earlier × (row.start < earlier))
     ⊎ (LAST_MOMENT < row.start)
 
--- One of these rows is out of turn after those before it.
+-- One of these rows is out of order after those before it.
 pub record AreOutOfTurn (rows : List Share) : Type 0 where
   pub before : List Share
   pub row : Share
@@ -28,45 +28,46 @@ pub record AreOutOfTurn (rows : List Share) : Type 0 where
 
 -- ---- rows that were added up
 
--- The sum of all their energy has a number of 128 bits.
+-- The total energy fits 128 bits.
 abbrev pub HasNumber : List Share → Type 0
 HasNumber rows = energy_of rows < 2 ^ 128
 
--- The rows are added up, or one was out of turn, or there was no memory.
+-- The rows are added up, or one was out of order, or memory was missing.
 abbrev pub AddUp : Option DayFault → Zone → List Share → FoldState → Type 0
 AddUp None zone rows fold = HasTaken zone rows fold
 AddUp (Some fault.Zone) zone rows fold = AreOutOfTurn rows
 AddUp (Some fault.Memory) zone rows fold = Unit {0}
 
--- So it is with a sink that was given these rows.
+-- The same of a sink that was given these rows.
 abbrev pub HasAdded : JoinedDays → List Share → Type 0
 HasAdded sink rows = HasNumber rows → AddUp sink.fault sink.zone rows sink.fold
 
--- ---- one row more
+-- ---- one more row
 
+-- The sum with one more row, by the first failure.
 abbrev pub AddsUp : Option DayFault → Zone → List Share → Share → FoldState → Type 0
 AddsUp None zone rows row fold = HasTaken zone (rows ++ row ∷ []) fold
 AddsUp (Some fault.Zone) zone rows row fold = IsOutOfTurn rows row
 AddsUp (Some fault.Memory) zone rows row fold = Unit {0}
 
--- It is added up after those before it, or is out of turn, or there is no memory.
+-- The row is added after those before it, or is out of order, or memory is missing.
 pub record AddsRow (old : JoinedDays) (row : Share) (new : JoinedDays) : Type 0 where
   pub zone : new.zone ≡ old.zone
   pub added : (rows : List Share) → HasTaken old.zone rows old.fold
       → energy_of rows + row.mwh < 2 ^ 128
       → AddsUp new.fault old.zone rows row new.fold
 
--- The sink takes a row: it is dropped, where something failed before.
+-- The sink took a row. After an earlier failure the row is dropped.
 abbrev pub TakesShare : JoinedDays → Share → JoinedDays → Type 0
 TakesShare old row new = MatchOption old.fault (AddsRow old row new) (λ fault. new ≡ old)
 
--- ---- what earlier rows were added up to
+-- ---- the sum of earlier rows
 
--- These rows, where the sum of their energy has a number of 128 bits.
+-- The sum of these rows, if their energy fits 128 bits.
 abbrev pub AreSumOf : Zone → List Share → EarlierDays → Type 0
 AreSumOf zone rows days = HasNumber rows → HasTaken zone rows days.fold
 
--- A sink goes on from there.
+-- A sink continues from these days.
 pub record GoesOnFrom (zone : Zone) (days : EarlierDays) (sink : JoinedDays) : Type 0 where
   pub zone_is : sink.zone ≡ zone
   pub fold : sink.fold ≡ days.fold

@@ -1,4 +1,4 @@
--- What earlier files tell of a register, and whether the file in which an office goes on joins them there.
+-- A register in earlier files, and whether the file of a running office joins them there.
 use Rattle.std.specs.Prelude.{◌≡◌, ℕ, true, false, List, Option, Some, None}
 use Rattle.interval_core.specs.Fold.{FoldState}
 use Rattle.office_events.specs.declared.facts.Fact.{Fact}
@@ -11,16 +11,17 @@ use Rattle.carried_books.specs.declared.joining.earlier.KeptRegister.{KeptRegist
 use Rattle.carried_books.specs.declared.joining.files.Unjoined.{Unjoined}
 use Rattle.carried_books.specs.declared.joining.files.Unjoined.TheVariants as unjoined
 
--- what is told of a register
+-- What is reported of a register.
 pub record Told : Type 0 where
   pub name : List ℕ
   pub meters : List Installation
   pub days : FoldState
 
+-- What is reported of a register in earlier files.
 abbrev pub told : EarlierRegister → Told
 told it = record { name = it.name; meters = it.meters.items; days = it.days.fold }
 
--- that which was kept of files
+-- The same of a register that is stored.
 abbrev pub kept_as : KeptRegister → Told
 kept_as kept = record {
   name = kept.name;
@@ -28,7 +29,7 @@ kept_as kept = record {
   days = kept.files.days.fold;
 }
 
--- its meters join those of the files before, or two of them are apart
+-- The meters of the file join those of the files before, or two of them are apart.
 abbrev pub HoldMeters : KeptRegister → List Fact → Option Unjoined → Type 0
 HoldMeters kept facts None = (all : List Installation)
     × AddMeters kept.files.meters.items (installations_of facts kept.name) all
@@ -37,7 +38,7 @@ HoldMeters kept facts (Some (unjoined.Apart apart)) =
     AreApart kept.files.meters.items (installations_of facts kept.name) apart
 HoldMeters kept facts (Some unjoined.OutOfTurn) = ⊥
 
--- The register is recorded there, if it was before, and its meters join; or not, so.
+-- The file records the register, if an earlier one did, and its meters join; or the reason why not.
 abbrev pub HoldsFile : KeptRegister → List Fact → Option Unjoined → Type 0
 HoldsFile kept facts None =
     (kept.files.is_recorded ≡ true → is_recorded kept.name facts ≡ true)

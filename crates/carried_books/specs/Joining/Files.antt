@@ -1,5 +1,5 @@
--- What files of one office tell of a register, one file after the other. Each file is there by its facts, and lists of files
--- have the latest one first.
+-- A register over the files of one office, in order. A file is given by its facts, and lists of
+-- files have the latest first.
 use Rattle.std.specs.Prelude.{◌≡◌, ℕ, Bool, true, false, List, [], ◌∷◌, ◌++◌, Option, Some, None, is_some}
 use Rattle.std.specs.List.{list_any}
 use Rattle.interval_core.specs.Fold.{HasTaken}
@@ -21,13 +21,13 @@ use Rattle.carried_books.specs.declared.joining.files.JoinedFiles.{JoinedFiles}
 use Rattle.carried_books.specs.declared.joining.files.Unjoined.{Unjoined}
 use Rattle.carried_books.specs.declared.joining.files.Unjoined.TheVariants as unjoined
 
--- ---- what files tell
+-- ---- the contents of files
 
--- the register of a name is recorded
+-- A register with the name is recorded.
 abbrev pub is_recorded : (register : List ℕ) → List Fact → Bool
 is_recorded register facts = is_some (register_of facts register)
 
--- it is in one of these files
+-- The register is in one of these files.
 abbrev pub is_recorded_in : (register : List ℕ) → (files : List (List Fact)) → Bool
 is_recorded_in register files = list_any (is_recorded register) files
 
@@ -36,14 +36,14 @@ abbrev pub rows_over : (register : List ℕ) → (files : List (List Fact)) → 
 rows_over register [] = []
 rows_over register (facts ∷ files) = rows_over register files ++ rows_of_register facts register
 
--- those of them that are asked for
+-- Those of the rows that are in a span.
 abbrev pub rows_over_within : Span → (register : List ℕ) → (files : List (List Fact)) → List Share
 rows_over_within span register [] = []
 rows_over_within span register (facts ∷ files) =
     rows_over_within span register files ++ rows_within span (rows_of_register facts register)
 
--- The meters at a register, as the files have them: those of the first, in the order in which they were installed, then those
--- of the next, and so on.
+-- The meters at a register, as each file has them: those of the first file, in the order of
+-- installation, then those of the next, and so on.
 abbrev pub meters_over : (register : List ℕ) → (files : List (List Fact)) → List Installation
 meters_over register [] = []
 meters_over register (facts ∷ files) =
@@ -51,22 +51,22 @@ meters_over register (facts ∷ files) =
 
 -- ---- files that join
 
--- A register that is in a file is in each later one.
+-- A register of a file is in each later one.
 abbrev pub StaysRecorded : (register : List ℕ) → (files : List (List Fact)) → Type 0
 StaysRecorded register [] = Unit {0}
 StaysRecorded register (facts ∷ files) =
     (is_recorded_in register files ≡ true → is_recorded register facts ≡ true)
     × StaysRecorded register files
 
--- The files join at a register: it stays recorded, and its meters join one after the other; these are they, each as the last
--- file has it that it is in.
+-- The files join at a register: it stays recorded, and its meters join one after another. Each
+-- meter is as the last file has it that contains it.
 pub record AreJoined (register : List ℕ) (files : List (List Fact)) (meters : List Installation) :
     Type 0 where
   pub recorded : StaysRecorded register files
   pub joined : AddMeters [] (meters_over register files) meters
 
--- What was kept of files that join: their meters, and the days of those interval rows that are asked for, by the clocks of a
--- zone, unless their energy has no number of 128 bits.
+-- What was stored of files that join: their meters, and the days of the interval rows in a span, by
+-- the clocks of a zone. The days are known only if the rows' energy fits 128 bits.
 pub record HasJoined (zone : Zone) (span : Span) (register : List ℕ) (files : List (List Fact))
     (kept : JoinedFiles) : Type 0 where
   pub recorded : kept.is_recorded ≡ is_recorded_in register files
@@ -76,16 +76,17 @@ pub record HasJoined (zone : Zone) (span : Span) (register : List ℕ) (files : 
   pub days : HasNumber (rows_over_within span register files)
       → HasTaken zone (rows_over_within span register files) kept.days.fold
 
--- ---- one file more
+-- ---- one more file
 
--- The rows of the file were added, in turn, or one was not.
+-- The rows of the file were added in order, or one was out of order.
 abbrev pub AddDays : (rows : List Share) → (old new : JoinedDays) → Option Unjoined → Type 0
 AddDays rows old new None = TakesAll TakesShare old rows new × (new.fault ≡ None)
 AddDays rows old new (Some unjoined.OutOfTurn) =
     TakesAll TakesShare old rows new × (new.fault ≡ Some OutOfTurn)
 AddDays rows old new (Some why) = ⊥
 
--- It joins those before it: the register is recorded in it, if it was before, and its meters join theirs; its rows were added.
+-- The file joins those before it. It records the register, if an earlier one did; its meters join
+-- theirs; and its rows were added.
 pub record JoinsFile (span : Span) (register : List ℕ) (facts : List Fact)
     (old new : JoinedFiles) : Type 0 where
   pub recorded : new.is_recorded ≡ is_recorded register facts
@@ -93,20 +94,21 @@ pub record JoinsFile (span : Span) (register : List ℕ) (facts : List Fact)
   pub meters : AddMeters old.meters.items (installations_of facts register) new.meters.items
   pub days : AddDays (rows_within span (rows_of_register facts register)) old.days new.days None
 
--- One of its rows is out of turn after those before.
+-- One of the file's rows is out of order after those before.
 pub record IsOutOfTurn (span : Span) (register : List ℕ) (facts : List Fact)
     (old : JoinedFiles) : Type 0 where
   pub days : JoinedDays
   pub added : AddDays (rows_within span (rows_of_register facts register)) old.days days
       (Some unjoined.OutOfTurn)
 
--- The meters and the rows of a file were added, or why they don't join.
+-- The meters and the rows of a file were added.
 pub record AddsBoth (span : Span) (register : List ℕ) (facts : List Fact)
     (old new : JoinedFiles) : Type 0 where
   pub recorded : new.is_recorded ≡ old.is_recorded
   pub meters : AddMeters old.meters.items (installations_of facts register) new.meters.items
   pub days : AddDays (rows_within span (rows_of_register facts register)) old.days new.days None
 
+-- The meters and the rows of a file were added, or the reason why they don't join.
 abbrev pub AddsRows : Span → (register : List ℕ) → (facts : List Fact) → (old new : JoinedFiles)
     → Option Unjoined → Type 0
 AddsRows span register facts old new None = AddsBoth span register facts old new
@@ -116,7 +118,7 @@ AddsRows span register facts old new (Some (unjoined.Apart apart)) =
 AddsRows span register facts old new (Some unjoined.OutOfTurn) =
     IsOutOfTurn span register facts old
 
--- It joins them, or why it doesn't.
+-- The file joins those before it, or the reason why not.
 abbrev pub Joins : Span → (register : List ℕ) → (facts : List Fact) → (old new : JoinedFiles)
     → Option Unjoined → Type 0
 Joins span register facts old new None = JoinsFile span register facts old new
@@ -127,13 +129,13 @@ Joins span register facts old new (Some (unjoined.Apart apart)) =
 Joins span register facts old new (Some unjoined.OutOfTurn) =
     IsOutOfTurn span register facts old
 
--- It doesn't join them, so.
+-- The file does not join those before it, for this reason.
 abbrev pub DoesNotJoin : Span → (register : List ℕ) → (facts : List Fact) → (old : JoinedFiles)
     → Unjoined → Type 0
 DoesNotJoin span register facts old why =
     (new : JoinedFiles) × Joins span register facts old new (Some why)
 
--- After files that join, those with this one do.
+-- If the files before joined, they join with this one.
 abbrev pub AllJoin : Span → (register : List ℕ) → (facts : List Fact) → (old new : JoinedFiles)
     → Option Unjoined → Type 0
 AllJoin span register facts old new None = (zone : Zone) (files : List (List Fact))

@@ -1,5 +1,5 @@
--- What earlier files and an office that goes on tell together of the days of a register. What the earlier files have of it was added
--- up, one file after the other.
+-- The days of a register over earlier files and a running office. The rows of the earlier files
+-- were added up in order.
 use Rattle.std.specs.Prelude.{◌≡◌, ◌⊎◌, ℕ, List, ◌++◌, map, All, Option, Some, Result, Ok, Err, MatchResult, OnOk}
 use Rattle.std.specs.List.{flat_map}
 use Rattle.std.specs.declared.alloc.Global.{Global}
@@ -33,13 +33,14 @@ use Rattle.carried_books.specs.Joining.Days.{AreOutOfTurn, AreSumOf, HasNumber, 
 use Rattle.carried_books.specs.declared.joining.days.EarlierDays.{EarlierDays}
 use Rattle.carried_books.specs.declared.joining.days.JoinedDays.{JoinedDays}
 
--- ---- the quarter hours that an office has
+-- ---- the quarter hours of an office
 
--- the opening is the one that is found by the name of its meter
+-- The opening is what a search by its meter's name finds.
 abbrev pub IsInstalled : List Fact → Opening → Type 0
 IsInstalled facts opening = opening_of facts opening.meter ≡ Some opening
 
--- The quarter hours of these meters that are asked for were taken, one meter after the other; or the books failed.
+-- The quarter hours of these meters in a span were taken, one meter after another; or the store
+-- failed.
 abbrev pub TakesMeters : List Fact → List Opening → Span → (before after : Failures)
     → (from to : JoinedDays) → Result (Unit {0}) Refusal → Type 0
 TakesMeters facts openings span before after from to result =
@@ -48,7 +49,8 @@ TakesMeters facts openings span before after from to result =
     (rows_within span (flat_map (rows_of_opening facts) openings)) to)
     (IsOutside ⊥ before after)
 
--- So it is where these are, as they stand, the meters of openings that are recorded. The office was only asked.
+-- The same if these are the meters of recorded openings, in their state. The office was only
+-- queried.
 pub record AsksMeters {B : Type 0} (ledger : B → Ledger) (old new : Office B)
     (listed : List Installation) (span : Span) (from to : JoinedDays)
     (result : Result (Unit {0}) Refusal) : Type 0 where
@@ -59,8 +61,8 @@ pub record AsksMeters {B : Type 0} (ledger : B → Ledger) (old new : Office B)
       → TakesMeters (facts_of past) openings span
       (failures_of ledger old) (failures_of ledger new) from to result)
 
--- The quarter hours of a register that are asked for were taken, as the facts have them; or there is no register of the name, or the
--- books failed.
+-- The quarter hours of a register in a span were taken, as the records have them; or no register
+-- has the name, or the store failed.
 pub record TakesRegister (facts : List Fact) (register : List ℕ) (span : Span)
     (before after : Failures) (from to : JoinedDays) (result : Result (Unit {0}) Refusal) :
     Type 0 where
@@ -68,7 +70,7 @@ pub record TakesRegister (facts : List Fact) (register : List ℕ) (span : Span)
   pub whole : OnOk result (TakesAll TakesShare from
       (rows_within span (rows_of_register facts register)) to)
 
--- So it is by what an office had accepted.
+-- The same by what an office has accepted.
 abbrev pub AsksRegister : {B : Type 0} → (B → Ledger) → (old new : Office B)
     → (register : List ℕ) → Span → (from to : JoinedDays) → Result (Unit {0}) Refusal → Type 0
 AsksRegister ledger old new register span from to result = After ledger old new (λ past.
@@ -77,8 +79,8 @@ AsksRegister ledger old new register span from to result = After ledger old new 
 
 -- ---- the days of both
 
--- They are told of these rows; or why not: there is no register of the name, the books or memory failed, or the office had stopped;
--- or one of the rows is out of turn.
+-- The days of these rows, or the reason why not: no register has the name; the store or memory
+-- failed; the office had stopped; or one of the rows is out of order.
 abbrev pub ListsOver : Zone → (rows : List Share) → (there : Option (Unit {0}))
     → (before after : Failures) → Result (Vec DayTotal Global) Refusal → Type 0
 ListsOver zone rows there before after (Ok days) =
@@ -87,14 +89,14 @@ ListsOver zone rows there before after (Err why) =
     IsFound {T = Unit {0}} (there ≡ Some tt) there before after (Err why)
     ⊎ ((why ≡ refusal.Store store.NoDay) × (after ≡ before) × AreOutOfTurn rows)
 
--- the rows of earlier files, and those of an office with these facts that are asked for
+-- The rows of earlier files, and the rows in a span of an office with these facts.
 abbrev pub rows_of_both : Span → (earlier : List Share) → List Fact → (register : List ℕ)
     → List Share
 rows_of_both span earlier facts register =
     earlier ++ rows_within span (rows_of_register facts register)
 
--- So it is with the rows of which the earlier days are the sum, by what an office had accepted, where the sum of the energy of all
--- has a number of 128 bits.
+-- The days of a register over earlier files and an office, by what the office has accepted. The
+-- earlier days are the sum of the earlier rows, and the total energy fits 128 bits.
 abbrev pub TellsDaysOver : {B : Type 0} → (B → Ledger) → (old new : Office B) → Zone
     → (earlier : EarlierDays) → (register : List ℕ) → Span
     → Result (Vec DayTotal Global) Refusal → Type 0
@@ -105,7 +107,8 @@ TellsDaysOver ledger old new zone earlier register span result = After ledger ol
     (is_there (register_of (facts_of past) register))
     (failures_of ledger old) (failures_of ledger new) result)
 
--- There is no register of the name, the books failed, or the office had stopped; or the register is there, and there was no memory.
+-- No register has the name, the store failed, or the office had stopped; or the register exists,
+-- and memory was missing.
 abbrev pub LacksMemory : {B : Type 0} → (B → Ledger) → (old new : Office B)
     → (register : List ℕ) → Refusal → Type 0
 LacksMemory ledger old new register why = After ledger old new (λ past.

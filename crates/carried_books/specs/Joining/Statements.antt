@@ -1,5 +1,5 @@
--- What files of one office tell of the meters at a register on a range of days, one file after the other, for the statement over
--- them. Each file is there by its facts, and lists of files have the latest one first.
+-- The meters at a register over the files of one office, for their statement on a range of days. A
+-- file is given by its facts, and lists of files have the latest first.
 use Rattle.std.specs.Prelude.{◌≡◌, ◌⊎◌, ℕ, ◌+◌, ◌-◌, ◌^◌, min, Bool, true, false, List, [], ◌∷◌, ◌++◌, map, filter, drop, All, Option, Some, None}
 use Rattle.std.specs.declared.io.Write as writers
 use Rattle.command_io.specs.declared.status.ExitStatus.{ExitStatus}
@@ -36,17 +36,17 @@ use Rattle.carried_books.specs.declared.joining.meters.Apart.{Apart}
 use Rattle.carried_books.specs.declared.joining.kept_meters.KeptMeter.{KeptMeter}
 use Rattle.carried_books.specs.declared.joining.statements.JoinedStatement.{JoinedStatement}
 
--- ---- a meter over files
+-- ---- a meter over several files
 
--- What files have of a meter: as it stands, its entries in their order with voided ones, its quarter hours, and its readings that
--- were held.
+-- What files have of a meter: its state, its entries in order with voided ones, its quarter hours,
+-- and its rejected readings.
 pub record MeterOver : Type 0 where
   pub stands : Installation
   pub entries : List MeterEntry
   pub rows : List Share
   pub holds : List HeldReading
 
--- what one file has of a meter that it lists
+-- What one file has of a listed meter.
 abbrev pub meter_in : List Fact → Installation → MeterOver
 meter_in facts row = record {
   stands = row;
@@ -55,13 +55,13 @@ meter_in facts row = record {
   holds = holds_of facts row.opening.meter;
 }
 
--- Which entries of a file are its own: all of a meter that begins there. Where it goes on there its opening is not, since that
--- is the last entry that stands before it, told again: the reading at which it was carried.
+-- The entries that only this file has: all entries of a meter that begins there. The opening of a
+-- meter that continues is not one of them: it repeats the last valid entry before the rollover.
 abbrev pub own_entries : (goes_on : Bool) → List MeterEntry → List MeterEntry
 own_entries true entries = drop 1 entries
 own_entries false entries = entries
 
--- what files have of a meter, with the next one, in which it goes on
+-- What files have of a meter, with the next file, in which it continues.
 abbrev pub both_of : (one next : MeterOver) → MeterOver
 both_of one next = record {
   stands = as_one one.stands next.stands;
@@ -72,7 +72,7 @@ both_of one next = record {
 
 -- ---- the meters at a register
 
--- The last of these goes on as this one.
+-- The last of these meters continues as this one.
 pub record IsOneOver (known : List MeterOver) (next : MeterOver) (after : List MeterOver) :
     Type 0 where
   pub before : List MeterOver
@@ -81,34 +81,36 @@ pub record IsOneOver (known : List MeterOver) (next : MeterOver) (after : List M
   pub goes : GoesOn one.stands next.stands
   pub after_is : after ≡ before ++ both_of one next ∷ []
 
--- All of these were there before this one, which comes after them.
+-- All of these meters were before this one, which follows them.
 pub record IsNextOver (known : List MeterOver) (next : MeterOver) (after : List MeterOver) :
     Type 0 where
   pub earlier : All (λ one. is_before one.stands next.stands ≡ true) known
   pub after_is : after ≡ known ++ next ∷ []
 
--- A meter joins those of the files before it, and those before it in its file, as reports over files ask it too.
+-- A meter joins those of the files before, and the earlier ones in its file, as for reports over
+-- files.
 abbrev pub AddsOver : (known : List MeterOver) → MeterOver → (after : List MeterOver) → Type 0
 AddsOver known next after = IsOneOver known next after ⊎ IsNextOver known next after
 
--- What each file has of its meters: those of the first, in the order in which they were installed, then those of the next, and so
--- on.
+-- What each file has of its meters: those of the first file, in the order of installation, then
+-- those of the next, and so on.
 abbrev pub parts_over : (register : List ℕ) → (files : List (List Fact)) → List MeterOver
 parts_over register [] = []
 parts_over register (facts ∷ files) =
     parts_over register files ++ map (meter_in facts) (installations_of facts register)
 
--- The files join at the register, and these are its meters over all of them. One that a file doesn't have is there as the files
--- before have it.
+-- The files join at the register, and these are its meters over all of them. A meter that a file
+-- does not have is as the files before have it.
 pub record AreMetersOver (register : List ℕ) (files : List (List Fact)) (meters : List MeterOver) :
     Type 0 where
   pub recorded : StaysRecorded register files
   pub joined : TakesAll AddsOver [] (parts_over register files) meters
 
--- ---- what is stated
+-- ---- the statement
 
--- Of its entries the first and the last in the range, and how many corrections; the energy of its quarter hours that start in the
--- range; and how many of its readings in the range were held: as of a meter of one file.
+-- The statement of a meter, as in one file. It has the first and the last entry in the range and
+-- the number of corrections. It also has the energy of the quarter hours that start in the range,
+-- and the number of rejected readings there.
 abbrev pub statement_over : Zone → DayRange → MeterOver → MeterStatement
 statement_over zone range m = record {
   meter = m.stands.opening.meter;
@@ -117,7 +119,7 @@ statement_over zone range m = record {
   held = held_within zone range m.holds;
 }
 
--- That of each meter that was there in the range, from its first opening on.
+-- The statements of the meters that were installed in the range, counted from the first opening.
 abbrev pub statements_over : Zone → DayRange → List MeterOver → List MeterStatement
 statements_over zone range meters =
     map (statement_over zone range) (filter (λ m. was_there zone range m.stands) meters)
@@ -129,27 +131,31 @@ IsStatementOver zone register files form text = (meters : List MeterOver)
     × AreMetersOver register files meters
     × (text ≡ statement_text form (statements_over zone form.range meters))
 
--- ---- what is kept of a meter
+-- ---- what is stored of a meter
 
+-- The stored value of a meter.
 abbrev pub kept_of : Zone → DayRange → MeterOver → KeptMeter
 kept_of zone range m = record { stands = m.stands; told = statement_over zone range m }
 
--- Each is kept of the meter at its place.
+-- Each value is stored of the meter at its index.
 abbrev pub AreTold : Zone → DayRange → List KeptMeter → List MeterOver → Type 0
 AreTold zone range kept meters = kept ≡ map (kept_of zone range) meters
 
+-- The state of a stored meter.
 abbrev pub stands_of : KeptMeter → Installation
 stands_of kept = kept.stands
 
+-- The statement of a stored meter.
 abbrev pub told_of : KeptMeter → MeterStatement
 told_of kept = kept.told
 
--- the rows of those of them that were there in the range
+-- The rows of those meters that were installed in the range.
 abbrev pub rows_of_those : Zone → DayRange → List KeptMeter → List MeterStatement
 rows_of_those zone range kept =
     map told_of (filter (λ one. was_there zone range one.stands) kept)
 
--- What was kept of files that join: what their meters come to on the days of the range, by the clocks of the zone.
+-- What was stored of files that join: the statements of their meters on the days of the range, by
+-- the clocks of the zone.
 pub record HasStated (zone : Zone) (range : DayRange) (register : List ℕ)
     (files : List (List Fact)) (kept : JoinedStatement) : Type 0 where
   pub recorded : kept.is_recorded ≡ is_recorded_in register files
@@ -158,15 +164,15 @@ pub record HasStated (zone : Zone) (range : DayRange) (register : List ℕ)
   pub are : AreMetersOver register files meters
   pub told : AreTold zone range kept.meters.items meters
 
--- ---- one file more
+-- ---- one more file
 
--- Entries are tallied after those before.
+-- Entries are added to an earlier tally.
 abbrev pub TalliesOn : Zone → DayRange → List MeterEntry → (old new : EntryTally) → Type 0
 TalliesOn zone range entries old new = (before : List MeterEntry)
     → old ≡ tally_of zone range before → new ≡ tally_of zone range (before ++ entries)
 
--- What a file has of a meter, which goes on or begins there: its entries are tallied after those before, and the rest is told of
--- the file alone.
+-- The part of a meter in a file, where the meter continues or begins: its entries are added to the
+-- earlier tally, and the rest is of this file only.
 pub record TellsPart (zone : Zone) (range : DayRange) (meter : List ℕ) (goes_on : Bool)
     (facts : List Fact) (begun : EntryTally) (told : MeterStatement) : Type 0 where
   pub meter_is : told.meter ≡ meter
@@ -175,7 +181,7 @@ pub record TellsPart (zone : Zone) (range : DayRange) (meter : List ℕ) (goes_o
   pub energy : told.mwh ≡ energy_within zone range (rows_of_meter facts meter)
   pub held : told.held ≡ held_within zone range (holds_of facts meter)
 
--- how many readings were held in both; a count stays at the greatest number of 64 bits
+-- The number of rejected readings in both; a count stays at the largest number of 64 bits.
 abbrev pub both_held : (one more : HeldCounts) → HeldCounts
 both_held one more = record {
   not_accumulated = counted (one.not_accumulated + more.not_accumulated);
@@ -188,7 +194,7 @@ both_held one more = record {
   not_below_range = counted (one.not_below_range + more.not_below_range);
 }
 
--- What is kept of a meter that goes on in a file which has this part of it.
+-- The stored meter with its part in the next file, where it continues.
 abbrev pub with_part : KeptMeter → Installation → (part : MeterStatement) → KeptMeter
 with_part kept row part = record {
   stands = as_one kept.stands row;
@@ -200,7 +206,8 @@ with_part kept row part = record {
   };
 }
 
--- What was kept of meters becomes what is kept of them and those that a file lists, which join them, unless two are apart.
+-- The stored value of some meters becomes that of these and of the listed meters of a file, which
+-- join them, unless two are apart.
 abbrev pub TellsAll : Zone → DayRange → (facts : List Fact) → (listed : List Installation)
     → (old new : List KeptMeter) → Option Apart → Type 0
 TellsAll zone range facts listed old new None = (meters : List MeterOver)
@@ -209,15 +216,15 @@ TellsAll zone range facts listed old new None = (meters : List MeterOver)
     × AreTold zone range new after
 TellsAll zone range facts listed old new (Some apart) = Unit {0}
 
--- They were added so, or two are apart.
+-- The meters were added, or two are apart.
 abbrev pub AddsListed : Zone → DayRange → (facts : List Fact) → (listed : List Installation)
     → (old new : List KeptMeter) → Option Apart → Type 0
 AddsListed zone range facts listed old new apart =
     AddOrAreApart (map stands_of old) listed (map stands_of new) apart
     × TellsAll zone range facts listed old new apart
 
--- A file doesn't join those before it, for one of the reasons for which it doesn't in a report over files. That quarter hours
--- come in turn is not asked: their energies are added up, in whichever order they come.
+-- A file does not join those before it, for a reason that also applies to a report over files. The
+-- order of quarter hours does not matter here: their energies are added up in any order.
 abbrev pub DoesNotGoOn : (register : List ℕ) → (facts : List Fact) → (old : JoinedStatement)
     → Unjoined → Type 0
 DoesNotGoOn register facts old unjoined.NotRecorded =
@@ -226,8 +233,9 @@ DoesNotGoOn register facts old (unjoined.Apart apart) =
     AreApart (map stands_of old.meters.items) (installations_of facts register) apart
 DoesNotGoOn register facts old unjoined.OutOfTurn = ⊥
 
--- ---- what is printed
+-- ---- the printed text
 
+-- The statement of these rows was printed, or a part of it if a write failed.
 abbrev pub PrintsRows : {W : Type 0} → (contents : W → Option (List ℕ)) → StatementForm
     → List MeterStatement → ExitStatus → (had holds : W) → Type 0
 PrintsRows contents form rows status had holds =
@@ -240,7 +248,7 @@ pub record PrintsStatement (zone : Zone) (register : List ℕ) (files : List (Li
   pub is : IsStatementOver zone register files form text
   pub told : IsTold text Fine status had holds
 
--- So it is of files that join, by what was kept of them for the days of the form.
+-- The same of files that join, by what was stored of them for the days of the form.
 abbrev pub StatesJoined : {W : Type 0} → writers.Ghosts W → JoinedStatement → StatementForm
     → (had holds : W) → ExitStatus → Type 0
 StatesJoined w joined form had holds status =
@@ -250,7 +258,7 @@ StatesJoined w joined form had holds status =
 
 -- ---- one file
 
--- Of one file alone, which an office wrote, that is the statement of its meters.
+-- For one file that an office wrote, the result is the statement of its meters.
 abbrev pub OneFileStatesItsMeters : Type 0
 OneFileStatesItsMeters = (zone : Zone) (range : DayRange) (register : List ℕ) (facts : List Fact)
     (meters : List MeterOver)
@@ -258,16 +266,16 @@ OneFileStatesItsMeters = (zone : Zone) (range : DayRange) (register : List ℕ) 
     → statements_over zone range meters
     ≡ statements_of zone range facts (installations_of facts register)
 
--- ---- a meter that is carried
+-- ---- a meter that is rolled over
 
--- an entry after so many of the old file
+-- An entry with its index after `count` entries of the old file.
 abbrev pub moved_entry : (count : ℕ) → MeterEntry → MeterEntry
 moved_entry count (entry.Opening last) = entry.Opening last
 moved_entry count (entry.Later row sf) = entry.Later (moved_row count row) sf
 
--- What two files have of a meter that is carried from the one into the other, and one file that has its journal in both: there
--- the entries of the new file but for its opening come after those of the old one, each quarter hour has the energy of both, and
--- the held readings of the new one come after those of the old one.
+-- What two files have of a meter that is rolled over, and what one file with both journals has. In
+-- the one file the new entries, without the opening, follow the old ones. Each quarter hour has the
+-- energy of both, and the new rejected readings follow the old ones.
 pub record HaveOneJournal (old new both : MeterOver) : Type 0 where
   pub count : ℕ
   pub name : both.stands.opening.meter ≡ old.stands.opening.meter
@@ -276,7 +284,7 @@ pub record HaveOneJournal (old new both : MeterOver) : Type 0 where
   pub rows : AreCountedOnce old.rows new.rows both.rows
   pub holds : both.holds ≡ old.holds ++ new.holds
 
--- Both files state of it what that one states.
+-- Both files state the meter as the one file does.
 abbrev pub BothFilesStateTheJoinedMeter : Type 0
 BothFilesStateTheJoinedMeter = (zone : Zone) (range : DayRange) (old new both : MeterOver)
     → HaveOneJournal old new both

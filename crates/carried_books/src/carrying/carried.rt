@@ -1,4 +1,4 @@
-//! An office that is carried into a new one.
+//! Rolls an office over into a new one.
 ghost use Rattle.carried_books.specs.Carrying.Carried.{Carries, Follows, OnlyAsked};
 ghost use Rattle.carried_books.specs.Carrying.Feeding.{Passes};
 
@@ -24,9 +24,11 @@ fn follow<N: Books>(office: &mut Office<N>, plan: Plan) -> Result<u64, CarryFaul
     }
 }
 
-/// Sets up a new office as an old one stands: its devices, lists and registers, and each meter that is open, opened anew at
-/// its last entry that stands, up to a moment where one is given, in the order of those moments. It answers how many meters
-/// that are. The old books are only asked, and all is asked of them before the new office is given anything.
+/// Sets up a new office from the store of an old one, and returns the number of its meters.
+///
+/// The new office gets the old one's devices, lists and registers. Each open meter is opened at its
+/// last valid entry, up to a timestamp if one is given; the meters come in the order of these
+/// entries. The old store is only queried, before the new office is given any command.
 pub fn carry_books<O: Books, N: Books>(
     alloc: Global,
     old: &mut O,

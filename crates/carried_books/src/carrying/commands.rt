@@ -1,4 +1,4 @@
-//! The commands by which an office is set up as another stands.
+//! The commands that set up an office like another.
 ghost use Rattle.std.specs.Prelude.{◌≡◌, ◌++◌, ◌∷◌, [], map, OnOk};
 ghost use Rattle.office_books.specs.Ledgers.{Consults, Finds};
 ghost use Rattle.carried_books.specs.Carrying.Adding.{Adds};
@@ -11,14 +11,14 @@ use office_events::{
 };
 use std::alloc::{AllocError, Global};
 
-/// A command, and the moment at which it is given.
+/// A command with its timestamp.
 #[derive(Drop)]
 pub struct TimedCommand {
     pub at: u64,
     pub command: Command,
 }
 
-// ---- what each row was made by
+// ---- the command of each row
 
 fn add_device(at: u64, device: &Device) -> TimedCommand
     ensures { result ≡ commands.add_device at device.now }
@@ -88,7 +88,7 @@ fn install(opening: &Opening) -> TimedCommand
 
 // ---- devices
 
-// Adds the list of a device, if it has one.
+// Adds the point list of a device, if it has one.
 fn add_list<B: Books>(
     added: &mut Vec<TimedCommand>,
     books: &mut B,
@@ -105,7 +105,7 @@ fn add_list<B: Books>(
     Ok(())
 }
 
-// Adds these registers.
+// Adds the commands of these registers.
 fn add_each(
     added: &mut Vec<TimedCommand>,
     at: u64,
@@ -120,7 +120,7 @@ fn add_each(
     Ok(())
 }
 
-// Adds the registers of a device.
+// Adds the commands of a device's registers.
 fn add_registers<B: Books>(
     added: &mut Vec<TimedCommand>,
     books: &mut B,
@@ -137,7 +137,7 @@ fn add_registers<B: Books>(
     Ok(())
 }
 
-// Adds a device with its list and its registers.
+// Adds the commands of a device, its list and its registers.
 fn set_up_device<B: Books>(
     added: &mut Vec<TimedCommand>,
     books: &mut B,
@@ -154,7 +154,7 @@ fn set_up_device<B: Books>(
     add_registers(added, books, at, device)
 }
 
-// Adds these devices.
+// Adds the commands of these devices.
 fn set_up_devices<B: Books>(
     added: &mut Vec<TimedCommand>,
     books: &mut B,
@@ -174,7 +174,7 @@ fn set_up_devices<B: Books>(
 
 // ---- meters
 
-// Adds these meters.
+// Adds the commands of these meters.
 fn add_installs(added: &mut Vec<TimedCommand>, openings: &[Opening]) -> Result<(), AllocError>
     ensures { OnOk result
         (added.new.items ≡ added.old.items ++ map commands.install openings.now) }
@@ -185,7 +185,8 @@ fn add_installs(added: &mut Vec<TimedCommand>, openings: &[Opening]) -> Result<(
     Ok(())
 }
 
-// When devices are set up: at the first opening, or where there is none, at the latest moment that is recorded.
+// The timestamp at which devices are set up: that of the first opening. Without openings it is the
+// latest recorded timestamp.
 fn first_moment<B: Books>(books: &mut B, openings: &[Opening]) -> Result<u64, BooksFault>
     ensures found { Finds (B.ledger books.old) (B.ledger books.new) result
         (λ known at. at ≡ commands.first_moment known openings.now) }
@@ -197,7 +198,7 @@ fn first_moment<B: Books>(books: &mut B, openings: &[Opening]) -> Result<u64, Bo
     }
 }
 
-/// The commands by which these devices are set up as books know them, and after them these meters.
+/// Returns the commands that set up these devices as in the store, and then these meters.
 pub fn commands_for<B: Books>(
     alloc: Global,
     books: &mut B,

@@ -1,13 +1,13 @@
-//! Why an office was not carried into a new one.
+//! Reasons why an office was not rolled over.
 use office_events::{Name, Refusal};
 
-/// Why an office was not carried into a new one.
+/// Why an office was not rolled over into a new one.
 #[derive(Clone, Copy, Debug, PartialEq, Eq)]
 pub enum CarryFault {
     /// The old office's store failed, or memory ran out: its refusal.
     Old(Refusal),
-    /// The new office refused something.
+    /// The new office refused a command.
     New(Refusal),
-    /// A meter that is open has no entry up to that moment that stands: its name.
+    /// The open meter with this name has no valid entry up to the timestamp.
     NotYet(Name),
 }

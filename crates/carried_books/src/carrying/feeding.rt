@@ -1,4 +1,4 @@
-//! Commands that are given to an office one after the other.
+//! Feeds commands to an office in order.
 ghost use Rattle.carried_books.specs.Carrying.Feeding.{Feeds, FeedsOne, Passes};
 
 use crate::carrying::commands::TimedCommand;
@@ -6,7 +6,7 @@ use office_books::Books;
 use office_core::Office;
 use office_events::{Event, Refusal};
 
-// Gives an office a command at its moment.
+// Feeds a command to an office, at the command's timestamp.
 fn feed_one<B: Books>(office: &mut Office<B>, timed: TimedCommand) -> Result<(), Refusal>
     ensures feeds { FeedsOne B.ledger timed office.old office.new result }
     ensures passes { Passes B.ledger office.old office.new }
@@ -18,7 +18,7 @@ fn feed_one<B: Books>(office: &mut Office<B>, timed: TimedCommand) -> Result<(),
     }
 }
 
-/// Gives an office commands, each at its moment, up to the first that it refuses.
+/// Feeds commands to an office, each at its timestamp, up to the first that the office refuses.
 pub fn feed_all<B: Books>(
     office: &mut Office<B>,
     commands: Vec<TimedCommand>,

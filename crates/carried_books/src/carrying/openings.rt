@@ -1,4 +1,4 @@
-//! The meters that are open, and their openings in a new office.
+//! Finds the open meters, and their openings in a new office.
 ghost use Rattle.std.specs.Prelude.{◌≡◌, ◌≤◌, ◌∷◌, [], IfOk};
 ghost use Rattle.std.specs.List.{AllPairs};
 ghost use Rattle.std.specs.List.Sorted.{IsPermutation};
@@ -14,15 +14,15 @@ use office_books::{Books, BooksFault};
 use office_events::{Device, Installation, Name, Opening, Register};
 use std::alloc::{AllocError, Global};
 
-/// The openings of the meters that are open; or one of them has none yet.
+/// The openings of the open meters, or a meter that has none yet.
 #[derive(Drop)]
 pub enum Openings {
     All(Vec<Opening>),
-    /// It has no entry up to the moment that stands: its name.
+    /// The meter with this name has no valid entry up to the timestamp.
     NotYet(Name),
 }
 
-// Adds the meter that is open at a register, if one is.
+// Adds the open meter of a register, if any.
 fn add_open<B: Books>(
     rows: &mut Vec<Installation>,
     books: &mut B,
@@ -41,7 +41,7 @@ fn add_open<B: Books>(
     Ok(())
 }
 
-// Adds those at these registers.
+// Adds the open meters of these registers.
 fn add_registers<B: Books>(
     rows: &mut Vec<Installation>,
     books: &mut B,
@@ -58,7 +58,7 @@ fn add_registers<B: Books>(
     Ok(())
 }
 
-// Adds those at the registers of a device.
+// Adds the open meters of a device's registers.
 fn add_device<B: Books>(
     rows: &mut Vec<Installation>,
     books: &mut B,
@@ -72,7 +72,7 @@ fn add_device<B: Books>(
     add_registers(rows, books, &registers)
 }
 
-// Adds those at the registers of these devices.
+// Adds the open meters of these devices' registers.
 fn add_devices<B: Books>(
     rows: &mut Vec<Installation>,
     books: &mut B,
@@ -89,7 +89,7 @@ fn add_devices<B: Books>(
     Ok(())
 }
 
-/// The meters that are open at the registers of these devices, in the order of those.
+/// Returns the open meters at the registers of these devices, in their order.
 pub fn open_meters<B: Books>(
     alloc: Global,
     books: &mut B,
@@ -104,7 +104,7 @@ pub fn open_meters<B: Books>(
     Ok(rows)
 }
 
-// A meter that is opened anew where it stood.
+// The opening of a meter in the state `last`.
 fn opened_at(opening: &Opening, last: Last) -> Opening
     ensures { result ≡ openings.opened_at opening.now last }
 {
@@ -116,7 +116,7 @@ fn opened_at(opening: &Opening, last: Last) -> Opening
     }
 }
 
-/// These meters, each opened anew at its last entry up to a moment that stands.
+/// Returns the openings of these meters, each at its last valid entry up to a timestamp.
 pub fn openings_of<B: Books>(
     alloc: Global,
     books: &mut B,
@@ -137,7 +137,7 @@ pub fn openings_of<B: Books>(
     Ok(Openings::All(opened))
 }
 
-/// Openings in the order of their moments.
+/// Returns openings in the order of their timestamps.
 pub fn in_order(opened: Vec<Opening>) -> Result<Vec<Opening>, AllocError>
     ensures same { IfOk result (λ v. IsPermutation opened.items v.items) }
     ensures ordered { IfOk result (λ v. AllPairs (λ (a b : Opened). a.at ≤ b.at) v.items) }

@@ -1,4 +1,4 @@
-//! All that is asked of an old office before a new one is given anything.
+//! Plans a rollover: queries the old office before the new one is given any command.
 ghost use Rattle.office_books.specs.Ledgers.{Consults, Finds};
 ghost use Rattle.carried_books.specs.Carrying.Plans as plans;
 
@@ -8,14 +8,15 @@ use office_books::{Books, BooksFault};
 use office_events::{Device, Name, Opening};
 use std::alloc::Global;
 
-/// How an office is carried: the commands for the new one, and how many meters they install; or a meter can't be carried yet.
+/// The plan of a rollover: the commands for the new office and the number of meters that they
+/// install; or a meter that can't be rolled over yet.
 #[derive(Drop)]
 pub enum Plan {
     Ready {
         commands: Vec<TimedCommand>,
         meters: u64,
     },
-    /// It is open, and has no entry up to the moment that stands: its name.
+    /// The open meter with this name has no valid entry up to the timestamp.
     NotYet(Name),
 }
 
@@ -38,7 +39,7 @@ fn plan_for<B: Books>(
     })
 }
 
-/// The plan by which an office is carried. Its books are only asked.
+/// Returns the plan of a rollover. The office's store is only queried.
 pub fn plan_of<B: Books>(
     alloc: Global,
     books: &mut B,

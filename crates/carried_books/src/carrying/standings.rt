@@ -1,4 +1,4 @@
-//! Where a meter stood at its last entry up to a moment.
+//! Finds the state of a meter at its last entry up to a timestamp.
 ghost use Rattle.std.specs.Prelude.{◌≡◌, ◌++◌, ◌∷◌, [], List};
 ghost use Rattle.office_books.specs.Entries.{all_entries};
 ghost use Rattle.office_books.specs.Ledgers.{Consults, Finds};
@@ -9,12 +9,12 @@ use energy_core::{Entry, Last};
 use office_books::{Books, BooksFault, MeterEntry};
 use office_events::Name;
 
-// How many entries are asked for at a time, and how often at most: places are numbers of 64 bits.
+// The number of entries in a query, and the largest number of queries: indexes have 64 bits.
 const PIECE: u32 = 65536;
 
 const MOST_PIECES: u64 = 281_474_976_710_655;
 
-// Whether a moment is not after the one up to which entries count.
+// Whether a timestamp is not after the given one, up to which entries count.
 fn is_until(until: Option<u64>, at: u64) -> bool
     ensures { result ≡ standings.is_until until at }
 {
@@ -24,7 +24,7 @@ fn is_until(until: Option<u64>, at: u64) -> bool
     }
 }
 
-// Where the counter stood after an entry that stands.
+// The counter after an entry.
 fn shown(entry: &MeterEntry) -> Last
     ensures { result ≡ standings.shown_by entry.now }
 {
@@ -41,7 +41,6 @@ fn shown(entry: &MeterEntry) -> Last
     }
 }
 
-// Whether an entry stands.
 fn stands(entry: &MeterEntry) -> bool
     ensures { result ≡ standings.stands entry.now }
 {
@@ -51,14 +50,14 @@ fn stands(entry: &MeterEntry) -> bool
     }
 }
 
-// Whether an entry stands, and counts up to the moment.
+// Whether an entry is valid and counts up to the timestamp.
 fn counts(until: Option<u64>, entry: &MeterEntry) -> bool
     ensures { result ≡ standings.counts until entry.now }
 {
     stands(entry) && is_until(until, shown(entry).at)
 }
 
-// Where the counter stood after one more entry.
+// The counter after one more entry.
 fn last_with(found: Option<Last>, until: Option<u64>, entry: &MeterEntry) -> Option<Last>
     ensures { (before : List Listed) → found ≡ standings.last_among until before
         → result ≡ standings.last_among until (before ++ entry.now ∷ []) }
@@ -70,7 +69,7 @@ fn last_with(found: Option<Last>, until: Option<u64>, entry: &MeterEntry) -> Opt
     }
 }
 
-// Where it stood after these entries more.
+// The counter after these further entries.
 fn last_after(found: Option<Last>, until: Option<u64>, entries: &[MeterEntry]) -> Option<Last>
     ensures { (before : List Listed) → found ≡ standings.last_among until before
         → result ≡ standings.last_among until (before ++ entries.now) }
@@ -82,7 +81,8 @@ fn last_after(found: Option<Last>, until: Option<u64>, entries: &[MeterEntry]) -
     last
 }
 
-// Where a meter stood at its last entry up to a moment. Its entries are asked for piece by piece.
+// The state of a meter at its last valid entry up to a timestamp. The entries are queried in
+// chunks.
 fn last_in_pieces<B: Books>(
     books: &mut B,
     meter: &Name,
@@ -103,7 +103,7 @@ fn last_in_pieces<B: Books>(
     Err(BooksFault::Memory)
 }
 
-/// Where a meter stood at its last entry that stands, up to a moment where one is given.
+/// Returns the state of a meter at its last valid entry, up to a timestamp if one is given.
 pub fn last_until<B: Books>(
     books: &mut B,
     meter: &Name,

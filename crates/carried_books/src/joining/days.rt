@@ -1,4 +1,4 @@
-//! The interval rows of one file after the other, added up by civil days.
+//! Adds up the interval rows of several files by civil day.
 ghost use Rattle.std.specs.Prelude.{◌≡◌, map};
 ghost use Rattle.std.proofs.Props.{props};
 
@@ -7,8 +7,10 @@ use office_books::RowSink;
 use office_events::{Refusal, StoreCause};
 use std::alloc::{AllocError, Global};
 
-/// Adds interval rows up to days as they come. A row out of turn, which starts before one that came earlier or past the last
-/// moment, is told, and rows that come after a failure are dropped.
+/// Adds up interval rows by civil day, as they arrive.
+///
+/// A row that starts before an earlier row, or after the last timestamp, is out of order: a fault.
+/// After a failure all rows are dropped.
 #[derive(Drop)]
 pub struct JoinedDays {
     zone: Zone,
@@ -25,7 +27,7 @@ impl JoinedDays {
     ghost use Rattle.office_core.specs.DaySums.{EndsAs};
     ghost use Rattle.carried_books.specs.Joining.Days.{AddsRow};
 
-    /// No rows yet. No memory is taken.
+    /// Creates a sink without rows. The call allocates no memory.
     pub fn new(alloc: Global, zone: Zone) -> JoinedDays
         ensures zone { result.zone ≡ zone }
         ensures works { result.fault ≡ None }
@@ -39,14 +41,14 @@ impl JoinedDays {
         }
     }
 
-    /// By whose clocks the days are.
+    /// Returns the zone of the days.
     pub fn zone(&self) -> Zone
         ensures { result ≡ self.now.zone }
     {
         self.zone
     }
 
-    // Adds a row up.
+    // Adds a row.
     fn add(&mut self, row: Share)
         requires works { self.old.fault ≡ None }
         ensures { AddsRow self.old row self.new }
@@ -61,14 +63,15 @@ impl JoinedDays {
         }
     }
 
-    /// What failed first: a row was out of turn, or memory was wanting.
+    /// Returns the first failure: a row was out of order, or memory was missing.
     pub fn fault(&self) -> Option<DayFault>
         ensures { result ≡ self.now.fault }
     {
         self.fault
     }
 
-    /// The days, in order, or what failed first: a row out of turn is refused as one without a day.
+    /// Returns the days in order, or the first failure. A row out of order is refused as a row
+    /// without a day.
     pub(crate) fn into_days(self) -> Result<Vec<DayTotal>, Refusal>
         ensures { EndsAs self.fault self.fold.accounts result }
     {
@@ -79,7 +82,7 @@ impl JoinedDays {
         }
     }
 
-    /// The days so far, in order.
+    /// Returns the days so far, in order.
     pub fn into_rows(self) -> Vec<DayTotal>
         ensures { map account_of result.items ≡ self.fold.accounts }
     {
@@ -87,8 +90,10 @@ impl JoinedDays {
     }
 }
 
-/// What rows were added up to, of which none was out of turn, without the zone by whose clocks that was: the checker of one of the kits
-/// does not cover a call over books in files that is lent what holds a zone.
+/// The sum of rows that were in order, without the zone of the days.
+///
+/// The zone is left out because of the checker of one of the kits. It does not cover a call over
+/// the store of a file that borrows a value with a zone.
 #[derive(Drop)]
 pub struct EarlierDays {
     fold: DayFold,
@@ -101,7 +106,7 @@ impl EarlierDays {
     ghost use Rattle.interval_core.specs.Days.{account_of};
     ghost use Rattle.carried_books.specs.Joining.Days.{GoesOnFrom};
 
-    /// What was added up.
+    /// Takes the sum out of a sink.
     pub fn of(days: JoinedDays) -> EarlierDays
         ensures { result.fold ≡ days.fold }
     {
@@ -109,14 +114,14 @@ impl EarlierDays {
         EarlierDays { fold, latest }
     }
 
-    /// The days, in order.
+    /// Returns the days in order.
     pub fn into_rows(self) -> Vec<DayTotal>
         ensures { map account_of result.items ≡ self.fold.accounts }
     {
         self.fold.into_rows()
     }
 
-    /// A copy that goes on from them, by the clocks of a zone, while these stay as they are.
+    /// Returns a copy that continues from these days, by the clocks of a zone.
     pub(crate) fn go_on(&self, zone: Zone) -> Result<JoinedDays, AllocError>
         ensures { IfOk result (GoesOnFrom zone self.now) }
     {

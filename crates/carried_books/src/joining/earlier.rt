@@ -1,4 +1,5 @@
-//! What is kept of the registers of earlier files, over which an office that goes on tells energy, too.
+//! Collects the registers of earlier files, so that a running office can report energy over all
+//! files.
 ghost use Rattle.std.specs.Prelude.{◌≡◌, List, map, IfOk};
 ghost use Rattle.office_events.specs.declared.facts.Fact.{Fact};
 ghost use Rattle.office_books.specs.Ledgers.{Consults};
@@ -15,8 +16,9 @@ use office_books::{Books, BooksFault, Span};
 use office_events::{Device, Installation, Name, Register};
 use std::alloc::{AllocError, Global};
 
-/// What earlier files tell of a register: the meters at it, in the order in which they were installed, each as all of these files have
-/// it, and its days.
+/// A register in earlier files: its meters and its days.
+///
+/// The meters are in the order of installation, each as all of these files have it.
 #[derive(Drop)]
 pub struct EarlierRegister {
     pub name: Name,
@@ -24,14 +26,14 @@ pub struct EarlierRegister {
     pub days: EarlierDays,
 }
 
-/// What files tell of a register, one after the other, by which the next is held to them.
+/// What files have of a register so far; the next file is compared with it.
 #[derive(Drop)]
 pub struct KeptRegister {
     pub name: Name,
     pub files: JoinedFiles,
 }
 
-// What is told of it, once all files were added.
+// The register, once all files were added.
 fn earlier_of(kept: KeptRegister) -> EarlierRegister
     ensures { told result ≡ kept_as kept }
 {
@@ -44,8 +46,10 @@ fn earlier_of(kept: KeptRegister) -> EarlierRegister
     }
 }
 
-/// Adds what the books of the next file tell of the register. It answers why the file doesn't join those before it. The books are
-/// only asked.
+/// Adds the register of the next file, and returns why the file does not join those before it, if
+/// so.
+///
+/// The store is only queried.
 pub fn add_kept<B: Books>(
     kept: &mut KeptRegister,
     books: &mut B,
@@ -60,7 +64,7 @@ pub fn add_kept<B: Books>(
     add_books(&mut kept.files, books, &name, Span::All)
 }
 
-// Holds the meters at a register to those of the files before.
+// Compares the meters at a register with those of the files before.
 fn hold_meters<B: Books>(kept: &KeptRegister, books: &mut B) -> Result<Option<Unjoined>, BooksFault>
     ensures holds { (known : List Fact) → (B.ledger books.old).holds known
         → (B.ledger books.new).is_clean
@@ -80,8 +84,11 @@ fn hold_meters<B: Books>(kept: &KeptRegister, books: &mut B) -> Result<Option<Un
     }
 }
 
-/// Holds the books of the file in which an office goes on to those before it: its meters at the register, and whether that is recorded. It
-/// answers why they don't join. What is kept is of the files before alone. The books are only asked.
+/// Compares the file of a running office with the files before it, and returns why it does not join
+/// them, if so.
+///
+/// The call checks that the register is recorded, and that its meters join. What is stored stays
+/// that of the files before. The store of the office is only queried.
 pub fn hold_kept<B: Books>(
     kept: &KeptRegister,
     books: &mut B,
@@ -102,7 +109,7 @@ pub fn hold_kept<B: Books>(
     }
 }
 
-/// What files tell of each of their registers, from the first file on that has it.
+/// The registers of several files, each from the first file on that has it.
 #[derive(Drop)]
 pub struct KeptRegisters {
     alloc: Global,
@@ -110,7 +117,7 @@ pub struct KeptRegisters {
     kept: Vec<KeptRegister>,
 }
 
-// Whether a register is kept.
+// Whether a register is stored.
 fn is_kept(kept: &[KeptRegister], name: &Name) -> bool {
     for one in kept {
         if one.name.is(name) {
@@ -120,7 +127,7 @@ fn is_kept(kept: &[KeptRegister], name: &Name) -> bool {
     false
 }
 
-// Adds what books tell of the registers that are kept.
+// Adds what the store has of the stored registers.
 fn add_all<B: Books>(
     kept: &mut Vec<KeptRegister>,
     books: &mut B,
@@ -142,7 +149,7 @@ fn add_all<B: Books>(
     Ok(None)
 }
 
-// Holds books to the registers that are kept.
+// Compares the store with the stored registers.
 fn hold_all<B: Books>(kept: &[KeptRegister], books: &mut B) -> Result<Option<Unjoined>, BooksFault>
     ensures { Consults (B.ledger books.old) (B.ledger books.new) result }
 {
@@ -159,7 +166,7 @@ fn hold_all<B: Books>(kept: &[KeptRegister], books: &mut B) -> Result<Option<Unj
     Ok(None)
 }
 
-// Adds what books tell of a register, where it isn't kept yet.
+// Adds a register of the store, if it is not stored yet.
 fn add_new<B: Books>(
     alloc: Global,
     zone: Zone,
@@ -190,7 +197,7 @@ fn add_new<B: Books>(
     }
 }
 
-// Adds what books tell of those of these registers that aren't kept yet.
+// Adds those of these registers that are not stored yet.
 fn add_registers<B: Books>(
     alloc: Global,
     zone: Zone,
@@ -213,7 +220,7 @@ fn add_registers<B: Books>(
     Ok(None)
 }
 
-// The same of those of a device.
+// Adds those registers of a device that are not stored yet.
 fn add_device<B: Books>(
     alloc: Global,
     zone: Zone,
@@ -229,7 +236,7 @@ fn add_device<B: Books>(
     }
 }
 
-// The same of those of these devices.
+// Adds those registers of these devices that are not stored yet.
 fn add_devices<B: Books>(
     alloc: Global,
     zone: Zone,
@@ -252,7 +259,7 @@ fn add_devices<B: Books>(
     Ok(None)
 }
 
-// The same of all registers that the books have.
+// Adds all registers of the store that are not stored yet.
 fn add_others<B: Books>(
     alloc: Global,
     zone: Zone,
@@ -267,7 +274,7 @@ fn add_others<B: Books>(
     }
 }
 
-// Adds what books tell of all registers.
+// Adds all registers of the store.
 fn add_books_to<B: Books>(
     alloc: Global,
     zone: Zone,
@@ -288,7 +295,7 @@ fn add_books_to<B: Books>(
 }
 
 impl KeptRegisters {
-    /// What the files tell of each register, in the order in which they had it first.
+    /// Returns the registers in the order in which the files first had them.
     pub fn into_registers(self) -> Result<Vec<EarlierRegister>, AllocError>
         ensures { IfOk result (λ registers. map told registers.items
             ≡ map kept_as self.kept.items) }
@@ -302,7 +309,7 @@ impl KeptRegisters {
     }
 }
 
-/// Whatever register and range is asked for, all are kept.
+/// Stores all registers, for any requested register and range.
 impl Keeping for KeptRegisters {
     ghost use Rattle.std.specs.Prelude.{◌≡◌};
 
@@ -328,13 +335,14 @@ impl Keeping for KeptRegisters {
     }
 }
 
-/// The same, to which the file is held in which an office goes on.
+/// The registers of earlier files, with which the file of a running office is compared.
 #[derive(Drop)]
 pub struct HeldRegisters {
     pub kept: KeptRegisters,
 }
 
-/// Whatever register and range is asked for, a file is held to all, and nothing of it is kept.
+/// Compares a file with all registers, for any requested register and range, and stores nothing of
+/// it.
 impl Keeping for HeldRegisters {
     ghost use Rattle.std.specs.Prelude.{◌≡◌};
 

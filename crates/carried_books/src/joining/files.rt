@@ -1,4 +1,4 @@
-//! What files of one office tell of a register, one file after the other.
+//! Joins the files of one office at a register, in order.
 ghost use Rattle.std.specs.Prelude.{◌≡◌, ℕ, List, [], IfOk};
 ghost use Rattle.office_events.specs.declared.facts.Fact.{Fact};
 ghost use Rattle.office_rules.specs.Intervals.{rows_of_register};
@@ -17,18 +17,18 @@ use office_books::{Books, BooksFault, Span};
 use office_events::{Installation, Name};
 use std::alloc::Global;
 
-/// Why a file doesn't join those before it.
+/// Why a file does not join those before it.
 #[derive(Clone, Copy, Debug, PartialEq, Eq)]
 pub enum Unjoined {
-    /// The register isn't recorded there, though it is in an earlier file.
+    /// The file does not record the register, though an earlier file does.
     NotRecorded,
-    /// A meter at the register begins there neither where one before it stands nor after it.
+    /// A meter at the register does not continue an earlier meter, and does not begin after it.
     Apart(Apart),
     /// A quarter hour comes after a later one.
     OutOfTurn,
 }
 
-/// What files tell of a register, one after the other: whether it is recorded, the meters at it, and its days.
+/// A register over several files: whether it is recorded, its meters, and its days.
 #[derive(Drop)]
 pub struct JoinedFiles {
     pub is_recorded: bool,
@@ -36,7 +36,7 @@ pub struct JoinedFiles {
     pub days: JoinedDays,
 }
 
-/// No files yet. No memory is taken.
+/// Creates the join of no files. The call allocates no memory.
 pub fn no_files(alloc: Global, zone: Zone) -> JoinedFiles
     ensures { (span : Asked) (register : List ℕ) → HasJoined zone span register [] result }
 {
@@ -47,7 +47,7 @@ pub fn no_files(alloc: Global, zone: Zone) -> JoinedFiles
     }
 }
 
-/// Whether a register is recorded.
+/// Returns whether a register is recorded.
 pub(crate) fn is_recorded<B: Books>(books: &mut B, register: &Name) -> Result<bool, BooksFault>
     ensures found { Finds (B.ledger books.old) (B.ledger books.new) result
         (λ known is. is ≡ files.is_recorded register.now known) }
@@ -80,7 +80,7 @@ pub(crate) fn join_meters<B: Books>(
     }
 }
 
-// Adds those quarter hours of a register that are asked for.
+// Adds the quarter hours of a register in a span.
 fn join_days<B: Books>(
     days: &mut JoinedDays,
     books: &mut B,
@@ -103,7 +103,7 @@ fn join_days<B: Books>(
     }
 }
 
-// Adds the meters at a register, and its quarter hours.
+// Adds the meters and the quarter hours of a register.
 fn add_rows<B: Books>(
     joined: &mut JoinedFiles,
     books: &mut B,
@@ -124,7 +124,7 @@ fn add_rows<B: Books>(
     }
 }
 
-// Adds what the books of a file tell.
+// Adds the register of a file.
 fn add_file<B: Books>(
     joined: &mut JoinedFiles,
     books: &mut B,
@@ -148,8 +148,9 @@ fn add_file<B: Books>(
     }
 }
 
-/// Adds what the books of the next file tell of a register: its meters, and those of its quarter hours that are asked for. It
-/// answers why the file doesn't join those before it. The books are only asked.
+/// Adds the register of the next file: its meters, and its quarter hours in a span.
+///
+/// Returns why the file does not join those before it, if so. The store is only queried.
 pub fn add_books<B: Books>(
     joined: &mut JoinedFiles,
     books: &mut B,

@@ -1,4 +1,4 @@
-//! What is kept of the files of one office, of one after the other.
+//! A trait for what is stored of the files of one office, in order.
 
 use crate::joining::files::{JoinedFiles, Unjoined, add_books, no_files};
 use interval_core::{DayRange, Zone};
@@ -7,8 +7,10 @@ use office_core::span_around;
 use office_events::Name;
 use std::alloc::Global;
 
-/// What is kept of files, to tell what they hold of a register on the days of a range. What holds a connection to a file is
-/// proved over any of these, since no rule covers a call over the books in it that names what is kept.
+/// What is stored of files, to report a register on the days of a range.
+///
+/// Code that has a connection to a file is proved over any implementation: no rule covers a call
+/// over the file's store that names the stored value.
 pub trait Keeping: Drop {
     ghost use Rattle.std.specs.Prelude.{ℕ, List, [], IfOk};
     ghost use Rattle.interval_core.specs.declared.zone.Zone.{Zone};
@@ -18,17 +20,20 @@ pub trait Keeping: Drop {
     ghost use Rattle.carried_books.specs.Joining.Keeping.{KeepsFile, PartsFile};
     ghost use Rattle.carried_books.specs.declared.joining.files.Unjoined.{Unjoined as Why};
 
-    /// It is what is kept of these files, the latest of which stands first, by the clocks of a zone.
+    /// The value is what is stored of these files, by the clocks of a zone. The list has the latest
+    /// file first.
     ghost keeps: { Zone → DayRange → List ℕ → List (List Fact) → Self → Type 0 };
-    /// A file of these facts doesn't join the files of which it is kept, so.
+    /// A file with these facts does not join the stored files, for this reason.
     ghost parts: { DayRange → List ℕ → List Fact → Self → Why → Type 0 };
 
-    /// No files yet. No memory is taken.
+    /// Creates the value for no files. The call allocates no memory.
     fn none(alloc: Global, zone: Zone, range: DayRange) -> Self
         ensures { (register : List ℕ) → keeps zone range register [] result };
 
-    /// Adds what the books of the next file tell of a register. It answers why the file doesn't join those before it. The books
-    /// are only asked.
+    /// Adds the register of the next file, and returns why the file does not join those before it,
+    /// if so.
+    ///
+    /// The store is only queried.
     fn add<B: Books>(
         &mut self,
         books: &mut B,
@@ -44,7 +49,7 @@ pub trait Keeping: Drop {
         ensures reads { Consults (B.ledger books.old) (B.ledger books.new) result };
 }
 
-/// The meters at the register and its days.
+/// Stores the meters at the register and its days.
 impl Keeping for JoinedFiles {
     ghost use Rattle.office_core.specs.DayRange.{span_of};
     ghost use Rattle.carried_books.specs.Joining.Files.{DoesNotJoin, HasJoined};

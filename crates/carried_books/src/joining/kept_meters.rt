@@ -1,4 +1,4 @@
-//! What is kept of a meter over files for its statement.
+//! What is stored of a meter over several files, for its statement.
 ghost use Rattle.std.specs.Prelude.{◌≡◌, ◌≤◌, if◌then◌else◌};
 ghost use Rattle.office_books.specs.Entries.{all_entries};
 ghost use Rattle.office_books.specs.Holds.{holds_of};
@@ -16,19 +16,19 @@ use office_books::{Books, BooksFault, Span};
 use office_core::span_around;
 use office_events::{Installation, Name};
 
-/// A meter over files, as it stands, and what it comes to in a range of days.
+/// A meter over several files: its state, and its statement for a range of days.
 #[derive(Clone, Copy, Debug, PartialEq, Eq)]
 pub struct KeptMeter {
     pub stands: Installation,
     pub told: MeterStatement,
 }
 
-// How many entries are asked for at a time, and how often at most: places are numbers of 64 bits.
+// The number of entries in a query, and the largest number of queries: indexes have 64 bits.
 const PIECE: u32 = 65536;
 
 const MOST_PIECES: u64 = 281_474_976_710_655;
 
-// The place of its first entry of its own.
+// The index of the first entry that only this file has.
 fn first_place(goes_on: bool) -> u64
     ensures place { result ≡ if goes_on then 2 else 1 }
     ensures few { result ≤ 2 }
@@ -36,7 +36,7 @@ fn first_place(goes_on: bool) -> u64
     if goes_on { 2 } else { 1 }
 }
 
-// What its entries come to with its own ones in a file, which are asked for piece by piece.
+// The tally of a meter, with the entries that only this file has. They are queried in chunks.
 fn tally_on<B: Books>(
     books: &mut B,
     begun: EntryTally,
@@ -62,7 +62,7 @@ fn tally_on<B: Books>(
     Err(BooksFault::Memory)
 }
 
-// Its energy in the range. Of its quarter hours those around the days of the range are asked for.
+// The energy of a meter in the range. Only the quarter hours around the range's days are queried.
 fn energy<B: Books>(
     books: &mut B,
     zone: &Zone,
@@ -78,7 +78,7 @@ fn energy<B: Books>(
     Ok(energy.mwh())
 }
 
-// How many of its readings in the range were held.
+// The number of a meter's rejected readings in the range.
 fn held<B: Books>(
     books: &mut B,
     zone: &Zone,
@@ -94,7 +94,8 @@ fn held<B: Books>(
     Ok(held.counts())
 }
 
-/// What a file has of a meter, which goes on there or begins; its entries are tallied after those before.
+/// Returns the part of a meter in a file, where the meter continues or begins. Its entries are
+/// added to the earlier tally.
 pub(crate) fn told_in<B: Books>(
     books: &mut B,
     begun: EntryTally,
@@ -118,7 +119,7 @@ pub(crate) fn told_in<B: Books>(
     })
 }
 
-// How many readings were held in both.
+// The number of rejected readings in both.
 fn both_held(one: &HeldCounts, more: &HeldCounts) -> HeldCounts
     ensures { result ≡ statements.both_held one.now more.now }
 {
@@ -134,7 +135,7 @@ fn both_held(one: &HeldCounts, more: &HeldCounts) -> HeldCounts
     }
 }
 
-/// What is kept of a meter that goes on in a file which has this part of it.
+/// Returns the stored meter with its part in the next file, where it continues.
 pub(crate) fn with_part(kept: &KeptMeter, row: &Installation, part: &MeterStatement) -> KeptMeter
     ensures { result ≡ statements.with_part kept.now row.now part.now }
 {

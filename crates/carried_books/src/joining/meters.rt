@@ -1,4 +1,4 @@
-//! The meters at a register over files, one file after the other.
+//! Joins the meters at a register over several files, in order.
 ghost use Rattle.std.specs.Prelude.{◌≡◌, ◌↔◌, ◌&&◌, IsTrue, not, find, IfOk};
 ghost use Rattle.meter_audit.specs.CarriedFiles.{GoesOnAs};
 ghost use Rattle.carried_books.specs.Joining.Meters as meters;
@@ -10,8 +10,8 @@ use office_books::installed;
 use office_events::Installation;
 use std::alloc::AllocError;
 
-/// Two meters at a register that don't join: where one stands by the files before, and another that begins in the next one,
-/// neither there nor after it.
+/// Two meters at a register that don't join: the state of an earlier meter, and a later meter that
+/// does not continue or follow it.
 #[derive(Clone, Copy, Debug, PartialEq, Eq)]
 pub struct Apart {
     pub stands: Installation,
@@ -24,14 +24,14 @@ pub(crate) fn both(one: bool, other: bool) -> bool
     one && other
 }
 
-// Whether a counter stands where another does.
+// Whether two states of a counter are equal.
 fn is_same(last: &Last, other: &Last) -> bool
     ensures { IsTrue result ↔ (last.now ≡ other.now) }
 {
     last.at == other.at && last.raw == other.raw && last.sf == other.sf
 }
 
-// Whether a meter that was left so goes on as another.
+// Whether a meter in this state continues as the next one.
 fn goes_on_as(meter: &Installed, last: &Last, ended: bool, next: &Installed) -> bool
     ensures { IsTrue result ↔ GoesOnAs meter.now last.now ended next.now }
 {
@@ -41,7 +41,7 @@ fn goes_on_as(meter: &Installed, last: &Last, ended: bool, next: &Installed) -> 
         && is_same(&next.opening, last)
 }
 
-/// Whether a meter goes on as the one of its name in a later file.
+/// Returns whether a meter continues as the one of its name in a later file.
 pub(crate) fn goes_on(stands: &Installation, row: &Installation) -> bool
     ensures { IsTrue result ↔ GoesOn stands.now row.now }
 {
@@ -54,7 +54,7 @@ pub(crate) fn goes_on(stands: &Installation, row: &Installation) -> bool
     )
 }
 
-/// The meter of both files.
+/// Returns the meter over both files.
 pub(crate) fn as_one(stands: &Installation, row: &Installation) -> Installation
     ensures { result ≡ meters.as_one stands.now row.now }
 {
@@ -66,7 +66,7 @@ pub(crate) fn as_one(stands: &Installation, row: &Installation) -> Installation
     }
 }
 
-/// Whether a meter was there before another.
+/// Returns whether a meter was closed before another began.
 pub(crate) fn is_before(stands: &Installation, row: &Installation) -> bool
     ensures { result ≡ meters.is_before stands.now row.now }
 {
@@ -75,7 +75,7 @@ pub(crate) fn is_before(stands: &Installation, row: &Installation) -> bool
     both(stands.ended, both(is_earlier, !is_same))
 }
 
-// The first of these that was not there before another.
+// The first of these meters that was not closed before another began.
 fn not_before(known: &[Installation], row: &Installation) -> Option<Installation>
     ensures { result ≡ find (λ stands. not (meters.is_before stands row.now)) known.now }
 {
@@ -87,7 +87,7 @@ fn not_before(known: &[Installation], row: &Installation) -> Option<Installation
     None
 }
 
-// Adds a meter that comes after these.
+// Adds a meter that follows these.
 fn add_next(known: &mut Vec<Installation>, row: &Installation) -> Result<Option<Apart>, AllocError>
     ensures { IfOk result (AddsNext known.old.items row.now known.new.items) }
 {
@@ -103,7 +103,7 @@ fn add_next(known: &mut Vec<Installation>, row: &Installation) -> Result<Option<
     }
 }
 
-// Adds a meter as which the last of these goes on, or which comes after them.
+// Adds a meter that continues the last of these, or follows them.
 fn add_meter(known: &mut Vec<Installation>, row: &Installation) -> Result<Option<Apart>, AllocError>
     ensures { IfOk result (AddsOrIsApart known.old.items row.now known.new.items) }
 {
@@ -118,8 +118,10 @@ fn add_meter(known: &mut Vec<Installation>, row: &Installation) -> Result<Option
     add_next(known, row)
 }
 
-/// Adds the meters of a file, in the order in which they were installed, to those of the files before; it answers the first two
-/// that don't join.
+/// Adds the meters of a file to those of the files before, and returns the first two that don't
+/// join, if any.
+///
+/// The meters of the file are in the order of installation.
 pub fn add_meters(
     known: &mut Vec<Installation>,
     listed: &[Installation],

@@ -1,4 +1,4 @@
-//! What earlier files and an office that goes on tell together of the days of a register.
+//! Joins the days of a register in earlier files with those of a running office.
 ghost use Rattle.std.specs.Prelude.{Err};
 ghost use Rattle.std.specs.declared.alloc.Global.{Global};
 ghost use Rattle.std.specs.declared.vec.Vec.{Vec};
@@ -14,7 +14,7 @@ use office_core::Office;
 use office_events::{Installation, Name, Refusal};
 use office_rules::facts_are_lawful;
 
-// Adds those quarter hours of these meters that are asked for, one meter after the other.
+// Adds the quarter hours of these meters in a span, one meter after another.
 fn add_meters_within<B: Books>(
     days: &mut JoinedDays,
     office: &mut Office<B>,
@@ -32,7 +32,7 @@ fn add_meters_within<B: Books>(
     Ok(())
 }
 
-// Adds those quarter hours of a register that are asked for, as an office has them.
+// Adds the quarter hours of a register in a span, as the office has them.
 fn add_register<B: Books>(
     days: &mut JoinedDays,
     office: &mut Office<B>,
@@ -50,7 +50,7 @@ fn add_register<B: Books>(
     }
 }
 
-// There is no memory for the days of a register, unless the office tells first why there are none.
+// The refusal if the days of a register find no memory: the office's refusal, if it has one.
 fn without_memory<B: Books>(office: &mut Office<B>, register: &Name) -> Refusal
     ensures lacks { LacksMemory B.ledger office.old office.new register.now result }
     ensures asks { OnlyAsks {T = Vec DayTotal Global} B.ledger office.old office.new (Err result) }
@@ -61,9 +61,11 @@ fn without_memory<B: Books>(office: &mut Office<B>, register: &Name) -> Refusal
     }
 }
 
-/// The days of a register over earlier files and an office that goes on: those that the earlier files have of it, and those of the
-/// office's quarter hours that are asked for. Energies are in mWh, and days are by the clocks of a zone, as the earlier ones. The
-/// office is only asked. A row that starts before one before it is refused as one without a day.
+/// Returns the days of a register over earlier files and a running office, in mWh.
+///
+/// The days are those of the earlier files, and those of the office's quarter hours in a span, by
+/// the clocks of a zone. The zone must be that of the earlier days. The office is only queried. A
+/// row that starts before an earlier row is refused as a row without a day.
 pub fn days_over<B: Books>(
     office: &mut Office<B>,
     zone: Zone,

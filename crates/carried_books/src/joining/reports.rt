@@ -1,4 +1,4 @@
-//! The report of a register over files of one office.
+//! Reports a register over the files of one office.
 ghost use Rattle.std.specs.Prelude.{◌≡◌, ◌<◌, ◌^◌, length, if◌then◌else◌};
 ghost use Rattle.energy_report.specs.Texts.{report_text};
 ghost use Rattle.office_books.specs.Rows.{TakesAll};
@@ -13,7 +13,7 @@ use interval_core::{DayTotal, accounts_are_one};
 use office_books::RowSink;
 use std::io::Write;
 
-// Hands on all days, in their order.
+// Passes all days to the sink, in order.
 fn hand_on<K: RowSink<DayTotal>>(days: &[DayTotal], sink: &mut K)
     ensures took { TakesAll K.takes sink.old days.now sink.new }
     ensures few { length days.now < 2 ^ 64 }
@@ -23,7 +23,7 @@ fn hand_on<K: RowSink<DayTotal>>(days: &[DayTotal], sink: &mut K)
     }
 }
 
-// Writes what is left of a report.
+// Writes the rest of a report.
 fn finish<W: Write>(rows: &mut ReportRows<'_, W>) -> ExitStatus
     ensures { PrintsLast W.contents result rows.old rows.new }
 {
@@ -35,7 +35,7 @@ fn finish<W: Write>(rows: &mut ReportRows<'_, W>) -> ExitStatus
     }
 }
 
-/// Prints the energy of days, by periods, in a unit and a format: of those that the range of the form has.
+/// Prints the energy of the days that are in the form's range, by period, in a unit and a format.
 pub fn report_days<W: Write>(days: &[DayTotal], form: &ReportForm, output: &mut W) -> ExitStatus
     ensures { IsTold (report_text form.now days.now) ExitStatus.Fine result
         (W.contents output.old) (W.contents output.new) }
@@ -45,8 +45,10 @@ pub fn report_days<W: Write>(days: &[DayTotal], form: &ReportForm, output: &mut 
     finish(&mut rows)
 }
 
-/// Prints the energy of a register in files that join, on the days of a range, by periods, in a unit and a format. What was kept
-/// of them has the quarter hours around the days of the range.
+/// Prints the energy of a register over joined files, on the days of a range, by period, in a unit
+/// and a format.
+///
+/// The files were joined with the quarter hours around the days of the range.
 pub fn report_joined<W: Write>(joined: JoinedFiles, form: &ReportForm, output: &mut W) -> ExitStatus
     ensures { ReportsJoined W.Write joined form.now output.old output.new result }
 {

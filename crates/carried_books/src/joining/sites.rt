@@ -1,4 +1,4 @@
-//! What earlier files and an office that goes on tell together of the meter at a register.
+//! Joins the meters at a register in earlier files with those of a running office.
 ghost use Rattle.std.specs.Prelude.{◌≡◌};
 ghost use Rattle.carried_books.specs.Joining.Sites as sites;
 
@@ -6,15 +6,18 @@ use crate::joining::earlier::EarlierRegister;
 use crate::joining::meters::{as_one, both};
 use office_events::{Installation, Name};
 
-/// A meter as all files have it, and how much of its energy, in mWh, is that of earlier files, where they have the meter.
+/// A meter as all files have it, with the part of its energy, in mWh, in earlier files, if they
+/// have the meter.
 #[derive(Clone, Copy, Debug, PartialEq, Eq)]
 pub struct LatestMeter {
     pub meter: Installation,
     pub earlier: Option<u64>,
 }
 
-/// The meters that earlier files have at a register, in the order in which they were installed, each as all of these files have it;
-/// none where they don't tell of the register.
+/// Returns the meters of earlier files at a register, in the order of installation, each as all of
+/// these files have it.
+///
+/// The result is empty if the files have no such register.
 pub fn earlier_meters<'a>(earlier: &'a [EarlierRegister], register: &Name) -> &'a [Installation]
     ensures { result.now ≡ sites.earlier_meters earlier.now register.now }
 {
@@ -26,7 +29,7 @@ pub fn earlier_meters<'a>(earlier: &'a [EarlierRegister], register: &Name) -> &'
     &[]
 }
 
-// Whether a meter of an office is the one that earlier files left open.
+// Whether a meter of the office is the meter that earlier files left open.
 fn is_left(stands: &Installation, row: &Installation) -> bool
     ensures { result ≡ sites.is_left stands.now row.now }
 {
@@ -44,7 +47,7 @@ fn of_earlier(stands: &Installation) -> LatestMeter
     }
 }
 
-// A meter of an office, at whose register earlier files have another last.
+// The latest meter of the office at a register where earlier files have a last meter.
 fn of_both(stands: &Installation, row: &Installation) -> LatestMeter
     ensures { result ≡ sites.of_both stands.now row.now }
 {
@@ -61,7 +64,7 @@ fn of_both(stands: &Installation, row: &Installation) -> LatestMeter
     }
 }
 
-// The same, where there may be none of the one or of the other.
+// The latest meter, if the earlier files, the office or both have one.
 fn latest(stands: &Option<Installation>, row: &Option<Installation>) -> Option<LatestMeter>
     ensures { result ≡ sites.latest stands.now row.now }
 {
@@ -80,9 +83,11 @@ fn latest(stands: &Option<Installation>, row: &Option<Installation>) -> Option<L
     }
 }
 
-/// The latest meter at a register, of the meters that earlier files have at it and the latest that an office has there: where that is
-/// the one which they left open, it is the meter of all files, with the energy of each; where the office has none, it is the last of
-/// theirs.
+/// Returns the latest meter at a register, from its meters in earlier files and its latest meter in
+/// the office.
+///
+/// If the files left the office's meter open, the result is the meter of all files, with their
+/// energy. If the office has no meter there, the result is the last meter of the files.
 pub fn latest_meter(earlier: &[Installation], row: &Option<Installation>) -> Option<LatestMeter>
     ensures { result ≡ sites.latest_meter earlier.now row.now }
 {

@@ -1,4 +1,4 @@
-//! The statement of the meters at a register over files of one office.
+//! States the meters at a register over the files of one office.
 ghost use Rattle.std.specs.Prelude.{◌≡◌, ◌∷◌, ◌++◌, [], List, map, find, not, IfErr, IfOk, OnOk};
 ghost use Rattle.std.specs.Option.{option_map};
 ghost use Rattle.office_events.specs.declared.facts.Fact.{Fact};
@@ -22,8 +22,8 @@ use office_events::{Installation, Name};
 use std::alloc::{AllocError, Global};
 use std::io::Write;
 
-/// What files tell of a register's meters, one after the other: whether it is recorded, and what its meters come to in a range of
-/// days, by the clocks of a zone.
+/// The meters of a register over several files: whether it is recorded, and the statement of each
+/// meter for a range of days, by the clocks of a zone.
 #[derive(Drop)]
 pub struct JoinedStatement {
     pub is_recorded: bool,
@@ -31,7 +31,7 @@ pub struct JoinedStatement {
     pub zone: Zone,
 }
 
-// The first of these that was not there before another.
+// The first of these meters that was not closed before another began.
 fn not_before(known: &[KeptMeter], row: &Installation) -> Option<Installation>
     ensures { result ≡ option_map stands_of
         (find (λ one. not (meters.is_before one.stands row.now)) known.now) }
@@ -44,7 +44,7 @@ fn not_before(known: &[KeptMeter], row: &Installation) -> Option<Installation>
     None
 }
 
-// Adds a meter that comes after these.
+// Adds a meter that follows these.
 fn add_next<B: Books>(
     known: &mut Vec<KeptMeter>,
     books: &mut B,
@@ -74,7 +74,7 @@ fn add_next<B: Books>(
     }
 }
 
-// Adds a meter as which the last of these goes on, or which comes after them. Where its books fail the last may be gone.
+// Adds a meter that continues the last of these, or follows them. On error the last may be missing.
 fn add_row<B: Books>(
     known: &mut Vec<KeptMeter>,
     books: &mut B,
@@ -103,7 +103,8 @@ fn add_row<B: Books>(
     add_next(known, books, zone, range, row)
 }
 
-// Adds meters of a file, in the order in which they were installed; it answers the first two that don't join.
+// Adds meters of a file in the order of installation, and returns the first two that don't join, if
+// any.
 fn add_listed<B: Books>(
     known: &mut Vec<KeptMeter>,
     books: &mut B,
@@ -128,7 +129,7 @@ fn add_listed<B: Books>(
     Ok(None)
 }
 
-// Adds the meters that books list at a register.
+// Adds the meters at a register of the store.
 fn add_meters<B: Books>(
     known: &mut Vec<KeptMeter>,
     books: &mut B,
@@ -146,7 +147,7 @@ fn add_meters<B: Books>(
     add_listed(known, books, zone, range, &listed)
 }
 
-/// What its meters come to.
+/// Stores the statements of the register's meters.
 impl Keeping for JoinedStatement {
     ghost keeps = { HasStated };
 
@@ -179,9 +180,9 @@ impl Keeping for JoinedStatement {
     }
 }
 
-// ---- what is printed
+// ---- the printed text
 
-// Adds the row of a meter, if it was there in a range.
+// Adds the row of a meter, if it was installed in the range.
 fn add_told(
     rows: &mut Vec<MeterStatement>,
     zone: &Zone,
@@ -198,7 +199,7 @@ fn add_told(
     Ok(())
 }
 
-// The rows of the meters that were there.
+// The rows of the meters that were installed in the range.
 fn rows_of(
     alloc: Global,
     zone: &Zone,
@@ -214,7 +215,6 @@ fn rows_of(
     Ok(rows)
 }
 
-// Writes a statement.
 fn print_rows<W: Write>(form: &StatementForm, rows: &[MeterStatement], output: &mut W) -> ExitStatus
     ensures { PrintsRows W.contents form.now rows.now result output.old output.new }
 {
@@ -224,9 +224,11 @@ fn print_rows<W: Write>(form: &StatementForm, rows: &[MeterStatement], output: &
     }
 }
 
-/// Prints the statement of a register's meters in files that join, on the days of a range: of each meter that was there, in the
-/// order in which they were installed, what all files have of it. The days are those for which it was kept. `Err` where memory
-/// ran out, and nothing is printed then.
+/// Prints the statement of a register's meters over joined files, on the days of a range.
+///
+/// The statement has each meter that was installed in the range, in the order of installation, with
+/// the data of all files. The range must be that of the join. On `Err` memory ran out, and nothing
+/// is printed.
 pub fn state_joined<W: Write>(
     alloc: Global,
     joined: &JoinedStatement,

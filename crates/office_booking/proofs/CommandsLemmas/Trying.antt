@@ -1,4 +1,4 @@
--- Facts that were looked up, and then booked.
+-- Records that were looked up, and then written.
 use Rattle.std.proofs.Common.{◌≡◌, List, [], ◌∷◌, ◌++◌, ◌⊎◌, inl, inr, sym, subst, Result, Ok, Err}
 use Rattle.office_events.specs.declared.facts.Fact.{Fact}
 use Rattle.office_rules.specs.Lawful.{AreLawful}
@@ -7,7 +7,7 @@ use Rattle.office_books.specs.Ledgers.{Ledger, Books, Moves, with_facts}
 use Rattle.office_books.proofs.Moving.{passes, settles}
 use Rattle.office_booking.specs.Commands.Effects.{Tries}
 
--- what the books were asked
+-- What the store was requested to do.
 pub asked : (old new : Ledger) (facts : List Fact) (result : Result (Unit {0}) BooksFault) → Books old new facts result → Tries old new facts result
 asked old new facts (Ok done) books = record {
   booked = books.booked;
@@ -24,7 +24,7 @@ asked old new facts (Err why) books = record {
   goes = passes old new (Err why) books.goes;
 }
 
--- What is tried with facts that are right where the look-ups were moves the books.
+-- If the records are right after the lookups, writing them moves the store.
 pub tried : (old new : Ledger) (known later facts : List Fact) (result : Result (Unit {0}) BooksFault) → Tries old new facts result
     → (old.holds known → old.is_clean → with_facts facts known ≡ later) → AreLawful later → Moves old new known later result
 tried old new known later facts (Ok done) tries right lawful =

@@ -1,4 +1,4 @@
--- Installations after the facts of a draft.
+-- Installations after the records of a draft.
 use Rattle.std.proofs.Common.{◌≡◌, ℕ, ◌+◌, ◌<◌, Bool, true, false, cond, List, [], ◌∷◌, ◌++◌, reverse, take, length, get_or, refl, sym, ap, subst, ◌∙◌, Option, Some, None, suc, arith}
 use Rattle.std.specs.List.{cons_option, find, Contains}
 use Rattle.std.specs.Option.{option_map, option_and_then}
@@ -31,7 +31,7 @@ use Rattle.office_booking.specs.Settling.Drafts.{IsTold, AreTold}
 use Rattle.office_booking.specs.Settling.Following.{with_result, with_entry, installation_with, IsIn, IsAfterFacts}
 use Rattle.office_booking.proofs.SettlingLemmas.Told.{told_openings, told_first, told_at, lawful_first}
 
--- The laws of entries.
+-- The theorems on entries.
 pub record Laws : Type 0 where
   pub names : NamesAreDistinct
   pub kept : MetersAreKept
@@ -39,11 +39,11 @@ pub record Laws : Type 0 where
   pub booked : energy.EnteredIsBooked
   pub go_on : energy.AccountsGoOn
 
--- an installation as its journal gives it
+-- An installation as its journal gives it.
 abbrev at_journal : Opening → journal.Journal → Installation
 at_journal o lines = standing o (journal.entries_of (opened o) lines) (journal.is_ended lines)
 
--- an accepted reading is entered
+-- An accepted reading is entered.
 reading_entered : Laws → (o : Opening) (lines : journal.Journal) (k : EntryKind) (e : Entry) → k ≡ kind.Reading
     → journals.EntryFits (installed o) (journal.entries_of (opened o) lines) k e → HasAccount (installed o) (journal.entries_of (opened o) lines)
     → (at_journal o lines).last.raw < o.range → with_entry (at_journal o lines) e ≡ at_journal o (journal.Entered k e ∷ lines)
@@ -63,7 +63,7 @@ reading_entered laws o lines kind.Closing e is fits account low = absurd (cc)
 reading_entered laws o lines kind.Reset e is fits account low = absurd (cc)
 reading_entered laws o lines kind.Rescale e is fits account low = absurd (cc)
 
--- an entry of a draft moves its own meter on, and no other
+-- An entry of a draft advances its own meter, and no other.
 booked_goes_on : Laws → (facts : List Fact) (o : Opening) (b : BookedEntry) (same_meter : Bool) → same b.meter o.meter ≡ same_meter
     → b.kind ≡ kind.Reading → LineFits facts b.meter (journal.Entered b.kind b.entry) → AreLawful facts → IsRecorded facts o
     → (installation_of facts o).last.raw < o.range
@@ -88,7 +88,7 @@ known_goes_on o lines line true rows ended =
     ap (λ rs. standing o (journal.entries_in rs) (journal.is_ended lines)) (sym rows)
     ∙ ap (λ e. standing o (journal.entries_of (opened o) (line ∷ lines)) e) (sym ended)
 
--- An installation after one more told fact.
+-- An installation after one more reported record.
 pub goes_on : Laws → (f : Fact) (facts : List Fact) (o : Opening) → IsTold f → AreLawful (f ∷ facts) → IsRecorded facts o
     → (installation_of facts o).last.raw < o.range → installation_with f (installation_of facts o) ≡ installation_of (f ∷ facts) o
 goes_on laws (fact.Device device) facts o told h recorded low = absurd told
@@ -104,7 +104,7 @@ goes_on laws (fact.Poll poll) facts o told h recorded low = absurd told
 goes_on laws (fact.Outcome ended) facts o told h recorded low = refl
 goes_on laws (fact.Reply reply) facts o told h recorded low = absurd told
 
--- after the first facts of a draft it stands so
+-- The state of the installation after the first records of a draft.
 abbrev pub StandsAfterFirst : Installation → List Fact → ℕ → Installation → Type 0
 StandsAfterFirst row facts i following = (known : List Fact) → AreTold facts → AreLawful (reverse facts ++ known)
     → IsIn known row → following ≡ installation_of (reverse (take i facts) ++ known) row.opening
@@ -132,7 +132,7 @@ one_fact_more laws row facts i following new x less is sound stands with_it = λ
     ∙ goes_on laws x first row.opening (told_at facts i x less is told) fits (still_recorded (take i facts) known row.opening (told_first i facts told) at_first.recorded) low
     ∙ ap (λ fs. installation_of fs row.opening) (sym more)
 
--- what is found in a list stands there
+-- What is found in a list is in the list.
 found_step : {X : Type 0} (p : X → Bool) (b : Bool) (y x : X) (ys : List X) → (find p ys ≡ Some x → Contains ys x)
     → cond b (Some y) (find p ys) ≡ Some x → Contains (y ∷ ys) x
 found_step p true y x ys later h = (0, omega arith, same_Some y x h)
@@ -142,12 +142,12 @@ found_contains : {X : Type 0} (p : X → Bool) (xs : List X) (x : X) → find p 
 found_contains p [] x h = absurd (cc)
 found_contains p (y ∷ ys) x h = found_step p (p y) y x ys (found_contains p ys x) h
 
--- what is told installs nothing
+-- Reported records install nothing.
 installed_after : (facts known : List Fact) (register : List ℕ) → AreTold facts → installed_at (reverse facts ++ known) register ≡ installed_at known register
 installed_after facts known register told =
     ap (λ os. find (λ (o : Opening). same o.register register) os) (told_openings facts known told)
 
--- a register without a meter has none after what is told
+-- A register without a meter has none after reported records.
 pub none_open : (facts known : List Fact) (register : List ℕ) → AreTold facts → None ≡ installation_at known register
     → None ≡ open_at (reverse facts ++ known) register
 none_open facts known register told none =
@@ -159,7 +159,7 @@ none_open facts known register told none =
     none_by None h = refl
     none_by (Some opening) h = absurd (cc)
 
--- the installation at a register, after what is told
+-- The installation at a register, after reported records.
 found_open : (facts known : List Fact) (register : List ℕ) (row new : Installation) (found : Option Opening) → AreTold facts → AreLawful (reverse facts ++ known)
     → IsAfterFacts row facts new → installed_at known register ≡ found → Some row ≡ option_map (installation_of known) found
     → if_open new ≡ open_at (reverse facts ++ known) register

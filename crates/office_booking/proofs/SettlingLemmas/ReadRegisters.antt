@@ -1,4 +1,4 @@
--- Registers of which a read gives no reading add nothing.
+-- Registers without a reading in a read add nothing.
 use Rattle.std.proofs.Common.{◌≡◌, ℕ, List, [], ◌∷◌, ◌++◌, inl, inr, refl, sym, ap, ◌∙◌}
 use Rattle.std.specs.List.{filter}
 use Rattle.std.proofs.lemmas.Bool.{cases_Bool, cond-true, cond-false}
@@ -9,7 +9,7 @@ use Rattle.office_events.specs.declared.answers.Note.{Note}
 use Rattle.office_rules.specs.Readings.{is_read_by, with_register, with_registers}
 use Rattle.office_rules.specs.Notes.{register_notes, registers_notes}
 
--- the readings of those that are read are the readings of all
+-- The readings of the registers in the read are the readings of all.
 pub with_read : (at : ℕ) (poll : Poll) (words : List ℕ) (registers : List Register) (facts : List Fact)
     → with_registers at poll words (filter (is_read_by poll.span) registers) facts ≡ with_registers at poll words registers facts
 with_read at poll words [] facts = refl
@@ -25,7 +25,7 @@ with_read at poll words (r ∷ rs) facts =
           ∙ ap (λ (fs : List Fact). with_registers at poll words rs fs) (sym unread)
     ]
 
--- and so are their notes
+-- The same for their notifications.
 pub told_read : (at : ℕ) (poll : Poll) (words : List ℕ) (registers : List Register) (facts : List Fact)
     → registers_notes at poll words (filter (is_read_by poll.span) registers) facts ≡ registers_notes at poll words registers facts
 told_read at poll words [] facts = refl

@@ -1,4 +1,4 @@
--- The facts that a command adds.
+-- The records that a command adds.
 use Rattle.std.specs.Prelude.{◌≡◌, ℕ, List, Option}
 use Rattle.std.specs.Option.{option_map, option_and_then}
 use Rattle.office_events.specs.declared.commands.Command.{Command}
@@ -10,19 +10,21 @@ use Rattle.office_events.specs.declared.facts.Fact.TheVariants as fact
 use Rattle.office_rules.specs.Sessions as sessions
 use Rattle.office_rules.specs.History as history
 
--- These are the facts that a command adds, whatever the slots and the number of the next poll.
+-- These records are what a command adds, for any slots and any number of the next poll.
 abbrev pub AreAdded : (at : ℕ) → Command → (known facts : List Fact) → Type 0
 AreAdded at c known facts =
     (number : ℕ) (slots : List sessions.Slot) → facts ≡ history.added_by number at slots known c
 
--- the void that a command makes, and the list and the register that one adds, where their names are names
+-- The void that a command adds, if its meter's name is valid.
 abbrev pub void_by : (at : ℕ) → VoidEntry → Option Fact
 void_by at c =
     option_map (λ meter. fact.Void (record { meter = meter; place = c.place; at = at })) c.meter
 
+-- The point list that a command stores, if its device's name is valid.
 abbrev pub list_by : PutList → Option Fact
 list_by c = option_map (λ device. fact.List (record { device = device; list = c.list })) c.device
 
+-- The register that a command adds, if its names are valid.
 abbrev pub register_by : AddRegister → Option Fact
 register_by c =
     option_and_then (λ name. option_map (λ device. history.register_by c name device) c.device)

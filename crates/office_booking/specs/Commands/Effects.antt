@@ -1,4 +1,4 @@
--- What carrying out an accepted command leaves and answers.
+-- What the execution of an accepted command leaves and answers.
 use Rattle.std.specs.Prelude.{◌≡◌, ◌⊎◌, ℕ, ◌+◌, ◌≤◌, List, [], ◌∷◌, ◌++◌, map, length, Option, Some, None, OnOk, OnErr, Result, IfOk}
 use Rattle.office_rules.specs.Lawful.{AreLawful}
 use Rattle.poll_core.specs.Settling as session
@@ -24,18 +24,18 @@ use Rattle.office_books.specs.declared.faults.BooksFault.{BooksFault}
 use Rattle.office_books.specs.Ledgers.{Ledger, LedgerAfterCalls, Moves, with_facts}
 use Rattle.office_booking.specs.declared.commands.effects.Done.{Done}
 
--- the event asks a command
+-- The event requests a command.
 abbrev pub AsksCommand : Event → Type 0
 AsksCommand (event.Command c) = Unit {0}
 AsksCommand (event.Asked asked) = Unit {0}
 AsksCommand _ = ⊥
 
--- what is kept of an event
+-- The response that is stored for an event.
 abbrev pub replies_by : (at : ℕ) → Event → List Fact
 replies_by at (event.Asked asked) = reply_by at asked
 replies_by at _ = []
 
--- Facts are booked, all or none, or there was no memory to ask for it.
+-- The records are written, all or none; or memory for the request was missing.
 pub record Tries (old new : Ledger) (facts : List Fact)
     (result : Result (Unit {0}) BooksFault) : Type 0 where
   pub booked : (known : List Fact) → old.holds known → AreLawful (with_facts facts known)
@@ -52,28 +52,30 @@ pub record Tries (old new : Ledger) (facts : List Fact)
       → OnErr result (new.may_leave left ⊎ new.may_leave (left ++ with_facts facts known ∷ []))
   pub goes : LedgerAfterCalls old new result
 
--- a slot once a command started its reads there, and all of them
+-- A slot after a command started its reads there.
 abbrev pub started_on : (number at : ℕ) → List ReadSpan → Command → sessions.Slot
     → Option (List session.Event) → sessions.Slot
 started_on number at spans c slot None = slot
 started_on number at spans c slot (Some before) =
     with_happenings slot before (starts_by number at spans (Some c) slot.device before)
 
+-- A slot after a command.
 abbrev pub slot_obeyed : (number at : ℕ) → List ReadSpan → Command → sessions.Slot → sessions.Slot
 slot_obeyed number at spans c slot = started_on number at spans c slot slot.present
 
+-- All slots after a command, with those of new devices.
 abbrev pub slots_obeyed : (number at : ℕ) → List ReadSpan → Command → List sessions.Slot
     → List sessions.Slot
 slots_obeyed number at spans c slots =
     map (slot_obeyed number at spans c) slots ++ slots_added (Some c)
 
--- the facts that a command adds, and what is kept of the request after them
+-- The records after a command, with the stored response of its request.
 abbrev pub facts_obeyed : (at : ℕ) → List sessions.Slot → List Fact → Command
     → (replies : List Fact) → List Fact
 facts_obeyed at slots known c replies =
     with_facts (added_by (next_poll known) at slots known c ++ replies) known
 
--- Such a command moves the books on to the facts that it leaves, where these are lawful.
+-- The command moves the store to the records that it leaves, if these are lawful.
 abbrev pub MovesOnBy : {T : Type 0} → (at : ℕ) → Command → (replies : List Fact)
     → (old new : Ledger) → Result T BooksFault → Type 0
 MovesOnBy at c replies old new result =
@@ -81,7 +83,8 @@ MovesOnBy at c replies old new result =
     → let later = facts_obeyed at slots known c replies in
     AreLawful later → Moves old new known later result
 
--- A command was carried out over these facts and slots: what it adds is booked, its reads are started, and it is answered.
+-- A command was executed over these records and slots: its additions are recorded, its reads are
+-- started, and it has its answer.
 pub record Obeys (old new : Ledger) (after : List Slot) (slots : List sessions.Slot)
     (known : List Fact) (at : ℕ) (c : Command)
     (replies : List Fact) (result : Result Done BooksFault) : Type 0 where
@@ -95,7 +98,7 @@ pub record Obeys (old new : Ledger) (after : List Slot) (slots : List sessions.S
       → IfOk result (λ done.
       done.outgoing ≡ notes.frames_by (next_poll known) at slots known (Some c))
 
--- The same of an accepted event after what was accepted before it.
+-- The same for an accepted event after its past.
 pub record Carries (old new : Ledger) (after : List Slot) (past : History) (at : ℕ) (e : Event)
     (result : Result Done BooksFault) : Type 0 where
   pub books : Moves old new (facts_of past) (facts_of (Fed at e ∷ past)) result
@@ -107,8 +110,8 @@ pub record Carries (old new : Ledger) (after : List Slot) (past : History) (at :
       → IfOk result (λ done.
       done.outgoing ≡ outgoing_of (next_poll (facts_of past)) at e (slots_of past) (facts_of past))
 
--- So it is of every event that asks the command, where these are the slots after what was accepted
--- before it, and these replies what is kept of it.
+-- The same for every event that requests the command. `before` are the slots after its past, and
+-- `replies` is its stored response.
 abbrev pub CarriesOut : (old new : Ledger) → (before after : List Slot) → (at : ℕ) → Command
     → (replies : List Fact) → Result Done BooksFault → Type 0
 CarriesOut old new before after at c replies result =
@@ -116,61 +119,69 @@ CarriesOut old new before after at c replies result =
     → IsAccepted past at e → command_in e ≡ Some c → replies_by at e ≡ replies
     → Carries old new after past at e result
 
--- ... and of the event that asked it
+-- The same for the event that requests the command.
 abbrev pub CarriesEvent : (old new : Ledger) → (before after : List Slot) → (at : ℕ) → Event
     → Result Done BooksFault → Type 0
 CarriesEvent old new before after at e result =
     (past : History) → IsPast past → KeepsSlots before (slots_of past) → IsAccepted past at e
     → Carries old new after past at e result
 
--- what a command wants started on a slot: the reads, their polls and frames, and the slot then
+-- The reads that a command starts on a slot.
 abbrev pub sends_by : (at : ℕ) → sessions.Slot → List Fact → Command → List sessions.Send
 sends_by at slot known c = starts.sends_of (next_poll known) at (spans_by known c) slot
 
+-- The poll records of these reads.
 abbrev pub polls_by : (at : ℕ) → sessions.Slot → List Fact → Command → List Fact
 polls_by at slot known c = starts.polls_of (next_poll known) at (spans_by known c) slot
 
+-- The frames of these reads.
 abbrev pub frames_by : (at : ℕ) → sessions.Slot → List Fact → Command → List ℕ
 frames_by at slot known c = starts.frames_of (next_poll known) at (spans_by known c) slot
 
+-- The slot after these reads.
 abbrev pub slot_by : (at : ℕ) → sessions.Slot → List Fact → Command → sessions.Slot
 slot_by at slot known c = starts.slot_sent (next_poll known) at (spans_by known c) slot
 
--- the facts once its polls and what is kept of the request are booked
+-- The records once the polls of a command, and the stored response of its request, are written.
 abbrev pub facts_started : (at : ℕ) → sessions.Slot → List Fact → Command → (replies : List Fact)
     → List Fact
 facts_started at slot known c replies = with_facts (polls_by at slot known c ++ replies) known
 
--- So it is of every slot that is kept so, and all facts after which one poll more has a number.
+-- The statement holds for every slot in this state, and for all records after which one more poll
+-- has a number.
 abbrev pub WhereStarted : (kept : Slot) → (sessions.Slot → List Fact → Type 0) → Type 0
 WhereStarted kept so = (slot : sessions.Slot) (known : List Fact) → KeepsSlot kept slot
     → next_poll known ≤ MAX_POLLS + 1 → so slot known
 
--- It is answered how many polls were started, from which number on, and how many reads there are.
+-- The answer to a start: the first poll's number, the number of polls, and the number of reads in
+-- all.
 abbrev pub start_answer : (at : ℕ) → sessions.Slot → List Fact → Command → Answer
 start_answer at slot known c =
     answer.Started (next_poll known) (length (sends_by at slot known c)) (reads_in_all known c)
 
--- Where the facts after a start are lawful, its polls are booked, and what is kept of the request after them.
+-- If the records after a start are lawful, its polls are recorded, followed by the stored response
+-- of its request.
 abbrev pub BooksStart : (at : ℕ) → Command → (replies : List Fact) → (old new : Ledger)
     → Result Done BooksFault → sessions.Slot → (known : List Fact) → Type 0
 BooksStart at c replies old new result slot known =
     let later = facts_started at slot known c replies in
     AreLawful later → Moves old new known later result
 
--- The slot then stands after them, the start is answered, and its frames are to be sent.
+-- After a start the slot has its polls.
 abbrev pub StandsStarted : (at : ℕ) → Command → (old new : Ledger) → (after : Slot)
     → Result Done BooksFault → sessions.Slot → (known : List Fact) → Type 0
 StandsStarted at c old new after result slot known =
     starts.IsBefore at slot → old.holds known → new.is_clean
     → OnOk result (KeepsSlot after (slot_by at slot known c))
 
+-- The start has its answer.
 abbrev pub AnswersStart : (at : ℕ) → Command → (old new : Ledger)
     → Result Done BooksFault → sessions.Slot → (known : List Fact) → Type 0
 AnswersStart at c old new result slot known =
     old.holds known → new.is_clean
     → IfOk result (λ done. done.answer ≡ start_answer at slot known c)
 
+-- The frames of the start are to be sent.
 abbrev pub SendsStart : (at : ℕ) → Command → (old new : Ledger)
     → Result Done BooksFault → sessions.Slot → (known : List Fact) → Type 0
 SendsStart at c old new result slot known =

@@ -13,7 +13,7 @@ use Rattle.office_booking.specs.Sessions.Keeping.{KeepsSlots}
 use Rattle.office_books.specs.declared.faults.BooksFault.{BooksFault}
 use Rattle.office_books.specs.Ledgers.{Ledger, Moves}
 
--- the slot of a device that is not connected
+-- The slot of a device that is not connected.
 unfoldable pub opened : Device → Slot
 opened device = record { device = device; session = None; idle = λ i. true }
 
@@ -22,14 +22,15 @@ pub record MayOpen (past : History) (at : ℕ) : Type 0 where
   pub is_past : IsPast past
   pub accepted : opening_refusal_of (facts_of past) at ≡ None
 
--- Each poll that has no outcome is booked as lost, all at once, and there is a slot for each device, with no session.
+-- Each poll without an outcome is recorded as lost, all at once, and each device has a slot without
+-- a session.
 pub record Opens (past : History) (at : ℕ) (old new : Ledger)
     (result : Result (Vec Slot Global) BooksFault) : Type 0 where
   pub books : Moves old new (facts_of past) (facts_of (Opened at ∷ past)) result
   pub slots : old.holds (facts_of past) → new.is_clean
       → IfOk result (λ slots. KeepsSlots slots.items (slots_of (Opened at ∷ past)))
 
--- An opening is refused for its moment alone.
+-- An opening is refused for its timestamp alone.
 abbrev pub IsOfOpening : Refusal → Type 0
 IsOfOpening refusal.ClockBack = Unit {0}
 IsOfOpening refusal.Limit = Unit {0}

@@ -1,4 +1,4 @@
--- The sessions that the office keeps, one slot for each device, in the order in which they were added.
+-- The sessions of an office: one slot for each device, in the order in which they were added.
 use Rattle.std.specs.Prelude.{◌≡◌, List, [], ◌∷◌, Option, Some, None}
 use Rattle.poll_core.specs.Settling as session
 use Rattle.poll_core.specs.Standing as standing
@@ -6,31 +6,34 @@ use Rattle.office_events.specs.declared.facts.Device.{Device}
 use Rattle.office_rules.specs.Sessions as sessions
 use Rattle.office_booking.specs.declared.sessions.slots.Slot.{Slot}
 
--- a kept session stands after all that happened on the device's present session, on the device's terms
+-- The session is in the state after all events of the device's connection, with the device's
+-- timeout and window.
 pub record KeepsSession (device : Device) (kept : standing.State)
     (events : List session.Event) : Type 0 where
   pub stands : standing.Stands kept events
   pub timeout : kept.timeout ≡ device.timeout
   pub window : kept.window ≡ device.window
 
--- there is a session exactly where the device is connected
+-- A session exists exactly if the device is connected.
 abbrev pub KeepsPresent : Device → Option standing.State → Option (List session.Event) → Type 0
 KeepsPresent device None None = Unit {0}
 KeepsPresent device (Some kept) (Some events) = KeepsSession device kept events
 KeepsPresent device None (Some events) = ⊥
 KeepsPresent device (Some kept) None = ⊥
 
+-- A stored slot has the device of the modeled slot, and its session.
 pub record KeepsSlot (kept : Slot) (slot : sessions.Slot) : Type 0 where
   pub device : kept.device ≡ slot.device
   pub session : KeepsPresent slot.device kept.session slot.present
 
+-- The stored slots model these slots, in order.
 abbrev pub KeepsSlots : List Slot → List sessions.Slot → Type 0
 KeepsSlots [] [] = Unit {0}
 KeepsSlots (kept ∷ rest) (slot ∷ slots) = KeepsSlot kept slot × KeepsSlots rest slots
 KeepsSlots [] (slot ∷ slots) = ⊥
 KeepsSlots (kept ∷ rest) [] = ⊥
 
--- What is answered of kept slots is what the definition says of those that they keep.
+-- The result over the stored slots is what the definition gives for the slots that they model.
 abbrev pub IsOfKept : {T : Type 0} → List Slot → T → (List sessions.Slot → T) → Type 0
 IsOfKept kept result says =
     (slots : List sessions.Slot) → KeepsSlots kept slots → result ≡ says slots

@@ -1,4 +1,4 @@
--- The ranges in which the numbers of an event are that is not refused.
+-- The ranges of the numbers of an event that is not refused.
 use Rattle.std.specs.Prelude.{◌≡◌, ℕ, ◌≤◌, true, false, Option, Some, None, is_some}
 use Rattle.energy_core.specs.declared.limits.TheConstants.{MAX_SHOWN}
 use Rattle.office_events.specs.declared.commands.Command.{Command}
@@ -9,7 +9,7 @@ use Rattle.office_rules.specs.Facts.{moment_limit, request_limit}
 use Rattle.office_rules.specs.Sessions.{command_in}
 use Rattle.office_rules.specs.Refusals.{asks_bad_scale, asks_bad_field}
 
--- what a command tells of a counter is what a counter of 32 bits can show
+-- A counter of 32 bits can show the readings in a command.
 abbrev pub FitsCounter : Command → Type 0
 FitsCounter (command.Exchange c) = c.last ≤ MAX_SHOWN
 FitsCounter (command.Reset c) = (c.before ≤ MAX_SHOWN) × (c.after ≤ MAX_SHOWN)
@@ -18,23 +18,25 @@ FitsCounter (command.Manual c) = c.raw ≤ MAX_SHOWN
 FitsCounter (command.Close c) = c.raw ≤ MAX_SHOWN
 FitsCounter _ = Unit {0}
 
--- its scales, its other numbers, and what it tells of a counter
+-- The scales, the other numbers, and the readings of a command are in range.
 pub record IsCommandInRange (at : ℕ) (c : Command) : Type 0 where
   pub scale : asks_bad_scale c ≡ false
   pub field : asks_bad_field at c ≡ false
   pub counter : FitsCounter c
 
+-- The same for an event that may have no command.
 abbrev pub AsksInRange : (at : ℕ) → Option Command → Type 0
 AsksInRange at None = Unit {0}
 AsksInRange at (Some c) = IsCommandInRange at c
 
--- the caller of a request has a name, and its number is none too great
+-- The caller of a request has a name, and its number is not past the limit.
 abbrev pub IsRequestInRange : Event → Type 0
 IsRequestInRange (event.Asked asked) =
     (is_some asked.caller ≡ true) × (asked.number ≤ request_limit)
 IsRequestInRange _ = Unit {0}
 
--- The moment of an event isn't before that of the latest accepted one, nor past the limit, and all its numbers are in their ranges.
+-- The event is not before the latest accepted one and not past the limit, and its numbers are in
+-- their ranges.
 pub record IsInRange (latest at : ℕ) (e : Event) : Type 0 where
   pub not_back : latest ≤ at
   pub moment : at ≤ moment_limit

@@ -1,4 +1,4 @@
--- An event that is being settled: what it adds to the facts that the books hold, and what it tells.
+-- An event that is being settled: its additions to the records of the store, and its notifications.
 use Rattle.std.specs.Prelude.{◌≡◌, List, [], ◌∷◌, ◌++◌, reverse, Result, OnOk, IfOk, IsOk}
 use Rattle.meter_journal.specs.declared.lines.EntryKind.TheVariants as kind
 use Rattle.office_events.specs.declared.facts.Fact.{Fact}
@@ -9,54 +9,58 @@ use Rattle.office_books.specs.declared.faults.BooksFault.{BooksFault}
 use Rattle.office_books.specs.Ledgers.{Ledger}
 use Rattle.office_booking.specs.declared.settling.drafts.Draft.{Draft}
 
--- the facts that are known, with those of the draft in front
+-- The records of the store, preceded by those of the draft, the latest first.
 abbrev pub so_far : Draft → (known : List Fact) → List Fact
 so_far draft known = reverse draft.facts.items ++ known
 
--- a fact and a note more
+-- One more record, with its notification.
 pub record HasMore (old new : Draft) (f : Fact) (note : Note) : Type 0 where
   pub facts : new.facts.items ≡ old.facts.items ++ f ∷ []
   pub notes : new.notes.items ≡ old.notes.items ++ note ∷ []
 
--- An event that settles polls adds outcomes and readings, accepted or held, and nothing else.
+-- The record is an outcome or a reading, accepted or rejected. An event that settles polls adds
+-- nothing else.
 abbrev pub IsTold : Fact → Type 0
 IsTold (fact.Outcome ended) = Unit {0}
 IsTold (fact.Entry booked) = booked.kind ≡ kind.Reading
 IsTold (fact.Hold held) = Unit {0}
 IsTold _ = ⊥
 
+-- All of these records are outcomes or readings.
 abbrev pub AreTold : List Fact → Type 0
 AreTold [] = Unit {0}
 AreTold (f ∷ facts) = IsTold f × AreTold facts
 
--- The facts go on as they are said to, and these notes more are told.
+-- The draft has the records and the notifications that the two functions give.
 pub record IsAdded (known : List Fact) (old new : Draft) (more : List Fact → List Fact)
     (tells : List Fact → List Note) : Type 0 where
   pub facts : so_far new known ≡ more (so_far old known)
   pub notes : new.notes.items ≡ old.notes.items ++ tells (so_far old known)
   pub told : AreTold new.facts.items
 
--- So it is for all facts that the books hold, if none of their answers was wrong and the facts so reached are lawful.
+-- The same for all records that the store holds, if none of its answers was wrong and the resulting
+-- records are lawful.
 abbrev pub Grows : (holds : List Fact → Type 0) (clean : Type 0) (old new : Draft)
     → (List Fact → List Fact) → (List Fact → List Note) → Type 0
 Grows holds clean old new more tells =
     (known : List Fact) → holds known → clean → AreTold old.facts.items
     → AreLawful (more (so_far old known)) → IsAdded known old new more tells
 
--- ... where a call succeeds that asks the books
+-- The same if a call that queries the store succeeds.
 abbrev pub Adds : {T : Type 0} → (old new : Ledger) → (before after : Draft) → Result T BooksFault
     → (List Fact → List Fact) → (List Fact → List Note) → Type 0
 Adds old new before after result more tells =
     OnOk result (Grows old.holds new.is_clean before after more tells)
 
--- What is answered is what the facts say, those of the draft being in front.
+-- The result is what the definition gives for the records of the store, preceded by those of the
+-- draft.
 abbrev pub FindsAfter : {T : Type 0} → (old new : Ledger) → Draft → Result T BooksFault
     → (List Fact → T → Type 0) → Type 0
 FindsAfter old new draft result says =
     (known : List Fact) → old.holds known → new.is_clean → AreTold draft.facts.items
     → AreLawful (so_far draft known) → IfOk result (says (so_far draft known))
 
--- The call succeeds, and asks no books.
+-- The call succeeds and makes no query of the store.
 pub record IsIdle {T B : Type 0} (result : Result T BooksFault) (old new : B)
     (before after : Draft) : Type 0 where
   pub ok : IsOk result

@@ -1,4 +1,4 @@
--- An installation after facts that are not booked yet.
+-- An installation after records that are not written yet.
 use Rattle.std.specs.Prelude.{◌≡◌, ◌+◌, List, ◌++◌, reverse, Result, Ok, Err, if◌then◌else◌}
 use Rattle.energy_core.specs.Admission.{entered}
 use Rattle.energy_core.specs.declared.entries.Last.{Last}
@@ -15,29 +15,31 @@ use Rattle.office_rules.specs.Lawful.{AreLawful}
 use Rattle.office_rules.specs.Laws.{IsRecorded}
 use Rattle.office_booking.specs.Settling.Drafts.{AreTold}
 
--- The installation after an entry, where that may be entered; else it stays.
+-- The installation after an entry, if the entry is admissible; otherwise it is unchanged.
 abbrev pub with_result : Installation → Result (Last × Step) TermFault → Installation
 with_result row (Ok entry) = record row { last = entry.0; total = row.total + entry.1.mwh }
 with_result row (Err fault) = row
 
+-- The installation after an entry, if the entry is admissible.
 abbrev pub with_entry : Installation → Entry → Installation
 with_entry row e = with_result row (entered row.opening.range row.total row.last e)
 
--- Only an entry of its own meter changes an installation.
+-- Only an entry of the same meter changes an installation.
 abbrev pub with_booked : BookedEntry → Installation → Installation
 with_booked booked row =
     if same booked.meter row.opening.meter then with_entry row booked.entry else row
 
+-- The installation after any record.
 abbrev pub installation_with : Fact → Installation → Installation
 installation_with (fact.Entry booked) row = with_booked booked row
 installation_with _ row = row
 
--- an installation as the facts give it
+-- An installation as the records give it.
 pub record IsIn (facts : List Fact) (row : Installation) : Type 0 where
   pub recorded : IsRecorded facts row.opening
   pub stands : row ≡ installation_of facts row.opening
 
--- after these facts it stands so
+-- The state of the installation after these records.
 abbrev pub IsAfterFacts : Installation → (facts : List Fact) → Installation → Type 0
 IsAfterFacts row facts following =
     (known : List Fact) → AreTold facts → AreLawful (reverse facts ++ known) → IsIn known row

@@ -1,8 +1,9 @@
--- The registers that a reply tells.
+-- The registers that a response contains.
 use Rattle.std.specs.Prelude.{ℕ, List}
 use Rattle.mb_wire.specs.Replies.{answer_of}
 use Rattle.mb_wire.specs.declared.replies.Reply.{Reply}
 use Rattle.poll_core.specs.Settling.{words_in}
 
+-- The words of a response.
 abbrev pub words_of : Reply → List ℕ
 words_of reply = words_in (answer_of reply)

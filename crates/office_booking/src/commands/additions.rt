@@ -1,4 +1,4 @@
-//! The facts that a command adds.
+//! Builds the records of a command.
 ghost use Rattle.std.specs.Prelude.{◌≡◌, false, Some, Option, IfOk};
 ghost use Rattle.std.specs.Option.{option_to_list};
 ghost use Rattle.office_events.specs.declared.facts.Fact.{Fact};
@@ -18,7 +18,7 @@ use office_books::{Books, BooksFault};
 use office_events::{Command, Exchange, Fact};
 use std::alloc::{AllocError, Global};
 
-/// A list of one fact, or of none.
+/// A list of the record, or an empty list.
 fn listed(alloc: Global, fact: Option<Fact>) -> Result<Vec<Fact>, AllocError>
     ensures { IfOk result (λ facts. facts.items ≡ option_to_list fact) }
 {
@@ -29,7 +29,7 @@ fn listed(alloc: Global, fact: Option<Fact>) -> Result<Vec<Fact>, AllocError>
     Ok(facts)
 }
 
-/// The closing of the open meter, and the opening of the next.
+/// The closing of the open meter, and the opening of the next one.
 fn exchanged<B: Books>(
     alloc: Global,
     books: &mut B,
@@ -49,7 +49,7 @@ fn exchanged<B: Books>(
     Ok(facts)
 }
 
-/// The facts that a command adds that starts no polls, in order.
+/// Returns the records that a command adds, in order. The command starts no polls.
 pub fn facts_by<B: Books>(
     alloc: Global,
     books: &mut B,

@@ -1,4 +1,4 @@
-//! Commands that are accepted, carried out.
+//! Executes accepted commands.
 ghost use Rattle.std.specs.Prelude.{◌≡◌, ◌≤◌, ◌+◌, ◌++◌, [], true, false, List, Some, OnOk, OnErr, vec_len, vec_capacity};
 ghost use Rattle.std.specs.Option.{option_to_list};
 ghost use Rattle.office_events.specs.declared.commands.Command.TheVariants as commands;
@@ -24,14 +24,14 @@ use office_rules::facts_are_lawful;
 use poll_core::{LAST_MOMENT, each_once, one_event_more};
 use std::alloc::Global;
 
-/// What it is answered, and the bytes that it wants sent.
+/// The answer to a command, and the bytes to send.
 #[derive(Drop)]
 pub struct Done {
     pub answer: Answer,
     pub outgoing: Outgoing,
 }
 
-/// That a list that a command puts is planned.
+/// Proves that the point list in a command, if any, is planned.
 pub fn puts_planned(command: &Command)
     ensures { PutsPlanned (Some command.now) }
 {
@@ -53,7 +53,7 @@ pub fn puts_planned(command: &Command)
     }
 }
 
-/// The slot of a device that was added, for which there is room; none where that failed.
+/// Adds the slot of a new device, unless the command failed. The list has room for it.
 fn add_slot(slots: &mut Vec<Slot>, device: Option<Device>, done: &Result<Done, BooksFault>)
     requires room { vec_len slots.old + 1 ≤ vec_capacity slots.old }
     ensures added { (kept : List sessions.Slot) → KeepsSlots slots.old.items kept
@@ -71,7 +71,7 @@ fn add_slot(slots: &mut Vec<Slot>, device: Option<Device>, done: &Result<Done, B
     }
 }
 
-/// Adds a device: room for its slot is made before it is booked.
+/// Adds a device. The slot's memory is reserved before the device is recorded.
 fn add_device<B: Books>(
     alloc: Global,
     slots: &mut Vec<Slot>,
@@ -97,7 +97,7 @@ fn add_device<B: Books>(
     done
 }
 
-/// Carries out a command that changes no slot.
+/// Executes a command that changes no slot.
 fn note<B: Books>(
     alloc: Global,
     slots: &[Slot],
@@ -118,7 +118,7 @@ fn note<B: Books>(
     record(alloc, books, moment, command, reply)
 }
 
-/// Starts the polls that a command wants started on the session of its device.
+/// Starts the polls of a command on the session of its device.
 fn start_at<B: Books>(
     alloc: Global,
     slots: &mut [Slot],
@@ -147,7 +147,7 @@ fn start_at<B: Books>(
     start(alloc, &mut slots[place], books, moment, command, reply)
 }
 
-/// Carries out a command that is accepted.
+/// Executes an accepted command.
 fn obey<B: Books>(
     alloc: Global,
     slots: &mut Vec<Slot>,
@@ -184,8 +184,10 @@ fn obey<B: Books>(
     }
 }
 
-/// Carries out an event that is accepted and asks a command: what it adds is booked, all at once, with what is kept of the
-/// request; its polls are started, and the slot of a device that it adds is made. Where that fails, nothing has changed.
+/// Executes an accepted event that requests a command.
+///
+/// The command's records and the stored response of the request go into the store all at once. The
+/// polls of the command are started, and a new device gets its slot. On error nothing has changed.
 pub fn carry_out<B: Books>(
     alloc: Global,
     slots: &mut Vec<Slot>,

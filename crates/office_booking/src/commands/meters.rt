@@ -1,4 +1,4 @@
-//! Meters that are installed, corrected and closed.
+//! Builds the records of meters that are installed, corrected and closed.
 ghost use Rattle.std.specs.Prelude.{◌≡◌, ◌≤◌, false, None, Some, Option};
 ghost use Rattle.std.specs.Option.{option_and_then, option_to_list};
 ghost use Rattle.energy_core.specs.declared.entries.Entry.TheVariants as entry;
@@ -19,7 +19,7 @@ use office_events::{
     Manual, Name, Opening, Rescale, Reset, VoidEntry, VoidedEntry,
 };
 
-/// The opening that a command makes.
+/// Returns the opening of a new meter.
 pub fn opening_by(moment: u64, install: &Install) -> Option<Fact>
     requires field { asks_bad_field moment (command.Install install.now) ≡ false }
     requires scale { asks_bad_scale (command.Install install.now) ≡ false }
@@ -36,7 +36,7 @@ pub fn opening_by(moment: u64, install: &Install) -> Option<Fact>
     }))
 }
 
-/// What an exchange installs.
+/// Returns the installation that an exchange requests.
 pub fn installed_by(exchange: &Exchange) -> Install
     ensures { result ≡ history.installed_by exchange.now }
 {
@@ -50,7 +50,7 @@ pub fn installed_by(exchange: &Exchange) -> Install
     }
 }
 
-/// The entry of a kind by which the counter of an installation went on to a number, over so many full turns.
+/// An entry of a kind: the counter advanced to `raw`, over `rolls` full turns.
 fn step_on(row: &Installation, kind: EntryKind, at: u64, raw: u64, rolls: u64) -> Fact
     requires raw { raw ≤ MAX_SHOWN }
     requires rolls { rolls ≤ MAX_ROLLS }
@@ -68,7 +68,7 @@ fn step_on(row: &Installation, kind: EntryKind, at: u64, raw: u64, rolls: u64) -
     })
 }
 
-/// The entry of a kind by which it went on to a number, and was set to another.
+/// An entry of a kind: the counter advanced to `before` and was set to `after`, at the scale `sf`.
 fn change_on(row: &Installation, kind: EntryKind, at: u64, before: u64, after: u64, sf: i16) -> Fact
     requires before { before ≤ MAX_SHOWN }
     requires after { after ≤ MAX_SHOWN }
@@ -87,7 +87,7 @@ fn change_on(row: &Installation, kind: EntryKind, at: u64, before: u64, after: u
     })
 }
 
-/// The entry that an exchange makes at the meter that it closes.
+/// Returns the closing entry of the meter that an exchange removes.
 pub fn closing_by(moment: u64, row: &Installation, exchange: &Exchange) -> Fact
     requires field { asks_bad_field moment (command.Exchange exchange.now) ≡ false }
     requires counter { FitsCounter (command.Exchange exchange.now) }
@@ -102,7 +102,7 @@ pub fn closing_by(moment: u64, row: &Installation, exchange: &Exchange) -> Fact
     )
 }
 
-/// The entry that a reset makes.
+/// Returns the entry of a reset.
 pub fn reset_by(moment: u64, row: &Installation, reset: &Reset) -> Fact
     requires counter { FitsCounter (command.Reset reset.now) }
     ensures { Some result ≡ history.made_on moment (command.Reset reset.now) row.now }
@@ -111,7 +111,7 @@ pub fn reset_by(moment: u64, row: &Installation, reset: &Reset) -> Fact
     change_on(row, EntryKind::Reset, moment, reset.before, reset.after, sf)
 }
 
-/// The entry that a change of the scale makes.
+/// Returns the entry of a change of scale.
 pub fn rescale_by(moment: u64, row: &Installation, rescale: &Rescale) -> Fact
     requires scale { asks_bad_scale (command.Rescale rescale.now) ≡ false }
     requires counter { FitsCounter (command.Rescale rescale.now) }
@@ -128,7 +128,7 @@ pub fn rescale_by(moment: u64, row: &Installation, rescale: &Rescale) -> Fact
     )
 }
 
-/// The entry of a number that someone read off.
+/// Returns the entry of a reading by hand.
 pub fn manual_by(moment: u64, row: &Installation, manual: &Manual) -> Fact
     requires field { asks_bad_field moment (command.Manual manual.now) ≡ false }
     requires counter { FitsCounter (command.Manual manual.now) }
@@ -138,7 +138,7 @@ pub fn manual_by(moment: u64, row: &Installation, manual: &Manual) -> Fact
     step_on(row, EntryKind::Manual, at, manual.raw, manual.rolls)
 }
 
-/// The entry that a closing makes.
+/// Returns the entry of a closing.
 pub fn close_by(moment: u64, row: &Installation, close: &Close) -> Fact
     requires field { asks_bad_field moment (command.Close close.now) ≡ false }
     requires counter { FitsCounter (command.Close close.now) }
@@ -147,7 +147,7 @@ pub fn close_by(moment: u64, row: &Installation, close: &Close) -> Fact
     step_on(row, EntryKind::Closing, moment, close.raw, close.rolls)
 }
 
-/// That an entry stands no more.
+/// Returns the record that an entry is void.
 pub fn void_by(moment: u64, void: &VoidEntry) -> Option<Fact>
     ensures { result ≡ adding.void_by moment void.now }
 {
@@ -158,7 +158,7 @@ pub fn void_by(moment: u64, void: &VoidEntry) -> Option<Fact>
     }))
 }
 
-/// The meter that is open at a register.
+/// Returns the open meter at a register.
 pub fn open_meter<B: Books>(
     books: &mut B,
     register: &Option<Name>,

@@ -1,4 +1,4 @@
-//! Commands that are recorded, and change no slot.
+//! Records commands that change no slot.
 ghost use Rattle.std.specs.Prelude.{◌≡◌, ◌++◌, [], false, List, Option, IfOk};
 ghost use Rattle.std.specs.Option.{option_to_list};
 ghost use Rattle.office_events.specs.declared.facts.Fact.{Fact};
@@ -19,7 +19,7 @@ use office_books::{Books, BooksFault};
 use office_events::{Answer, Command, Fact};
 use std::alloc::{AllocError, Global};
 
-/// The facts of a command, and what is kept of the request after them.
+/// The records of a command, followed by the stored response of its request.
 fn with_reply(facts: Vec<Fact>, reply: Option<Fact>) -> Result<Vec<Fact>, AllocError>
     ensures { IfOk result (λ all. all.items ≡ facts.items ++ option_to_list reply) }
 {
@@ -30,7 +30,7 @@ fn with_reply(facts: Vec<Fact>, reply: Option<Fact>) -> Result<Vec<Fact>, AllocE
     Ok(all)
 }
 
-/// Books the facts of a command, and what is kept of the request after them.
+/// Records the records of a command, followed by the stored response of its request.
 pub fn book<B: Books>(
     books: &mut B,
     facts: Vec<Fact>,
@@ -43,7 +43,7 @@ pub fn book<B: Books>(
     books.book(all)
 }
 
-/// Carries out a command that starts no polls. The slot of a device that it adds is the caller's to make.
+/// Executes a command that starts no polls. For a new device the caller adds the slot.
 pub fn record<B: Books>(
     alloc: Global,
     books: &mut B,

@@ -1,4 +1,4 @@
-//! Devices and registers that are added.
+//! Builds the records of new devices, point lists and registers.
 ghost use Rattle.std.specs.Prelude.{◌≡◌, false, IfOk, Option};
 ghost use Rattle.office_events.specs.declared.commands.Command.TheVariants as command;
 ghost use Rattle.office_rules.specs.Sessions as sessions;
@@ -13,7 +13,7 @@ use office_events::{
 };
 use std::alloc::AllocError;
 
-/// The device that a command adds.
+/// Returns the device that a command adds.
 pub fn device_by(add: &AddDevice) -> Option<Device>
     requires { asks_bad_field 0 (command.AddDevice add.now) ≡ false }
     ensures { result ≡ sessions.device_by add.now }
@@ -26,7 +26,7 @@ pub fn device_by(add: &AddDevice) -> Option<Device>
     })
 }
 
-/// The point list that a command puts.
+/// Returns the point list that a command stores.
 pub fn list_by(put: &PutList) -> Result<Option<Fact>, AllocError>
     ensures { IfOk result (λ added. added ≡ adding.list_by put.now) }
 {
@@ -47,7 +47,7 @@ fn function_by(function: u64) -> ReadFunction
     }
 }
 
-/// The register that a command adds.
+/// Returns the register that a command adds.
 pub fn register_by(add: &AddRegister) -> Option<Fact>
     requires field { asks_bad_field 0 (command.AddRegister add.now) ≡ false }
     requires scale { asks_bad_scale (command.AddRegister add.now) ≡ false }

@@ -1,4 +1,4 @@
-//! The kept answer of a command that was asked so that it can be repeated.
+//! The stored response of a request, so that a retry acts once.
 ghost use Rattle.std.specs.Prelude.{◌≡◌, [], List, IfOk};
 ghost use Rattle.std.specs.Option.{option_to_list};
 ghost use Rattle.office_events.specs.declared.facts.Fact.{Fact};
@@ -8,7 +8,7 @@ ghost use Rattle.office_booking.specs.Commands.Effects.{replies_by};
 use office_events::{Asked, Command, CommandKind, Event, Fact, Reply};
 use std::alloc::AllocError;
 
-/// The kind of a command.
+/// Returns the kind of a command.
 pub fn kind_of(command: &Command) -> CommandKind
     ensures { result ≡ history.kind_of command.now }
 {
@@ -28,7 +28,7 @@ pub fn kind_of(command: &Command) -> CommandKind
     }
 }
 
-/// The answer of a request, with a copy of its bytes.
+/// The response of a request, with a copy of the request's bytes.
 fn kept_of(moment: u64, asked: &Asked) -> Result<Option<Fact>, AllocError>
     ensures { IfOk result (λ kept. option_to_list kept ≡ history.reply_by moment asked.now) }
 {
@@ -44,7 +44,7 @@ fn kept_of(moment: u64, asked: &Asked) -> Result<Option<Fact>, AllocError>
     })))
 }
 
-/// What is kept of an event: the answer of one that was asked, and else nothing.
+/// Returns the record to store for a retry: the response of a request; none for any other event.
 pub fn reply_of(moment: u64, event: &Event) -> Result<Option<Fact>, AllocError>
     ensures { IfOk result (λ kept. option_to_list kept ≡ replies_by moment event.now) }
 {

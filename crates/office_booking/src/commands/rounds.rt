@@ -1,4 +1,4 @@
-//! The reads that a command wants sent.
+//! Finds the reads that a command sends.
 ghost use Rattle.std.specs.Prelude.{◌≡◌, true, [], ◌∷◌, IfOk};
 ghost use Rattle.office_rules.specs.History.{spans_by};
 ghost use Rattle.office_rules.specs.Refusals.{is_start, reads_in_all};
@@ -10,7 +10,7 @@ use office_books::{Books, BooksFault, read_count_at, reads_at};
 use office_events::{Command, StartRound};
 use std::alloc::{AllocError, Global};
 
-/// The reads that are left, and how many there are in all.
+/// The reads still to send, and the number of reads in the complete plan.
 #[derive(Drop)]
 pub struct Reads {
     pub spans: Vec<ReadSpan>,
@@ -42,7 +42,7 @@ fn reads_of_round<B: Books>(
     })
 }
 
-/// One read.
+/// A single read.
 fn only(alloc: Global, span: ReadSpan) -> Result<Reads, AllocError>
     ensures spans { IfOk result (λ reads. reads.spans.items ≡ span ∷ []) }
     ensures all { IfOk result (λ reads. reads.of ≡ 1) }
@@ -52,7 +52,7 @@ fn only(alloc: Global, span: ReadSpan) -> Result<Reads, AllocError>
     Ok(Reads { spans, of: 1 })
 }
 
-/// The reads that a command wants sent.
+/// Returns the reads that a command sends.
 pub fn reads_by<B: Books>(
     alloc: Global,
     books: &mut B,

@@ -1,4 +1,4 @@
-//! Commands that start polls.
+//! Executes commands that start polls.
 ghost use Rattle.std.specs.Prelude.{◌≡◌, ◌≤◌, true, OnErr};
 ghost use Rattle.std.specs.Option.{option_to_list};
 ghost use Rattle.office_rules.specs.Refusals.{is_start};
@@ -16,7 +16,7 @@ use office_events::{Answer, Command, Fact, MAX_POLLS};
 use poll_core::LAST_MOMENT;
 use std::alloc::Global;
 
-/// Books the polls that a command wants started on the session of a device, and starts them.
+/// Records the polls that a command starts on the session of a device, and starts them.
 pub fn start<B: Books>(
     alloc: Global,
     slot: &mut Slot,

@@ -1,4 +1,4 @@
-//! The opening of an office: no device is connected, and each poll that has no outcome is lost.
+//! Opens an office: no device is connected, and each poll without an outcome is lost.
 ghost use Rattle.std.specs.Prelude.{◌≡◌, ◌≤◌, List, map, reverse, None, IfOk, IfSome, OnErr};
 ghost use Rattle.office_events.specs.declared.facts.Fact.{Fact};
 ghost use Rattle.office_rules.specs.Facts.{moment_limit, devices_in};
@@ -17,7 +17,7 @@ use office_rules::facts_are_lawful;
 use poll_core::{LAST_MOMENT, LostCause, Outcome};
 use std::alloc::{AllocError, Global};
 
-/// The slot of a device that isn't connected.
+/// The slot of a device that is not connected.
 fn opened(device: &Device) -> Slot
     ensures { result ≡ opening.opened device.now }
 {
@@ -27,14 +27,14 @@ fn opened(device: &Device) -> Slot
     }
 }
 
-/// The slots of an office that is opened: no device is connected.
+/// The slots of a newly opened office: no device is connected.
 fn opened_slots(alloc: Global, devices: &[Device]) -> Result<Vec<Slot>, AllocError>
     ensures { IfOk result (λ slots. slots.items ≡ map opening.opened devices.now) }
 {
     devices.iter().map(|device| opened(device)).collect(alloc)
 }
 
-/// That a poll is lost, since the office was opened anew.
+/// The record that a poll was lost because the office was reopened.
 fn lost(moment: u64, poll: &Poll) -> Fact
     ensures { result ≡ history.lost moment poll.now }
 {
@@ -45,14 +45,14 @@ fn lost(moment: u64, poll: &Poll) -> Fact
     })
 }
 
-/// That polls are lost.
+/// The records that polls were lost.
 fn lost_facts(alloc: Global, moment: u64, polls: &[Poll]) -> Result<Vec<Fact>, AllocError>
     ensures { IfOk result (λ facts. facts.items ≡ map (history.lost moment) polls.now) }
 {
     polls.iter().map(|poll| lost(moment, poll)).collect(alloc)
 }
 
-/// The slots of the devices in the books.
+/// The slots of the devices in the store.
 fn slots_in<B: Books>(alloc: Global, books: &mut B) -> Result<Vec<Slot>, BooksFault>
     ensures found { Finds (B.ledger books.old) (B.ledger books.new) result
         (λ known slots. slots.items ≡ map opening.opened (reverse (devices_in known))) }
@@ -62,7 +62,7 @@ fn slots_in<B: Books>(alloc: Global, books: &mut B) -> Result<Vec<Slot>, BooksFa
     Ok(opened_slots(alloc, &devices)?)
 }
 
-/// Books that each poll that has no outcome is lost. If there is none, nothing is written.
+/// Records each poll without an outcome as lost. If no poll is pending, nothing is written.
 fn book_lost<B: Books>(alloc: Global, books: &mut B, moment: u64) -> Result<(), BooksFault>
     ensures books { (known : List Fact) → AreLawful (with_lost moment known)
         → Moves (B.ledger books.old) (B.ledger books.new) known (with_lost moment known) result }
@@ -78,8 +78,9 @@ fn book_lost<B: Books>(alloc: Global, books: &mut B, moment: u64) -> Result<(), 
     books.book(facts)
 }
 
-/// Why the opening of an office is refused over these books: it comes before what is recorded, or past the limit.
-/// `None` where nothing speaks against it. Moments are seconds since 1970-01-01 UTC.
+/// Returns the reason to refuse an opening: it is before a recorded time, or past the limit.
+///
+/// Timestamps are in seconds since 1970-01-01 UTC.
 pub fn opening_refusal<B: Books>(books: &mut B, moment: u64) -> Result<Option<Refusal>, BooksFault>
     ensures found { Finds (B.ledger books.old) (B.ledger books.new) result
         (λ known why. why ≡ refusals.opening_refusal_of known moment) }
@@ -96,9 +97,10 @@ pub fn opening_refusal<B: Books>(books: &mut B, moment: u64) -> Result<Option<Re
     Ok(None)
 }
 
-/// Books the opening of an office that is not refused: that each poll is lost that has no outcome, all at once; where
-/// there is none, nothing is written. Answers a slot for each device, in the order in which they were added; none is
-/// connected.
+/// Records an acceptable opening, and returns a slot for each device.
+///
+/// All polls without an outcome are recorded as lost, all at once. If no poll is pending, nothing
+/// is written. The slots are in the order in which the devices were added; no device is connected.
 pub fn book_opening<B: Books>(
     alloc: Global,
     books: &mut B,

@@ -1,4 +1,4 @@
-//! Where the slot of a device stands, and whether it has a session.
+//! Finds the slot of a device, and whether it has a session.
 ghost use Rattle.std.specs.Prelude.{◌≡◌, ◌<◌, length, IfSome, List, slice_get, is_some};
 ghost use Rattle.std.specs.Option.{option_and_then};
 ghost use Rattle.office_rules.specs.Facts as facts;
@@ -9,7 +9,7 @@ ghost use Rattle.office_booking.specs.Sessions.Places.{has_slot, place_in};
 use crate::sessions::slots::Slot;
 use office_events::{Device, Name};
 
-/// Whether what was handed in for a name is that of the device.
+/// Returns whether the device has the given name.
 pub fn is_named(given: &Option<Name>, device: &Device) -> bool
     ensures { result ≡ facts.is_named given.now device.now.name }
 {
@@ -19,14 +19,14 @@ pub fn is_named(given: &Option<Name>, device: &Device) -> bool
     }
 }
 
-/// The first slot whose device has the name.
+/// The index of the first slot whose device has the name.
 fn position_of(slots: &[Slot], given: &Option<Name>) -> Option<usize>
     ensures { result ≡ place_in slots.now given.now }
 {
     slots.iter().position(|slot| is_named(given, &slot.device))
 }
 
-/// Where the slot of the device of a name stands.
+/// Returns the index of the slot of the device with the name.
 pub fn place_of(slots: &[Slot], given: &Option<Name>) -> Option<usize>
     ensures inside { IfSome result (λ i. i < length slots.now) }
     ensures there { is_some result ≡ has_slot slots.now given.now }
@@ -36,14 +36,14 @@ pub fn place_of(slots: &[Slot], given: &Option<Name>) -> Option<usize>
     position_of(slots, given)
 }
 
-/// Whether a device has the name.
+/// Returns whether a device has the name.
 pub fn has_device(slots: &[Slot], given: &Option<Name>) -> bool
     ensures { IsOfKept slots.now result (λ stood. is_some (sessions.slot_of stood given.now)) }
 {
     place_of(slots, given).is_some()
 }
 
-/// Whether a device of the name is connected.
+/// Returns whether a device with the name is connected.
 pub fn is_connected(slots: &[Slot], given: &Option<Name>) -> bool
     ensures { IsOfKept slots.now result (λ stood. is_some (sessions.present_of stood given.now)) }
 {

@@ -1,11 +1,11 @@
-//! The devices of the office, and their sessions.
+//! The slot of a device, with its session.
 ghost use Rattle.std.specs.Prelude.{◌≡◌, true};
 ghost use Rattle.office_booking.specs.Sessions.Idle.{is_idle};
 
 use office_events::Device;
 use poll_core::Session;
 
-/// A device, and its session while it is connected.
+/// A device, with its session while it is connected.
 #[derive(Drop)]
 pub struct Slot {
     pub device: Device,

@@ -1,4 +1,4 @@
-//! An event that is being settled.
+//! The records and notifications of an event that is being settled.
 ghost use Rattle.std.specs.Prelude.{◌≡◌, ◌++◌, ◌∷◌, [], OnOk, IfErr};
 ghost use Rattle.office_books.specs.declared.faults.BooksFault.TheVariants.{Memory};
 ghost use Rattle.office_booking.specs.Settling.Drafts.{HasMore};
@@ -7,7 +7,8 @@ use office_books::BooksFault;
 use office_events::{Fact, Note};
 use std::alloc::Global;
 
-/// The facts and notes that an event adds, oldest first. They are booked and told together, or not at all.
+/// The pending records and notifications of an event, oldest first. They are written and reported
+/// together, or not at all.
 #[derive(Drop)]
 pub struct Draft {
     pub facts: Vec<Fact>,
@@ -15,7 +16,7 @@ pub struct Draft {
 }
 
 impl Draft {
-    /// A draft that adds nothing. It takes no memory.
+    /// Creates an empty draft. The call allocates no memory.
     pub fn new(alloc: Global) -> Draft
         ensures facts { result.facts.items ≡ [] }
         ensures notes { result.notes.items ≡ [] }
@@ -26,7 +27,7 @@ impl Draft {
         }
     }
 
-    /// Adds a fact, and the note of it.
+    /// Adds a record with its notification.
     pub fn add(&mut self, fact: Fact, note: Note) -> Result<(), BooksFault>
         ensures ok { OnOk result (HasMore self.old self.new fact note) }
         ensures err { IfErr result (λ fault. fault ≡ Memory) }

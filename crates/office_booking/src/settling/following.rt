@@ -1,4 +1,4 @@
-//! Installations as they stand after a draft.
+//! The state of installations after a draft.
 ghost use Rattle.std.specs.Prelude.{◌≡◌};
 ghost use Rattle.office_rules.specs.Meters.{open_at};
 ghost use Rattle.office_rules.specs.Ranges.{IsSound};
@@ -12,7 +12,7 @@ use office_books::{Books, BooksFault, after_entry};
 use office_events::{Fact, Installation, Name};
 use office_rules::{meters_are_kept, names_are_distinct};
 
-/// An installation after one more fact.
+/// An installation after one more record.
 fn with_fact(row: &Installation, fact: &Fact) -> Installation
     requires { IsSound row.now }
     ensures sound { IsSound result }
@@ -27,7 +27,7 @@ fn with_fact(row: &Installation, fact: &Fact) -> Installation
     }
 }
 
-/// An installation after these facts.
+/// An installation after these records.
 fn with_facts(row: &Installation, facts: &[Fact]) -> Installation
     requires { IsSound row.now }
     ensures sound { IsSound result }
@@ -45,7 +45,7 @@ fn with_facts(row: &Installation, facts: &[Fact]) -> Installation
     following
 }
 
-/// The installation that is open at a register after the draft.
+/// Returns the open installation at a register, after the draft.
 pub fn open_installation<B: Books>(
     books: &mut B,
     draft: &Draft,

@@ -1,4 +1,4 @@
-//! Polls that end, and the readings of their replies.
+//! Records polls that end, and the readings of their responses.
 ghost use Rattle.std.specs.Prelude.{◌≡◌, OnOk, IfErr};
 ghost use Rattle.poll_core.specs.Telling.{settled_of, LendsReply};
 ghost use Rattle.office_rules.specs.Readings as readings;
@@ -22,7 +22,7 @@ use office_events::{
 };
 use poll_core::Settled;
 
-/// The fact and the note of a reading.
+/// The record and the notification of a reading.
 fn told_of(meter: Name, poll: u64, reading: &Reading, verdict: Verdict) -> (Fact, Note)
     ensures fact { result.0 ≡ readings.as_fact meter poll reading.now verdict }
     ensures note { result.1 ≡ notes.as_note meter reading.now verdict }
@@ -63,7 +63,7 @@ fn told_of(meter: Name, poll: u64, reading: &Reading, verdict: Verdict) -> (Fact
     }
 }
 
-/// Judges a reading of an installation, and adds what becomes of it.
+/// Judges a reading of an installation, and adds its record and notification.
 fn add_judged(
     draft: &mut Draft,
     row: &Installation,
@@ -80,7 +80,8 @@ fn add_judged(
     draft.add(fact, note)
 }
 
-/// Adds what a reply to a poll tells of a register, if it is read by it and a meter is open there.
+/// Adds the reading of a register from the response to a poll. The read must span the register, and
+/// the register must have an open meter; otherwise nothing is added.
 fn add_reading<B: Books>(
     books: &mut B,
     draft: &mut Draft,
@@ -104,7 +105,7 @@ fn add_reading<B: Books>(
     add_judged(draft, &row, poll.number, &reading)
 }
 
-/// Adds what a reply tells of these registers, one after the other.
+/// Adds the readings of several registers from a response, in order.
 fn add_readings<B: Books>(
     books: &mut B,
     draft: &mut Draft,
@@ -124,7 +125,7 @@ fn add_readings<B: Books>(
     Ok(())
 }
 
-/// Adds the readings of the reply to the poll of a number.
+/// Adds the readings of the response to a poll.
 fn add_reply<B: Books>(
     books: &mut B,
     draft: &mut Draft,
@@ -144,7 +145,7 @@ fn add_reply<B: Books>(
     add_readings(books, draft, at, &row.poll, reply, &registers)
 }
 
-/// Adds the outcome of a poll, and then the readings of its reply.
+/// Adds the outcome of a poll, followed by the readings of its response.
 pub fn add_outcome<B: Books>(
     books: &mut B,
     draft: &mut Draft,

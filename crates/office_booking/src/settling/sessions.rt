@@ -1,4 +1,4 @@
-//! What an event settles on a session.
+//! Applies an event to a session.
 ghost use Rattle.std.specs.Prelude.{◌≡◌, ◌≤◌, true, not, None, OnOk, IfOk};
 ghost use Rattle.poll_core.specs.Settling as happening;
 ghost use Rattle.office_rules.specs.Facts.{moment_limit};
@@ -13,7 +13,7 @@ use office_books::{Books, BooksFault};
 use office_events::{Device, Event};
 use poll_core::{Closing, Session, longer_pieces_settle};
 
-/// Brings a whole piece to a session, and adds what it settles.
+/// Feeds a complete chunk to a session, and adds what it settles.
 fn settle_piece<B: Books>(
     session: &mut Session,
     books: &mut B,
@@ -44,7 +44,7 @@ fn settle_piece<B: Books>(
     }
 }
 
-/// Brings a moment at which nothing came, and adds what it settles.
+/// Feeds a timer event to a session, and adds what it settles.
 fn settle_tick<B: Books>(
     session: &mut Session,
     books: &mut B,
@@ -71,7 +71,7 @@ fn settle_tick<B: Books>(
     }
 }
 
-/// Ends a session, and adds what that settles.
+/// Closes a session, and adds what the close settles.
 fn settle_close<B: Books>(
     session: &mut Session,
     books: &mut B,
@@ -98,7 +98,8 @@ fn settle_close<B: Books>(
     }
 }
 
-/// Brings an event to the session of a device, if it reaches it. Answers whether the device stays connected.
+/// Applies an event to the session of a device, if it concerns the device. Returns whether the
+/// device stays connected.
 pub fn settle_session<B: Books>(
     session: &mut Session,
     device: &Device,

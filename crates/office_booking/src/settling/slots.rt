@@ -1,4 +1,4 @@
-//! What an event settles on the slots of an office.
+//! Applies an event to the slots of an office.
 ghost use Rattle.std.specs.Prelude.{◌≡◌, ℕ, ◌≤◌, [], List, map, Some, OnOk, is_some};
 ghost use Rattle.office_rules.specs.Facts.{moment_limit};
 ghost use Rattle.office_rules.specs.Sessions as sessions;
@@ -27,7 +27,7 @@ fn connects(event: &Event, device: &Device) -> bool
     }
 }
 
-/// Whether the event reaches the session of the device.
+/// Whether the event concerns the session of the device.
 fn reaches(event: &Event, device: &Device) -> bool
     ensures { (at : ℕ) → result ≡ is_some (happening_on at event.now device.now) }
 {
@@ -41,7 +41,7 @@ fn reaches(event: &Event, device: &Device) -> bool
     }
 }
 
-/// A device that has just been connected.
+/// The slot of a newly connected device.
 fn connected(device: &Device) -> Slot
     ensures { KeepsSlot result (record { device = device.now; ended = []; present = Some [] }) }
 {
@@ -51,7 +51,7 @@ fn connected(device: &Device) -> Slot
     }
 }
 
-/// Brings an event to a slot, if it reaches it. Where that fails the slot has no session any more.
+/// Applies an event to a slot, if it concerns the slot. On error the slot no longer has a session.
 fn settle_slot<B: Books>(
     slot: &mut Slot,
     books: &mut B,
@@ -74,7 +74,7 @@ fn settle_slot<B: Books>(
         *slot = connected(&slot.device);
         return Ok(());
     }
-    // (a session is large, so those of other devices stay where they are)
+    // A session is large: sessions of other devices are not moved.
     if !reaches(event, &slot.device) {
         return Ok(());
     }
@@ -87,7 +87,7 @@ fn settle_slot<B: Books>(
     Ok(())
 }
 
-/// Brings an event to each slot that it reaches, in the order in which the devices were added.
+/// Applies an event to each slot that it concerns, in the order in which the devices were added.
 pub fn settle_slots<B: Books>(
     slots: &mut [Slot],
     books: &mut B,

@@ -1,7 +1,7 @@
-//! The bytes that an office wants sent.
+//! The bytes that an office sends.
 use std::marker::Model;
 
-/// At most 260 bytes: the frames of 16 reads are 192.
+/// A buffer of at most 260 bytes: the frames of 16 reads are 192.
 #[derive(Drop)]
 pub struct Outgoing {
     bytes: [u8; 260],
@@ -21,7 +21,7 @@ impl Model for Outgoing {
 impl Outgoing {
     ghost use Rattle.std.specs.Prelude.{◌≡◌, ◌≤◌, ◌+◌, ◌++◌, [], length, take};
 
-    /// No bytes.
+    /// Creates an empty buffer.
     pub fn none() -> Outgoing
         ensures { result ≡ [] }
     {
@@ -31,7 +31,7 @@ impl Outgoing {
         }
     }
 
-    /// Adds bytes after those that are there.
+    /// Appends bytes.
     pub(crate) fn add(&mut self, frame: &[u8])
         requires { length self.old + length frame.now ≤ 260 }
         ensures { self.new ≡ self.old ++ frame.now }
@@ -41,6 +41,7 @@ impl Outgoing {
         self.len = end;
     }
 
+    /// Returns the bytes.
     pub fn as_slice(&self) -> &[u8]
         ensures { result.now ≡ self.now }
     {

@@ -1,4 +1,4 @@
-//! The reads of a list that the session of a device lets through, one after the other.
+//! Starts those reads of a list that the session of the device allows, one by one.
 ghost use Rattle.std.specs.Prelude.{◌≡◌, ◌+◌, ◌≤◌, None, length, IfOk};
 ghost use Rattle.std.specs.List.{flat_map};
 ghost use Rattle.office_rules.specs.Sessions as sessions;
@@ -14,7 +14,7 @@ use office_events::{Device, Fact, MAX_POLLS, Poll};
 use poll_core::{LAST_MOMENT, MAX_WINDOW, Session};
 use std::alloc::{AllocError, Global};
 
-/// How many of these reads the session lets through now.
+/// The number of these reads that the session allows now.
 fn count_on(kept: &Session, device: &Device, spans: &[ReadSpan]) -> usize
     ensures few { result ≤ MAX_WINDOW }
     ensures inside { result ≤ length spans.now }
@@ -26,7 +26,7 @@ fn count_on(kept: &Session, device: &Device, spans: &[ReadSpan]) -> usize
         .min(spans.len())
 }
 
-/// The facts of the polls of these reads, as far as the session lets them through, in order.
+/// The poll records of the first reads that the session allows, in order.
 fn poll_facts(
     alloc: Global,
     kept: &Session,
@@ -54,8 +54,9 @@ fn poll_facts(
     Ok(facts)
 }
 
-/// The facts of the polls of these reads, as far as the session of the device lets them through, in order. `number` is that
-/// of the first.
+/// Returns the poll records of the first reads that the session of the device allows, in order.
+///
+/// `number` is the number of the first poll.
 pub fn polls_on(
     alloc: Global,
     slot: &Slot,
@@ -73,7 +74,7 @@ pub fn polls_on(
     }
 }
 
-/// Starts the polls of these reads on the session, as far as it lets them through, in order.
+/// Starts the first reads that the session allows, in order.
 fn start_each(
     kept: &mut Session,
     device: &Device,
@@ -101,8 +102,10 @@ fn start_each(
     outgoing
 }
 
-/// Starts the polls of these reads on the session of the device, as far as it lets them through, in order, and answers the
-/// frames that it wants sent. `number` is that of the first.
+/// Starts the first reads that the session of the device allows, in order, and returns their
+/// frames.
+///
+/// `number` is the number of the first poll.
 pub fn start_on(slot: &mut Slot, number: u64, moment: u64, spans: &[ReadSpan]) -> Outgoing
     requires number { number ≤ MAX_POLLS + 1 }
     requires limit { moment ≤ LAST_MOMENT }

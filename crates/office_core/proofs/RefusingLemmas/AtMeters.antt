@@ -1,4 +1,4 @@
--- Why a correction is refused, told by its entry at the latest meter of its register.
+-- A correction is refused by its entry at the latest meter of its register.
 use Rattle.std.proofs.Common.{◌≡◌, ℕ, Bool, true, false, cond, ◌||◌, List, [], ◌∷◌, Option, Some, None, is_some, nat_le, length, refl, sym, ap, ◌∙◌}
 use Rattle.std.specs.List.{find}
 use Rattle.std.specs.Option.{is_none, option_and_then}
@@ -24,7 +24,7 @@ use Rattle.office_core.specs.declared.refusing.arrivals.Arrival.{Arrival}
 use Rattle.office_core.specs.Refusing.Entries.{entry_has_fault, is_faulty, speaks_of_entry, entry_refusal}
 use Rattle.office_core.specs.Refusing.Reasons.{speaks_against, refusal_under}
 
--- two tests that agree find the same
+-- Two tests that agree find the same item.
 pub same_find : {X : Type 0} (p q : X → Bool) (xs : List X) → ((x : X) → p x ≡ q x) → find p xs ≡ find q xs
 same_find p q [] h = refl
 same_find p q (x ∷ xs) h =
@@ -54,7 +54,8 @@ faulty_at : (facts : List Fact) (at : ℕ) (c : Command) (row : Installation) (e
 faulty_at facts at c row e why is same =
     sym (ap (makes_fault at why c) (open_found facts (corrected_at c) ∙ ap (option_and_then if_open) (sym is)) ∙ faulty_if at c row e why row.ended same)
 
--- A command corrects the meter at its register by this entry, and nothing else is looked at but a scale and other numbers.
+-- A command corrects the meter at its register by this entry. Besides, only its scale and its other
+-- numbers matter.
 pub record Corrects (slots : List Slot) (facts : List Fact) (at : ℕ) (c : Command) (row : Installation) (e : Entry)
     (off_scale off_limits : Bool) : Type 0 where
   pub unknown : asks_unknown slots facts c ≡ has_no_meter facts (corrected_at c)
@@ -95,14 +96,14 @@ corrects_for slots facts arrival c row e off_scale off_limits is h (refusal.NotP
 corrects_for slots facts arrival c row e off_scale off_limits is h (refusal.Store store.Refused) = sym (rw h.start refl)
 corrects_for slots facts arrival c row e off_scale off_limits is h _ = refl
 
--- So it is refused as its entry is.
+-- The command is refused as its entry is.
 pub refused_as : (slots : List Slot) (facts : List Fact) (arrival : Arrival) (c : Command) (row : Installation) (e : Entry) (off_scale off_limits : Bool)
     → Some row ≡ option_and_then (installation_at facts) (corrected_at c) → Corrects slots facts arrival.moment c row e off_scale off_limits
     → entry_refusal arrival off_scale off_limits row e ≡ refusal_under slots facts arrival c
 refused_as slots facts arrival c row e off_scale off_limits is h =
     same_find _ _ reasons (corrects_for slots facts arrival c row e off_scale off_limits is h)
 
--- refused as before, or else for want of room
+-- The same refusal, or else a refusal for lack of room.
 abbrev pub or_limit : (crowded : Bool) → Option Refusal → Option Refusal
 or_limit crowded None = cond crowded (Some refusal.Limit) None
 or_limit crowded (Some why) = Some why
@@ -123,7 +124,7 @@ limited false true faulty = refl
 limited false false true = refl
 limited false false false = refl
 
--- want of room is looked at last
+-- Lack of room is checked last.
 pub room_last : (arrival : Arrival) (off_scale limits crowded : Bool) (row : Installation) (e : Entry)
     → or_limit crowded (entry_refusal arrival off_scale limits row e) ≡ entry_refusal arrival off_scale (limits || crowded) row e
 room_last arrival off_scale limits false row e =
@@ -139,7 +140,7 @@ room_last arrival off_scale limits true row e =
     (after (is_faulty (if_open row) e fault.TotalFull) refusal.TotalFull _ _
     (after row.ended refusal.Ended _ _ (limited arrival.is_beyond limits (is_faulty (if_open row) e fault.NotBelowRange))))))))
 
--- an exchange is refused as its closing is, or else for want of room
+-- An exchange is refused as its closing is, or else for lack of room.
 pub exchanged : (slots : List Slot) (facts : List Fact) (arrival : Arrival) (c : Exchange) (row : Installation) (off_scale limits crowded : Bool) (r : Option Refusal)
     → Some row ≡ option_and_then (installation_at facts) c.register → false ≡ is_some (option_and_then (opening_of facts) c.meter)
     → off_scale ≡ asks_bad_scale (command.Exchange c) → limits ≡ asks_bad_field arrival.moment (command.Exchange c)

@@ -1,4 +1,5 @@
--- The next entry is judged alike by the whole energy of a meter and by that before an entry, where the whole passes no limit.
+-- The next entry has the same verdict by a meter's total and by the energy before an entry, if the
+-- total passes no limit.
 use Rattle.std.proofs.Common.{◌≡◌, ◌⊎◌, ℕ, ◌+◌, ◌*◌, ◌≤◌, ◌<◌, Bool, true, false, List, [], ◌∷◌, refl, sym, ap, subst, ◌∙◌, inl, inr, Option, Some, None, is_some, arith, lt-ltb, ltb-true}
 use Rattle.std.specs.List.{find}
 use Rattle.std.specs.Option.{option_map, option_and_then}
@@ -24,7 +25,8 @@ use Rattle.office_rules.specs.Refusals.{verdict_between, verdict_at, is_held_for
 use Rattle.office_books.specs.Near.{with_energy, TellsNear}
 use Rattle.office_core.specs.Refusing.Spots.{is_full, IsJudgedAs}
 
--- by another test for one cause alone, by which that applies more often, the same cause is found, unless it is that one
+-- A test that applies more often for one cause alone finds the same cause, unless it finds this
+-- one.
 find_less : (p q : Cause → Bool) → ((c : Cause) → (p c ≡ q c) ⊎ ((c ≡ cause.TotalFull) × (q c ≡ true → p c ≡ true))) → (cs : List Cause) → (find p cs ≡ Some cause.TotalFull → ⊥) → find p cs ≡ find q cs
 find_less p q less [] none = refl
 find_less p q less (c ∷ cs) none = elim (cases_Bool (p c)) [
@@ -83,7 +85,7 @@ module _ (before : Installation) (many : ℕ) (le : before.total ≤ many) where
   following None less = refl
   following (Some next) less = between next.entry less
 
--- an entry is judged as itself
+-- An entry is judged as itself.
 pub judged_itself : (own found : Option EntryPlace) → found ≡ own → IsJudgedAs own found
 judged_itself own found is = record { there = ap is_some is; voidable = ap is_not_voidable is; verdict = ap verdict_at is }
 
@@ -101,6 +103,6 @@ by_opening facts place None found is le less = judged_itself None found is
 by_opening facts place (Some o) found is le less =
     by_whole (option_map (place_in facts o) (row_at place (rows_of facts o))) found (installation_of facts o).total is (λ p at. le (installation_of facts o) p refl at) less
 
--- what is told of an entry by its neighbours is judged as the entry, unless it is full
+-- The entry by its neighbors is judged as the entry, unless it is full.
 pub judged_near : (facts : List Fact) (meter : List ℕ) (place : ℕ) (found : Option EntryPlace) → TellsNear facts meter place found → is_full found ≡ false → IsJudgedAs (entry_at facts meter place) found
 judged_near facts meter place found told less = by_opening facts place (opening_of facts meter) found told.near told.within less

@@ -1,4 +1,4 @@
--- Why a void is refused, told by what is at its place.
+-- A void is refused by what is at its index.
 use Rattle.std.proofs.Common.{◌≡◌, List, refl, sym, ap}
 use Rattle.office_events.specs.declared.commands.VoidEntry.{VoidEntry}
 use Rattle.office_events.specs.declared.commands.Command.TheVariants as command

@@ -1,4 +1,4 @@
--- How many polls a session can start.
+-- The number of polls that a session can start.
 use Rattle.std.proofs.Common.{◌≡◌, ℕ, ◌+◌, ◌<◌, ◌≤◌, min, nat_lt, false, List, [], ◌∷◌, ◌++◌, length, get_or, refl, sym, ap, subst, ◌∙◌, inl, inr, Option, Some, None, append_assoc, arith}
 use Rattle.std.specs.Prelude.{IsSome}
 use Rattle.std.specs.List.{slice_get}
@@ -31,7 +31,7 @@ starts_more (s ∷ starts) send at device h = (h.0, starts_more starts send at d
 abbrev IsReadyFor : Device → List session.Event → (id count : ℕ) → Type 0
 IsReadyFor device events id count = IsReady device.timeout device.window events id count
 
--- while fewer were started, one more can be, and then no more
+-- While fewer polls were started, one more can be started, and then no further one.
 startable : (device : Device) (events starts : List session.Event) (id count : ℕ) → IsReadyFor device events id count → AreStarts starts
     → length starts ≤ count → is_startable device (Some (events ++ starts)) ≡ nat_lt (length starts) count
 startable device events starts id count ready are few =
@@ -45,7 +45,7 @@ startable device events starts id count ready are few =
           ∙ sym (le-ltb (length starts) count ge)
     ]
 
--- of some reads as many are sent as the session can start, or all
+-- Of some reads a session sends as many as it can start, or all.
 sends_count : (at number : ℕ) (device : Device) (events starts : List session.Event) (id count : ℕ) (spans : List ReadSpan)
     → IsReadyFor device events id count → AreStarts starts → length starts ≤ count
     → length starts + length (sends_on number at device (events ++ starts) spans) ≡ min count (length starts + length spans)
@@ -84,7 +84,7 @@ room_after device events id count ready = record {
       omega (arith, all, same);
 }
 
--- the room of a session that is kept
+-- The room of a stored session.
 pub room_kept : (device : Device) (kept : standing.State) (present : Option (List session.Event)) (id count : ℕ) → KeepsPresent device (Some kept) present
     → ((events : List session.Event) → standing.Stands kept events → IsReady kept.timeout kept.window events id count) → HasRoomOn device present count
 room_kept device kept None id count keeps ready = absurd keeps
@@ -94,7 +94,7 @@ room_kept device kept (Some events) id count keeps ready =
     (subst (λ w. IsReady device.timeout w events id count) this.window
     (subst (λ t. IsReady t kept.window events id count) this.timeout (ready events this.stands)))
 
--- the room of a device is that of its slot's session
+-- The room of a device is that of its slot's session.
 pub room_found : (given : Option (List ℕ)) (kept : List Slot) (slots : List sessions.Slot) (i : ℕ) (d : Slot) (count : ℕ)
     → ((device : Device) (present : Option (List session.Event)) → KeepsPresent device (get_or kept i d).session present → HasRoomOn device present count)
     → i < length kept → slot_of slots given ≡ slice_get slots i → KeepsSlots kept slots → HasRoomFor slots given count

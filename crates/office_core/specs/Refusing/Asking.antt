@@ -1,4 +1,5 @@
--- Of what an office asks its books before it accepts an event, and what it then tells.
+-- What an office asks its store before it accepts an event, and the reasons that it may then
+-- report.
 use Rattle.office_events.specs.declared.commands.Command.{Command}
 use Rattle.office_events.specs.declared.commands.Command.TheVariants as command
 use Rattle.office_events.specs.declared.events.Event.{Event}
@@ -8,13 +9,13 @@ use Rattle.office_events.specs.declared.refusals.Refusal.TheVariants as refusal
 use Rattle.office_events.specs.declared.refusals.StoreCause.{StoreCause}
 use Rattle.office_events.specs.declared.refusals.StoreCause.TheVariants as store
 
--- Whether a command is refused lies in the devices alone.
+-- The devices alone decide whether the command is refused.
 abbrev pub IsOfDevices : Command → Type 0
 IsOfDevices (command.AddDevice c) = Unit {0}
 IsOfDevices (command.PutList c) = Unit {0}
 IsOfDevices _ = ⊥
 
--- The books are not asked why such an event is refused.
+-- The office makes no query to find why the event is refused.
 abbrev pub AsksNoBooks : Event → Type 0
 AsksNoBooks (event.Connected given) = Unit {0}
 AsksNoBooks (event.Bytes given piece) = Unit {0}
@@ -23,7 +24,7 @@ AsksNoBooks (event.Gone given closing) = Unit {0}
 AsksNoBooks (event.Command c) = IsOfDevices c
 AsksNoBooks (event.Asked asked) = IsOfDevices asked.command
 
--- An event of a device, or a tick of all of them; and why such an event may be refused.
+-- An event of a device, or a timer event for all devices.
 abbrev pub IsOfDevice : Event → Type 0
 IsOfDevice (event.Connected given) = Unit {0}
 IsOfDevice (event.Bytes given piece) = Unit {0}
@@ -32,6 +33,7 @@ IsOfDevice (event.Gone given closing) = Unit {0}
 IsOfDevice (event.Command c) = ⊥
 IsOfDevice (event.Asked asked) = ⊥
 
+-- The reasons to refuse an event of a device.
 abbrev pub IsOfSession : Refusal → Type 0
 IsOfSession refusal.NotFound = Unit {0}
 IsOfSession refusal.ClockBack = Unit {0}
@@ -39,11 +41,12 @@ IsOfSession refusal.Busy = Unit {0}
 IsOfSession refusal.Limit = Unit {0}
 IsOfSession _ = ⊥
 
--- A reason that lies in the event, and not in a failure: of the store's, that it can number no more polls.
+-- The store's cause that lies in the event: no more polls can be numbered.
 abbrev pub IsFull : StoreCause → Type 0
 IsFull store.Refused = Unit {0}
 IsFull _ = ⊥
 
+-- A reason that lies in the event, and not in a failure.
 abbrev pub IsOfEvent : Refusal → Type 0
 IsOfEvent (refusal.Store why) = IsFull why
 IsOfEvent refusal.Memory = ⊥

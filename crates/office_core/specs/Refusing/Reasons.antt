@@ -1,4 +1,4 @@
--- Why a command is refused that comes at a time and in a way.
+-- Why a command is refused, given its arrival.
 use Rattle.std.specs.Prelude.{◌≡◌, ℕ, Bool, false, ◌||◌, List, Option, Some, None, is_none, nat_lt}
 use Rattle.std.specs.List.{find}
 use Rattle.office_events.specs.declared.commands.Command.{Command}
@@ -15,11 +15,12 @@ use Rattle.office_core.specs.declared.refusing.arrivals.Arrival.{Arrival}
 use Rattle.office_core.specs.Refusing.Asking.{IsOfEvent}
 use Rattle.office_booking.specs.Sessions.Ranges.{IsCommandInRange}
 
--- how an event comes after the latest accepted one, and how a request does
+-- The arrival of an event after the latest accepted one.
 abbrev pub arrival_of : (latest at : ℕ) → Arrival
 arrival_of latest at =
     record { moment = at; is_back = nat_lt at latest; is_beyond = nat_lt moment_limit at }
 
+-- The arrival of a request. An invalid caller or number counts as out of range.
 abbrev pub request_arrival : (latest at : ℕ) → Asked → Arrival
 request_arrival latest at asked = record {
   moment = at;
@@ -27,45 +28,49 @@ request_arrival latest at asked = record {
   is_beyond = nat_lt moment_limit at || is_none asked.caller || nat_lt request_limit asked.number;
 }
 
--- a reason that lies in how it comes
+-- A reason in the arrival itself.
 abbrev pub comes_wrongly : Arrival → Refusal → Bool
 comes_wrongly arrival refusal.ClockBack = arrival.is_back
 comes_wrongly arrival refusal.Limit = arrival.is_beyond
 comes_wrongly arrival _ = false
 
+-- A reason applies to a command, by its arrival or by its content.
 abbrev pub speaks_against : List sessions.Slot → List Fact → Arrival → Command → Refusal → Bool
 speaks_against slots facts arrival c why =
     comes_wrongly arrival why || asks_wrongly slots facts arrival.moment c why
 
--- Why a command is refused, if it is: for the first reason that speaks against it.
+-- The refusal of a command: the first reason that applies, if any.
 abbrev pub refusal_under : List sessions.Slot → List Fact → Arrival → Command → Option Refusal
 refusal_under slots facts arrival c = find (speaks_against slots facts arrival c) reasons
 
--- What is answered is why the command is refused, whatever the devices, or these being the kept ones.
+-- The result is the refusal of the command, for any devices.
 abbrev pub IsWhy : Arrival → Command → List Fact → Option Refusal → Type 0
 IsWhy arrival c facts r = (slots : List sessions.Slot) → r ≡ refusal_under slots facts arrival c
 
+-- The result is the refusal of the command for the stored devices.
 abbrev pub IsWhyAmong : List Slot → Arrival → Command → List Fact → Option Refusal → Type 0
 IsWhyAmong kept arrival c facts r =
     (slots : List sessions.Slot) → KeepsSlots kept slots → r ≡ refusal_under slots facts arrival c
 
--- It comes neither too early nor out of range, and its numbers are in their ranges.
+-- The command is not too early and not out of range, and its numbers are in their ranges.
 pub record ComesInRange (arrival : Arrival) (c : Command) : Type 0 where
   pub not_back : arrival.is_back ≡ false
   pub within : arrival.is_beyond ≡ false
   pub command : IsCommandInRange arrival.moment c
 
--- A reason lies in the command; without one it comes in range.
+-- A reason lies in the command; without a reason the command is in range.
 abbrev pub Befits : Arrival → Command → Option Refusal → Type 0
 Befits arrival c None = ComesInRange arrival c
 Befits arrival c (Some why) = IsOfEvent why
 
--- Why an event of a device is refused, by how it comes, and by whether its device is unknown, or is or isn't connected.
+-- Whether a reason applies to an event of a device: by its arrival, and by whether the device is
+-- unknown or is in the wrong connection state.
 abbrev pub speaks_of_session : Arrival → (is_unknown is_busy : Bool) → Refusal → Bool
 speaks_of_session arrival is_unknown is_busy refusal.NotFound = is_unknown
 speaks_of_session arrival is_unknown is_busy refusal.Busy = is_busy
 speaks_of_session arrival is_unknown is_busy why = comes_wrongly arrival why
 
+-- The first reason that applies to an event of a device, if any.
 abbrev pub session_refusal : Arrival → (is_unknown is_busy : Bool) → Option Refusal
 session_refusal arrival is_unknown is_busy =
     find (speaks_of_session arrival is_unknown is_busy) reasons

@@ -1,4 +1,4 @@
--- How many polls a start sends.
+-- The number of polls that a start sends.
 use Rattle.std.specs.Prelude.{◌≡◌, ℕ, min, true, false, List, length, Option, Some, None, is_none, nat_lt}
 use Rattle.mb_wire.specs.declared.span.ReadSpan.{ReadSpan}
 use Rattle.poll_core.specs.Settling as session
@@ -7,22 +7,22 @@ use Rattle.office_rules.specs.Sessions.{Slot, slot_of, is_startable, sends_at}
 use Rattle.office_rules.specs.History.{sends_from}
 use Rattle.office_rules.specs.Refusals.{can_start}
 
--- A device has room for so many polls: of some reads it starts the first of them, up to so many,
--- whatever the polls' numbers.
+-- A device has room for `room` polls: of some reads it starts the first `room`, for any numbers of
+-- the polls.
 pub record HasRoomFor (slots : List Slot) (device : Option (List ℕ)) (room : ℕ) : Type 0 where
   pub known : is_none (slot_of slots device) ≡ false
   pub starts : can_start slots device ≡ nat_lt 0 room
   pub sends : (number at : ℕ) (spans : List ReadSpan)
       → length (sends_from number at spans (slot_of slots device)) ≡ min room (length spans)
 
--- the same of a device and its session
+-- The same for a device and its session.
 pub record HasRoomOn (device : Device) (present : Option (List session.Event))
     (room : ℕ) : Type 0 where
   pub starts : is_startable device present ≡ nat_lt 0 room
   pub sends : (number at : ℕ) (spans : List ReadSpan)
       → length (sends_at number at device present spans) ≡ min room (length spans)
 
--- So many polls can be started on the device of a name, or there is no such device.
+-- The device with the name has room for `room` polls, or no device has the name.
 abbrev pub HasRoom : List Slot → (device : Option (List ℕ)) → Option ℕ → Type 0
 HasRoom slots device None = is_none (slot_of slots device) ≡ true
 HasRoom slots device (Some room) = HasRoomFor slots device room

@@ -1,4 +1,4 @@
--- What is at a place of a meter: the opening has the place 1, and the entries those from 2 on.
+-- What a meter has at an index: the opening has index 1, and the entries have indexes from 2 on.
 use Rattle.std.specs.Prelude.{◌≡◌, ℕ, Bool, true, false, not, List, Option, Some, None, is_some}
 use Rattle.std.specs.List.{find}
 use Rattle.std.specs.Option.{option_and_then}
@@ -16,27 +16,30 @@ use Rattle.office_core.specs.declared.refusing.voids.Spot.{Spot}
 use Rattle.office_core.specs.declared.refusing.voids.Spot.TheVariants as spot
 use Rattle.office_core.specs.Refusing.Reasons.{comes_wrongly}
 
+-- Whether the meter has nothing at the index.
 abbrev pub is_nothing : Spot → Bool
 is_nothing spot.Nothing = true
 is_nothing spot.Opening = false
 is_nothing (spot.Entry place) = false
 
+-- The entry at the index, if it is one.
 abbrev pub entry_in : Spot → Option EntryPlace
 entry_in spot.Nothing = None
 entry_in spot.Opening = None
 entry_in (spot.Entry place) = Some place
 
--- the entry after the one at a place, judged by the energy before that, would pass the limit of a meter
+-- By the energy before it, the entry after `found` would pass the limit of a meter.
 abbrev pub is_full : Option EntryPlace → Bool
 is_full found = is_held_for cause.TotalFull (verdict_at found)
 
--- One is there where the other is, it may be voided where the other may, and the next entry is judged alike after both.
+-- Both exist or neither does, both may be voided or neither may, and the next entry gets the same
+-- verdict after both.
 pub record IsJudgedAs (own found : Option EntryPlace) : Type 0 where
   pub there : is_some found ≡ is_some own
   pub voidable : is_not_voidable found ≡ is_not_voidable own
   pub verdict : verdict_at found ≡ verdict_at own
 
--- this is at the place of the meter, and its entry, if it is one, is judged as the facts have it
+-- `found` is what the meter has at the index. Its entry, if it is one, is judged as in the records.
 pub record IsAt (facts : List Fact) (meter : Option (List ℕ)) (place : ℕ)
     (found : Spot) : Type 0 where
   pub there : is_nothing found
@@ -46,12 +49,12 @@ pub record IsAt (facts : List Fact) (meter : Option (List ℕ)) (place : ℕ)
   pub verdict : verdict_at (entry_in found)
       ≡ verdict_at (option_and_then (λ m. entry_at facts m place) meter)
 
--- the meter's numbers before the entry are in their ranges
+-- The meter's numbers before the entry are in their ranges.
 abbrev pub IsSoundSpot : Spot → Type 0
 IsSoundSpot (spot.Entry place) = IsSound place.before
 IsSoundSpot _ = Unit {0}
 
--- Whether a void that comes so is refused for a reason.
+-- Whether a reason applies to a void.
 abbrev pub speaks_of_void : Arrival → Spot → Refusal → Bool
 speaks_of_void arrival found refusal.NotFound = is_nothing found
 speaks_of_void arrival found refusal.NotVoidable = is_not_voidable (entry_in found)
@@ -59,14 +62,16 @@ speaks_of_void arrival found (refusal.NotPlausible why) =
     is_held_for why (verdict_at (entry_in found))
 speaks_of_void arrival found why = comes_wrongly arrival why
 
+-- The first reason that applies to a void, if any.
 abbrev pub void_refusal : Arrival → Spot → Option Refusal
 void_refusal arrival found = find (speaks_of_void arrival found) reasons
 
--- why the entry at a place can't go
+-- Whether a reason applies against voiding an entry.
 abbrev pub speaks_of_strike : EntryPlace → Refusal → Bool
 speaks_of_strike place refusal.NotVoidable = is_not_voidable (Some place)
 speaks_of_strike place (refusal.NotPlausible why) = is_held_for why (verdict_at (Some place))
 speaks_of_strike place why = false
 
+-- The first reason why the entry can't be voided, if any.
 abbrev pub strike_refusal : EntryPlace → Option Refusal
 strike_refusal place = find (speaks_of_strike place) reasons

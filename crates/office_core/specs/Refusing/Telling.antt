@@ -1,4 +1,4 @@
--- What is told of an event after what was accepted.
+-- The answer to an event after what was accepted.
 use Rattle.std.specs.Prelude.{◌≡◌, ℕ, List, Option, Result, IfOk, IfSome}
 use Rattle.office_events.specs.declared.events.Event.{Event}
 use Rattle.office_events.specs.declared.refusals.Refusal.{Refusal}
@@ -10,14 +10,15 @@ use Rattle.office_books.specs.declared.faults.BooksFault.{BooksFault}
 use Rattle.office_books.specs.Ledgers.{Ledger}
 use Rattle.office_core.specs.Refusing.Asking.{IsOfSession}
 
--- It is why the event is refused after whatever was accepted, if that left these slots and facts.
+-- The result is the refusal of the event after any past that left these slots and records.
 abbrev pub TellsWhy : (old new : Ledger) → List Slot → (latest at : ℕ) → Event
     → Result (Option Refusal) BooksFault → Type 0
 TellsWhy old new kept latest at e result =
     (past : History) → latest ≡ latest_of past → KeepsSlots kept (slots_of past)
     → old.holds (facts_of past) → new.is_clean → IfOk result (λ r. r ≡ refusal_of past at e)
 
--- Why an event of a device is refused lies in the devices alone, whatever the books hold.
+-- The devices alone decide whether an event of a device is refused. This needs no premise on the
+-- store.
 pub record TellsAlone (kept : List Slot) (latest at : ℕ) (e : Event)
     (result : Result (Option Refusal) BooksFault) : Type 0 where
   pub why : (past : History) → latest ≡ latest_of past → KeepsSlots kept (slots_of past)

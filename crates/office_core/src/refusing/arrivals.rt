@@ -1,12 +1,14 @@
-//! How a command comes to the office.
+//! When and how a command reaches the office.
 ghost use Rattle.std.specs.Prelude.{◌≡◌};
 ghost use Rattle.office_core.specs.Refusing.Reasons as reasons;
 
 use office_events::{Asked, MAX_REQUEST};
 use poll_core::LAST_MOMENT;
 
-/// The moment of a command, in seconds since 1970-01-01 UTC; whether that is before the latest accepted event; and whether
-/// it is past the limit, or the request of the command has a caller or a number that is none.
+/// The timestamp of a command, and what is wrong with it.
+///
+/// The timestamp is in seconds since 1970-01-01 UTC. `is_back`: it is before the latest accepted
+/// event. `is_beyond`: it is past the limit, or the request has an invalid caller or number.
 #[derive(Clone, Copy, Debug, PartialEq, Eq)]
 pub struct Arrival {
     pub moment: u64,
@@ -15,7 +17,7 @@ pub struct Arrival {
 }
 
 impl Arrival {
-    /// How an event comes.
+    /// Returns the arrival of an event.
     pub fn new(latest: u64, moment: u64) -> Arrival
         ensures { result ≡ reasons.arrival_of latest moment }
     {
@@ -26,7 +28,7 @@ impl Arrival {
         }
     }
 
-    /// How a request comes.
+    /// Returns the arrival of a request.
     pub fn of_request(latest: u64, moment: u64, asked: &Asked) -> Arrival
         ensures { result ≡ reasons.request_arrival latest moment asked.now }
     {

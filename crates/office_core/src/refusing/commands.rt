@@ -1,4 +1,4 @@
-//! Why a command is refused.
+//! Finds why a command is refused.
 ghost use Rattle.std.specs.Prelude.{◌≡◌, None, IfOk, IsOk};
 ghost use Rattle.office_booking.specs.Sessions.Places.{StartsOnSlot};
 ghost use Rattle.office_books.specs.Ledgers.{Finds, OnlyReads};
@@ -17,7 +17,7 @@ use office_booking::Slot;
 use office_books::{Books, BooksFault};
 use office_events::{Command, Refusal};
 
-/// Why a command is refused that comes so.
+/// Returns the reason to refuse a command, if any.
 pub fn refusal_of_command<B: Books>(
     books: &mut B,
     slots: &[Slot],

@@ -1,4 +1,4 @@
-//! Why a correction, or the closing of a meter, is refused.
+//! Finds why a correction, or the closing of a meter, is refused.
 ghost use Rattle.std.specs.Prelude.{◌≡◌, IfOk};
 ghost use Rattle.office_events.specs.declared.commands.Command.TheVariants as command;
 ghost use Rattle.office_books.specs.Ledgers.{Finds, OnlyReads};
@@ -11,7 +11,7 @@ use crate::refusing::limits::{is_bad_close, is_bad_manual, is_off_scale_rescale}
 use office_books::{Books, BooksFault, meter_at};
 use office_events::{Close, Manual, Refusal, Rescale, Reset};
 
-/// Why a counter is not reset.
+/// Returns the reason to refuse the reset of a counter, if any.
 pub fn reset<B: Books>(
     books: &mut B,
     arrival: &Arrival,
@@ -34,7 +34,7 @@ pub fn reset<B: Books>(
     Ok(refusal_of_entry(arrival, false, false, &row, &given))
 }
 
-/// Why the scale of a counter is not changed.
+/// Returns the reason to refuse a change of a counter's scale, if any.
 pub fn rescale<B: Books>(
     books: &mut B,
     arrival: &Arrival,
@@ -53,7 +53,7 @@ pub fn rescale<B: Books>(
     Ok(refusal_of_entry(arrival, off_scale, false, &row, &given))
 }
 
-/// Why a number that someone read is not entered.
+/// Returns the reason to refuse a reading by hand, if any.
 pub fn manual<B: Books>(
     books: &mut B,
     arrival: &Arrival,
@@ -72,7 +72,7 @@ pub fn manual<B: Books>(
     Ok(refusal_of_entry(arrival, false, off_limits, &row, &given))
 }
 
-/// Why a meter is not closed.
+/// Returns the reason to refuse the closing of a meter, if any.
 pub fn close<B: Books>(
     books: &mut B,
     arrival: &Arrival,

@@ -1,4 +1,4 @@
-//! Why a new device, or a list of one, is refused.
+//! Finds why a new device, or a device's point list, is refused.
 ghost use Rattle.std.specs.Prelude.{◌≡◌, List, nat_le, length};
 ghost use Rattle.office_events.specs.declared.commands.Command.TheVariants as command;
 ghost use Rattle.office_events.specs.declared.facts.Fact.{Fact};
@@ -11,14 +11,14 @@ use crate::refusing::limits::is_bad_device;
 use office_booking::{Slot, has_device};
 use office_events::{AddDevice, MAX_DEVICES, PutList, Refusal};
 
-/// Whether there are as many devices as there may be.
+/// Whether the office has as many devices as it may have.
 fn are_all(slots: &[Slot]) -> bool
     ensures { IsOfKept slots.now result (λ stood. nat_le device_limit (length stood)) }
 {
     MAX_DEVICES <= slots.len()
 }
 
-/// Why a device is not added.
+/// Returns the reason to refuse a new device, if any.
 pub fn add_device(slots: &[Slot], arrival: &Arrival, device: &AddDevice) -> Option<Refusal>
     ensures found { (known : List Fact)
         → IsWhyAmong slots.now arrival.now (command.AddDevice device.now) known result }
@@ -36,7 +36,7 @@ pub fn add_device(slots: &[Slot], arrival: &Arrival, device: &AddDevice) -> Opti
     None
 }
 
-/// Why a list is not put.
+/// Returns the reason to refuse a point list, if any.
 pub fn put_list(slots: &[Slot], arrival: &Arrival, put: &PutList) -> Option<Refusal>
     ensures found { (known : List Fact)
         → IsWhyAmong slots.now arrival.now (command.PutList put.now) known result }

@@ -1,4 +1,4 @@
-//! Why an entry that is handed in is not made.
+//! Finds why an entry from a command is refused.
 ghost use Rattle.std.specs.Prelude.{◌≡◌};
 ghost use Rattle.office_rules.specs.Ranges.{IsSound};
 ghost use Rattle.office_core.specs.Refusing.Given.{entry_of};
@@ -9,8 +9,10 @@ use crate::refusing::faults::{goes_back, is_full, is_long, is_not_later, is_not_
 use crate::refusing::given::GivenEntry;
 use office_events::{Installation, Refusal};
 
-/// Why an entry that comes so is not made at the latest meter of a register. `off_scale` and `off_limits` say whether the
-/// command that hands it in has a scale, or another number, that is none.
+/// Returns the reason to refuse an entry at the latest meter of a register, if any.
+///
+/// `off_scale` and `off_limits` say whether the command has a scale, or another number, outside its
+/// range.
 pub fn refusal_of_entry(
     arrival: &Arrival,
     off_scale: bool,

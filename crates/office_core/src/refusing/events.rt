@@ -1,4 +1,4 @@
-//! Why an event is refused.
+//! Finds why an event is refused.
 ghost use Rattle.std.specs.Prelude.{◌≡◌, IfOk, IfSome, IsOk, None};
 ghost use Rattle.office_books.specs.Ledgers.{OnlyReads};
 ghost use Rattle.office_core.specs.Refusing.Asking.{AsksNoBooks, IsOfDevice, IsOfEvent};
@@ -14,9 +14,11 @@ use office_booking::{Slot, has_device, is_connected};
 use office_books::{Books, BooksFault};
 use office_events::{Event, Refusal};
 
-/// Why an event is refused that comes at a moment after what was accepted, the latest of it at `latest`; `None` where
-/// nothing speaks against it. Of the reasons that apply it is the first. Books are asked no more than it takes to find
-/// it, each question once; where they fail, the event is not decided. Moments are seconds since 1970-01-01 UTC.
+/// Returns the first reason that applies to refuse an event; `None` if the event is acceptable.
+///
+/// `latest` is the timestamp of the latest accepted event; timestamps are in seconds since
+/// 1970-01-01 UTC. The call queries the store only until it finds the reason, and makes each query
+/// once. If a query fails, the event is not decided.
 pub fn refusal<B: Books>(
     books: &mut B,
     slots: &[Slot],

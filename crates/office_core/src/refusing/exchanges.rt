@@ -1,4 +1,4 @@
-//! Why a meter is not exchanged.
+//! Finds why the exchange of a meter is refused.
 ghost use Rattle.std.specs.Prelude.{◌≡◌, IfOk};
 ghost use Rattle.office_events.specs.declared.commands.Command.TheVariants as command;
 ghost use Rattle.office_books.specs.Ledgers.{Finds, OnlyReads};
@@ -13,7 +13,7 @@ use crate::refusing::names::has_meter;
 use office_books::{Books, BooksFault, meter_at};
 use office_events::{Exchange, Refusal};
 
-/// Why a meter is not exchanged.
+/// Returns the reason to refuse the exchange of a meter, if any.
 pub fn exchange<B: Books>(
     books: &mut B,
     arrival: &Arrival,

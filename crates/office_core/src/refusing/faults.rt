@@ -1,4 +1,5 @@
-//! Faults of an entry that is handed in. Its numbers are any of 64 bits, so what they make is reckoned in 128.
+//! The faults of an entry from a command. The entry's numbers are any of 64 bits, so their sums and
+//! products use 128.
 ghost use Rattle.std.specs.Prelude.{◌≡◌, ◌≤◌, ◌^◌};
 ghost use Rattle.energy_core.specs.Account.{moment_of, reached};
 ghost use Rattle.energy_core.specs.declared.admission.TermFault.TheVariants as fault;
@@ -10,7 +11,7 @@ use crate::refusing::given::GivenEntry;
 use energy_core::{INTERVAL_SECONDS, MAX_INTERVALS, MAX_RANGE, MAX_TOTAL, energy_up_to};
 use office_events::Installation;
 
-/// When an entry was made.
+/// The timestamp of an entry.
 fn moment(given: &GivenEntry) -> u64
     ensures { result ≡ moment_of (entry_of given.now) }
 {
@@ -19,7 +20,7 @@ fn moment(given: &GivenEntry) -> u64
     }
 }
 
-/// What the counter would have reached, had it neither turned over nor been set.
+/// The value that the counter would show without its turns and without being set.
 fn reach(range: u64, given: &GivenEntry) -> u128
     requires { range ≤ MAX_RANGE }
     ensures value { result ≡ reached range (entry_of given.now) }
@@ -33,7 +34,7 @@ fn reach(range: u64, given: &GivenEntry) -> u128
     }
 }
 
-/// Whether the counter would have gone back.
+/// Returns whether the counter would have decreased.
 pub fn goes_back(row: &Installation, given: &GivenEntry) -> bool
     requires { IsSound row.now }
     ensures { result ≡ entry_has_fault row.now (entry_of given.now) fault.NegativeStep }
@@ -41,14 +42,14 @@ pub fn goes_back(row: &Installation, given: &GivenEntry) -> bool
     reach(row.opening.range, given) < u128::from(row.last.raw)
 }
 
-/// Whether the last entry is as late, or later.
+/// Returns whether the entry is not later than the last entry.
 pub fn is_not_later(row: &Installation, given: &GivenEntry) -> bool
     ensures { result ≡ entry_has_fault row.now (entry_of given.now) fault.NotLater }
 {
     moment(given) <= row.last.at
 }
 
-/// Whether more intervals lie between than a step may touch.
+/// Returns whether the step would touch more quarter hours than a step may touch.
 pub fn is_long(row: &Installation, given: &GivenEntry) -> bool
     ensures { result ≡ entry_has_fault row.now (entry_of given.now) fault.SpanTooLong }
 {
@@ -56,7 +57,7 @@ pub fn is_long(row: &Installation, given: &GivenEntry) -> bool
     MAX_INTERVALS < last.saturating_sub(row.last.at / INTERVAL_SECONDS) + 1
 }
 
-/// Whether the whole energy would pass its limit.
+/// Returns whether the meter's total energy would pass its limit.
 pub fn is_full(row: &Installation, given: &GivenEntry) -> bool
     requires { IsSound row.now }
     ensures { result ≡ entry_has_fault row.now (entry_of given.now) fault.TotalFull }
@@ -65,7 +66,7 @@ pub fn is_full(row: &Installation, given: &GivenEntry) -> bool
     u128::from(MAX_TOTAL) < u128::from(row.total) + energy
 }
 
-/// Whether an entry tells a number that the counter can't show.
+/// Returns whether an entry has a number that the counter can't show.
 pub fn is_not_shown(row: &Installation, given: &GivenEntry) -> bool
     ensures { result ≡ entry_has_fault row.now (entry_of given.now) fault.NotBelowRange }
 {

@@ -1,4 +1,4 @@
-//! Entries as they are handed in.
+//! Entries as commands hand them in.
 ghost use Rattle.std.specs.Prelude.{◌≡◌};
 ghost use Rattle.energy_core.specs.declared.entries.Entry.TheVariants as entry;
 ghost use Rattle.office_rules.specs.History.{read_at};
@@ -6,16 +6,16 @@ ghost use Rattle.office_core.specs.Refusing.Given.{entry_of};
 
 use office_events::{Manual, Rescale};
 
-/// An entry of a meter as someone hands it in: its numbers may be such as no counter shows.
+/// An entry of a meter as a command hands it in: no counter may be able to show its numbers.
 #[derive(Clone, Copy, Debug, PartialEq, Eq)]
 pub enum GivenEntry {
-    /// The counter went on to `raw`, over so many full turns.
+    /// The counter advanced to `raw`, over `rolls` full turns.
     Step {
         at: u64,
         raw: u64,
         rolls: u64,
     },
-    /// The counter went on to `before` and was set to `after`, at the scale `sf`.
+    /// The counter advanced to `before` and was set to `after`, at the scale `sf`.
     Change {
         at: u64,
         before: u64,
@@ -24,7 +24,7 @@ pub enum GivenEntry {
     },
 }
 
-/// What a change of the scale hands in.
+/// Returns the entry of a change of scale.
 pub fn rescaled(moment: u64, rescale: &Rescale) -> GivenEntry
     ensures { entry_of result
         ≡ entry.Change moment rescale.now.before rescale.now.after rescale.now.sf }
@@ -37,7 +37,7 @@ pub fn rescaled(moment: u64, rescale: &Rescale) -> GivenEntry
     }
 }
 
-/// What someone hands in who read a meter.
+/// Returns the entry of a reading by hand.
 pub fn read_off(moment: u64, manual: &Manual) -> GivenEntry
     ensures { entry_of result
         ≡ entry.Step (read_at moment manual.now.at) manual.now.raw manual.now.rolls }

@@ -1,4 +1,4 @@
-//! Names, scales and numbers that a command may not have.
+//! Checks the names, scales and numbers of a command against their ranges.
 ghost use Rattle.std.specs.Prelude.{◌≡◌, nat_lt, false};
 ghost use Rattle.office_events.specs.declared.commands.Command.TheVariants as command;
 ghost use Rattle.office_rules.specs.Refusals as refusals;
@@ -11,28 +11,28 @@ use office_events::{
 };
 use poll_core::{MAX_TIMEOUT, MAX_WINDOW};
 
-/// Whether a scale is none.
+/// Returns whether a scale is out of range.
 pub fn is_off_scale(sf: i64) -> bool
     ensures { result ≡ refusals.is_off_scale sf }
 {
     sf < i64::from(MIN_SCALE) || i64::from(MAX_SCALE) < sf
 }
 
-/// Whether the new scale of a counter is none.
+/// Returns whether the new scale of a counter is out of range.
 pub fn is_off_scale_rescale(rescale: &Rescale) -> bool
     ensures { result ≡ refusals.asks_bad_scale (command.Rescale rescale.now) }
 {
     is_off_scale(rescale.sf)
 }
 
-/// Whether the scale of a meter that takes the place of another is none.
+/// Returns whether the scale of a replacement meter is out of range.
 pub fn is_off_scale_exchange(exchange: &Exchange) -> bool
     ensures { result ≡ refusals.asks_bad_scale (command.Exchange exchange.now) }
 {
     is_off_scale(exchange.sf)
 }
 
-/// Whether the scale of a new register is none.
+/// Returns whether the fixed scale of a new register is out of range.
 pub fn is_bad_scale(scale: GivenScale) -> bool
     ensures { result ≡ refusals.is_bad_scale scale }
 {
@@ -42,14 +42,14 @@ pub fn is_bad_scale(scale: GivenScale) -> bool
     }
 }
 
-/// Whether a number is not from the low one to the high one.
+/// Whether a number is below `low` or above `high`.
 fn is_outside(low: u64, high: u64, n: u64) -> bool
     ensures { result ≡ refusals.is_outside low high n }
 {
     n < low || high < n
 }
 
-/// Whether a name or a number of a new device is outside its range.
+/// Returns whether a name or a number of a new device is invalid.
 pub fn is_bad_device(moment: u64, device: &AddDevice) -> bool
     ensures { result ≡ refusals.asks_bad_field moment (command.AddDevice device.now) }
 {
@@ -59,7 +59,7 @@ pub fn is_bad_device(moment: u64, device: &AddDevice) -> bool
         || is_outside(1, MAX_WINDOW as u64, device.window)
 }
 
-/// Whether the address of a scale is none.
+/// Whether the address of a scale is out of range.
 fn is_bad_address(scale: GivenScale) -> bool
     ensures { result ≡ refusals.is_bad_address scale }
 {
@@ -69,7 +69,7 @@ fn is_bad_address(scale: GivenScale) -> bool
     }
 }
 
-/// Whether one read can't reach from the counter to its scale.
+/// Whether one read can't span both the counter and its scale.
 fn is_wide(address: u64, scale: GivenScale) -> bool
     requires address { nat_lt LAST_COUNTER address ≡ false }
     requires scale { refusals.is_bad_address scale ≡ false }
@@ -82,7 +82,7 @@ fn is_wide(address: u64, scale: GivenScale) -> bool
     }
 }
 
-/// Whether a name or a number of a new register is outside its range.
+/// Returns whether a name or a number of a new register is invalid.
 pub fn is_bad_register(moment: u64, register: &AddRegister) -> bool
     ensures { result ≡ refusals.asks_bad_field moment (command.AddRegister register.now) }
 {
@@ -93,7 +93,8 @@ pub fn is_bad_register(moment: u64, register: &AddRegister) -> bool
         || is_wide(register.address, register.scale)
 }
 
-/// Whether a meter can't be installed: its name, its range or its ceiling is none, or it can't show the number.
+/// Returns whether a meter can't be installed: its name, range or ceiling is invalid, or its
+/// counter can't show `raw`.
 pub fn is_bad_meter(meter: &Option<Name>, range: u64, raw: u64, ceiling: u64) -> bool
     ensures { result ≡ refusals.is_bad_meter meter.now range raw ceiling }
 {
@@ -103,7 +104,7 @@ pub fn is_bad_meter(meter: &Option<Name>, range: u64, raw: u64, ceiling: u64) ->
         || is_outside(1, MAX_CEILING, ceiling)
 }
 
-/// Whether someone tells that a number was read later than it came.
+/// Whether the stated time of a reading is later than its command.
 fn is_later(moment: u64, told: Option<u64>) -> bool
     ensures { result ≡ refusals.is_later moment told }
 {
@@ -113,21 +114,21 @@ fn is_later(moment: u64, told: Option<u64>) -> bool
     }
 }
 
-/// Whether a number of an entry by hand is outside its range.
+/// Returns whether a number of a reading by hand is out of range.
 pub fn is_bad_manual(moment: u64, manual: &Manual) -> bool
     ensures { result ≡ refusals.asks_bad_field moment (command.Manual manual.now) }
 {
     MAX_ROLLS < manual.rolls || is_later(moment, manual.at)
 }
 
-/// Whether a number of a closing is outside its range.
+/// Returns whether a number of a closing is out of range.
 pub fn is_bad_close(moment: u64, close: &Close) -> bool
     ensures { result ≡ refusals.asks_bad_field moment (command.Close close.now) }
 {
     MAX_ROLLS < close.rolls
 }
 
-/// Whether a name or a number of an exchange is outside its range.
+/// Returns whether a name or a number of an exchange is invalid.
 pub fn is_bad_exchange(moment: u64, exchange: &Exchange) -> bool
     ensures { result ≡ refusals.asks_bad_field moment (command.Exchange exchange.now) }
 {

@@ -1,4 +1,4 @@
-//! Whether a meter is open at a register.
+//! Finds whether a register has an open meter.
 ghost use Rattle.std.specs.Prelude.{◌≡◌, is_some};
 ghost use Rattle.std.specs.Option.{option_and_then};
 ghost use Rattle.office_rules.specs.Meters.{if_open, open_at};
@@ -7,7 +7,7 @@ ghost use Rattle.office_books.specs.Ledgers.{Finds, OnlyReads};
 use office_books::{Books, BooksFault, meter_at};
 use office_events::{Installation, Name};
 
-/// Whether a meter is open.
+/// Whether an installation exists and is open.
 fn is_open(row: &Option<Installation>) -> bool
     ensures { result ≡ is_some (option_and_then if_open row.now) }
 {
@@ -17,7 +17,7 @@ fn is_open(row: &Option<Installation>) -> bool
     }
 }
 
-/// Whether a meter is open at the register of a name.
+/// Returns whether the register with the name has an open meter.
 pub fn has_open_meter<B: Books>(books: &mut B, given: &Option<Name>) -> Result<bool, BooksFault>
     ensures found { Finds (B.ledger books.old) (B.ledger books.new) result
         (λ known b. b ≡ is_some (option_and_then (open_at known) given.now)) }

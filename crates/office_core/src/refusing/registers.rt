@@ -1,4 +1,4 @@
-//! Why a new register is refused.
+//! Finds why a new register is refused.
 ghost use Rattle.std.specs.Prelude.{◌≡◌, IfOk};
 ghost use Rattle.office_events.specs.declared.commands.Command.TheVariants as command;
 ghost use Rattle.office_rules.specs.Refusals.{is_full_of_registers};
@@ -24,7 +24,7 @@ fn is_full<B: Books>(books: &mut B, given: &Option<Name>) -> Result<bool, BooksF
     }
 }
 
-/// Why a register is not added.
+/// Returns the reason to refuse a new register, if any.
 pub fn add_register<B: Books>(
     books: &mut B,
     slots: &[Slot],

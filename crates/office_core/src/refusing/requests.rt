@@ -1,4 +1,4 @@
-//! How a request is answered that was asked before.
+//! Answers retries of requests.
 ghost use Rattle.std.specs.Prelude.{◌≡◌, IsOk, IfOk};
 ghost use Rattle.office_rules.specs.Refusals.{kept_of};
 ghost use Rattle.office_books.specs.Ledgers.{Finds, OnlyReads};
@@ -7,7 +7,7 @@ ghost use Rattle.office_core.specs.Refusing.Kept.{kept_as, IsNoRequest, IsReused
 use office_books::{Books, BooksFault, Repeat};
 use office_events::{CommandKind, Event, Refusal};
 
-/// How a request is answered by what is kept under its caller and number.
+/// The answer to a request, given the stored request with the same caller and number.
 fn answer_by(repeat: Repeat) -> Result<CommandKind, Refusal>
     ensures { result ≡ kept_as repeat }
 {
@@ -17,8 +17,11 @@ fn answer_by(repeat: Repeat) -> Result<CommandKind, Refusal>
     }
 }
 
-/// How an event is answered by what is kept of a request: as it was where the same was asked before, `Reused` where another
-/// was; `None` where nothing is kept, or the event is no request. What is kept is not copied.
+/// Returns the stored answer of a request if it is a retry, and `Reused` if the stored request
+/// differs.
+///
+/// Returns `None` if nothing is stored, or if the event is not a request. The call does not copy
+/// the stored request.
 pub fn kept<B: Books>(
     books: &mut B,
     event: &Event,

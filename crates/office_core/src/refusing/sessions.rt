@@ -1,4 +1,4 @@
-//! Why an event of a device is refused.
+//! Finds why an event of a device is refused.
 ghost use Rattle.std.specs.Prelude.{◌≡◌, IfSome};
 ghost use Rattle.office_core.specs.Refusing.Asking.{IsOfSession};
 ghost use Rattle.office_core.specs.Refusing.Reasons.{session_refusal};
@@ -6,8 +6,10 @@ ghost use Rattle.office_core.specs.Refusing.Reasons.{session_refusal};
 use crate::refusing::arrivals::Arrival;
 use office_events::Refusal;
 
-/// Why an event of a device is refused that comes so: whether its device is unknown, and whether the device is
-/// connected where it should not be, or is not where it should.
+/// Returns the reason to refuse an event of a device, if any.
+///
+/// `is_busy`: the device is connected where it should not be, or is not connected where it should
+/// be.
 pub fn refusal_of_session(arrival: &Arrival, is_unknown: bool, is_busy: bool) -> Option<Refusal>
     ensures value { result ≡ session_refusal arrival.now is_unknown is_busy }
     ensures reason { IfSome result IsOfSession }

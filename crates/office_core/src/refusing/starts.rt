@@ -1,4 +1,4 @@
-//! Why polls are not started.
+//! Finds why the start of a poll or a round is refused.
 ghost use Rattle.std.specs.Prelude.{◌≡◌, ◌+◌, List, Option, Some, None, IfOk, is_some, length, nat_lt};
 ghost use Rattle.poll_core.specs.Settling as session;
 ghost use Rattle.office_events.specs.declared.commands.Command.TheVariants as command;
@@ -20,7 +20,7 @@ use office_books::{Books, BooksFault, read_count_at};
 use office_events::{MAX_POLLS, Name, Refusal, StartPoll, StartRound, StoreCause};
 use poll_core::Session;
 
-/// How many polls can be started in a row on a session; none where a device has no session.
+/// The number of polls that the session can start in a row; 0 if the device has no session.
 fn session_room(kept: &Option<Session>) -> u64
     ensures { (device : Device) (present : Option (List session.Event))
         → KeepsPresent device kept.now present → HasRoomOn device present result }
@@ -31,7 +31,7 @@ fn session_room(kept: &Option<Session>) -> u64
     }
 }
 
-/// How many polls can be started in a row on the session of the device of a name; `None` where there is no such device.
+/// The number of polls that a device can start in a row; `None` if no device has the name.
 fn room(slots: &[Slot], given: &Option<Name>) -> Option<u64>
     ensures there { is_some result ≡ has_slot slots.now given.now }
     ensures room { (kept : List sessions.Slot) → KeepsSlots slots.now kept
@@ -43,7 +43,7 @@ fn room(slots: &[Slot], given: &Option<Name>) -> Option<u64>
     }
 }
 
-/// How many reads a plan of so many has from the one of a number on.
+/// The number of reads that a plan of `count` reads has from read `from` on.
 fn reads_left(count: usize, from: u64) -> u64
     ensures { (list : Option Planned) → Some count ≡ read_count_of list
         → result ≡ length (round_spans from list) }
@@ -51,7 +51,7 @@ fn reads_left(count: usize, from: u64) -> u64
     (count as u64).saturating_sub(from)
 }
 
-/// Whether so many polls more would be numbered past the greatest number.
+/// Whether `more` further polls would pass the greatest poll number.
 fn is_past_numbers<B: Books>(books: &mut B, more: u64) -> Result<bool, BooksFault>
     ensures found { Finds (B.ledger books.old) (B.ledger books.new) result
         (λ known b. b ≡ nat_lt poll_limit (length (polls_in known) + more)) }
@@ -61,7 +61,7 @@ fn is_past_numbers<B: Books>(books: &mut B, more: u64) -> Result<bool, BooksFaul
     Ok(u128::from(MAX_POLLS) < u128::from(count) + u128::from(more))
 }
 
-/// Why a poll is not started.
+/// Returns the reason to refuse the start of a poll, if any.
 pub fn start_poll<B: Books>(
     books: &mut B,
     slots: &[Slot],
@@ -93,7 +93,7 @@ pub fn start_poll<B: Books>(
     Ok(None)
 }
 
-/// Why a round is not started.
+/// Returns the reason to refuse the start of a round, if any.
 pub fn start_round<B: Books>(
     books: &mut B,
     slots: &[Slot],

@@ -1,4 +1,4 @@
-//! Why an entry is not voided.
+//! Finds why a void is refused.
 ghost use Rattle.std.specs.Prelude.{◌≡◌, IfOk, IfSome, Some};
 ghost use Rattle.office_events.specs.declared.commands.Command.TheVariants as command;
 ghost use Rattle.office_rules.specs.Meters.{entry_at};
@@ -15,17 +15,17 @@ use meter_journal::is_voidable;
 use office_books::{Books, BooksFault, verdict_at};
 use office_events::{EntryPlace, Installation, Name, Refusal, VoidEntry};
 
-/// What is at a place of a meter.
+/// What a meter has at an index.
 #[derive(Clone, Copy, Debug, PartialEq, Eq)]
 enum Spot {
     Nothing,
-    /// Its opening.
+    /// The opening.
     Opening,
-    /// An entry after it.
+    /// An entry after the opening.
     Entry(EntryPlace),
 }
 
-/// Whether the entry after the one at a place, judged by its energy, would pass the limit of a meter.
+/// Whether the verdict on the entry after `found` is that it would pass the limit of a total.
 fn is_full(found: &Option<EntryPlace>) -> bool
     requires { IfSome found.now (λ p. IsSound p.before) }
     ensures { result ≡ spots.is_full found.now }
@@ -40,9 +40,12 @@ fn is_full(found: &Option<EntryPlace>) -> bool
     }
 }
 
-/// The entry of a meter at a place, if there is one, with an energy before it by which the next is judged as by its own. The
-/// whole energy of the meter is asked for first, since the rows around the entry tell that; that before it takes all rows,
-/// and matters only where the whole is so great that the limit might be passed.
+/// The entry of a meter at an index, if any, with an energy before it that judges the next entry
+/// alike.
+///
+/// `entry_near` first judges by the meter's total, which needs only the rows around the entry. The
+/// energy before the entry needs all rows. It matters only if the total is so large that the limit
+/// might be passed.
 fn entry_of<B: Books>(
     books: &mut B,
     meter: &Name,
@@ -60,7 +63,7 @@ fn entry_of<B: Books>(
     Ok(near)
 }
 
-/// What is at a place of the meter of a name. The opening has the place 1.
+/// What a meter has at an index. The opening has index 1.
 fn spot_at<B: Books>(books: &mut B, given: &Option<Name>, place: u64) -> Result<Spot, BooksFault>
     ensures found { Finds (B.ledger books.old) (B.ledger books.new) result
         (λ known spot. spots.IsAt known given.now place spot) }
@@ -85,7 +88,8 @@ fn spot_at<B: Books>(books: &mut B, given: &Option<Name>, place: u64) -> Result<
     }
 }
 
-/// The verdict on what an entry shows, after a meter that stood so. A change of the counter has none.
+/// The verdict on an entry, if the meter's state before it is `before`. A change of the counter has
+/// none.
 fn verdict_on(before: &Installation, entry: &Entry) -> Option<Verdict>
     requires { IsSound before.now }
     ensures { result ≡ verdict_between before.now entry.now }
@@ -103,7 +107,7 @@ fn verdict_on(before: &Installation, entry: &Entry) -> Option<Verdict>
     }
 }
 
-/// The verdict on the next entry that stands, after those before the one at a place.
+/// The verdict on the next valid entry, if the entry at `place` were removed.
 fn verdict(place: &EntryPlace) -> Option<Verdict>
     requires { IsSound place.now.before }
     ensures { result ≡ verdict_at (Some place.now) }
@@ -114,7 +118,7 @@ fn verdict(place: &EntryPlace) -> Option<Verdict>
     }
 }
 
-/// Why the entry at a place can't go.
+/// The reason why the entry at an index can't be voided, if any.
 fn against_entry(place: &EntryPlace) -> Option<Refusal>
     requires { IsSound place.now.before }
     ensures found { result ≡ spots.strike_refusal place.now }
@@ -130,7 +134,7 @@ fn against_entry(place: &EntryPlace) -> Option<Refusal>
     }
 }
 
-/// Why what is at a place is not voided by a command that comes so.
+/// The reason to refuse a void, given what is at its index.
 fn against(arrival: &Arrival, spot: &Spot) -> Option<Refusal>
     requires { spots.IsSoundSpot spot.now }
     ensures found { result ≡ spots.void_refusal arrival.now spot.now }
@@ -152,7 +156,7 @@ fn against(arrival: &Arrival, spot: &Spot) -> Option<Refusal>
     }
 }
 
-/// Why an entry is not voided.
+/// Returns the reason to refuse a void, if any.
 pub fn void_entry<B: Books>(
     books: &mut B,
     arrival: &Arrival,

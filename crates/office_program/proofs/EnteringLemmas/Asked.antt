@@ -1,4 +1,4 @@
--- One line that is asked of an office.
+-- One line that is requested from an office.
 use Rattle.std.proofs.Common.{ℤ, pos, sym, ◌≡◌, inl, inr, ℕ, ◌||◌, max, Bool, true, List, Option, Some, None, Result, Ok, Err, refl, ap, subst, ◌∙◌}
 use Rattle.std.specs.Prelude.{IfOk, is_err}
 use Rattle.std.specs.declared.io.Error.{Error}
@@ -40,7 +40,7 @@ use Rattle.office_program.specs.declared.entering.files.Shown.{Shown}
 use Rattle.office_program.specs.declared.entering.read_line.ReadRequest.{ReadRequest}
 use Rattle.office_program.specs.Entering.Lines.{IsEntry, ReadsEntry, Telling}
 
--- what an office tells is printed as a script prints it
+-- The office's reports are printed as a script prints them.
 told_is : {B : Type 0} (office : Office B) (past : History) (at : ℕ) (e : Event) (reply : Result Answer Refusal) → IsTold past at e reply office
     → told_text office reply ≡ reply_text past at e reply
 told_is office past at e (Ok given) told =
@@ -51,13 +51,13 @@ told_is office past at e (Err why) told = refl
 abbrev pub one : (at : ℕ) → Event → Result Answer Refusal → Answered
 one at e reply = record { at = at; event = e; result = reply }
 
--- how far the lines have come then
+-- The progress of the lines then.
 pub next_is : (progress next : Progress) (at : ℕ) (e : Event) (reply : Result Answer Refusal) (failed : Bool)
     → next ≡ record { latest = at; refused = progress.refused || failed } → failed ≡ is_err reply → next ≡ progress_after progress (Asked (one at e reply))
 next_is progress next at e reply failed is same =
     is ∙ ap (λ (b : Bool). let p : Progress = record { latest = at; refused = progress.refused || b } in p) same
 
--- An event was asked, and the reply was printed.
+-- An event was fed, and the answer was printed.
 pub asked : {B : Type 0} (ledger : B → Ledger) (past : History) (progress : Progress) (before after : Failures) (had holds : Option (List ℕ)) (office : Office B)
     (at : ℕ) (e : Event) (reply : Result Answer Refusal) (result : Result Progress Error) (text : List ℕ) → Stands ledger (with_answer past at e reply) office
     → IsAnswer past at e before after reply → IsTold past at e reply office → text ≡ told_text office reply → GotText result text had holds
@@ -75,7 +75,7 @@ asked ledger past progress before after had holds office at e reply result text 
       next = next;
     }
 
--- A request was asked that is not doubted.
+-- A request was fed that is not doubted.
 pub undoubted : {B : Type 0} (ledger : B → Ledger) (past : History) (progress : Progress) (begun now : RoundState) (office : Office B) (at : ℕ) (request : Request)
     (between : Failures) (result : Result Progress Error) → IsAskedAt progress.latest begun.moments now.moments at
     → doubt_of (facts_of past) at request ≡ None → between ≡ begun.failures
@@ -100,7 +100,7 @@ undoubted ledger past progress begun now office at request between result timed 
       };
     }
 
--- It was not asked, since it is doubted,
+-- The request was not fed, since it is doubted.
 pub doubted : {B : Type 0} (ledger : B → Ledger) (past : History) (progress : Progress) (begun now : RoundState) (office : Office B) (at mwh : ℕ) (request : Request)
     (result : Result Progress Error) → IsAskedAt progress.latest begun.moments now.moments at → Stands ledger past office
     → doubt_of (facts_of past) at request ≡ Some mwh → now.failures ≡ begun.failures → TellsWhyNot (doubted_line mwh) at begun.printed now.printed result
@@ -115,7 +115,7 @@ doubted ledger past progress begun now office at mwh request result timed stands
   };
 }
 
--- or since the office refused to tell whether it is.
+-- The request was not fed, since the office refused to answer whether it is doubted.
 pub undecided : {B : Type 0} (ledger : B → Ledger) (past : History) (progress : Progress) (begun now : RoundState) (office : Office B) (at : ℕ) (request : Request)
     (reason : Refusal) (result : Result Progress Error) → IsAskedAt progress.latest begun.moments now.moments at → Stands ledger past office
     → IsOutside ⊥ begun.failures now.failures reason → TellsWhyNot (refused_line reason) at begun.printed now.printed result
@@ -130,14 +130,14 @@ undecided ledger past progress begun now office at request reason result timed s
   };
 }
 
--- ---- What a line comes to
+-- ---- The entry of a line
 
 pub asked_come : {B : Type 0} (ledger : B → Ledger) (tells : Telling) (request : Request) (past : History) (progress : Progress) (begun now : RoundState)
     (office : Office B) (result : Result Progress Error) → HasAsked ledger request past progress begun now office result
     → HasCome ledger tells (entry.Ask request) past progress begun now office result
 asked_come ledger tells request past progress begun now office result done = record { came = done.came; comes = done.comes; shown = tt; takes = done.takes }
 
--- of one that has its counter read
+-- The entry of a line whose counter is read.
 read_comes : (tells : Telling) (facts : List Fact) (read : ReadRequest) (raw : ℕ) (sf : ℤ) (came : Came) → IsCameOf (entry.Ask (asked_at read raw sf)) came
     → AsksShown tells facts read (asked_at read raw sf) → IsCameOf (entry.Read read) came × IsShown tells facts (entry.Read read) came
 read_comes tells facts read raw sf (Asked one) is shown =
@@ -159,7 +159,7 @@ read_come ledger tells read shown request past progress begun now office result 
     let both = read_comes tells (facts_of past) read shown.raw shown.sf done.came (subst P same done.comes) (shown, is, refl) in
     record { came = done.came; comes = both.0; shown = both.1; takes = done.takes }
 
--- whose counter can't be read,
+-- The counter can't be read.
 pub unread : {B : Type 0} (ledger : B → Ledger) (tells : Telling) (read : ReadRequest) (past : History) (progress : Progress) (begun now : RoundState) (office : Office B)
     (at : ℕ) (result : Result Progress Error) → IsAskedAt progress.latest begun.moments now.moments at → Stands ledger past office
     → IsShownFor tells (facts_of past) read None → now.failures ≡ begun.failures → TellsWhyNot unread_line at begun.printed now.printed result
@@ -175,7 +175,7 @@ unread ledger tells read past progress begun now office at result timed stands n
   };
 }
 
--- or of which the office refused to tell it.
+-- The office refused to answer which counter to read.
 pub unknown : {B : Type 0} (ledger : B → Ledger) (tells : Telling) (read : ReadRequest) (past : History) (progress : Progress) (begun now : RoundState) (office : Office B)
     (at : ℕ) (reason : Refusal) (result : Result Progress Error) → IsAskedAt progress.latest begun.moments now.moments at → Stands ledger past office
     → IsOutside ⊥ begun.failures now.failures reason → TellsWhyNot (refused_line reason) at begun.printed now.printed result
@@ -191,7 +191,7 @@ unknown ledger tells read past progress begun now office at reason result timed 
   };
 }
 
--- The faults of a list were told, and nothing was asked.
+-- The faults of a list were printed, and nothing was requested.
 pub faulty : {B : Type 0} (ledger : B → Ledger) (tells : Telling) (past : History) (progress : Progress) (begun now : RoundState) (office : Office B) (rows told : List FaultyRow)
     (result : Result Progress Error) → Stands ledger past office → now.moments ≡ begun.moments → now.failures ≡ begun.failures → told ≡ rows
     → GotText result (faults_text told) begun.printed now.printed
@@ -210,7 +210,7 @@ faulty ledger tells past progress begun now office rows told result stands momen
       };
     }
 
--- What a line came to was taken and printed, or a part of that.
+-- The entry of a line was processed and printed, or a part of it.
 pub line_taken : {B : Type 0} (ledger : B → Ledger) (tells : Telling) (caller : Option (List ℕ)) (line : Line) (past : History) (progress next : Progress)
     (begun now : RoundState) (old new : Office B) (e : Entry) → IsEntry tells caller line.text e
     → HasCome ledger tells e past progress begun now new (Ok next)
@@ -231,7 +231,7 @@ line_cut ledger tells caller line past progress begun now old new e error is don
   record { takes = done.takes.takes; text = done.takes.text; next = tt },
 )
 
--- It is bad, or memory was wanting.
+-- The line is bad, or memory was missing.
 pub line_faulty : {B : Type 0} (ledger : B → Ledger) (tells : Telling) (caller : Option (List ℕ)) (line : Line) (past : History) (progress : Progress)
     (begun now : RoundState) (old new : Office B) (fault : LineFault) (status : ExitStatus) → IsUntouched begun now old new
     → ReadsEntry tells caller line.text (Err fault) → TellsFault fault line.number status begun.printed now.printed

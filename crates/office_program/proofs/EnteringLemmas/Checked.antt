@@ -1,4 +1,4 @@
--- Looking at an input.
+-- Checking an input.
 use Rattle.std.proofs.Common.{◌≡◌, inl, inr, ℕ, ◌||◌, Bool, false, List, [], ◌∷◌, ◌++◌, Option, Result, Ok, Err, refl, sym, ap, subst, ◌∙◌, append-nil}
 use Rattle.std.specs.Prelude.{if◌then◌else◌}
 use Rattle.std.specs.Io.KnownBytes.{Appends}
@@ -20,13 +20,13 @@ use Rattle.office_program.specs.declared.entering.checking.Look.{Look}
 use Rattle.office_program.specs.Entering.Checked.{AreLooks, Checks, IsChecked, IsKnown, IsKnownOf, IsLook, IsShown, Looked, LooksOver, OnlyLooks, any_refused, lines_with, look_text, looks_text}
 use Rattle.office_program.specs.Entering.Lines.{Telling}
 
--- what is known of the request of a caller
+-- What is known of the request of a caller.
 pub known_of : (facts : List Fact) (asked : Asked) (caller : Option (List ℕ)) (what : Known) → asked.caller ≡ caller → IsKnownOf facts asked caller what
     → IsKnown facts asked what
 known_of facts asked caller what who is =
     subst (λ (o : Option (List ℕ)). IsKnownOf facts asked o what) (sym who) is
 
--- books that were asked twice
+-- A store that was queried twice.
 pub looks_both : (old between new : Ledger) → OnlyLooks old between → OnlyLooks between new → OnlyLooks old new
 looks_both old between new first second = record {
   clean = λ clean. first.clean (second.clean clean);
@@ -44,7 +44,7 @@ looks_none ledger = record {
   keeps = record { facts = λ known holds. holds; left = λ left may. may };
 }
 
--- one that only was asked stands as it did
+-- A store that was only queried stays in its state.
 pub still_stand : (old new : Ledger) (past : History) → OnlyLooks old new → BooksStand old past → BooksStand new past
 still_stand old new past looks stand = record {
   is_past = stand.is_past;
@@ -58,7 +58,7 @@ pub line_shown : (tells : Telling) (caller : Option (List ℕ)) (line : Line) (f
 line_shown tells caller line facts had holds found (Ok refused) is shown = (found, is, shown.0, shown.1)
 line_shown tells caller line facts had holds found (Err status) is part = inl (record { found = found; is = is; part = part })
 
--- how far the lines have come, of which these are left
+-- The progress of the lines; these remain.
 pub record Underway (tells : Telling) (caller : Option (List ℕ)) (lines rest : List Line) (facts : List Fact) (had holds : Option (List ℕ)) (refused : Bool) : Type 0 where
   pub looked : List Looked
   pub each : AreLooks tells caller facts looked
@@ -127,7 +127,7 @@ ends_early tells caller lines rest left facts had was holds refused line told st
   });
 }
 
--- Books that were looked up stand as they did.
+-- A store that was looked up stays in its state.
 pub checked_over : (tells : Telling) (caller text : List ℕ) (name : Option (List ℕ)) (old new : Ledger) (had holds : Option (List ℕ)) (status : ExitStatus) (past : History)
     → name ≡ named caller → BooksStand old past → OnlyLooks old new → Checks tells name (speaking_lines text) (facts_of past) status had holds
     → LooksOver tells caller text new had holds status past

@@ -1,4 +1,4 @@
--- An office that was opened, and entered into.
+-- An office that was opened and entered into.
 use Rattle.std.proofs.Common.{◌≡◌, inl, inr, ℕ, List, [], ◌∷◌, Option, Some, sym, ap, subst, ◌∙◌}
 use Rattle.command_io.specs.Lines.{speaking_lines}
 use Rattle.command_io.specs.declared.status.ExitStatus.{ExitStatus}
@@ -14,7 +14,7 @@ use Rattle.office_program.specs.Texts.OpenedOffice.{Opens, TellsUnopened}
 use Rattle.office_program.specs.Entering.Entered.{EntersLines, TellsEntering}
 use Rattle.office_program.specs.Entering.Lines.{Telling}
 
--- the moment of an opening is the one that the clock told
+-- The timestamp of the opening is the clock's time.
 told_at : (moments then : Option (List ℕ)) (listed : List ℕ) (following : Option (List ℕ)) (first at : ℕ) → TellsMoment moments then first
     → listed ≡ first ∷ [] → TellsMoment (Some listed) following at → at ≡ first
 told_at moments then listed following first at told is opens = opens.0 ∙ ap next_moment is
@@ -39,7 +39,7 @@ kept : {B : Type 0} (ledger : B → Ledger) (left : Office B) (back : B) → bac
     → (ledger (books_in left)).is_clean
 kept {B = B} ledger left back is clean = let P : B → Type 0 = λ b. (ledger b).is_clean in subst P is clean
 
--- It was opened, and entered into.
+-- The office was opened, and the input was entered.
 pub entered : {B W : Type 0} (ledger : B → Ledger) (contents : W → Option (List ℕ)) (tells : Telling) (past : History) (caller text : List ℕ) (name : Option (List ℕ))
     (moments then later : Option (List ℕ)) (listed : List ℕ) (following : Option (List ℕ)) (first : ℕ) (books back : B) (opened left : Office B) (before silent : W)
     (holds : Option (List ℕ)) (status : ExitStatus) → name ≡ named caller → TellsMoment moments then first → listed ≡ first ∷ []

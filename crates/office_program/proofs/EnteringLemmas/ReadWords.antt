@@ -1,4 +1,4 @@
--- The words of a line that has `@read`, taken one by one.
+-- The words of a line with `@read`, one by one.
 use Rattle.std.proofs.Common.{◌≡◌, ◌⊎◌, inl, inr, ℕ, Bool, true, false, List, [], ◌∷◌, Option, Some, None, refl, sym, ap, ◌∙◌, subst}
 use Rattle.std.specs.Prelude.{codes, if◌then◌else◌, option_map}
 use Rattle.std.specs.Str.{bytes_eq}
@@ -11,9 +11,9 @@ use Rattle.script_lines.specs.LineWords.Words.{words_of}
 use Rattle.office_program.specs.Entering.Marks.{is_marked, unmarked}
 use Rattle.office_program.specs.Entering.ReadLines.{IsNoRead, IsNoReadLine, IsRead, IsReadLine, exchange_said, install_said, line_said, may_end, read_said, read_word, verb_said}
 
--- ---- What the words of such a line say
+-- ---- The contents of such a line
 
--- a field that the first word spells, or that may be missing
+-- A field that the first word spells, or that may be missing.
 first_read : (kind : Kind) (value : Value kind) (words : List (List ℕ)) (more : List Field) → Spell words (Of kind value ∷ more)
     → (rest : List (List ℕ)) × (first_value kind words ≡ Some (value, rest)) × Spell rest more
 first_read kind value [] more h = ([], ap (option_map (λ v. (v, []))) h.0, h.1)
@@ -50,7 +50,7 @@ said_of words (read.Exchange number register last rolls meter ceiling range) h =
     let j = first_read Range range i.0 _ i.2 in
     rw (a.1, b.1, c.1, d.1, e.1, f.1, g.1, i.1, j.1, ends_read j.0 j.2) refl
 
--- ---- What is said is spelled
+-- ---- The contents are spelled by the words
 
 read_spelled : (words rest : List (List ℕ)) (more : List Field) → read_word words ≡ Some rest → Spell rest more → Spell words (Word (codes "@read") ∷ more)
 read_spelled [] rest more h spelled = cc h
@@ -137,11 +137,11 @@ spelled_of words line h =
     let number = bound (first_value Number words) _ line h in
     after_spelled number.0.0 number.0.1 words line number.1 number.2
 
--- where nothing is said, the words are no such line
+-- If there are no contents, the words are no such line.
 pub none_of : (words : List (List ℕ)) → (let o : Option ReadLine = None in o) ≡ read_said words → IsNoReadLine words
 none_of words h = λ line is. let both : (let o : Option ReadLine = None in o) ≡ Some line = h ∙ said_of words line is in cc both
 
--- and they are one at most
+-- The words are at most one such line.
 pub one_line : (words : List (List ℕ)) (a b : ReadLine) → IsReadLine words a → IsReadLine words b → a ≡ b
 one_line words a b first second = same a b (sym (said_of words a first) ∙ said_of words b second)
 

@@ -55,9 +55,9 @@ requests_are_repeated past more at again_at asked again accepted same =
     decided history again_at (event.Asked again) (kind_of asked.command)
     (answers (facts_of history) asked again (kind_of asked.command) same.caller same.number same.request kept)
 
--- ---- One line comes to one request
+-- ---- One line is one request
 
--- what is the same of the requests of one that has its counter read
+-- What the requests of a line with `@read` have in common.
 abbrev asked_like : ReadRequest → Asked
 asked_like read = asked_at read 0 (pos 0)
 
@@ -132,15 +132,15 @@ same_entry tells caller text a b steady (inl first) (inr second) = absurd (secon
 same_entry tells caller text a b steady (inr first) (inl second) = absurd (first.0 second.line second.is)
 same_entry tells caller text a b steady (inr first) (inr second) = same_unnamed caller text a b first.1 second.1
 
--- ---- What was asked is kept
+-- ---- The request is stored
 
--- the request that a line comes to is kept
+-- The request of a line is stored.
 abbrev KeepsEntry : History → Entry → Type 0
 KeepsEntry later (entry.Ask asked) = (kind : CommandKind) × Keeps (facts_of later) asked kind
 KeepsEntry later (entry.Read read) = (kind : CommandKind) × Keeps (facts_of later) (asked_like read) kind
 KeepsEntry later (entry.Faulty rows) = ⊥
 
--- how a request was answered that was asked before, or accepted
+-- The answer to a request that is a retry, or was accepted.
 abbrev Acted : (history : History) (at : ℕ) (asked : Asked) → Result Answer Refusal → (kept : Option (Result CommandKind Refusal)) → (why : Option Refusal) → Type 0
 Acted history at asked result kept why =
     ((kind : CommandKind) × (result ≡ Ok (answer.Again kind)) × (kept ≡ Some (Ok kind)))
@@ -158,7 +158,7 @@ not_outside : (takes_memory : Type 0) (result : Result Answer Refusal) (before a
 not_outside takes_memory (Ok given) before after ok fails = fails
 not_outside takes_memory (Err why) before after ok fails = cc ok
 
--- what is answered to a command that is accepted is no repeat
+-- The answer to an accepted command is not that of a retry.
 fed_by : (history : History) (at : ℕ) (e : Event) (b : Bool) (first count of : ℕ) (kind : CommandKind)
     → with_answer history at e (Ok (if b then answer.Started first count of else answer.Done kind)) ≡ Fed at e ∷ history
 fed_by history at e true first count of kind = refl
@@ -171,7 +171,7 @@ fed history at asked =
     fed_by history at (event.Asked asked) (is_start c) (next_poll (facts_of history)) (sent_count (slots_of history) (facts_of history) at c)
     (reads_in_all (facts_of history) c) (kind_of c)
 
--- the later history goes on from this one
+-- The later history extends this one.
 abbrev GrowsTo : History → History → Type 0
 GrowsTo later history = (more : History) × (later ≡ more ++ history)
 
@@ -217,7 +217,7 @@ keeps_same facts asked again kind same kept = record {
   done = kept.done;
 }
 
--- whatever the counter shows
+-- For any reading of the counter.
 like : (read : ReadRequest) (raw : ℕ) (sf : ℤ) → IsSameRequest (asked_at read raw sf) (asked_like read)
 like read raw sf = record { caller = refl; number = refl; request = refl }
 
@@ -238,7 +238,7 @@ keeps_entry later more history e (Doubted at request mwh) before after is goes a
 keeps_entry later more history e (Undecided at request why) before after is goes accepted answered ok = absurd ok
 keeps_entry later more history e (Unread at read) before after is goes accepted answered ok = absurd ok
 
--- ---- What the same line asks is kept
+-- ---- The request of the same line is stored
 
 repeats_by : (later : History) (a b : Entry) → SameEntry a b → KeepsEntry later a → KeepsEntry later b
 repeats_by later (entry.Ask x) (entry.Ask y) same kept = (kept.0, keeps_same (facts_of later) x y kept.0 same kept.1)
@@ -285,14 +285,14 @@ each_kept tells caller (one ∷ earlier) past later more before after steady goe
       each_kept tells caller earlier past later here.1.0 before answered.0 steady here.1.1 accepted are.1 answered.1 acted.1,
     )
 
--- ---- So nothing acts again
+-- ---- Nothing acts again
 
 outside_same : (takes_memory : Type 0) (history : History) (at : ℕ) (e : Event) (result : Result Answer Refusal) (before after : Failures)
     → FailsOutside takes_memory before after result → with_answer history at e result ≡ history
 outside_same takes_memory history at e (Ok given) before after fails = absurd fails
 outside_same takes_memory history at e (Err why) before after fails = refl
 
--- what is kept is not accepted once more
+-- A stored request is not accepted again.
 not_accepted : (later : History) (at : ℕ) (e : Event) (asked : Asked) (kind : CommandKind) → e ≡ event.Asked asked → Keeps (facts_of later) asked kind
     → IsAccepted later at e → ⊥
 not_accepted later at e asked kind is keeps accepted =
@@ -318,7 +318,7 @@ stays_asked later one asked kind before after is keeps (inr fails) =
     let takes : Type 0 = IsAccepted later one.at one.event in
     (outside_same takes later one.at one.event one.result before after fails, inr (before, after, without_memory takes before after one.result none fails))
 
--- What is kept is not doubted.
+-- A stored request is not doubted.
 not_doubted : (facts : List Fact) (at : ℕ) (asked request : Asked) (kind : CommandKind) (mwh : ℕ) → request ≡ asked → Keeps facts asked kind
     → doubt_of facts at request ≡ Some mwh → ⊥
 not_doubted facts at asked request kind mwh is keeps doubt =

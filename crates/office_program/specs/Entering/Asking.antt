@@ -1,4 +1,4 @@
--- What asking one line does to an office, the clock and the writer, each as it was found and as it was left.
+-- What requesting one line does to an office, the clock and the writer, each before and after.
 use Rattle.std.specs.Prelude.{◌≡◌, ℕ, true, List, [], Option, Result, Ok, Err, IfOk}
 use Rattle.std.specs.Io.KnownBytes.{Appends}
 use Rattle.std.specs.declared.io.Error.{Error}
@@ -32,19 +32,20 @@ use Rattle.office_program.specs.declared.entering.progress.Progress.{Progress}
 use Rattle.office_program.specs.Entering.Course.{Asked, Came, EntersLine, IsAskedAt, IsCameOf, IsShown, TakesLine, progress_after, reply_text}
 use Rattle.office_program.specs.Entering.Lines.{Telling}
 
--- the text of an office's reply to the event that it was just fed
+-- The text of the office's answer to the last event.
 abbrev pub told_text : {B : Type 0} → Office B → Result Answer Refusal → List ℕ
 told_text office (Ok given) = accepted_text given (notes_in office) (outgoing_in office)
 told_text office (Err why) = refused_line why
 
--- That a line is bad was printed, or a part of that where the writing failed; where memory was wanting, nothing was.
+-- The message for a bad line was printed, or a part of it if the write failed. If memory was
+-- missing, nothing was printed.
 abbrev pub TellsFault : LineFault → (number : ℕ) → ExitStatus → (old new : Option (List ℕ)) → Type 0
 TellsFault Bad number Refused old new = Appends old new (bad_line number)
 TellsFault Bad number Failed old new = GotPart (bad_line number) old new
 TellsFault Memory number Failed old new = Appends old new []
 TellsFault _ number _ old new = ⊥
 
--- An event was asked at a moment, and its reply was printed, or a part of that where the writing failed.
+-- An event was fed at a timestamp, and its answer was printed, or a part of it if the write failed.
 pub record IsAsked {B : Type 0} (ledger : B → Ledger) (past : History) (at : ℕ) (e : Event)
     (progress : Progress) (before after : Failures) (had holds : Option (List ℕ))
     (office : Office B) (result : Result Progress Error) : Type 0 where
@@ -56,19 +57,21 @@ pub record IsAsked {B : Type 0} (ledger : B → Ledger) (past : History) (at : �
   pub text : GotText result (reply_text past one.at one.event one.result) had holds
   pub next : IfOk result (λ next. next ≡ progress_after progress (Asked one))
 
+-- The same for every past that the office was in the state of.
 abbrev pub AsksAt : {B W : Type 0} → stores.Ghosts B → writers.Ghosts W → (at : ℕ) → Event
     → Progress → (old new : Office B) → (had holds : W) → Result Progress Error → Type 0
 AsksAt b w at e progress old new had holds result = After b.ledger old new (λ past.
     IsAsked b.ledger past at e progress (failures_of b.ledger old) (failures_of b.ledger new)
     (w.contents had) (w.contents holds) new result)
 
--- Why nothing is asked at a moment was printed, or a part of that where the writing failed.
+-- Why nothing is requested at a timestamp was printed, or a part of it if the write failed.
 pub record TellsWhyNot (line : List ℕ) (at : ℕ) (had holds : Option (List ℕ))
     (result : Result Progress Error) : Type 0 where
   pub text : GotText result line had holds
   pub next : IfOk result (λ next. next ≡ record { latest = at; refused = true })
 
--- What a line comes to was asked or was not, and printed, or a part of that where the writing failed.
+-- The outcome of a line was printed, or a part of it if the write failed. The line was requested or
+-- not.
 pub record HasCome {B : Type 0} (ledger : B → Ledger) (tells : Telling) (entry : Entry)
     (past : History) (progress : Progress) (begun now : RoundState) (office : Office B)
     (result : Result Progress Error) : Type 0 where
@@ -77,7 +80,7 @@ pub record HasCome {B : Type 0} (ledger : B → Ledger) (tells : Telling) (entry
   pub shown : IsShown tells (facts_of past) entry came
   pub takes : TakesLine {E = Error} ledger past progress begun now office result came
 
--- So it is at a moment that follows, whatever a clock told.
+-- The same at a timestamp that follows, for any reading of the clock.
 abbrev pub EntersAt : {B W : Type 0} → stores.Ghosts B → writers.Ghosts W → Telling → Entry
     → Progress → (at : ℕ) → (old new : Office B) → (had holds : W) → Result Progress Error → Type 0
 EntersAt b w tells entry progress at old new had holds result = (moments later : Option (List ℕ))
@@ -86,7 +89,7 @@ EntersAt b w tells entry progress at old new had holds result = (moments later :
     (round_state (w.contents had) moments (failures_of b.ledger old))
     (round_state (w.contents holds) later (failures_of b.ledger new)) new result)
 
--- A request is asked, or it is told why not.
+-- A request is fed, or the reason against it is printed.
 pub record HasAsked {B : Type 0} (ledger : B → Ledger) (request : Request) (past : History)
     (progress : Progress) (begun now : RoundState) (office : Office B)
     (result : Result Progress Error) : Type 0 where
@@ -94,6 +97,7 @@ pub record HasAsked {B : Type 0} (ledger : B → Ledger) (request : Request) (pa
   pub comes : IsCameOf (entry.Ask request) came
   pub takes : TakesLine {E = Error} ledger past progress begun now office result came
 
+-- The same at a timestamp that follows, for any reading of the clock.
 abbrev pub AsksTimed : {B W : Type 0} → stores.Ghosts B → writers.Ghosts W → Request → Progress
     → (at : ℕ) → (old new : Office B) → (had holds : W) → Result Progress Error → Type 0
 AsksTimed b w request progress at old new had holds result = (moments later : Option (List ℕ))
@@ -103,14 +107,14 @@ AsksTimed b w request progress at old new had holds result = (moments later : Op
     (round_state (w.contents holds) later (failures_of b.ledger new)) new result)
 
 module _ {B C W : Type 0} (b : stores.Ghosts B) (c : clocks.Ghosts C) (w : writers.Ghosts W) where
-  -- what a line came to is asked, or why it isn't is told
+  -- The entry of a line is requested, or the reason against it is printed.
   abbrev pub EntersEntry : Telling → Entry → Progress → (old new : Office B) → (before after : C)
       → (had holds : W) → Result Progress Error → Type 0
   EntersEntry tells entry progress old new before after had holds result = After b.ledger old new
       (λ past. HasCome b.ledger tells entry past progress
       (desk_of b c w old before had) (desk_of b c w new after holds) new result)
 
-  -- a line is taken, or it is bad
+  -- A line is processed, or it is bad.
   abbrev pub EntersNext : Telling → (caller : Option (List ℕ)) → Line → Progress
       → (old new : Office B) → (before after : C) → (had holds : W) → Result Progress ExitStatus
       → Type 0

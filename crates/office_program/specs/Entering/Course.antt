@@ -1,5 +1,5 @@
--- How far the lines of an input have come: what each was asked as and answered, what was printed, and where the office
--- stands. Lists of lines that were taken stand latest first.
+-- The progress of an input: the request and answer of each line, the printed text, and the state of
+-- the office. Lists of processed lines have the latest first.
 use Rattle.std.specs.Prelude.{◌≡◌, ◌⊎◌, ◌||◌, ℕ, max, true, false, List, [], ◌∷◌, ◌++◌, codes, Option, Some, None, Result, Ok, Err, IfOk, is_err}
 use Rattle.std.specs.Fmt.{decimal}
 use Rattle.std.specs.List.{flat_map}
@@ -39,9 +39,12 @@ use Rattle.office_program.specs.Entering.Reading.{AsksShown, IsShownFor}
 
 -- ---- One line
 
--- What a line that isn't bad came to: it was asked, and answered; or it was not asked. Then its point list has faulty rows; its
--- entry by hand is doubted, which would book so many mWh; the office refused to tell whether it is, or which counter is to be
--- read; or that can't be read.
+-- The outcome of a line that is not bad. It was requested and answered; or it was not requested:
+--
+-- - its point list has faulty rows;
+-- - its entry by hand is doubted, with the energy in mWh that it would record;
+-- - the office refused to answer whether the entry is doubted, or which counter to read;
+-- - or the counter can't be read.
 pub data Came : Type 0 where
   Asked : Answered → Came
   Faulty : List FaultyRow → Came
@@ -49,6 +52,7 @@ pub data Came : Type 0 where
   Undecided : (at : ℕ) → Request → Refusal → Came
   Unread : (at : ℕ) → ReadRequest → Came
 
+-- The outcome is one of this entry.
 abbrev pub IsCameOf : Entry → Came → Type 0
 IsCameOf e (Asked one) =
     (request : Request) × MayAsk e request × (one.event ≡ event.Asked request)
@@ -58,7 +62,8 @@ IsCameOf (entry.Faulty rows) (Faulty told) = told ≡ rows
 IsCameOf (entry.Read read) (Unread at tried) = tried ≡ read
 IsCameOf _ _ = ⊥
 
--- What is installed is what the counter shows, by the register and the device of these facts.
+-- The meter is installed at the reading of the counter, by the register and the device in these
+-- records.
 abbrev pub IsShown : Telling → List Fact → Entry → Came → Type 0
 IsShown tells facts (entry.Read read) (Asked one) =
     (request : Request) × AsksShown tells facts read request × (one.event ≡ event.Asked request)
@@ -67,6 +72,7 @@ IsShown tells facts (entry.Read read) (Doubted at request mwh) =
 IsShown tells facts (entry.Read read) (Unread at tried) = IsShownFor tells facts read None
 IsShown tells facts _ _ = Unit {0}
 
+-- The outcome of a line, by its entry and by the records of a past.
 pub record Comes (tells : Telling) (caller : Option (List ℕ)) (past : History) (text : List ℕ)
     (came : Came) : Type 0 where
   pub entry : Entry
@@ -74,19 +80,19 @@ pub record Comes (tells : Telling) (caller : Option (List ℕ)) (past : History)
   pub comes : IsCameOf entry came
   pub shown : IsShown tells (facts_of past) entry came
 
--- what the office has accepted after it
+-- What the office has accepted after the line.
 abbrev pub with_came : History → Came → History
 with_came past (Asked one) = with_answer past one.at one.event one.result
 with_came past _ = past
 
--- What is asked is not doubted.
+-- A requested entry is not doubted.
 pub record IsAskedAndAnswered (past : History) (before after : Failures) (one : Answered) : Type 0
   where
     pub undoubted : doubt_in (facts_of past) one.at one.event ≡ None
     pub answer : IsAnswer past one.at one.event before after one.result
 
--- It is answered as the office's definitions say, or the office failed outside, which is noted; so does the office that refuses to
--- tell whether it is doubted.
+-- The request has the answer of the office's definitions, or the office failed outside, which is
+-- counted. The same holds if the office refuses to answer whether an entry is doubted.
 abbrev pub IsCameAnswered : History → (before after : Failures) → Came → Type 0
 IsCameAnswered past before after (Asked one) = IsAskedAndAnswered past before after one
 IsCameAnswered past before after (Faulty rows) = after ≡ before
@@ -95,22 +101,26 @@ IsCameAnswered past before after (Doubted at request mwh) =
 IsCameAnswered past before after (Undecided at request why) = IsOutside ⊥ before after why
 IsCameAnswered past before after (Unread at read) = after ≡ before
 
--- What a script prints of the answer: an accepted event's notes and `ok`, or the number of the refusal; a line for each faulty
--- row, and that the list is refused; and the energy that is doubted.
+-- The text for an answer, as in a script: an accepted event's notifications and `ok`, or the number
+-- of the refusal.
 abbrev pub reply_text : History → (at : ℕ) → Event → Result Answer Refusal → List ℕ
 reply_text past at e (Ok given) =
     accepted_text given (notes_after past at e (Ok given)) (outgoing_after past at e (Ok given))
 reply_text past at e (Err why) = refused_line why
 
+-- The text for a list with faults: a line for each faulty row, and the refusal of the list.
 abbrev pub faults_text : List FaultyRow → List ℕ
 faults_text rows = flat_map fault_line rows ++ refused_line Limit
 
+-- The text for a doubted entry, with its energy in mWh.
 abbrev pub doubted_line : (mwh : ℕ) → List ℕ
 doubted_line mwh = codes "doubted " ++ decimal mwh ++ codes "\n"
 
+-- The text for a counter that can't be read.
 abbrev pub unread_line : List ℕ
 unread_line = codes "unread\n"
 
+-- The text for any outcome.
 abbrev pub came_text : History → Came → List ℕ
 came_text past (Asked one) = reply_text past one.at one.event one.result
 came_text past (Faulty rows) = faults_text rows
@@ -118,12 +128,13 @@ came_text past (Doubted at request mwh) = doubted_line mwh
 came_text past (Undecided at request why) = refused_line why
 came_text past (Unread at read) = unread_line
 
--- It is asked, or would be, at the moment that the clock tells, or at that of the line before where that is later.
+-- The line has the clock's time, or that of the line before if that is later.
 pub record IsAskedAt (latest : ℕ) (begun now : Option (List ℕ)) (at : ℕ) : Type 0 where
   pub told : ℕ
   pub tells : TellsMoment begun now told
   pub is : at ≡ max latest told
 
+-- The outcome has the time of its line; a list with faulty rows needs none.
 abbrev pub IsTimed : (latest : ℕ) → (begun now : Option (List ℕ)) → Came → Type 0
 IsTimed latest begun now (Asked one) = IsAskedAt latest begun now one.at
 IsTimed latest begun now (Faulty rows) = now ≡ begun
@@ -131,7 +142,8 @@ IsTimed latest begun now (Doubted at request mwh) = IsAskedAt latest begun now a
 IsTimed latest begun now (Undecided at request why) = IsAskedAt latest begun now at
 IsTimed latest begun now (Unread at read) = IsAskedAt latest begun now at
 
--- the latest moment, and whether a line was refused or not asked, after one more
+-- The progress after one more line: the latest timestamp, and whether a line was refused or not
+-- requested.
 abbrev pub progress_after : Progress → Came → Progress
 progress_after progress (Asked one) =
     record { latest = one.at; refused = progress.refused || is_err one.result }
@@ -140,14 +152,14 @@ progress_after progress (Doubted at request mwh) = record { latest = at; refused
 progress_after progress (Undecided at request why) = record { latest = at; refused = true }
 progress_after progress (Unread at read) = record { latest = at; refused = true }
 
--- The office stands after it, and it was answered at its moment.
+-- The office is in the state after the line, which was answered at its timestamp.
 pub record Takes {B : Type 0} (ledger : B → Ledger) (past : History) (latest : ℕ)
     (begun now : RoundState) (office : Office B) (came : Came) : Type 0 where
   pub stands : Stands ledger (with_came past came) office
   pub answered : IsCameAnswered past begun.failures now.failures came
   pub timed : IsTimed latest begun.moments now.moments came
 
--- It was taken and printed, or a part of that where the writing failed.
+-- The line was processed and printed, or a part of it if the write failed.
 pub record TakesLine {B E : Type 0} (ledger : B → Ledger) (past : History) (progress : Progress)
     (begun now : RoundState) (office : Office B) (result : Result Progress E) (came : Came) : Type 0
   where
@@ -155,14 +167,14 @@ pub record TakesLine {B E : Type 0} (ledger : B → Ledger) (past : History) (pr
     pub text : GotText result (came_text past came) begun.printed now.printed
     pub next : IfOk result (λ next. next ≡ progress_after progress came)
 
--- Nothing was asked.
+-- Nothing was requested.
 pub record IsUntouched {B : Type 0} (begun now : RoundState) (old new : Office B) : Type 0 where
   pub office : new ≡ old
   pub moments : now.moments ≡ begun.moments
   pub failures : now.failures ≡ begun.failures
 
--- What a line of this number and this text does, between an office as it was found and as it is left: it is taken; it is
--- bad, and that is printed; or the run is broken off, since a writing failed or memory was wanting.
+-- What a line with this number and text does to an office. The line is processed; or it is bad, and
+-- that is printed; or the command is broken off, since a write failed or memory was missing.
 abbrev pub EntersLine : {B : Type 0} → (B → Ledger) → Telling → (caller : Option (List ℕ)) → Line
     → (past : History) → Progress → (begun now : RoundState) → (old new : Office B)
     → Result Progress ExitStatus → Type 0
@@ -182,51 +194,55 @@ EntersLine ledger tells caller line past progress begun now old new (Err Failed)
 
 -- ---- Several lines
 
--- a line that was taken
+-- A line that was processed.
 pub record Taken : Type 0 where
   pub line : Line
   pub came : Came
 
--- the lines of an input: those that were taken, and then these
+-- The lines of an input: the processed ones, followed by these.
 abbrev pub lines_with : List Taken → (rest : List Line) → List Line
 lines_with [] rest = rest
 lines_with (one ∷ earlier) rest = lines_with earlier (one.line ∷ rest)
 
--- what the office has accepted after them
+-- What the office has accepted after the lines.
 abbrev pub history_with : History → List Taken → History
 history_with past [] = past
 history_with past (one ∷ earlier) = with_came (history_with past earlier) one.came
 
+-- Each processed line has an outcome of its entry.
 abbrev pub AreComing : Telling → (caller : Option (List ℕ)) → History → List Taken → Type 0
 AreComing tells caller past [] = Unit {0}
 AreComing tells caller past (one ∷ earlier) =
     Comes tells caller (history_with past earlier) one.line.text one.came
     × AreComing tells caller past earlier
 
+-- Each outcome is answered after the earlier lines.
 abbrev pub AreAnswered : History → (before after : Failures) → List Taken → Type 0
 AreAnswered past before after [] = after ≡ before
 AreAnswered past before after (one ∷ earlier) =
     (between : Failures) × AreAnswered past before between earlier
     × IsCameAnswered (history_with past earlier) between after one.came
 
--- how far they come, from this moment on
+-- The progress of the lines, from this timestamp on.
 abbrev pub progress_of : (first : ℕ) → List Taken → Progress
 progress_of first [] = record { latest = first; refused = false }
 progress_of first (one ∷ earlier) = progress_after (progress_of first earlier) one.came
 
+-- Each outcome has the time of its line.
 abbrev pub AreTimed : (first : ℕ) → (begun now : Option (List ℕ)) → List Taken → Type 0
 AreTimed first begun now [] = now ≡ begun
 AreTimed first begun now (one ∷ earlier) =
     (between : Option (List ℕ)) × AreTimed first begun between earlier
     × IsTimed (progress_of first earlier).latest between now one.came
 
+-- The printed text of the processed lines.
 abbrev pub text_after : History → List Taken → List ℕ
 text_after past [] = []
 text_after past (one ∷ earlier) =
     text_after past earlier ++ came_text (history_with past earlier) one.came
 
--- Each was asked as it says, or was not, answered as the definitions say after those before it, at its moment; the office stands
--- after them.
+-- The lines were processed: each was requested or not by its entry, with the answer of the
+-- definitions after the earlier lines, at its timestamp. The office is in the state after them.
 pub record AreTaken {B : Type 0} (ledger : B → Ledger) (tells : Telling)
     (caller : Option (List ℕ)) (past : History) (first : ℕ) (begun now : RoundState)
     (office : Office B) (taken : List Taken) : Type 0 where

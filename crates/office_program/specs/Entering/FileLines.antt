@@ -4,43 +4,48 @@ use Rattle.std.specs.Str.{bytes_eq}
 use Rattle.script_lines.specs.LineWords.Fields.{AnyName, Field, Number, Of, Spell, Word, first_value, nothing_more, ◌>>=◌}
 use Rattle.office_program.specs.declared.entering.file_line.FileLine as declared
 
--- the number of the request, the device, and the name of the file
+-- The number of the request, the device, and the name of the file.
 pub record FileLine : Type 0 where
   pub number : ℕ
   pub device : Option (List ℕ)
   pub name : List ℕ
 
--- The words of such a line; `@` is 64.
+-- The words of a line that names a file; `@` is 64.
 abbrev pub file_form : FileLine → List Field
 file_form line =
     Of Number line.number ∷ Word (codes "list") ∷ Of AnyName line.device ∷ Word (64 ∷ line.name)
     ∷ []
 
+-- The words spell the line.
 abbrev pub IsFileLine : (words : List (List ℕ)) → FileLine → Type 0
 IsFileLine words line = Spell words (file_form line)
 
--- the words are none
+-- The words are no such line.
 abbrev pub IsNoFileLine : (words : List (List ℕ)) → Type 0
 IsNoFileLine words = (line : FileLine) → IsFileLine words line → ⊥
 
--- ---- The same, word by word, as the words are taken.
+-- ---- The same definition, word by word, in reading order
 
--- the line that was read, where a line is lent
+-- The line that was read, with its borrowed name as bytes.
 abbrev pub seen_line : declared.FileLine → FileLine
 seen_line line = record { number = line.number; device = line.device; name = line.name.now }
 
+-- The name of a file, after `@`.
 abbrev pub file_in : List ℕ → Option (List ℕ)
 file_in [] = None
 file_in (byte ∷ name) = if byte == 64 then Some name else None
 
+-- The first word, if it names a file, and the other words.
 abbrev pub file_word : List (List ℕ) → Option (List ℕ × List (List ℕ))
 file_word [] = None
 file_word (word ∷ words) = option_map (λ name. (name, words)) (file_in word)
 
+-- The words after `list`, if that is the first word.
 abbrev pub list_word : List (List ℕ) → Option (List (List ℕ))
 list_word [] = None
 list_word (word ∷ words) = if bytes_eq word (codes "list") then Some words else None
 
+-- The line that the words spell, if they spell one.
 abbrev pub file_said : List (List ℕ) → Option FileLine
 file_said words =
     first_value Number words >>= λ number.

@@ -1,5 +1,5 @@
--- What a line of an input asks of an office: it is a line of a script whose first word is the request's number, and which may
--- have a mark after it; or it names the file of a point list.
+-- The request in a line of an input. It is a script's line whose first word is the request's
+-- number, with or without a mark; or it names the file of a point list.
 use Rattle.std.specs.Prelude.{◌≡◌, ◌≢◌, ◌⊎◌, ℕ, ℤ, Bool, true, false, List, [], ◌∷◌, ◌++◌, Option, Some, None, Result, Ok, Err, if◌then◌else◌}
 use Rattle.point_list.specs.Lists.{SpellsList, list_faults, rows_read}
 use Rattle.read_plan.specs.PlannedLists.{IsPlanned, Planned}
@@ -30,24 +30,25 @@ use Rattle.office_program.specs.Entering.FileLines.{FileLine, IsFileLine, IsNoFi
 use Rattle.office_program.specs.Entering.Marks.{is_marked, unmarked}
 use Rattle.office_program.specs.Entering.ReadLines.{IsNoRead, IsRead, asked_at}
 
--- What may be told of a file by its name: its bytes, or that there is no such file; and of the counter of a register that is read
--- at its device: what it shows, or that it can't be read.
+-- What may be returned for a file by its name: its bytes, or that it does not exist; and for a
+-- register's counter: its reading, or that it can't be read.
 pub record Telling : Type 1 where
   pub files : List ℕ → Option (List ℕ) → Type 0
   pub counters : Device → Register → Option Shown → Type 0
 
+-- The two relations of an implementation.
 abbrev pub telling_of : {F : Type 0} → surroundings.Ghosts F → F → Telling
 telling_of f files = record { files = f.tells files; counters = f.shows files }
 
 -- ---- A line of a script
 
--- The commands that can be asked as requests: all but the start of polls.
+-- The commands that can be requests: all but the start of polls.
 abbrev pub is_request : Command → Bool
 is_request (command.StartPoll c) = false
 is_request (command.StartRound c) = false
 is_request _ = true
 
--- Those that make an entry by hand.
+-- The commands that make an entry by hand.
 abbrev pub is_by_hand : Command → Bool
 is_by_hand (command.Exchange c) = true
 is_by_hand (command.Reset c) = true
@@ -56,45 +57,50 @@ is_by_hand (command.Manual c) = true
 is_by_hand (command.Close c) = true
 is_by_hand _ = false
 
--- Before a mark only an entry by hand asks something.
+-- With a mark, only an entry by hand is a request.
 abbrev pub can_be_asked : (marked : Bool) → Command → Bool
 can_be_asked marked c = if marked then is_by_hand c else is_request c
 
+-- The request of a command, if the command can be one.
 abbrev pub wanted_by : (marked : Bool) → (number : ℕ) → Command → Wanted
 wanted_by marked number c =
     if can_be_asked marked c then wanted.Command number c else wanted.Nothing
 
--- events of devices ask nothing
+-- Events of devices are no requests.
 abbrev pub wanted_of : (marked : Bool) → (number : ℕ) → Event → Wanted
 wanted_of marked number (event.Command c) = wanted_by marked number c
 wanted_of marked number _ = wanted.Nothing
 
+-- The request of a point list, which may have no mark.
 abbrev pub wanted_list : (marked : Bool) → (number : ℕ) → GivenList → Wanted
 wanted_list marked number list = if marked then wanted.Nothing else wanted.List number list
 
--- Of a script's lines these ask something: a command, by the number in the place of the moment, or a point list.
+-- The script's lines that are requests: a command, whose number has the place of the timestamp, or
+-- a point list.
 abbrev pub wanted_in : (marked : Bool) → ScriptLine → Wanted
 wanted_in marked (line.Event number e) = wanted_of marked number e
 wanted_in marked (line.List number list) = wanted_list marked number list
 wanted_in marked _ = wanted.Nothing
 
--- ---- What it comes to
+-- ---- The entry of a line
 
--- The request of a command, of which these bytes are kept.
+-- The request of a command, with these stored bytes.
 abbrev pub asked_by : (caller : Option (List ℕ)) → (number : ℕ) → (request : List ℕ) → Command
     → Asked
 asked_by caller number request c =
     record { caller = caller; number = number; request = request; command = c }
 
--- the text spells the list, with the reads of its plan
+-- The text spells the list, with the reads of its plan.
 pub record IsListOf (text : List ℕ) (list : Planned) : Type 0 where
   pub points : SpellsList text list.points
   pub planned : IsPlanned list
 
+-- The command that stores a point list.
 abbrev pub put_by : (device : Option (List ℕ)) → Planned → Command
 put_by device list = command.PutList (record { device = device; list = list })
 
--- The text of a point list spells one, which is asked for; or it has faulty rows, and nothing is asked.
+-- The text of a point list spells a list, which is requested; or it has faulty rows, and nothing is
+-- requested.
 abbrev pub IsListEntry : (caller : Option (List ℕ)) → (number : ℕ) → (device : Option (List ℕ))
     → (text request : List ℕ) → Entry → Type 0
 IsListEntry caller number device text request (Ask asked) =
@@ -104,7 +110,7 @@ IsListEntry caller number device text request (Faulty rows) =
     (list_faults (rows_read text) ≢ []) × (rows ≡ list_faults (rows_read text))
 IsListEntry caller number device text request (Read read) = ⊥
 
--- Of a script's line the bytes of the line are kept, with its mark,
+-- The stored bytes of a script's line: the line, with its mark.
 abbrev pub IsWantedEntry : (caller : Option (List ℕ)) → (text : List ℕ) → Wanted → Entry → Type 0
 IsWantedEntry caller text (wanted.Command number c) entry =
     entry ≡ Ask (asked_by caller number text c)
@@ -112,15 +118,18 @@ IsWantedEntry caller text (wanted.List number list) entry =
     IsListEntry caller number list.device list.text text entry
 IsWantedEntry caller text wanted.Nothing entry = ⊥
 
+-- The entry of a script's line.
 pub record IsScriptEntry (caller : Option (List ℕ)) (text : List ℕ) (entry : Entry) : Type 0 where
   pub said : ScriptLine
   pub is : IsOnly (words_of (unmarked text)) said
   pub comes : IsWantedEntry caller text (wanted_in (is_marked text) said) entry
 
--- and of one that names a file those, a line feed (10), and the bytes of the file.
+-- The stored bytes of a line that names a file: the line, a line feed (10), and the bytes of the
+-- file.
 abbrev pub file_request : (text bytes : List ℕ) → List ℕ
 file_request text bytes = text ++ 10 ∷ bytes
 
+-- The entry of a line that names a file.
 pub record IsFileEntry (tells : Telling) (caller : Option (List ℕ)) (text : List ℕ) (entry : Entry)
     : Type 0 where
   pub line : FileLine
@@ -129,46 +138,50 @@ pub record IsFileEntry (tells : Telling) (caller : Option (List ℕ)) (text : Li
   pub told : tells.files line.name (Some bytes)
   pub comes : IsListEntry caller line.number line.device bytes (file_request text bytes) entry
 
--- Of one that has its counter read the bytes of the line are kept, whatever the counter shows.
+-- The stored bytes of a line whose counter is read: the line, for any reading.
 pub record IsReadEntry (caller : Option (List ℕ)) (text : List ℕ) (entry : Entry) : Type 0 where
   pub line : ReadLine
   pub is : IsRead text line
   pub comes : entry ≡ Read (record { caller = caller; request = text; line = line })
 
--- What a line comes to, before an office is asked.
+-- The entry of a line, before the office is involved.
 abbrev pub IsEntry : Telling → (caller : Option (List ℕ)) → (text : List ℕ) → Entry → Type 0
 IsEntry tells caller text entry =
     IsFileEntry tells caller text entry
     ⊎ (IsNoFileLine (words_of text)
     × (IsReadEntry caller text entry ⊎ (IsNoRead text × IsScriptEntry caller text entry)))
 
--- The requests that it may ask: of one that has its counter read, one for whatever the counter shows.
+-- The requests that an entry may make: one for each possible reading, if its counter is read.
 abbrev pub MayAsk : Entry → Asked → Type 0
 MayAsk (Ask asked) request = request ≡ asked
 MayAsk (Read read) request = (raw : ℕ) × (sf : ℤ) × (request ≡ asked_at read raw sf)
 MayAsk (Faulty rows) request = ⊥
 
--- A bad line names a file that isn't there; or it names none, and is no line of a script that asks something.
+-- The line names a file that does not exist.
 abbrev pub LacksFile : Telling → (text : List ℕ) → Type 0
 LacksFile tells text =
     (named : FileLine) × IsFileLine (words_of text) named × tells.files named.name None
 
+-- No script's line that the text spells is a request.
 abbrev pub IsNoRequest : (text : List ℕ) → Type 0
 IsNoRequest text = (said : ScriptLine) → IsLine (words_of (unmarked text)) said
     → wanted_in (is_marked text) said ≡ wanted.Nothing
 
+-- A bad line names a file that does not exist; or it names none and is no request.
 abbrev pub IsBad : Telling → (text : List ℕ) → Type 0
 IsBad tells text =
     LacksFile tells text ⊎ (IsNoFileLine (words_of text) × IsNoRead text × IsNoRequest text)
 
--- ---- What reading one answers. Want of memory says nothing of it.
+-- ---- The result of parsing a line. Out of memory says nothing of the line.
 
+-- The result for a script's line, given its request.
 abbrev pub ReadsWanted : (caller : Option (List ℕ)) → (text : List ℕ) → Wanted
     → Result Entry LineFault → Type 0
 ReadsWanted caller text want (Ok entry) = IsWantedEntry caller text want entry
 ReadsWanted caller text want (Err Bad) = want ≡ wanted.Nothing
 ReadsWanted caller text want (Err Memory) = Unit {0}
 
+-- The result for a point list.
 abbrev pub ReadsList : (caller : Option (List ℕ)) → (number : ℕ) → (device : Option (List ℕ))
     → (text request : List ℕ) → Result Entry LineFault → Type 0
 ReadsList caller number device text request (Ok entry) =
@@ -176,12 +189,14 @@ ReadsList caller number device text request (Ok entry) =
 ReadsList caller number device text request (Err Bad) = ⊥
 ReadsList caller number device text request (Err Memory) = Unit {0}
 
+-- The result for a script's line.
 abbrev pub ReadsScript : (caller : Option (List ℕ)) → (text : List ℕ) → Result Entry LineFault
     → Type 0
 ReadsScript caller text (Ok entry) = IsScriptEntry caller text entry
 ReadsScript caller text (Err Bad) = IsNoRequest text
 ReadsScript caller text (Err Memory) = Unit {0}
 
+-- The result for a line whose counter is read.
 abbrev pub ReadsCounter : (caller : Option (List ℕ)) → (text : List ℕ) → ReadLine
     → Result Entry LineFault → Type 0
 ReadsCounter caller text line (Ok entry) =
@@ -189,6 +204,7 @@ ReadsCounter caller text line (Ok entry) =
 ReadsCounter caller text line (Err Bad) = ⊥
 ReadsCounter caller text line (Err Memory) = Unit {0}
 
+-- The result for a line that names no file.
 abbrev pub ReadsUnnamed : (caller : Option (List ℕ)) → (text : List ℕ) → Result Entry LineFault
     → Type 0
 ReadsUnnamed caller text (Ok entry) =
@@ -196,6 +212,7 @@ ReadsUnnamed caller text (Ok entry) =
 ReadsUnnamed caller text (Err Bad) = IsNoRead text × IsNoRequest text
 ReadsUnnamed caller text (Err Memory) = Unit {0}
 
+-- The result for a line that names a file.
 abbrev pub ReadsFile : Telling → (caller : Option (List ℕ)) → (text : List ℕ) → FileLine
     → Result Entry LineFault → Type 0
 ReadsFile tells caller text named (Ok entry) =
@@ -204,6 +221,7 @@ ReadsFile tells caller text named (Ok entry) =
 ReadsFile tells caller text named (Err Bad) = tells.files named.name None
 ReadsFile tells caller text named (Err Memory) = Unit {0}
 
+-- The result for any line.
 abbrev pub ReadsEntry : Telling → (caller : Option (List ℕ)) → (text : List ℕ)
     → Result Entry LineFault → Type 0
 ReadsEntry tells caller text (Ok entry) = IsEntry tells caller text entry

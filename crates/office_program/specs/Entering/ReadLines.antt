@@ -1,4 +1,4 @@
--- A line that installs a meter at what its counter shows when it is entered: `@read` stands in it in the place of RAW and SF.
+-- A line that installs a meter at the reading of its counter: it has `@read` instead of RAW and SF.
 use Rattle.std.specs.Prelude.{◌≡◌, ℕ, ℤ, Bool, true, not, List, [], ◌∷◌, Option, Some, None, codes, if◌then◌else◌}
 use Rattle.std.specs.Str.{bytes_eq}
 use Rattle.office_events.specs.declared.commands.Command.{Command}
@@ -11,6 +11,7 @@ use Rattle.office_program.specs.declared.entering.read_line.ReadLine.TheVariants
 use Rattle.office_program.specs.declared.entering.read_line.ReadRequest.{ReadRequest}
 use Rattle.office_program.specs.Entering.Marks.{is_marked, unmarked}
 
+-- The words of a line with `@read`.
 abbrev pub read_form : ReadLine → List Field
 read_form (read.Install number register meter ceiling range) =
     Of Number number ∷ Word (codes "install") ∷ Of AnyName register ∷ Of AnyName meter
@@ -20,25 +21,27 @@ read_form (read.Exchange number register last rolls meter ceiling range) =
     ∷ Of Number rolls ∷ Of AnyName meter ∷ Word (codes "@read") ∷ Of Number ceiling
     ∷ Of Range range ∷ []
 
+-- The words spell the line.
 abbrev pub IsReadLine : (words : List (List ℕ)) → ReadLine → Type 0
 IsReadLine words line = Spell words (read_form line)
 
--- the words are none
+-- The words are no such line.
 abbrev pub IsNoReadLine : (words : List (List ℕ)) → Type 0
 IsNoReadLine words = (line : ReadLine) → IsReadLine words line → ⊥
 
--- ---- What it says
+-- ---- The contents of the line
 
+-- The number of the request.
 abbrev pub number_of : ReadLine → ℕ
 number_of (read.Install number register meter ceiling range) = number
 number_of (read.Exchange number register last rolls meter ceiling range) = number
 
--- the register whose counter is to be read
+-- The register whose counter is to be read.
 abbrev pub register_of : ReadLine → Option (List ℕ)
 register_of (read.Install number register meter ceiling range) = register
 register_of (read.Exchange number register last rolls meter ceiling range) = register
 
--- what it asks where the counter shows this
+-- The command, given the reading of the counter.
 abbrev pub command_at : ReadLine → (raw : ℕ) → (sf : ℤ) → Command
 command_at (read.Install number register meter ceiling range) raw sf =
     command.Install (record {
@@ -61,7 +64,7 @@ command_at (read.Exchange number register last rolls meter ceiling range) raw sf
       range = range;
     })
 
--- what a request asks where its counter shows this
+-- The request, given the reading of the counter.
 abbrev pub asked_at : ReadRequest → (raw : ℕ) → (sf : ℤ) → Asked
 asked_at read raw sf = record {
   caller = read.caller;
@@ -70,25 +73,30 @@ asked_at read raw sf = record {
   command = command_at read.line raw sf;
 }
 
--- ---- A text that is such a line, which may have a mark where it asks an entry by hand
+-- ---- A text that is such a line, which may have a mark if it makes an entry by hand
 
+-- Whether the line may have a mark, or no mark.
 abbrev pub may_end : (marked : Bool) → ReadLine → Bool
 may_end marked (read.Install number register meter ceiling range) = not marked
 may_end marked (read.Exchange number register last rolls meter ceiling range) = true
 
+-- The text is the line, with or without its mark.
 pub record IsRead (text : List ℕ) (line : ReadLine) : Type 0 where
   pub is : IsReadLine (words_of (unmarked text)) line
   pub may : may_end (is_marked text) line ≡ true
 
+-- The text is no such line.
 abbrev pub IsNoRead : (text : List ℕ) → Type 0
 IsNoRead text = (line : ReadLine) → IsRead text line → ⊥
 
--- ---- The same, word by word, as the words are taken
+-- ---- The same definition, word by word, in reading order
 
+-- The words after `@read`, if that is the first word.
 abbrev pub read_word : List (List ℕ) → Option (List (List ℕ))
 read_word [] = None
 read_word (word ∷ words) = if bytes_eq word (codes "@read") then Some words else None
 
+-- The installation that the words after `install` spell, if any.
 abbrev pub install_said : (number : ℕ) → List (List ℕ) → Option ReadLine
 install_said number words =
     first_value AnyName words >>= λ register.
@@ -99,6 +107,7 @@ install_said number words =
     nothing_more range.1 >>= λ none.
     Some (read.Install number register.0 meter.0 ceiling.0 range.0)
 
+-- The exchange that the words after `exchange` spell, if any.
 abbrev pub exchange_said : (number : ℕ) → List (List ℕ) → Option ReadLine
 exchange_said number words =
     first_value AnyName words >>= λ register.
@@ -111,15 +120,18 @@ exchange_said number words =
     nothing_more range.1 >>= λ none.
     Some (read.Exchange number register.0 last.0 rolls.0 meter.0 ceiling.0 range.0)
 
+-- The line with this verb, if the other words spell one.
 abbrev pub line_said : (number : ℕ) → (verb : List ℕ) → List (List ℕ) → Option ReadLine
 line_said number verb words =
     if bytes_eq verb (codes "install") then install_said number words
     else if bytes_eq verb (codes "exchange") then exchange_said number words
     else None
 
+-- The line after its number, if the words spell one.
 abbrev pub verb_said : (number : ℕ) → List (List ℕ) → Option ReadLine
 verb_said number [] = None
 verb_said number (verb ∷ words) = line_said number verb words
 
+-- The line that the words spell, if they spell one.
 abbrev pub read_said : List (List ℕ) → Option ReadLine
 read_said words = first_value Number words >>= λ number. verb_said number.0 number.1

@@ -1,4 +1,4 @@
--- What is read of a counter before a meter is installed at what it shows.
+-- Reading a counter before a meter is installed at its reading.
 use Rattle.std.specs.Prelude.{◌≡◌, ◌⊎◌, ℕ, pos, List, true, Option, Some, None, is_some, Result, Ok, Err}
 use Rattle.std.specs.Option.{option_and_then}
 use Rattle.office_events.specs.declared.events.Asked.{Asked}
@@ -22,11 +22,11 @@ use Rattle.office_program.specs.Entering.Lines.{Telling}
 use Rattle.office_program.specs.Entering.ReadLines as line
 use Rattle.office_program.specs.Entering.ReadLines.{asked_at}
 
--- what it is to one that is kept under its caller and number, whatever the counter shows
+-- The request compared with the stored one of the same caller and number, for any reading.
 abbrev pub repeat_of_read : List Fact → ReadRequest → Option Repeat
 repeat_of_read facts read = repeat_in facts (asked_at read 0 (pos 0))
 
--- The counter of a register was read at its device, and this was told.
+-- The counter of a register was read from its device, with this result.
 pub record IsCounterTold (tells : Telling) (facts : List Fact) (register : Option (List ℕ))
     (shown : Option Shown) : Type 0 where
   pub counter : Register
@@ -35,18 +35,19 @@ pub record IsCounterTold (tells : Telling) (facts : List Fact) (register : Optio
   pub device_is : device_of facts counter.device ≡ Some device
   pub told : tells.counters device counter shown
 
--- There is none to read: no register has the name, or no device has its own.
+-- No counter can be read: no register has the name, or no device has the register's device name.
 pub record LacksDevice (facts : List Fact) (register : Option (List ℕ)) : Type 0 where
   pub counter : Register
   pub register_is : option_and_then (register_of facts) register ≡ Some counter
   pub none : device_of facts counter.device ≡ None
 
+-- The counter of the register can't be read, or does not exist.
 abbrev pub IsNotShown : Telling → List Fact → (register : Option (List ℕ)) → Type 0
 IsNotShown tells facts register =
     (option_and_then (register_of facts) register ≡ None) ⊎ LacksDevice facts register
     ⊎ IsCounterTold tells facts register None
 
--- What is installed is what the counter shows; one that is kept reads none.
+-- The meter is installed at the reading of the counter. For a stored request no counter is read.
 abbrev pub IsShownFor : Telling → List Fact → ReadRequest → Option Shown → Type 0
 IsShownFor tells facts read (Some shown) =
     (is_some (repeat_of_read facts read) ≡ true)
@@ -54,26 +55,29 @@ IsShownFor tells facts read (Some shown) =
 IsShownFor tells facts read None =
     (repeat_of_read facts read ≡ None) × IsNotShown tells facts (line.register_of read.line)
 
+-- The request installs the meter at the reading of its counter.
 abbrev pub AsksShown : Telling → List Fact → ReadRequest → Asked → Type 0
 AsksShown tells facts read request =
     (shown : Shown) × IsShownFor tells facts read (Some shown)
     × (request ≡ asked_at read shown.raw shown.sf)
 
--- ---- What an office tells of it
+-- ---- The office's answer
 
+-- The office's answer, with the store's failure counts before and after.
 abbrev pub HasShown : Telling → List Fact → ReadRequest → (before after : Failures)
     → Result (Option Shown) Refusal → Type 0
 HasShown tells facts read before after (Ok found) =
     IsShownFor tells facts read found × (after ≡ before)
 HasShown tells facts read before after (Err why) = IsOutside ⊥ before after why
 
--- The office stands where it stood, and told which counter is read; or it failed outside.
+-- The office is in its state and answered which counter is read, or it failed outside.
 pub record IsFilled {B : Type 0} (ledger : B → Ledger) (tells : Telling) (read : ReadRequest)
     (past : History) (before after : Failures) (office : Office B)
     (result : Result (Option Shown) Refusal) : Type 0 where
   pub stands : Stands ledger past office
   pub told : HasShown tells (facts_of past) read before after result
 
+-- The same for every past that the office was in the state of.
 abbrev pub Fills : {B : Type 0} → (B → Ledger) → Telling → ReadRequest → (old new : Office B)
     → Result (Option Shown) Refusal → Type 0
 Fills ledger tells read old new result = After ledger old new (λ past.
@@ -81,30 +85,33 @@ Fills ledger tells read old new result = After ledger old new (λ past.
 
 -- ---- Its parts
 
--- the counter of a register, of a request that isn't kept
+-- The counter of a register, for a request that is not stored.
 abbrev pub IsCounterFor : Telling → List Fact → (register : Option (List ℕ)) → Option Shown → Type 0
 IsCounterFor tells facts register (Some shown) = IsCounterTold tells facts register (Some shown)
 IsCounterFor tells facts register None = IsNotShown tells facts register
 
+-- The office's answer for the counter of a register, with the store's failure counts.
 abbrev pub HasCounter : Telling → List Fact → (register : Option (List ℕ))
     → (before after : Failures) → Result (Option Shown) Refusal → Type 0
 HasCounter tells facts register before after (Ok found) =
     IsCounterFor tells facts register found × (after ≡ before)
 HasCounter tells facts register before after (Err why) = IsOutside ⊥ before after why
 
+-- The office is in its state and gave this answer, or it failed outside.
 pub record IsReadThere {B : Type 0} (ledger : B → Ledger) (tells : Telling)
     (register : Option (List ℕ)) (past : History) (before after : Failures) (office : Office B)
     (result : Result (Option Shown) Refusal) : Type 0 where
   pub stands : Stands ledger past office
   pub told : HasCounter tells (facts_of past) register before after result
 
+-- The same for every past that the office was in the state of.
 abbrev pub ReadsThere : {B : Type 0} → (B → Ledger) → Telling → (register : Option (List ℕ))
     → (old new : Office B) → Result (Option Shown) Refusal → Type 0
 ReadsThere ledger tells register old new result = After ledger old new (λ past.
     IsReadThere ledger tells register past (failures_of ledger old) (failures_of ledger new) new
     result)
 
--- ... of a register that was found
+-- The same for a register that was found.
 abbrev pub ReadsAt : {B : Type 0} → (B → Ledger) → Telling → Register → (old new : Office B)
     → Result (Option Shown) Refusal → Type 0
 ReadsAt ledger tells counter old new result = (register : Option (List ℕ)) → After ledger old new

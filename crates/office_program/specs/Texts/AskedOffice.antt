@@ -1,5 +1,5 @@
--- The opening of an office that is to be asked: at the moment that a clock tells, or at the latest that the books hold where
--- that is later.
+-- The opening of an office for queries: at the clock's time, or at the latest timestamp in the
+-- store if that is later.
 use Rattle.std.specs.Prelude.{ℕ, List, ◌∷◌, Option, Result, IfOk, IfErr}
 use Rattle.std.specs.declared.io.Write as writers
 use Rattle.socket_link.specs.declared.clock.Clock as a_clock
@@ -18,20 +18,21 @@ use Rattle.socket_link.specs.Clocks as clocks
 use Rattle.office_program.specs.Texts.EndTexts.{IsTold}
 use Rattle.office_program.specs.declared.texts.opened_office.Unopened.{Unopened}
 
--- The office stands after its opening: what waited is lost.
+-- The office is in the state after its opening: pending polls are lost.
 pub record OpensToAsk {B : Type 0} (ledger : B → Ledger) (past : History)
     (moments later : Option (List ℕ)) (office : Office B) : Type 0 where
   pub told : ℕ
   pub timed : clocks.TellsMoment moments later told
   pub stands : Stands ledger (Opened (asking_moment past told) ∷ past) office
 
--- So it does, unless a wrong answer of a store was taken as true.
+-- The same, unless a wrong result of a store was taken as true.
 abbrev pub OpensToAskWhereClean : {B : Type 0} → (B → Ledger) → (past : History)
     → (moments later : Option (List ℕ)) → Office B → Type 0
 OpensToAskWhereClean ledger past moments later office =
     (ledger (books_in office)).is_clean → OpensToAsk ledger past moments later office
 
--- The opening is refused as its definition says, or failed outside; the books stand as they did, and the reason is printed.
+-- The opening is refused by its definition, or failed outside. The store is in its earlier state,
+-- and the reason is printed.
 pub record TellsUnasked (past : History) (moments later : Option (List ℕ)) (old new : Ledger)
     (status : ExitStatus) (had holds : Option (List ℕ)) : Type 0 where
   pub told : ℕ
@@ -40,7 +41,7 @@ pub record TellsUnasked (past : History) (moments later : Option (List ℕ)) (ol
   pub refused : IsNotOpened past (asking_moment past told) old new why
   pub printed : IsTold (refused_line why) Refused status had holds
 
--- So it is with the books handed back, unless a wrong answer of a store was taken as true.
+-- The same with the returned store, unless a wrong result of a store was taken as true.
 abbrev pub TellsUnaskedWhereClean : {B : Type 0} → (B → Ledger) → (past : History)
     → (moments later : Option (List ℕ)) → (books : B) → (had holds : Option (List ℕ))
     → Unopened B → Type 0
@@ -48,14 +49,14 @@ TellsUnaskedWhereClean ledger past moments later books had holds unopened =
     (ledger unopened.books).is_clean → TellsUnasked past moments later (ledger books)
     (ledger unopened.books) unopened.status had holds
 
--- Over books that stand after what was accepted before an office is opened so.
+-- An office is opened for queries over a store in the state of a past.
 abbrev pub OpensToAskOver : {B C : Type 0} → stores.Ghosts B → a_clock.Ghosts C → (books : B)
     → (before after : C) → Result (Office B) (Unopened B) → Type 0
 OpensToAskOver b c books before after result =
     (past : History) → BooksStand (b.ledger books) past
     → IfOk result (OpensToAskWhereClean b.ledger past (c.moments before) (c.moments after))
 
--- Over such books an opening that is refused is told so.
+-- Over such a store, a refused opening is reported so.
 abbrev pub RefusesToAskOver : {B C W : Type 0} → stores.Ghosts B → a_clock.Ghosts C
     → writers.Ghosts W → (books : B) → (before after : C) → (had holds : W)
     → Result (Office B) (Unopened B) → Type 0

@@ -1,17 +1,18 @@
--- What a command printed, and how it ends.
+-- The text that a command printed, and its exit status.
 use Rattle.std.specs.Prelude.{◌≡◌, ◌⊎◌, ℕ, List, Option}
 use Rattle.std.specs.Io.KnownBytes.{Appends}
 use Rattle.command_io.specs.declared.status.ExitStatus.{ExitStatus}
 use Rattle.command_io.specs.declared.status.ExitStatus.TheVariants.{Failed}
 use Rattle.sun_points.specs.Writing.{GotPart}
 
--- The text was printed, and the command ends as it means; or a part of it was, since a write failed.
+-- The text was printed, and the command has the meant exit status; or a part of it was printed,
+-- since a write failed.
 abbrev pub IsTold : (text : List ℕ) → (meant status : ExitStatus)
     → (old new : Option (List ℕ)) → Type 0
 IsTold text meant status old new =
     ((status ≡ meant) × Appends old new text) ⊎ ((status ≡ Failed) × GotPart text old new)
 
--- So it is with one of these texts, each of which means an end.
+-- The same with one of these texts, each with its exit status.
 pub record TellsEnd (Prints : List ℕ → ExitStatus → Type 0) (status : ExitStatus)
     (old new : Option (List ℕ)) : Type 0 where
   pub text : List ℕ

@@ -1,4 +1,4 @@
--- The opening of an office at the moment that a clock tells.
+-- The opening of an office at the clock's time.
 use Rattle.std.specs.Prelude.{ℕ, List, ◌∷◌, Option, Result, IfOk, IfErr, MatchResult}
 use Rattle.std.specs.declared.io.Write as writers
 use Rattle.socket_link.specs.declared.clock.Clock as a_clock
@@ -18,7 +18,7 @@ use Rattle.office_program.specs.Texts.EndTexts.{IsTold}
 use Rattle.office_program.specs.Texts.Passing.{Lasts}
 use Rattle.office_program.specs.declared.texts.opened_office.Unopened.{Unopened}
 
--- The office stands after its opening: what waited is lost.
+-- The office is in the state after its opening: pending polls are lost.
 pub record Opens {B : Type 0} (ledger : B → Ledger) (past : History)
     (moments later : Option (List ℕ))
     (office : Office B) : Type 0 where
@@ -26,13 +26,14 @@ pub record Opens {B : Type 0} (ledger : B → Ledger) (past : History)
   pub timed : clocks.TellsMoment moments later at
   pub stands : Stands ledger (Opened at ∷ past) office
 
--- So it does, unless a wrong answer of a store was taken as true.
+-- The same, unless a wrong result of a store was taken as true.
 abbrev pub OpensWhereClean : {B : Type 0} → (B → Ledger) → (past : History)
     → (moments later : Option (List ℕ)) → Office B → Type 0
 OpensWhereClean ledger past moments later office =
     (ledger (books_in office)).is_clean → Opens ledger past moments later office
 
--- The opening is refused as its definition says, or failed outside; the books stand as they did, and the reason is printed.
+-- The opening is refused by its definition, or failed outside. The store is in its earlier state,
+-- and the reason is printed.
 pub record TellsUnopened (past : History) (moments later : Option (List ℕ)) (old new : Ledger)
     (status : ExitStatus)
     (had holds : Option (List ℕ)) : Type 0 where
@@ -42,7 +43,7 @@ pub record TellsUnopened (past : History) (moments later : Option (List ℕ)) (o
   pub refused : IsNotOpened past at old new why
   pub told : IsTold (refused_line why) Refused status had holds
 
--- So it is with the books handed back, unless a wrong answer of a store was taken as true.
+-- The same with the returned store, unless a wrong result of a store was taken as true.
 abbrev pub TellsWhereClean : {B : Type 0} → (B → Ledger) → (past : History)
     → (moments later : Option (List ℕ)) → (books : B) → (had holds : Option (List ℕ))
     → Unopened B → Type 0
@@ -50,14 +51,14 @@ TellsWhereClean ledger past moments later books had holds unopened =
     (ledger unopened.books).is_clean → TellsUnopened past moments later (ledger books)
     (ledger unopened.books) unopened.status had holds
 
--- Over books that stand after what was accepted before an office is opened so.
+-- An office is opened over a store in the state of a past.
 abbrev pub OpensOver : {B C : Type 0} → stores.Ghosts B → a_clock.Ghosts C → (books : B)
     → (before after : C) → Result (Office B) (Unopened B) → Type 0
 OpensOver b c books before after result =
     (past : History) → BooksStand (b.ledger books) past
     → IfOk result (OpensWhereClean b.ledger past (c.moments before) (c.moments after))
 
--- Over such books an opening that is refused is told so.
+-- Over such a store, a refused opening is reported so.
 abbrev pub RefusesOver : {B C W : Type 0} → stores.Ghosts B → a_clock.Ghosts C → writers.Ghosts W
     → (books : B) → (before after : C) → (had holds : W) → Result (Office B) (Unopened B) → Type 0
 RefusesOver b c w books before after had holds result =
@@ -65,7 +66,7 @@ RefusesOver b c w books before after had holds result =
     → IfErr result (TellsWhereClean b.ledger past (c.moments before) (c.moments after) books
     (w.contents had) (w.contents holds))
 
--- Whether it was opened or refused, a wrong answer that was taken as true stays one, and the zone stays.
+-- Opened or refused, a wrong result that was taken as true stays noted, and the zone stays.
 abbrev pub LastsInside : {B : Type 0} → (B → Ledger) → (books : B)
     → Result (Office B) (Unopened B) → Type 0
 LastsInside ledger books result = MatchResult result

@@ -25,8 +25,8 @@ use Rattle.script_text.specs.AnswerText.{refused_line}
 use Rattle.office_program.specs.Texts.EndTexts.{IsTold, TellsEnd}
 use Rattle.office_program.specs.Texts.Reports.{meant_by}
 
--- The rows of the register's days in the range, by the clocks of the zone, in the form that was asked for; or the
--- reason alone.
+-- The rows of the register's days in the range, by the clocks of the zone, in the requested form;
+-- or the reason alone.
 abbrev pub IsRangedReport : Zone → History → (register : Option (List ℕ)) → ReportForm
     → Result (Unit {0}) Refusal → (text : List ℕ) → Type 0
 IsRangedReport zone past register form (Ok done) text =
@@ -35,9 +35,9 @@ IsRangedReport zone past register form (Ok done) text =
     × (text ≡ report_text form days)
 IsRangedReport zone past register form (Err why) text = text ≡ refused_line why
 
--- What is printed with which end. It is refused where there is no register of the name, and else only where the books or
--- memory failed or the office had stopped, over how the books failed before and after. Only days of a register take memory of
--- the office's own.
+-- The printed text with its exit status. The report is refused if no register has the name.
+-- Otherwise it is refused only if the store or memory failed, or the office had stopped. Only days
+-- of a register need memory outside the store.
 pub record RangePrints (zone : Zone) (past : History) (register : Option (List ℕ))
     (form : ReportForm) (before after : Failures) (text : List ℕ) (meant : ExitStatus) :
     Type 0 where
@@ -47,7 +47,7 @@ pub record RangePrints (zone : Zone) (past : History) (register : Option (List �
   pub is : IsRangedReport zone past register form reply text
   pub means : meant ≡ meant_by reply
 
--- It is printed so by an office over what it had accepted, or a part of it, since a write failed.
+-- The office prints this from what it has accepted, or a part of it, since a write failed.
 abbrev pub ReportsRange : {B W : Type 0} → stores.Ghosts B → writers.Ghosts W
     → (register : Option (List ℕ)) → ReportForm → (old new : Office B) → (had holds : W)
     → ExitStatus → Type 0
@@ -56,18 +56,20 @@ ReportsRange b w register form old new had holds status = After b.ledger old new
     (failures_of b.ledger old) (failures_of b.ledger new))
     status (w.contents had) (w.contents holds))
 
--- What is left of the report is written, unless it was refused: then the reason.
+-- The reason of a refused report is written.
 pub record PrintsRefusal {W : Type 0} (contents : W → Option (List ℕ)) (why : Refusal)
     (status : ExitStatus) (old new : ReportRows W) : Type 0 where
   pub output : new.output.ghost_name ≡ old.output.ghost_name
   pub told : IsTold (refused_line why) Refused status (contents old.output.now)
       (contents new.output.now)
 
+-- The rest of the report is written.
 pub record PrintsLast {W : Type 0} (contents : W → Option (List ℕ)) (status : ExitStatus)
     (old new : ReportRows W) : Type 0 where
   pub finishes : Finishes contents old new
   pub means : status ≡ (if new.failed then Failed else Fine)
 
+-- The rest, or the reason if the report was refused.
 abbrev pub PrintsRest : {W : Type 0} → (W → Option (List ℕ)) → Result (Unit {0}) Refusal
     → ExitStatus → (old new : ReportRows W) → Type 0
 PrintsRest contents (Ok done) status old new = PrintsLast contents status old new

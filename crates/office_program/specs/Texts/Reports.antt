@@ -21,12 +21,12 @@ use Rattle.interval_core.specs.Lines.{days_text, end_line}
 use Rattle.script_text.specs.AnswerText.{refused_line}
 use Rattle.office_program.specs.Texts.EndTexts.{TellsEnd}
 
--- a report that is told is a success, and one that is refused is a refusal
+-- A printed report is a success, and a refused one is a refusal.
 abbrev pub meant_by : Result (Unit {0}) Refusal → ExitStatus
 meant_by (Ok done) = Fine
 meant_by (Err why) = Refused
 
--- the last line tells how many days there are, or why there are none
+-- The last line has the number of days, or why there are none.
 abbrev pub last_line : (count : ℕ) → Result (Unit {0}) Refusal → List ℕ
 last_line count (Ok done) = end_line count
 last_line count (Err why) = refused_line why
@@ -39,9 +39,9 @@ IsReport zone past register (Ok done) text =
     × (text ≡ days_text days)
 IsReport zone past register (Err why) text = text ≡ refused_line why
 
--- What is printed with which end. It is refused where there is no register of the name, and else only where the books or
--- memory failed or the office had stopped, over how the books failed before and after. Only days of a register take memory of
--- the office's own.
+-- The printed text with its exit status. The report is refused if no register has the name.
+-- Otherwise it is refused only if the store or memory failed, or the office had stopped. Only days
+-- of a register need memory outside the store.
 pub record ReportPrints (zone : Zone) (past : History) (register : Option (List ℕ))
     (before after : Failures)
     (text : List ℕ) (meant : ExitStatus) : Type 0 where
@@ -51,7 +51,7 @@ pub record ReportPrints (zone : Zone) (past : History) (register : Option (List 
   pub is : IsReport zone past register reply text
   pub means : meant ≡ meant_by reply
 
--- It is printed so by an office over what it had accepted, or a part of it, since a write failed.
+-- The office prints this from what it has accepted, or a part of it, since a write failed.
 abbrev pub ReportsDays : {B W : Type 0} → stores.Ghosts B → writers.Ghosts W
     → (register : Option (List ℕ)) → (old new : Office B) → (had holds : W) → ExitStatus → Type 0
 ReportsDays b w register old new had holds status = After b.ledger old new
@@ -59,7 +59,7 @@ ReportsDays b w register old new had holds status = After b.ledger old new
     (failures_of b.ledger old) (failures_of b.ledger new))
     status (w.contents had) (w.contents holds))
 
--- The office was only asked.
+-- The office was only queried.
 pub record Asks {B : Type 0} (ledger : B → Ledger) (old new : Office B) : Type 0 where
   pub reply : Result (Unit {0}) Refusal
   pub only : OnlyAsks ledger old new reply

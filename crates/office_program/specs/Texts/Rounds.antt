@@ -19,7 +19,8 @@ use Rattle.office_rounds.specs.declared.fault.RoundFault.TheVariants.{Refused, L
 use Rattle.script_text.specs.AnswerText.{refused_line}
 use Rattle.sun_points.specs.Writing.{GotPart}
 
--- A refusal is printed, or a part of it, and then the fault is that of the writing. Nothing is printed of other ends.
+-- A refusal is printed. If the write fails, a part is printed, and the fault is `Output`. Nothing
+-- is printed for other results.
 abbrev pub IsRefusalTold : (done result : Result (Unit {0}) RoundFault)
     → (old new : Option (List ℕ)) → Type 0
 IsRefusalTold (Ok x) result old new = (result ≡ Ok x) × (new ≡ old)
@@ -30,13 +31,13 @@ IsRefusalTold (Err Link) result old new = (result ≡ Err Link) × (new ≡ old)
 IsRefusalTold (Err Output) result old new = (result ≡ Err Output) × (new ≡ old)
 IsRefusalTold (Err TurnsUsed) result old new = (result ≡ Err TurnsUsed) × (new ≡ old)
 
--- the passage of the round itself, which had printed so much
+-- The passage of the round itself, with the text that it had printed.
 abbrev pub without_cause : Passage → (printed : Option (List ℕ)) → Passage
 without_cause through printed =
     passage through.begun
     (round_state printed through.ended.moments through.ended.failures) through.from through.to
 
--- A round, and after what it printed the refusal that broke it off.
+-- A round, followed by the printed refusal that broke it off.
 pub record PollsRound {B : Type 0} (ledger : B → Ledger) (device : Option (List ℕ)) (past : History)
     (through : Passage)
     (office : Office B) (result : Result (Unit {0}) RoundFault) : Type 0 where
@@ -45,7 +46,7 @@ pub record PollsRound {B : Type 0} (ledger : B → Ledger) (device : Option (Lis
   pub round : one.Rounds ledger device past (without_cause through printed) office done
   pub told : IsRefusalTold done result printed through.ended.printed
 
--- So it is of the link, the office, the clock and the writer, each as it was found and as it was left.
+-- The same for the link, the office, the clock and the writer, each before and after.
 abbrev pub PollsRoundOver : {L B C W : Type 0} → links.Ghosts L → stores.Ghosts B → clocks.Ghosts C
     → writers.Ghosts W → (device : Option (List ℕ)) → (from to : L) → (old new : Office B)
     → (before after : C) → (had holds : W) → Result (Unit {0}) RoundFault → Type 0
@@ -53,7 +54,7 @@ PollsRoundOver l b c w device from to old new before after had holds result =
     After b.ledger old new (λ past. PollsRound b.ledger device past
     (passage_of l b c w from to old new before after had holds) new result)
 
--- how the command ends
+-- The exit status of the command.
 abbrev pub round_status : Result (Unit {0}) RoundFault → ExitStatus
 round_status (Ok x) = status.Fine
 round_status (Err (Refused why)) = status.Refused

@@ -38,8 +38,8 @@ use Rattle.office_program.specs.Texts.EndTexts.{TellsEnd}
 
 -- ---- a meter
 
--- what is told of the meter of a name, by its opening: all its entries, its energy by quarter hours, and how many of its
--- readings were held
+-- The statement of the meter with a name, by its opening: its entries, its energy by quarter hour,
+-- and the number of its rejected readings.
 abbrev pub told_of : Zone → DayRange → List Fact → (meter : List ℕ) → Option Opening
     → MeterStatement
 told_of zone range facts meter opening = record {
@@ -49,35 +49,40 @@ told_of zone range facts meter opening = record {
   held = held_within zone range (holds_of facts meter);
 }
 
+-- The statement of the meter with a name.
 abbrev pub statement_of : Zone → DayRange → List Fact → (meter : List ℕ) → MeterStatement
 statement_of zone range facts meter = told_of zone range facts meter (opening_of facts meter)
 
--- The meters that were there in the range, in the order in which they were installed.
+-- The meters that were installed in the range, in the order of installation.
 abbrev pub statements_of : Zone → DayRange → List Fact → List Installation → List MeterStatement
 statements_of zone range facts rows =
     map (λ row. statement_of zone range facts row.opening.meter)
     (filter (was_there zone range) rows)
 
--- ---- what is answered, where there is a meter of the name
+-- ---- the answers, if a meter has the name
 
+-- The tally of the meter's entries.
 abbrev pub tally_in : Zone → DayRange → List Fact → (meter : Option (List ℕ)) → Option EntryTally
 tally_in zone range facts meter =
     option_map (λ opening. tally_of zone range (entries_at facts (Some opening)))
     (option_and_then (opening_of facts) meter)
 
+-- The energy of the meter.
 abbrev pub energy_in : Zone → DayRange → List Fact → (meter : Option (List ℕ)) → Option ℕ
 energy_in zone range facts meter = option_map (energy_within zone range) (intervals_of facts meter)
 
+-- The rejected readings of the meter.
 abbrev pub held_in : Zone → DayRange → List Fact → (meter : Option (List ℕ)) → Option HeldCounts
 held_in zone range facts meter =
     option_and_then (λ name. option_map (λ opening. held_within zone range (holds_of facts name))
     (opening_of facts name)) meter
 
+-- The statement of the meter.
 abbrev pub statement_in : Zone → DayRange → List Fact → (meter : List ℕ) → Option MeterStatement
 statement_in zone range facts meter =
     option_map (λ opening. told_of zone range facts meter (Some opening)) (opening_of facts meter)
 
--- So an office answers of what it accepted. It takes memory of its own.
+-- The office's answer from what it has accepted. The query needs memory outside the store.
 abbrev pub AnswersOf : {B T : Type 0} → (B → Ledger) → (old new : Office B) → Result T Refusal
     → (List Fact → Option T) → Type 0
 AnswersOf ledger old new result found = After ledger old new (λ past.
@@ -86,11 +91,11 @@ AnswersOf ledger old new result found = After ledger old new (λ past.
 
 -- ---- the meters at a register
 
--- each of them is recorded
+-- Each of the meters is recorded.
 abbrev pub AreRecorded : List Fact → List Installation → Type 0
 AreRecorded facts rows = All (λ row. is_some (opening_of facts row.opening.meter) ≡ true) rows
 
--- The statements of these were put after those before, or a question failed outside.
+-- The statements of these meters were appended, or a query failed outside.
 abbrev pub IsStated : Zone → DayRange → List Fact → List Installation
     → (before after : List MeterStatement) → (had has : Failures) → Result (Unit {0}) Refusal
     → Type 0
@@ -98,6 +103,7 @@ IsStated zone range facts rows before after had has (Ok done) =
     (after ≡ before ++ statements_of zone range facts rows) × (has ≡ had)
 IsStated zone range facts rows before after had has (Err why) = IsOutside (Unit {0}) had has why
 
+-- The same for every past that the office was in the state of.
 abbrev pub States : {B : Type 0} → (B → Ledger) → Zone → DayRange → List Installation
     → (old new : Office B) → (before after : List MeterStatement) → Result (Unit {0}) Refusal
     → Type 0
@@ -105,28 +111,30 @@ States ledger zone range rows old new before after result = After ledger old new
     AreRecorded (facts_of past) rows → IsStated zone range (facts_of past) rows before after
     (failures_of ledger old) (failures_of ledger new) result)
 
--- all of them, where there is a register of the name
+-- All statements, if a register has the name.
 abbrev pub statements_in : Zone → DayRange → List Fact → (register : Option (List ℕ))
     → Option (List MeterStatement)
 statements_in zone range facts register =
     option_map (statements_of zone range facts) (meters_named facts register)
 
+-- The items of a result.
 abbrev pub items_of : {T E : Type 0} → Result (Vec T Global) E → Result (List T) E
 items_of (Ok rows) = Ok rows.items
 items_of (Err why) = Err why
 
--- ---- what is printed
+-- ---- the printed text
 
 -- The statements of the register's meters, or the reason alone.
 abbrev pub statement_or_not : StatementForm → Result (List MeterStatement) Refusal → List ℕ
 statement_or_not form (Ok rows) = statement_text form rows
 statement_or_not form (Err why) = refused_line why
 
+-- The exit status for a result.
 abbrev pub meant_by : Result (List MeterStatement) Refusal → ExitStatus
 meant_by (Ok rows) = Fine
 meant_by (Err why) = Refused
 
--- What is printed with which end: the statements, refused as a report is.
+-- The printed text with its exit status: the statements, refused as a report is.
 pub record StatementPrints (zone : Zone) (past : History) (register : Option (List ℕ))
     (form : StatementForm) (before after : Failures) (text : List ℕ) (meant : ExitStatus)
     : Type 0 where
@@ -136,7 +144,7 @@ pub record StatementPrints (zone : Zone) (past : History) (register : Option (Li
   pub is : text ≡ statement_or_not form reply
   pub means : meant ≡ meant_by reply
 
--- It is printed so by an office over what it had accepted, or a part of it, since a write failed.
+-- The office prints this from what it has accepted, or a part of it, since a write failed.
 abbrev pub PrintsStatement : {B W : Type 0} → stores.Ghosts B → writers.Ghosts W → Zone
     → (register : Option (List ℕ)) → StatementForm → (old new : Office B) → (had holds : W)
     → ExitStatus → Type 0

@@ -1,4 +1,4 @@
-//! A line of an input, asked of an office.
+//! Requests the line of an input from an office.
 ghost use Rattle.std.specs.Prelude.{◌≡◌, IfOk, true};
 ghost use Rattle.office_rounds.specs.Passing.{Lasts};
 ghost use Rattle.sun_points.specs.Writing.{GotText};
@@ -27,7 +27,7 @@ use std::alloc::Global;
 use std::io::{self, Write};
 use sun_points::Sink;
 
-// Prints what an office replied to the event that it was just fed.
+// Prints the office's answer to the last event.
 fn print_reply<B: Books, W: Write>(
     office: &Office<B>,
     reply: Result<Answer, Refusal>,
@@ -42,7 +42,7 @@ fn print_reply<B: Books, W: Write>(
     }
 }
 
-// Asks at a moment, and prints the reply.
+// Feeds a request at a timestamp, and prints the answer.
 fn ask_at<B: Books, W: Write>(
     office: &mut Office<B>,
     progress: Progress,
@@ -77,7 +77,7 @@ fn print_doubt<W: Write>(mwh: u128, output: &mut W) -> io::Result<()>
     output.take_text(doubted_line(mwh).bytes())
 }
 
-// Prints what is doubted at a moment, and tells how far the lines have come then.
+// Prints a doubt, and returns the progress of the lines.
 fn tell_doubt<W: Write>(mwh: u128, at: u64, output: &mut W) -> io::Result<Progress>
     ensures { TellsWhyNot (course.doubted_line mwh) at
         (W.contents output.old) (W.contents output.new) result }
@@ -88,7 +88,7 @@ fn tell_doubt<W: Write>(mwh: u128, at: u64, output: &mut W) -> io::Result<Progre
     }
 }
 
-// The same of why the office refuses to tell what is doubted.
+// Prints why the office refuses to answer whether an entry is doubted, and returns the progress.
 fn tell_undecided<W: Write>(why: Refusal, at: u64, output: &mut W) -> io::Result<Progress>
     ensures { TellsWhyNot (refused_line why) at
         (W.contents output.old) (W.contents output.new) result }
@@ -99,7 +99,6 @@ fn tell_undecided<W: Write>(why: Refusal, at: u64, output: &mut W) -> io::Result
     }
 }
 
-// Prints that a counter could not be read.
 fn tell_unread<W: Write>(at: u64, output: &mut W) -> io::Result<Progress>
     ensures { TellsWhyNot course.unread_line at
         (W.contents output.old) (W.contents output.new) result }
@@ -110,7 +109,7 @@ fn tell_unread<W: Write>(at: u64, output: &mut W) -> io::Result<Progress>
     }
 }
 
-// The moment that the clock tells, or that of the line before where that is later.
+// The clock's time, or that of the line before if that is later.
 fn moment<C: Clock>(progress: Progress, clock: &mut C) -> u64
     ensures { IsAskedAt progress.latest (C.moments clock.old) (C.moments clock.new) result }
 {
@@ -118,7 +117,7 @@ fn moment<C: Clock>(progress: Progress, clock: &mut C) -> u64
     progress.latest.max(told)
 }
 
-// Asks a request at a moment, and prints the reply; or prints what is doubted of it.
+// Feeds a request and prints the answer, or prints why it is doubted.
 fn ask<B: Books, W: Write>(
     office: &mut Office<B>,
     progress: Progress,
@@ -139,7 +138,7 @@ fn ask<B: Books, W: Write>(
     }
 }
 
-// The same of a request whose meter is installed at what its counter shows.
+// The same for a request whose meter is installed at the reading of its counter.
 fn read_and_ask<B: Books, F: NamedFiles, W: Write>(
     office: &mut Office<B>,
     progress: Progress,
@@ -161,7 +160,7 @@ fn read_and_ask<B: Books, F: NamedFiles, W: Write>(
     }
 }
 
-/// Prints a line for each faulty row, and then that the list is refused.
+/// Prints a line for each faulty row, followed by the refusal of the list.
 pub(crate) fn print_faults<W: Write>(rows: &[FaultyRow], output: &mut W) -> io::Result<()>
     ensures { GotText result (faults_text rows.now)
         (W.contents output.old) (W.contents output.new) }
@@ -170,7 +169,7 @@ pub(crate) fn print_faults<W: Write>(rows: &[FaultyRow], output: &mut W) -> io::
     write_refusal(Refusal::Limit, output)
 }
 
-// The same, and how far the lines have come then.
+// Prints the faults of a list, and returns the progress.
 fn tell_faults<W: Write>(
     rows: &[FaultyRow],
     progress: Progress,
@@ -187,7 +186,7 @@ fn tell_faults<W: Write>(
     }
 }
 
-// Asks what a line comes to, or tells the faults of its list, or what is doubted.
+// Requests an entry, or prints the faults of its list or the doubt about it.
 fn enter_entry<B: Books, C: Clock, F: NamedFiles, W: Write>(
     office: &mut Office<B>,
     progress: Progress,
@@ -213,7 +212,8 @@ fn enter_entry<B: Books, C: Clock, F: NamedFiles, W: Write>(
     }
 }
 
-// Prints that a line is bad, and how the command ends; nothing where memory was wanting.
+// Prints that a line is bad, and returns the exit status. If memory was missing, nothing is
+// printed.
 fn tell_fault<W: Write>(fault: LineFault, number: u64, output: &mut W) -> ExitStatus
     ensures { TellsFault fault number result (W.contents output.old) (W.contents output.new) }
 {
@@ -226,7 +226,7 @@ fn tell_fault<W: Write>(fault: LineFault, number: u64, output: &mut W) -> ExitSt
     }
 }
 
-/// Asks what a line of an input asks, and prints the answer; or prints why it isn't asked, or that it is bad.
+/// Requests the line of an input and prints the answer, or prints why the line is not requested.
 pub(crate) fn enter_line<B: Books, C: Clock, F: NamedFiles, W: Write>(
     alloc: Global,
     office: &mut Office<B>,

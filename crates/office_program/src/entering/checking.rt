@@ -1,4 +1,4 @@
-//! Looking at an input, of which nothing is asked.
+//! Checks an input without entering it.
 ghost use Rattle.std.specs.Prelude.{◌≡◌, ◌||◌, IfErr};
 ghost use Rattle.command_io.specs.Lines.{seen_line};
 ghost use Rattle.sun_points.specs.Writing.{GotText};
@@ -22,22 +22,22 @@ use std::alloc::{AllocError, Global};
 use std::io::{self, Write};
 use sun_points::Sink;
 
-/// What books know of a request.
+/// What the store knows of a request.
 #[derive(Clone, Copy, Debug, PartialEq, Eq)]
 pub(crate) enum Known {
-    /// Nothing is kept under its caller and number.
+    /// The store has no request with this caller and number.
     New,
-    /// It was asked before, and carried out.
+    /// The request was executed earlier.
     Again,
-    /// It would be refused, or the books failed.
+    /// The request would be refused, or the store failed.
     Refused(Refusal),
 }
 
-/// What looking at a line finds.
+/// What checking a line finds.
 #[derive(Drop)]
 pub(crate) enum Look {
     Known(Known),
-    /// Its point list has these faulty rows.
+    /// The point list of the line has these faulty rows.
     Faulty(FaultyRows),
     Bad,
 }
@@ -60,7 +60,7 @@ fn known_by(found: Option<Repeat>) -> Known
     }
 }
 
-// What books know of a request. They are only asked.
+// Looks a request up in the store. The store is only queried.
 fn look_up<B: Books>(books: &mut B, asked: &Asked) -> Known
     ensures known { KnowsRequest (B.ledger books.old) (B.ledger books.new) asked.now result }
     ensures looks { OnlyLooks (B.ledger books.old) (B.ledger books.new) }
@@ -74,7 +74,7 @@ fn look_up<B: Books>(books: &mut B, asked: &Asked) -> Known
     }
 }
 
-// What looking at a line finds.
+// Checks a line.
 fn look_at<B: Books, F: NamedFiles>(
     alloc: Global,
     books: &mut B,
@@ -110,7 +110,7 @@ fn print_known<W: Write>(known: Known, output: &mut W) -> io::Result<()>
     }
 }
 
-// Prints what was found of the line of a number.
+// Prints what was found of a line.
 fn print_look<W: Write>(look: &Look, number: u64, output: &mut W) -> io::Result<()>
     ensures { GotText result (spec.look_text number look.now)
         (W.contents output.old) (W.contents output.new) }
@@ -142,7 +142,7 @@ fn is_refused(look: &Look) -> bool
     }
 }
 
-// Prints what was found of the line of a number, and says whether it is bad, faulty or would be refused.
+// Prints what was found of a line, and returns whether the line is bad, faulty or would be refused.
 fn show<W: Write>(look: &Look, number: u64, output: &mut W) -> Result<bool, ExitStatus>
     ensures shows { IsShown number look.now (W.contents output.old) (W.contents output.new) result }
     ensures fails { IfErr result (λ status. status ≡ ExitStatus.Failed) }
@@ -153,7 +153,8 @@ fn show<W: Write>(look: &Look, number: u64, output: &mut W) -> Result<bool, Exit
     }
 }
 
-// Looks at a line, and prints what is found. It answers whether the line is bad, faulty or would be refused.
+// Checks a line and prints what is found. Returns whether the line is bad, faulty or would be
+// refused.
 fn check_line<B: Books, F: NamedFiles, W: Write>(
     alloc: Global,
     books: &mut B,
@@ -180,7 +181,7 @@ fn either(one: bool, other: bool) -> bool
     one || other
 }
 
-// Looks at the lines of a text, one after the other.
+// Checks the lines of a text in order.
 fn check_text<B: Books, F: NamedFiles, W: Write>(
     alloc: Global,
     books: &mut B,
@@ -209,10 +210,18 @@ fn check_text<B: Books, F: NamedFiles, W: Write>(
     }
 }
 
-/// Looks at what the lines of a text would ask under a caller, without asking it: nothing is booked, and no clock is needed. Of
-/// each line is printed `new` where nothing is kept under its number, `again` where it was carried out before, `refused 11`
-/// where another was; `row R fault N` for each faulty row of its point list, and then `refused 12`; or `bad line N`. All
-/// lines are looked at. The books are handed back as they stood.
+/// Checks what the lines of a text would request, without entering them.
+///
+/// Nothing is recorded, and no clock is needed. For each line the command prints one of these:
+///
+/// - `new`: the store has no request with the caller and the line's number;
+/// - `again`: the same request was executed earlier;
+/// - `refused 11`: another request has this number;
+/// - `refused N`: the store failed, or the caller is no name;
+/// - `row R fault N` for each faulty row of its point list, and then `refused 12`;
+/// - `bad line N`.
+///
+/// All lines are checked. Returns the store in its state before the call.
 pub fn check_books<B: Books, F: NamedFiles, W: Write>(
     alloc: Global,
     mut books: B,

@@ -1,4 +1,4 @@
-//! Doubts about an entry by hand: whether its energy is past what the meter's ceiling allows.
+//! Doubts about an entry by hand: its energy may be more than the meter's ceiling allows.
 ghost use Rattle.std.specs.Prelude.{◌≡◌, ◌≤◌, ◌+◌, ◌*◌, ◌^◌};
 ghost use Rattle.std.specs.Option.{option_and_then};
 ghost use Rattle.office_rules.specs.History as history;
@@ -15,7 +15,7 @@ use office_core::Office;
 use office_events::{Asked, Command, Installation, Name, Refusal};
 use office_rules::{facts_are_lawful, installations_are_in_range};
 
-// What a meter's counter would have reached that shows a number after so many full turns, had it not turned over.
+// The value that a counter would show without its `rolls` full turns, if it shows `raw`.
 fn turned(row: &Installation, raw: u64, rolls: u64) -> u128
     requires { IsSound row.now }
     ensures value { result ≡ raw + rolls * row.now.opening.range }
@@ -24,14 +24,15 @@ fn turned(row: &Installation, raw: u64, rolls: u64) -> u128
     u128::from(raw) + u128::from(rolls) * u128::from(row.opening.range)
 }
 
-// Whether an entry is later than the meter's last, and does not go back.
+// Whether an entry is later than the meter's last entry, and does not decrease the counter.
 fn goes_on(row: &Installation, moment: u64, up_to: u128) -> bool
     ensures { result ≡ spec.goes_on row.now moment up_to }
 {
     row.last.at < moment && u128::from(row.last.raw) <= up_to
 }
 
-// Whether a load of the ceiling can make the meter count so far. The first count may take no energy.
+// Whether a load at the ceiling can make the meter count so far. The first count may need no
+// energy.
 fn is_within_ceiling(row: &Installation, moment: u64, up_to: u128) -> bool
     requires sound { IsSound row.now }
     requires small { up_to ≤ 2 ^ 97 }
@@ -42,7 +43,7 @@ fn is_within_ceiling(row: &Installation, moment: u64, up_to: u128) -> bool
     energy * 18 <= u128::from(row.opening.ceiling) * u128::from(seconds) * 5
 }
 
-// What an entry would book that is doubted.
+// The energy of an entry, in mWh, if the entry is doubted.
 fn doubted_up_to(row: &Installation, moment: u64, up_to: u128) -> Option<u128>
     requires sound { IsSound row.now }
     requires small { up_to ≤ 2 ^ 97 }
@@ -55,7 +56,7 @@ fn doubted_up_to(row: &Installation, moment: u64, up_to: u128) -> Option<u128>
     }
 }
 
-// What the entry of a command would book at a meter, where that is doubted.
+// The energy, in mWh, that a command would record at a meter, if the command is doubted.
 fn doubted_at(at: u64, command: &Command, row: &Installation) -> Option<u128>
     requires { IsSound row.now }
     ensures { result ≡ spec.doubted_at at command.now row.now }
@@ -78,7 +79,7 @@ fn doubted_at(at: u64, command: &Command, row: &Installation) -> Option<u128>
     }
 }
 
-// The same of a meter that may be closed. Books answer no meter whose numbers are out of their ranges.
+// The same for a meter that may be closed. The store returns no meter with numbers out of range.
 fn doubted_if_open(at: u64, command: &Command, row: &Installation) -> Option<u128>
     ensures { IsSound row.now
         → result ≡ option_and_then (spec.doubted_at at command.now) (if_open row.now) }
@@ -110,7 +111,7 @@ fn corrected_at(command: &Command) -> Option<Name>
     }
 }
 
-// What is doubted at the meter that is open at a register.
+// The doubt at the open meter of a register.
 fn doubted_in<B: Books>(
     office: &mut Office<B>,
     at: u64,
@@ -132,7 +133,8 @@ fn doubted_in<B: Books>(
     }
 }
 
-/// What a request would book at a moment, where that is doubted. The office is only asked.
+/// The energy, in mWh, that a request would record, if the request is doubted. The office is only
+/// queried.
 pub(crate) fn doubt_of<B: Books>(
     office: &mut Office<B>,
     at: u64,

@@ -1,4 +1,4 @@
-//! Entering an input.
+//! Enters an input.
 ghost use Rattle.office_rounds.specs.Passing as rounds;
 ghost use Rattle.office_program.specs.Texts.Passing.{Lasts};
 ghost use Rattle.office_program.specs.Entering.Entered.{EntersOver, EntersTextOf};
@@ -17,7 +17,7 @@ use socket_link::{Clock, FixedClock};
 use std::alloc::Global;
 use std::io::Write;
 
-// Asks what the lines of a text ask, one after the other from a moment on, up to the first that is bad.
+// Requests the lines of a text in order, from a timestamp on, up to the first bad line.
 fn enter_text<B: Books, C: Clock, F: NamedFiles, W: Write>(
     alloc: Global,
     office: &mut Office<B>,
@@ -44,14 +44,18 @@ fn enter_text<B: Books, C: Clock, F: NamedFiles, W: Write>(
     progress.status()
 }
 
-/// Opens an office over books at the moment that the clock tells, and asks it what the lines of a text ask, each as a request
-/// under a caller and the number that is its first word: so what acted before is answered `ok`, and acts no second time. A
-/// line is asked at the moment that the clock tells, or at that of the line before where that is later.
+/// Opens an office over a store at the clock's time, and requests the lines of a text from it.
 ///
-/// Each prints `ok` or `refused N`, or `row R fault N` for each faulty row of its point list and then `refused 12`; `bad line
-/// N` ends the command, and the rest isn't carried out. An entry by hand that is past what the meter's ceiling allows is not
-/// asked, unless its line ends with ` !`: it prints `doubted` and the mWh that it would book. Where the opening is refused,
-/// `refused N` alone is printed. A caller that is no name has no line accepted. The books are handed back.
+/// Each line is a request with the caller, and with its first word as the number. So a line that
+/// acted earlier is answered `ok`, and does not act again. A line has the clock's time, or that of
+/// the line before if that is later.
+///
+/// Each line prints `ok` or `refused N`, or `row R fault N` for each faulty row of its point list
+/// and then `refused 12`. `bad line N` ends the command: the remaining lines are not executed. An
+/// entry by hand past the meter's ceiling is not requested, unless its line ends with ` !`: it
+/// prints `doubted` and the energy in mWh that it would record. If the opening is refused, the
+/// command prints only `refused N`. No line of a caller that is no name is accepted. Returns the
+/// store.
 pub fn enter_books<B: Books, C: Clock, F: NamedFiles, W: Write>(
     alloc: Global,
     books: B,

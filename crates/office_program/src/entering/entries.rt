@@ -1,4 +1,4 @@
-//! What a line of an input comes to, before an office is asked.
+//! Parses a line of an input, before the office is involved.
 ghost use Rattle.std.specs.Prelude.{◌≡◌, Some, IfOk};
 ghost use Rattle.script_lines.specs.LineWords.Words.{words_of};
 ghost use Rattle.office_program.specs.Entering.FileLines.{seen_line};
@@ -15,18 +15,18 @@ use point_list::{FaultyRows, ListFault, read_list};
 use script_lines::{LineFault, ScriptLine};
 use std::alloc::{AllocError, Global};
 
-/// What a line of an input comes to.
+/// A parsed line of an input.
 #[derive(Drop)]
 pub(crate) enum Entry {
-    /// This is asked.
+    /// The line is this request.
     Ask(Asked),
-    /// This is asked once its counter was read.
+    /// The line is this request, once its counter was read.
     Read(ReadRequest),
-    /// Its point list has these faulty rows.
+    /// The point list of the line has these faulty rows.
     Faulty(FaultyRows),
 }
 
-// The entry of a point list, of whose request these bytes are kept.
+// The entry of a point list. `request` are the bytes to store for the request.
 fn list_entry(
     alloc: Global,
     caller: Option<Name>,
@@ -54,14 +54,15 @@ fn list_entry(
     }
 }
 
-// The bytes that are kept of a line.
+// The bytes to store for a line.
 fn kept_line(alloc: Global, line: &[u8]) -> Result<Piece, AllocError>
     ensures { IfOk result (λ kept. kept ≡ line.now) }
 {
     Ok(Piece::new(Vec::from_slice(alloc, line)?))
 }
 
-// The bytes that are kept of a line that names a file: the line, a line feed, and the bytes of the file.
+// The bytes to store for a line that names a file: the line, a line feed, and the bytes of the
+// file.
 fn file_request(alloc: Global, line: &[u8], text: &[u8]) -> Result<Piece, AllocError>
     ensures { IfOk result (λ kept. kept ≡ lines.file_request line.now text.now) }
 {
@@ -71,7 +72,7 @@ fn file_request(alloc: Global, line: &[u8], text: &[u8]) -> Result<Piece, AllocE
     Ok(Piece::new(bytes))
 }
 
-// The entry of what a line of a script asks.
+// The entry of a script's line that is a request.
 fn wanted_entry(
     alloc: Global,
     caller: Option<Name>,
@@ -102,7 +103,7 @@ fn wanted_entry(
     }
 }
 
-// The entry of a line of a script, which may have a mark.
+// The entry of a script's line, which may have a mark.
 fn script_entry(alloc: Global, caller: Option<Name>, line: &[u8]) -> Result<Entry, LineFault>
     ensures { ReadsScript caller line.now result }
 {
@@ -112,7 +113,7 @@ fn script_entry(alloc: Global, caller: Option<Name>, line: &[u8]) -> Result<Entr
     }
 }
 
-// The entry of a line that names a file, which has these bytes.
+// The entry of a line that names a file with these bytes.
 fn held_entry(
     alloc: Global,
     caller: Option<Name>,
@@ -149,7 +150,7 @@ fn file_entry<F: NamedFiles>(
     }
 }
 
-// The entry of a line that has its counter read.
+// The entry of a line whose counter is to be read.
 fn read_entry(
     alloc: Global,
     caller: Option<Name>,
@@ -178,7 +179,7 @@ fn unnamed_entry(alloc: Global, caller: Option<Name>, line: &[u8]) -> Result<Ent
     }
 }
 
-/// The entry of a line, by what the file says that it may name.
+/// Parses a line, with the contents of the file that the line may name.
 pub(crate) fn entry_in<F: NamedFiles>(
     alloc: Global,
     caller: Option<Name>,

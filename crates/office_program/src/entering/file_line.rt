@@ -1,4 +1,4 @@
-//! A line that names the file of a point list.
+//! Parses a line that names the file of a point list.
 ghost use Rattle.std.specs.Prelude.{◌≡◌, option_map};
 ghost use Rattle.office_program.specs.Entering.FileLines as spec;
 ghost use Rattle.script_lines.specs.LineWords.Words.{words_of};
@@ -6,11 +6,11 @@ ghost use Rattle.script_lines.specs.LineWords.Words.{words_of};
 use office_events::Name;
 use script_lines::{Words, next_name, next_number, nothing_more};
 
-/// `NUMBER list DEVICE @NAME`: the point list of a device stands in the file of a name.
+/// `NUMBER list DEVICE @NAME`: the point list of a device is in the named file.
 #[derive(Clone, Copy, Debug)]
 pub(crate) struct FileLine<'a> {
     pub(crate) number: u64,
-    /// `None` where what was written is no name.
+    /// `None` if the text is no name.
     pub(crate) device: Option<Name>,
     pub(crate) name: &'a [u8],
 }
@@ -41,7 +41,7 @@ fn next_list(words: &mut Words<'_>) -> Option<()>
     }
 }
 
-/// The line of this kind that a text is.
+/// Parses a line that names a file.
 pub(crate) fn file_line<'a>(line: &'a [u8]) -> Option<FileLine<'a>>
     ensures { option_map spec.seen_line result ≡ spec.file_said (words_of line.now) }
 {

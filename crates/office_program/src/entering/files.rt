@@ -1,40 +1,44 @@
-//! Files that an input names, and counters that it has read.
+//! The files that an input names, and the counters that it reads.
 
 use office_events::{Device, Register};
 use std::alloc::{AllocError, Global};
 
-/// The most bytes of a file that is read.
+/// The largest size of a file, in bytes.
 pub const MOST_FILE: usize = 65_536;
 
-/// What a counter shows: a count, and the power of ten that it is of.
+/// The reading of a counter: a count, and the power of ten of its unit.
 #[derive(Clone, Copy, Debug, PartialEq, Eq)]
 pub struct Shown {
     pub raw: u32,
     pub sf: i16,
 }
 
-/// Files that an input names, and counters that it has read.
+/// Reads the files that an input names, and the counters that it installs meters at.
 pub trait NamedFiles {
     ghost use Rattle.std.specs.Prelude.{◌≤◌, ℕ, List, Option, IfOk, IfSome, length, option_map};
     ghost use Rattle.office_events.specs.declared.facts.Device.{Device};
     ghost use Rattle.office_events.specs.declared.facts.Register.{Register};
     ghost use Rattle.office_program.specs.declared.entering.files.Shown.{Shown};
 
-    // What reading the file of a name may tell: its bytes, or that there is none.
+    // What reading a named file may return: its bytes, or that there is none.
     ghost tells: { Self → List ℕ → Option (List ℕ) → Type 0 } = { λ _ _ _. Unit {0} };
 
-    // What the counter of a register may show now, read at its device, or that it can't be read.
+    // What the counter of a register may show when it is read from its device, or that it can't be
+    // read.
     ghost shows: { Self → Device → Register → Option Shown → Type 0 } = { λ _ _ _ _. Unit {0} };
 
-    /// The bytes of the file of a name, at most `MOST_FILE`. `None` where there is no such file, or it can't be read or is
-    /// longer: what speaks to people may say why.
+    /// Reads the named file of at most `MOST_FILE` bytes.
+    ///
+    /// Returns `None` if the file does not exist, can't be read or is longer. The implementation
+    /// may report why.
     fn read(&self, alloc: Global, name: &[u8]) -> Result<Option<Vec<u8>>, AllocError>
         ensures told { IfOk result
             (λ found. tells self.now name.now (option_map (λ v. v.items) found)) }
         ensures few { IfOk result (λ found. IfSome found (λ v. length v.items ≤ 65536)) };
 
-    /// What the counter of a register shows now, asked of its device. `None` where it can't be read: what speaks to people may
-    /// say why.
+    /// Reads the counter of a register from its device.
+    ///
+    /// Returns `None` if the counter can't be read. The implementation may report why.
     fn shown(&self, device: &Device, register: &Register) -> Option<Shown>
         ensures { shows self.now device.now register.now result };
 }

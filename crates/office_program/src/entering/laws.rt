@@ -1,16 +1,16 @@
-//! Laws of what is asked again.
+//! Theorems on retries.
 ghost use Rattle.office_program.specs.Entering.Repeats.{AreSteady, InputsActOnce, RequestsAreRepeated};
 ghost use Rattle.office_program.specs.Entering.Lines.{telling_of};
 
 use crate::entering::files::NamedFiles;
 
-/// Once a request was accepted, the same request is answered that this was done, and acts no second time.
+/// A retry of an accepted request is answered as done, and does not act again.
 pub fn requests_are_repeated()
     ensures { RequestsAreRepeated }
 {}
 
-/// An input of whose lines each acted acts once, where its files tell the same each time: entered again, it leaves the facts as
-/// they were.
+/// If every line of an input acted, entering the input again leaves the records unchanged, provided
+/// that its files have the same contents.
 pub fn inputs_act_once<F: NamedFiles>(files: &F)
     ensures { AreSteady (telling_of F.NamedFiles files.now)
         → InputsActOnce (telling_of F.NamedFiles files.now) }

@@ -1,11 +1,11 @@
-//! The mark of a line, ` !`: the entry by hand that it asks is meant as it stands.
+//! The mark of a line, ` !`: its entry by hand is meant as it is.
 ghost use Rattle.std.specs.Prelude.{◌≡◌, ◌≤◌, IsTrue, length};
 ghost use Rattle.office_program.specs.Entering.Lines as lines;
 ghost use Rattle.office_program.specs.Entering.Marks as spec;
 
 use office_events::Command;
 
-/// Whether a line ends with a mark.
+/// Returns whether a line ends with a mark.
 pub(crate) fn is_marked(line: &[u8]) -> bool
     ensures marked { result ≡ spec.is_marked line.now }
     ensures long { IsTrue result → 2 ≤ length line.now }
@@ -13,7 +13,7 @@ pub(crate) fn is_marked(line: &[u8]) -> bool
     line.ends_with(b" !")
 }
 
-/// What a line says before its mark, where it has one.
+/// Returns a line without its mark.
 pub(crate) fn unmarked(line: &[u8]) -> &[u8]
     ensures { result.now ≡ spec.unmarked line.now }
 {
@@ -24,7 +24,7 @@ pub(crate) fn unmarked(line: &[u8]) -> &[u8]
     }
 }
 
-/// A command that makes an entry by hand: no other may have a mark.
+/// Returns whether a command makes an entry by hand: no other command may have a mark.
 pub(crate) fn is_by_hand(command: &Command) -> bool
     ensures { result ≡ lines.is_by_hand command.now }
 {

@@ -1,20 +1,20 @@
-//! How far the lines of an input have come.
+//! The progress of an input.
 ghost use Rattle.std.specs.Prelude.{◌≡◌, ◌||◌, false, true};
 ghost use Rattle.office_program.specs.Entering.Entered.{status_of};
 
 use command_io::ExitStatus;
 
-/// How far the lines of an input have come.
+/// The progress of an input.
 #[derive(Clone, Copy, Debug, PartialEq, Eq)]
 pub(crate) struct Progress {
-    /// The moment of the latest that was asked, or would have been but for a doubt.
+    /// The timestamp of the latest line that was requested, or would have been but for a doubt.
     pub(crate) latest: u64,
-    /// Whether one was refused, or not asked.
+    /// Whether a line was refused or not requested.
     pub(crate) refused: bool,
 }
 
 impl Progress {
-    /// Nothing was asked up to a moment.
+    /// Creates the progress from a timestamp, before any request.
     pub(crate) fn from(moment: u64) -> Progress
         ensures { result ≡ record { latest = moment; refused = false } }
     {
@@ -24,7 +24,7 @@ impl Progress {
         }
     }
 
-    /// After one more line that was asked at a moment.
+    /// Returns the progress after a request at a timestamp.
     pub(crate) fn asked(self, at: u64, refused: bool) -> Progress
         ensures { result ≡ record { latest = at; refused = self.refused || refused } }
     {
@@ -34,14 +34,14 @@ impl Progress {
         }
     }
 
-    /// After one more that would have been asked at a moment, but was not.
+    /// Returns the progress after a line that was not requested at a timestamp.
     pub(crate) fn unasked(at: u64) -> Progress
         ensures { result ≡ record { latest = at; refused = true } }
     {
         Progress::from(at).faulty()
     }
 
-    /// After one whose point list has faults.
+    /// Returns the progress after a line whose point list has faults.
     pub(crate) fn faulty(self) -> Progress
         ensures { result ≡ record { latest = self.latest; refused = true } }
     {
@@ -51,7 +51,7 @@ impl Progress {
         }
     }
 
-    /// How the command ends where no line was bad.
+    /// Returns the exit status of the command if no line was bad.
     pub(crate) fn status(self) -> ExitStatus
         ensures { result ≡ status_of self }
     {

@@ -1,4 +1,4 @@
-//! A line that installs a meter at what its counter shows when it is entered.
+//! Parses a line that installs a meter at the reading of its counter.
 ghost use Rattle.std.specs.Prelude.{◌≡◌, MatchOption, not, option_map, pos};
 ghost use Rattle.office_program.specs.Entering.ReadLines as spec;
 ghost use Rattle.script_lines.specs.LineWords.Words.{words_of};
@@ -8,8 +8,10 @@ use crate::entering::marks::{is_marked, unmarked};
 use office_events::{Asked, Command, Exchange, Install, Name, Piece};
 use script_lines::{Words, next_name, next_number, next_range, nothing_more};
 
-/// `NUMBER install REGISTER METER @read CEILING [RANGE]`, or `NUMBER exchange REGISTER LAST ROLLS METER @read CEILING [RANGE]`.
-/// Names are `None` where what was written is no name.
+/// `NUMBER install REGISTER METER @read CEILING [RANGE]`, or `NUMBER exchange REGISTER LAST ROLLS
+/// METER @read CEILING [RANGE]`.
+///
+/// A name is `None` if the text is no name.
 #[derive(Clone, Copy, Debug, PartialEq, Eq)]
 pub(crate) enum ReadLine {
     Install {
@@ -30,7 +32,7 @@ pub(crate) enum ReadLine {
     },
 }
 
-// The word in the place of what is shown.
+// The word `@read`, instead of the reading.
 fn next_read(words: &mut Words<'_>) -> Option<()>
     ensures { option_map (λ none. words.new) result ≡ spec.read_word words.old }
 {
@@ -83,7 +85,7 @@ fn exchange(number: u64, words: &mut Words<'_>) -> Option<ReadLine>
     })
 }
 
-// The line of a number and a word after it.
+// The line with this number and verb.
 fn line_of(number: u64, verb: &[u8], words: &mut Words<'_>) -> Option<ReadLine>
     ensures { result ≡ spec.line_said number verb.now words.old }
 {
@@ -96,7 +98,7 @@ fn line_of(number: u64, verb: &[u8], words: &mut Words<'_>) -> Option<ReadLine>
     }
 }
 
-// The line of this kind that a text is.
+// Parses a line with `@read`, without its mark.
 fn read_line(line: &[u8]) -> Option<ReadLine>
     ensures { result ≡ spec.read_said (words_of line.now) }
 {
@@ -106,7 +108,7 @@ fn read_line(line: &[u8]) -> Option<ReadLine>
     line_of(number, verb, &mut words)
 }
 
-/// The line of this kind that a text is, which may have a mark where it asks an entry by hand.
+/// Parses a line with `@read`. The line may have a mark if it makes an entry by hand.
 pub(crate) fn read_in(line: &[u8]) -> Option<ReadLine>
     ensures { MatchOption result (spec.IsNoRead line.now) (λ read. spec.IsRead line.now read) }
 {
@@ -123,7 +125,7 @@ pub(crate) fn read_in(line: &[u8]) -> Option<ReadLine>
 }
 
 impl ReadLine {
-    // Whether it may end so.
+    // Whether the line may have a mark, or no mark.
     fn may_end(&self, marked: bool) -> bool
         ensures { result ≡ spec.may_end marked self.now }
     {
@@ -133,7 +135,7 @@ impl ReadLine {
         }
     }
 
-    /// The number of the request.
+    /// Returns the number of the request.
     pub(crate) fn number(&self) -> u64
         ensures { result ≡ spec.number_of self.now }
     {
@@ -143,7 +145,7 @@ impl ReadLine {
         }
     }
 
-    /// The register whose counter is to be read.
+    /// Returns the register whose counter is to be read.
     pub(crate) fn register(&self) -> Option<Name>
         ensures { result ≡ spec.register_of self.now }
     {
@@ -153,7 +155,7 @@ impl ReadLine {
         }
     }
 
-    /// What it asks where the counter shows this.
+    /// Returns the command, given the reading of the counter.
     pub(crate) fn command(&self, raw: u64, sf: i64) -> Command
         ensures { result ≡ spec.command_at self.now raw sf }
     {
@@ -194,7 +196,7 @@ impl ReadLine {
     }
 }
 
-/// A request whose meter is installed at what its counter shows.
+/// A request that installs a meter at the reading of its counter.
 #[derive(Drop)]
 pub(crate) struct ReadRequest {
     pub(crate) caller: Option<Name>,
@@ -203,7 +205,7 @@ pub(crate) struct ReadRequest {
 }
 
 impl ReadRequest {
-    /// What is asked where the counter shows this.
+    /// Returns the request, given the reading of the counter.
     pub(crate) fn asked(self, shown: Shown) -> Asked
         ensures { result ≡ spec.asked_at self shown.raw shown.sf }
     {

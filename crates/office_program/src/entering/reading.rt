@@ -1,4 +1,4 @@
-//! What is read of a counter before a meter is installed at what it shows.
+//! Reads a counter before a meter is installed at its reading.
 ghost use Rattle.office_rounds.specs.Passing.{Lasts};
 ghost use Rattle.office_program.specs.Entering.Lines.{telling_of};
 ghost use Rattle.office_program.specs.Entering.Reading.{Fills, ReadsAt, ReadsThere};
@@ -9,10 +9,10 @@ use office_books::Books;
 use office_core::Office;
 use office_events::{Name, Refusal, Register};
 
-/// In the place of what a counter shows that is not read.
+/// The reading for a counter that is not read.
 pub(crate) const NOT_READ: Shown = Shown { raw: 0, sf: 0 };
 
-// What the counter of a register shows, which is read at its device.
+// The reading of a register's counter, from its device.
 fn shown_at<B: Books, F: NamedFiles>(
     office: &mut Office<B>,
     register: Register,
@@ -31,7 +31,7 @@ fn shown_at<B: Books, F: NamedFiles>(
     }
 }
 
-// The same of a register by its name.
+// The reading of a register's counter, by the register's name.
 fn shown_there<B: Books, F: NamedFiles>(
     office: &mut Office<B>,
     name: &Option<Name>,
@@ -50,7 +50,9 @@ fn shown_there<B: Books, F: NamedFiles>(
     }
 }
 
-/// What the counter shows for a request; of one that is kept none is read. `None` where it can't be read.
+/// Returns the reading for a request; `None` if the counter can't be read.
+///
+/// The counter is not read for a request that is stored.
 pub(crate) fn shown_for<B: Books, F: NamedFiles>(
     office: &mut Office<B>,
     read: &ReadRequest,

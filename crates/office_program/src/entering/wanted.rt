@@ -1,4 +1,4 @@
-//! What a line of a script asks, where its first word is the number of a request.
+//! Turns a script's line into a request whose number is the line's first word.
 ghost use Rattle.std.specs.Prelude.{◌≡◌};
 ghost use Rattle.office_program.specs.Entering.Lines as lines;
 
@@ -6,16 +6,16 @@ use crate::entering::marks::is_by_hand;
 use office_events::{Command, Event};
 use script_lines::{GivenList, ScriptLine};
 
-/// What a line of a script asks under a number.
+/// The request of a script's line, with its number.
 #[derive(Drop)]
 pub(crate) enum Wanted {
     Command(u64, Command),
     List(u64, GivenList),
-    /// It asks nothing.
+    /// The line requests nothing.
     Nothing,
 }
 
-// A command that can be asked as a request: all but the start of polls.
+// Whether a command can be a request: all can but the start of polls.
 fn is_request(command: &Command) -> bool
     ensures { result ≡ lines.is_request command.now }
 {
@@ -78,7 +78,7 @@ fn wanted_list(marked: bool, number: u64, list: GivenList) -> Wanted
     }
 }
 
-/// What a line of a script asks, which may have a mark after it.
+/// Returns the request of a script's line, which may have a mark after it.
 pub(crate) fn wanted_in(marked: bool, said: ScriptLine) -> Wanted
     ensures { result ≡ lines.wanted_in marked said }
 {

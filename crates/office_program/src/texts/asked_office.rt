@@ -1,4 +1,4 @@
-//! The opening of an office that is to be asked.
+//! Opens an office for queries.
 ghost use Rattle.std.specs.Prelude.{◌≡◌, ◌≢◌, IfOk, IfErr};
 ghost use Rattle.office_core.specs.Standing.{IsFresh};
 ghost use Rattle.office_program.specs.Texts.AskedOffice.{OpensToAskOver, RefusesToAskOver};
@@ -13,8 +13,10 @@ use socket_link::Clock;
 use std::alloc::Global;
 use std::io::Write;
 
-/// Opens an office over books to ask it: at the moment that the clock tells, or at the latest that the books hold where that is
-/// later, since questions need no clock. Where that is refused, `refused N` is printed, and the command ends.
+/// Opens an office over a store for queries.
+///
+/// The office is opened at the clock's time, or at the latest timestamp in the store if that is
+/// later, since queries need no clock. If the opening is refused, the call prints `refused N`.
 pub fn open_office_to_ask<B: Books, C: Clock, W: Write>(
     alloc: Global,
     books: B,

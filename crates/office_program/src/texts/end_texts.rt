@@ -8,7 +8,7 @@ use office_events::Refusal;
 use script_text::write_refusal;
 use std::io::{self, Write};
 
-// How a command ends that has written its last text.
+// The exit status of a command after its last write.
 pub(crate) fn ended(written: io::Result<()>, meant: ExitStatus) -> ExitStatus
     ensures { result ≡ if is_ok written then meant else ExitStatus.Failed }
 {
@@ -18,7 +18,7 @@ pub(crate) fn ended(written: io::Result<()>, meant: ExitStatus) -> ExitStatus
     }
 }
 
-/// Prints why the office refuses.
+/// Prints why the office refuses, and returns the exit status.
 pub(crate) fn print_refusal<W: Write>(why: Refusal, output: &mut W) -> ExitStatus
     ensures { IsTold (refused_line why) ExitStatus.Refused result
         (W.contents output.old) (W.contents output.new) }

@@ -1,4 +1,4 @@
-//! The opening of an office.
+//! Opens an office.
 ghost use Rattle.std.specs.Prelude.{◌≡◌, ◌≢◌, IfOk, IfErr};
 ghost use Rattle.office_core.specs.Standing.{IsFresh};
 ghost use Rattle.office_program.specs.Texts.OpenedOffice.{LastsInside, OpensOver, RefusesOver};
@@ -11,15 +11,15 @@ use socket_link::Clock;
 use std::alloc::Global;
 use std::io::Write;
 
-/// Books over which no office was opened, and how the command ends.
+/// The store over which no office was opened, and the exit status of the command.
 #[derive(Drop)]
 pub struct Unopened<B> {
     pub books: B,
     pub status: ExitStatus,
 }
 
-/// Opens an office over books at the moment that the clock tells. Where that is refused, `refused N` is printed, and the
-/// command ends.
+/// Opens an office over a store at the clock's time. If the opening is refused, the call prints
+/// `refused N`.
 pub fn open_office<B: Books, C: Clock, W: Write>(
     alloc: Global,
     books: B,

@@ -1,4 +1,4 @@
-//! The report of a register on a range of days, in a form.
+//! Reports a register on a range of days, in a form.
 ghost use Rattle.office_program.specs.Texts.RangedReports.{PrintsRest, ReportsRange};
 ghost use Rattle.office_program.specs.Texts.Reports.{Asks};
 
@@ -10,7 +10,7 @@ use office_core::Office;
 use office_events::{Name, Refusal};
 use std::io::Write;
 
-// What is left to write of a report, or why there is none.
+// Writes the rest of a report, or why there is none.
 fn print_rest<W: Write>(told: Result<(), Refusal>, rows: &mut ReportRows<'_, W>) -> ExitStatus
     ensures { PrintsRest W.contents told result rows.old rows.new }
 {
@@ -27,8 +27,10 @@ fn print_rest<W: Write>(told: Result<(), Refusal>, rows: &mut ReportRows<'_, W>)
     }
 }
 
-/// Prints the energy of a register on the days of a range, by periods, in a unit and a format; where the office refuses that,
-/// `refused N` alone. `None` is a name that no register can have.
+/// Prints the energy of a register on the days of a range, by period, in a unit and a format.
+///
+/// If the office refuses the query, only `refused N` is printed. `None` is a name that no register
+/// can have.
 pub fn report_range<B: Books, W: Write>(
     office: &mut Office<B>,
     register: &Option<Name>,

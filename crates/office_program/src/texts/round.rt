@@ -1,4 +1,4 @@
-//! The round of a device.
+//! Polls a device once.
 ghost use Rattle.std.specs.Prelude.{◌≡◌, Err};
 ghost use Rattle.office_rounds.specs.Passing.{AreAtMost, AreTakes, CountsFailures, Lasts};
 ghost use Rattle.office_program.specs.Texts.Rounds as rounds;
@@ -15,7 +15,7 @@ use socket_link::Clock;
 use std::alloc::Global;
 use std::io::Write;
 
-// Prints the refusal that broke a round off, if one did.
+// Prints the refusal that broke a round off, if any.
 fn print_cause<W: Write>(done: Result<(), RoundFault>, output: &mut W) -> Result<(), RoundFault>
     ensures { IsRefusalTold done result (W.contents output.old) (W.contents output.new) }
 {
@@ -28,8 +28,10 @@ fn print_cause<W: Write>(done: Result<(), RoundFault>, output: &mut W) -> Result
     }
 }
 
-/// Polls the whole plan of a device once, over a link that was just made, and prints what `round_over` prints; where the
-/// office refused an event, `refused N` after it. `None` is a name that no device can have.
+/// Polls the complete plan of a device once over a new link, and prints as `round_over` does.
+///
+/// If the office refused an event, `refused N` comes last. `None` is a name that no device can
+/// have.
 pub fn poll_round<L: Link, B: Books, C: Clock, W: Write>(
     alloc: Global,
     link: &mut L,
@@ -50,8 +52,8 @@ pub fn poll_round<L: Link, B: Books, C: Clock, W: Write>(
     print_cause(done, output)
 }
 
-/// How the command of a round ends: a refusal of the office is one, and the link, the printing or the count of turns a
-/// failure.
+/// Returns the exit status of a round's command: `Refused` if the office refused an event, `Failed`
+/// if the link or the output failed or the reads were used up.
 pub fn round_status(done: Result<(), RoundFault>) -> ExitStatus
     ensures { result ≡ rounds.round_status done }
 {

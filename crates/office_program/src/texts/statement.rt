@@ -1,4 +1,4 @@
-//! The statement of the meters at a register, on a range of days.
+//! Prints the statement of the meters at a register on a range of days.
 ghost use Rattle.std.specs.Prelude.{◌∷◌, []};
 ghost use Rattle.office_core.specs.Asking.{OnlyAsks};
 ghost use Rattle.office_program.specs.Texts.Reports.{Asks};
@@ -19,12 +19,12 @@ use office_events::{Installation, Name, Refusal};
 use std::alloc::Global;
 use std::io::Write;
 
-// How many entries are asked for at a time, and how often at most: places are numbers of 64 bits.
+// The number of entries in a query, and the largest number of queries: indexes have 64 bits.
 const PIECE: u32 = 65536;
 
 const MOST_PIECES: u64 = 281_474_976_710_655;
 
-// What all entries of a meter come to in a range. They are asked for piece by piece.
+// The tally of a meter's entries in a range. The entries are queried in chunks.
 fn tally<B: Books>(
     office: &mut Office<B>,
     zone: &Zone,
@@ -50,7 +50,8 @@ fn tally<B: Books>(
     Err(Refusal::Memory)
 }
 
-// The energy of a meter in a range. Of its quarter hours those around the days of the range are asked for.
+// The energy of a meter in a range. Only the quarter hours around the days of the range are
+// queried.
 fn energy<B: Books>(
     office: &mut Office<B>,
     zone: &Zone,
@@ -68,7 +69,7 @@ fn energy<B: Books>(
     }
 }
 
-// How many readings of a meter in a range were held.
+// The number of a meter's rejected readings in a range.
 fn held<B: Books>(
     office: &mut Office<B>,
     zone: &Zone,
@@ -86,7 +87,7 @@ fn held<B: Books>(
     }
 }
 
-// What a statement tells of a meter.
+// The statement of a meter.
 fn meter_statement<B: Books>(
     office: &mut Office<B>,
     zone: &Zone,
@@ -115,7 +116,7 @@ fn meter_statement<B: Books>(
     }
 }
 
-// Adds the statement of a meter, if it was there in the range.
+// Adds the statement of a meter, if the meter was installed in the range.
 fn add_statement<B: Books>(
     rows: &mut Vec<MeterStatement>,
     office: &mut Office<B>,
@@ -139,7 +140,7 @@ fn add_statement<B: Books>(
     }
 }
 
-// Adds the statements of those that were there.
+// Adds the statements of the meters that were installed in the range.
 fn add_statements<B: Books>(
     rows: &mut Vec<MeterStatement>,
     office: &mut Office<B>,
@@ -160,7 +161,7 @@ fn add_statements<B: Books>(
     Ok(())
 }
 
-// The statements of all meters at a register that were there in the range.
+// The statements of all meters at a register that were installed in the range.
 fn statements<B: Books>(
     alloc: Global,
     office: &mut Office<B>,
@@ -184,9 +185,12 @@ fn statements<B: Books>(
     }
 }
 
-/// Prints what a bill on the days of a range is checked by: of each meter that was there at the register, in the order in which they
-/// were installed, where its counter stood at its first and last entry in the range, its energy in it, its corrections, and how many of
-/// its readings were held. Where the office refuses that, `refused N` alone. `None` is a name that no register can have.
+/// Prints what is needed to check a bill on the days of a range.
+///
+/// Each meter of the register in the range comes in the order of installation: its counter at its
+/// first and last entry in the range, its energy there, its corrections, and its number of rejected
+/// readings. If the office refuses a query, only `refused N` is printed. `None` is a name that no
+/// register can have.
 pub fn report_statement<B: Books, W: Write>(
     alloc: Global,
     office: &mut Office<B>,

@@ -1,10 +1,10 @@
--- Rounds at their places.
+-- Rounds in their slots.
 use Rattle.std.proofs.Common.{◌≡◌, ℕ, ◌<◌, ◌≤◌, zero, suc, List, [], ◌∷◌, length, set, get_or, Some, None, refl, ap, arith}
 use Rattle.std.specs.Prelude.{slice_get}
 use Rattle.office_rounds.specs.declared.device_rounds.round.Round.{Round}
 use Rattle.office_rounds.specs.Driver.Turns.{at_place}
 
--- the round of a place is changed by a write there
+-- A write to a slot changes its round.
 pub set_at_place : (rounds : List Round) (place : ℕ) (change : Round → Round) (d : Round) → place < length rounds
     → set rounds place (change (get_or rounds place d)) ≡ at_place place change rounds
 set_at_place [] place change d h = absurd (omega arith)
@@ -12,7 +12,7 @@ set_at_place (round ∷ rounds) zero change d h = refl
 set_at_place (round ∷ rounds) (suc place) change d h =
     let less : place < length rounds = omega (arith, h) in ap (λ xs. round ∷ xs) (set_at_place rounds place change d less)
 
--- past the last place nothing changes
+-- Past the last slot nothing changes.
 pub at_no_place : (rounds : List Round) (place : ℕ) (change : Round → Round) → length rounds ≤ place → at_place place change rounds ≡ rounds
 at_no_place [] place change h = refl
 at_no_place (round ∷ rounds) zero change h = absurd (omega (arith, h))

@@ -71,7 +71,7 @@ feeds_next ledger sees at place e answer old new mid notes frames feeds mid_is n
       },
     )
 
--- A turn that has fed so much goes on.
+-- A turn that has fed `steps` events or more.
 pub record GoesFar {B V : Type 0} (ledger : B → Ledger) (sees : V → Shown → V → Type 0) (at steps : ℕ) (past : History) (begun : Start V)
     (now : Scene B V) : Type 0 where
   pub fed : List Answered
@@ -118,7 +118,7 @@ begins ledger sees at past first old stands = record {
   shown = refl;
 }
 
--- what the rounds wish is fed from the beginning
+-- The turn begins with the events that rounds request.
 pub turns_on : {B V : Type 0} (ledger : B → Ledger) (sees : V → Shown → V → Type 0) (at : ℕ) (past : History) (old new : Scene B V)
     → OfficeGoesOn ledger sees at old new → Stands ledger past old.office → (ledger (books_in new.office)).is_clean
     → TakesTurn ledger sees past (start old.failures (table None old.rounds) old.observer) at new
@@ -126,7 +126,7 @@ turns_on ledger sees at past old new goes stands clean =
     let so = goes past (start old.failures (table None old.rounds) old.observer) [] (begins ledger sees at past None old stands) clean in
     record { fed = so.0; going = so.1; settled = so.2 }
 
--- or something that happened first
+-- The turn begins with a device event.
 pub turns_first : {B V : Type 0} (ledger : B → Ledger) (sees : V → Shown → V → Type 0) (at : ℕ) (past : History) (one : Wished) (old mid new : Scene B V)
     → FeedsNext ledger sees at one old mid → OfficeGoesOn ledger sees at mid new
     → ((ledger (books_in new.office)).is_clean → (ledger (books_in mid.office)).is_clean) → Stands ledger past old.office
@@ -138,7 +138,7 @@ turns_first ledger sees at past one old mid new feeds goes lasts stands clean =
     let so = goes past begun (fed.0 ∷ []) fed.1 clean in
     record { fed = so.0; going = so.1; settled = so.2 }
 
--- what is to be fed is spelled otherwise
+-- The same with another form of what is to be fed.
 pub turns_as : {B V : Type 0} (ledger : B → Ledger) (sees : V → Shown → V → Type 0) (at : ℕ) (past : History) (failures : Failures) (one other : Table) (observer : V)
     (new : Scene B V) → one ≡ other → TakesTurn ledger sees past (start failures one observer) at new
     → TakesTurn ledger sees past (start failures other observer) at new

@@ -1,20 +1,20 @@
--- Polls that wait.
+-- Pending polls.
 use Rattle.std.specs.Prelude.{ℕ, zero, suc, ◌+◌, ◌-◌, ◌^◌, ◌==◌, min, Bool, false, not, List, [], ◌∷◌, ◌++◌}
 use Rattle.std.specs.List.{list_any}
 use Rattle.office_events.specs.declared.answers.Note.{Note}
 use Rattle.office_events.specs.declared.answers.Note.TheVariants as note
 
--- a note tells how a poll ended
+-- The notification reports the outcome of the poll.
 abbrev pub ends : (poll : ℕ) → Note → Bool
 ends poll (note.Outcome ended outcome) = ended == poll
 ends poll (note.Reading meter raw rolls step) = false
 ends poll (note.Held meter raw cause) = false
 
--- none of them does
+-- No notification reports the outcome of the poll.
 abbrev pub waits : List Note → (poll : ℕ) → Bool
 waits notes poll = not (list_any (ends poll) notes)
 
--- so many numbers, which follow one another; they stay at 2^64 - 1
+-- Consecutive numbers, which stay at 2^64 - 1.
 abbrev pub numbers : (first count : ℕ) → List ℕ
 numbers first zero = []
 numbers first (suc n) = numbers first n ++ min (first + n) (2 ^ 64 - 1) ∷ []

@@ -1,4 +1,4 @@
--- How a round goes on: by its connection, by what the office answers to what was fed for it, and by what the office tells.
+-- How a round advances: by its connection, and by the office's answers and notifications.
 use Rattle.std.specs.Prelude.{ℕ, ◌+◌, ◌-◌, ◌^◌, ◌==◌, nat_lt, nat_le, min, Bool, true, false, List, [], ◌++◌, length, Option, Some, None, Result, Ok, Err, if◌then◌else◌}
 use Rattle.std.specs.List.{filter}
 use Rattle.poll_core.specs.declared.outcome.Closing.{Closing}
@@ -17,6 +17,7 @@ use Rattle.office_rounds.specs.declared.device_rounds.round.Round.{Round}
 use Rattle.office_rounds.specs.declared.device_rounds.stage.Stage.{Stage}
 use Rattle.office_rounds.specs.declared.device_rounds.stage.Stage.TheVariants.{Off, Joining, Starting, Waiting, Leaving}
 
+-- The round of a device that is not connected.
 abbrev pub unconnected : (device : Option (List ℕ)) → Round
 unconnected device = record {
   device = device;
@@ -27,11 +28,12 @@ unconnected device = record {
   sum = sums.none;
 }
 
+-- Whether the round requests an event.
 abbrev pub is_wishing : Round → Bool
 is_wishing round = stages.is_wishing round.stage
 
--- What the office is to be told next: the connection; the reads from the first on that was not started; that the device
--- is gone.
+-- The event that a round requests next: the connection; the reads from the first that was not
+-- started; or that the device is gone.
 abbrev pub wish_at : Stage → (device : Option (List ℕ)) → (started : ℕ) → Option Event
 wish_at Off device started = None
 wish_at Joining device started = Some (event.Connected device)
@@ -40,10 +42,11 @@ wish_at Starting device started =
 wish_at Waiting device started = None
 wish_at (Leaving closing) device started = Some (event.Gone device closing)
 
+-- The event that the round requests, if any.
 abbrev pub wish_of : Round → Option Event
 wish_of round = wish_at round.stage round.device round.started
 
--- A connection that stands begins a round, where none goes on.
+-- A new connection begins a round, unless a round is running.
 abbrev pub joined_at : Stage → Round → Round
 joined_at Off round = record {
   device = round.device;
@@ -58,20 +61,24 @@ joined_at Starting round = round
 joined_at Waiting round = round
 joined_at (Leaving closing) round = round
 
+-- The round after a new connection.
 abbrev pub joined : Round → Round
 joined round = joined_at round.stage round
 
+-- The round after its connection has ended.
 abbrev pub leaving : Closing → Round → Round
 leaving closing round = record round { stage = stages.left closing round.stage }
 
--- the round is broken off
+-- The round is broken off.
 abbrev pub broken_off : Round → Round
 broken_off round = record round { stage = Leaving closing.Failed }
 
--- after a start replies are waited for; where none waits the device has none to give, and is gone
+-- After a start responses are pending. If no poll is pending, the device has no response to send,
+-- and is gone.
 abbrev pub stage_after : List ℕ → Stage
 stage_after polls = if length polls == 0 then Leaving closing.Gone else Waiting
 
+-- The round after a start of `count` polls from `first` on.
 abbrev pub begun : (first count planned : ℕ) → Round → Round
 begun first count planned round = record {
   device = round.device;
@@ -82,8 +89,8 @@ begun first count planned round = record {
   sum = round.sum;
 }
 
--- A start tells the number of the first poll, how many there are, and how many reads the plan has. No device has more than
--- 16 that wait.
+-- A start reports the number of the first poll, the number of polls, and the reads of the plan. No
+-- device has more than 16 pending polls.
 abbrev pub started_by : Answer → Round → Round
 started_by answer.Noted round = broken_off round
 started_by (answer.Done kind) round = broken_off round
@@ -92,8 +99,8 @@ started_by (answer.Started first count of) round =
     if nat_le (length round.polls.items + count) 16 then begun first count of round
     else broken_off round
 
--- What was fed for a round is answered. After its connection the reads are started from the first on; a refusal breaks it
--- off, or was of the connection.
+-- An event of the round has its answer. After the connection the reads are started from the first
+-- on. A refusal breaks the round off. If the connection was refused, the round is over.
 abbrev pub answered_at : Stage → Result Answer Refusal → Round → Round
 answered_at Off result round = round
 answered_at Joining (Ok given) round = record round { stage = Starting }
@@ -104,16 +111,19 @@ answered_at Waiting (Ok given) round = round
 answered_at Waiting (Err why) round = broken_off round
 answered_at (Leaving closing) result round = record round { stage = Off }
 
+-- The round after the answer to its event.
 abbrev pub answered : Result Answer Refusal → Round → Round
 answered result round = answered_at round.stage result round
 
--- After the end of a poll the reads that are left are started; where none is left and none waits, the device is gone.
+-- After the end of a poll the remaining reads are started. If none remains and no poll is pending,
+-- the device is gone.
 abbrev pub gone_on : Round → Round
 gone_on round =
     if nat_lt round.started round.planned then record round { stage = Starting }
     else if length round.polls.items == 0 then record round { stage = Leaving closing.Gone }
     else round
 
+-- The round after notifications, by whether a poll has ended.
 abbrev pub going_on : Stage → (ended : Bool) → Round → Round
 going_on Off ended round = round
 going_on Joining ended round = round
@@ -122,10 +132,11 @@ going_on Waiting true round = gone_on round
 going_on Waiting false round = round
 going_on (Leaving closing) ended round = round
 
--- what is left of its polls, after these notes
+-- The polls that are still pending after these notifications.
 abbrev pub polls_left : List Note → Round → List ℕ
 polls_left notes round = filter (waits notes) round.polls.items
 
+-- The round after notifications.
 abbrev pub heard : List Note → Round → Round
 heard notes round =
     going_on round.stage (nat_lt (length (polls_left notes round)) (length round.polls.items))

@@ -1,10 +1,10 @@
--- What rounds do.
+-- The stages of rounds.
 use Rattle.std.specs.Prelude.{Bool, true, false}
 use Rattle.poll_core.specs.declared.outcome.Closing.{Closing}
 use Rattle.office_rounds.specs.declared.device_rounds.stage.Stage.{Stage}
 use Rattle.office_rounds.specs.declared.device_rounds.stage.Stage.TheVariants.{Off, Joining, Starting, Waiting, Leaving}
 
--- something is wanted
+-- The stage requests an event.
 abbrev pub is_wishing : Stage → Bool
 is_wishing Off = false
 is_wishing Joining = true
@@ -12,7 +12,8 @@ is_wishing Starting = true
 is_wishing Waiting = false
 is_wishing (Leaving closing) = true
 
--- Once the device is gone the office is told so, where it knows of the connection. The first cause stays.
+-- After the connection has ended, the office is to be fed so, if it knows of the connection. The
+-- first cause stays.
 abbrev pub left : Closing → Stage → Stage
 left closing Off = Off
 left closing Joining = Off

@@ -1,4 +1,4 @@
--- How the polls of a round ended.
+-- The outcomes of a round's polls, as sums.
 use Rattle.std.specs.Prelude.{ℕ, ◌==◌, List, [], ◌∷◌, if◌then◌else◌}
 use Rattle.std.specs.List.{list_any}
 use Rattle.poll_core.specs.declared.outcome.Outcome.{Outcome}
@@ -8,9 +8,11 @@ use Rattle.office_events.specs.declared.answers.Note.TheVariants as note
 use Rattle.office_events.specs.Numbers.{one_more}
 use Rattle.office_rounds.specs.declared.device_rounds.polls.Sum.{Sum}
 
+-- The sum of no polls.
 abbrev pub none : Sum
 none = record { answered = 0; silent = 0; failed = 0 }
 
+-- The sum with one more outcome.
 abbrev pub ended : Outcome → Sum → Sum
 ended Answered sum = record sum { answered = one_more sum.answered }
 ended (Exception code) sum = record sum { failed = one_more sum.failed }
@@ -18,13 +20,14 @@ ended Silent sum = record sum { silent = one_more sum.silent }
 ended (Malformed wrong) sum = record sum { failed = one_more sum.failed }
 ended (Lost cause) sum = record sum { failed = one_more sum.failed }
 
--- of the polls that waited
+-- Only polls that were pending count.
 abbrev pub noted : (polls : List ℕ) → Note → Sum → Sum
 noted polls (note.Outcome poll outcome) sum =
     if list_any (λ one. one == poll) polls then ended outcome sum else sum
 noted polls (note.Reading meter raw rolls step) sum = sum
 noted polls (note.Held meter raw cause) sum = sum
 
+-- The sum after several notifications.
 abbrev pub noted_all : (polls : List ℕ) → List Note → Sum → Sum
 noted_all polls [] sum = sum
 noted_all polls (one ∷ notes) sum = noted_all polls notes (noted polls one sum)

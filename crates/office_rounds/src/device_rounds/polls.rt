@@ -1,4 +1,4 @@
-//! The polls of a round that wait.
+//! The pending polls of a round, and the sum of the others.
 ghost use Rattle.std.specs.Prelude.{◌≡◌, ◌==◌, ◌≤◌, ◌+◌, ◌++◌};
 ghost use Rattle.std.specs.List.{filter, list_any};
 ghost use Rattle.arrayvec.specs.ArrayVec.{array_vec_len};
@@ -8,13 +8,13 @@ use arrayvec::ArrayVec;
 use office_events::Note;
 use poll_core::Outcome;
 
-/// How many polls of a device may wait at a time.
+/// The largest number of polls of a device that may be pending at a time.
 pub const MOST_WAITING: usize = 16;
 
-/// The numbers of polls that wait.
+/// The numbers of pending polls.
 pub type Polls = ArrayVec<u64, 16>;
 
-// Whether a note tells how the poll ended.
+// Whether the notification reports the outcome of the poll.
 fn ends(note: &Note, poll: u64) -> bool
     ensures { result ≡ specs.ends poll note.now }
 {
@@ -25,21 +25,20 @@ fn ends(note: &Note, poll: u64) -> bool
     }
 }
 
-// Whether a note tells how the poll ended.
+// Whether a notification reports the outcome of the poll.
 fn has_ended(notes: &[Note], poll: u64) -> bool
     ensures { result ≡ list_any (specs.ends poll) notes.now }
 {
     notes.iter().any(|note| ends(note, poll))
 }
 
-// Whether no note tells how the poll ended.
 fn waits(notes: &[Note], poll: u64) -> bool
     ensures { result ≡ specs.waits notes.now poll }
 {
     !has_ended(notes, poll)
 }
 
-/// The polls that wait on, after these notes.
+/// The polls that are still pending after these notifications.
 pub(crate) fn waiting_after(polls: &Polls, notes: &[Note]) -> Polls
     ensures { result.items ≡ filter (specs.waits notes.now) polls.now.items }
 {
@@ -52,7 +51,7 @@ pub(crate) fn waiting_after(polls: &Polls, notes: &[Note]) -> Polls
     left
 }
 
-/// Adds so many polls, whose numbers follow one another.
+/// Adds `count` polls with consecutive numbers.
 pub(crate) fn add(polls: &mut Polls, first: u64, count: u64)
     requires { array_vec_len polls.old + count ≤ 16 }
     ensures { polls.new.items ≡ polls.old.items ++ specs.numbers first count }
@@ -62,8 +61,9 @@ pub(crate) fn add(polls: &mut Polls, first: u64, count: u64)
     }
 }
 
-/// How many polls of a round were answered, how many were silent, and how many ended otherwise. Each count stays at
-/// 2^64 - 1.
+/// The polls of a round by outcome: answered, silent (timed out), or failed otherwise.
+///
+/// Each count stays at 2^64 - 1.
 #[derive(Clone, Copy, Debug, PartialEq, Eq)]
 pub struct Sum {
     pub answered: u64,
@@ -75,7 +75,7 @@ impl Sum {
     ghost use Rattle.std.specs.Prelude.{◌≡◌};
     ghost use Rattle.office_rounds.specs.DeviceRounds.Sums as sums;
 
-    /// No poll has ended.
+    /// Creates a sum without polls.
     pub fn none() -> Sum
         ensures { result ≡ sums.none }
     {
@@ -86,7 +86,7 @@ impl Sum {
         }
     }
 
-    // A poll has ended.
+    // Counts a poll with this outcome.
     fn end(&mut self, outcome: Outcome)
         ensures { self.new ≡ sums.ended outcome self.old }
     {
@@ -99,7 +99,7 @@ impl Sum {
         }
     }
 
-    // The office has told this.
+    // Counts the poll of a notification, if it was pending.
     fn note(&mut self, polls: &Polls, note: &Note)
         ensures { self.new ≡ sums.noted polls.now.items note.now self.old }
     {
@@ -114,7 +114,7 @@ impl Sum {
         }
     }
 
-    /// The office has told all of this.
+    /// Counts the polls of several notifications.
     pub(crate) fn note_all(&mut self, polls: &Polls, notes: &[Note])
         ensures { self.new ≡ sums.noted_all polls.now.items notes.now self.old }
     {
@@ -124,7 +124,6 @@ impl Sum {
     }
 }
 
-// Whether a poll is one of them.
 fn is_among(polls: &Polls, poll: u64) -> bool
     ensures { result ≡ list_any (λ one. one == poll) polls.now.items }
 {

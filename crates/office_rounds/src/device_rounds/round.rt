@@ -1,21 +1,21 @@
-//! The round of one device: its stage, its polls that wait, how they ended.
+//! The round of one device: its stage, its pending polls, and the outcomes of the others.
 use crate::device_rounds::polls::{MOST_WAITING, Polls, Sum, add, waiting_after};
 use crate::device_rounds::stage::Stage;
 use office_events::{Answer, Command, Event, Name, Note, Refusal, StartRound};
 use poll_core::Closing;
 
-/// How far the round of a device has come, by what the office told.
+/// The progress of a device's round, by the answers and notifications of the office.
 #[derive(Drop)]
 pub struct Round {
     pub device: Option<Name>,
     pub stage: Stage,
-    /// Its polls that wait.
+    /// The pending polls.
     pub polls: Polls,
-    /// How many reads were started.
+    /// The number of reads that were started.
     pub started: u64,
-    /// How many reads the plan has.
+    /// The number of reads in the plan.
     pub planned: u64,
-    /// How its polls ended, until the device is connected again.
+    /// The outcomes of the polls, until the device is connected again.
     pub sum: Sum,
 }
 
@@ -24,7 +24,7 @@ impl Round {
     ghost use Rattle.office_events.specs.declared.answers.Answer.{Answer};
     ghost use Rattle.office_rounds.specs.DeviceRounds.Rounds as rounds;
 
-    /// No device is connected.
+    /// Creates the round of a device that is not connected.
     pub fn new(device: Option<Name>) -> Round
         ensures { result ≡ rounds.unconnected device }
     {
@@ -38,7 +38,7 @@ impl Round {
         }
     }
 
-    /// What the office is to be told next, if anything.
+    /// Returns the event that the round requests next, if any.
     pub fn event_wanted(&self) -> Option<Event>
         ensures { result ≡ rounds.wish_of self.now }
     {
@@ -54,7 +54,7 @@ impl Round {
         }
     }
 
-    /// The connection stands: a round begins, where none goes on.
+    /// Begins a round after a new connection, unless a round is running.
     pub fn join(&mut self)
         ensures { self.new ≡ rounds.joined self.old }
     {
@@ -67,14 +67,14 @@ impl Round {
         }
     }
 
-    /// The connection has ended.
+    /// Ends the round because the connection has ended.
     pub fn leave(&mut self, closing: Closing)
         ensures { self.new ≡ rounds.leaving closing self.old }
     {
         self.stage = self.stage.left(closing);
     }
 
-    // Reads were started.
+    // Adds the reads that were started.
     fn start(&mut self, answer: Answer)
         ensures { self.new ≡ rounds.started_by answer self.old }
     {
@@ -92,7 +92,7 @@ impl Round {
         }
     }
 
-    /// The office has answered what was fed for this round.
+    /// Updates the round by the office's answer to an event of the round.
     pub fn answer(&mut self, answer: Result<Answer, Refusal>)
         ensures { self.new ≡ rounds.answered answer self.old }
     {
@@ -108,7 +108,7 @@ impl Round {
         }
     }
 
-    // Goes on after the end of a poll.
+    // Requests the next reads, or ends the round, after the end of a poll.
     fn go_on(&mut self)
         ensures { self.new ≡ rounds.gone_on self.old }
     {
@@ -119,7 +119,7 @@ impl Round {
         }
     }
 
-    /// The office has told this.
+    /// Updates the round by the office's notifications.
     pub fn apply_notes(&mut self, notes: &[Note])
         ensures { self.new ≡ rounds.heard notes.now self.old }
     {
@@ -137,7 +137,7 @@ impl Round {
     ghost use Rattle.arrayvec.specs.ArrayVec.{array_vec_len};
     ghost use Rattle.office_rounds.specs.DeviceRounds.Rounds.{begun};
 
-    // So many polls wait more, of so many reads.
+    // Adds `count` pending polls, of `of` reads in all.
     fn begin(&mut self, first: u64, count: u64, of: u64)
         requires { array_vec_len self.old.polls + count ≤ 16 }
         ensures { self.new ≡ begun first count of self.old }

@@ -1,18 +1,18 @@
-//! What a round does.
+//! The stages of a round.
 use poll_core::Closing;
 
-/// What a round does, and what it wants the office to be told next.
+/// The stage of a round, which gives the event that it requests next.
 #[derive(Clone, Copy, Debug, PartialEq, Eq)]
 pub enum Stage {
-    /// The device is not connected; nothing is wanted.
+    /// The device is not connected; the round requests nothing.
     Off,
-    /// The connection stands, and the office is to be told.
+    /// The device is connected; the round requests the event that says so.
     Joining,
     /// Reads are to be started, from the first that was not.
     Starting,
-    /// Replies are waited for; nothing is wanted.
+    /// Responses are pending; the round requests nothing.
     Waiting,
-    /// The office is to be told that the device is gone.
+    /// The device is gone; the round requests the event that says so.
     Leaving(Closing),
 }
 
@@ -20,7 +20,7 @@ impl Stage {
     ghost use Rattle.std.specs.Prelude.{◌≡◌};
     ghost use Rattle.office_rounds.specs.DeviceRounds.Stages as stages;
 
-    /// Whether something is wanted.
+    /// Returns whether the stage requests an event.
     pub fn is_wishing(self) -> bool
         ensures { result ≡ stages.is_wishing self }
     {
@@ -33,7 +33,7 @@ impl Stage {
         }
     }
 
-    /// What a round does once the device is gone.
+    /// Returns the stage after the device's connection has ended.
     pub fn left(self, closing: Closing) -> Stage
         ensures { result ≡ stages.left closing self }
     {

@@ -5,14 +5,14 @@ ghost use Rattle.office_rounds.specs.DeviceRounds.Rounds.{heard, is_wishing};
 use crate::device_rounds::round::Round;
 use office_events::Note;
 
-/// The place of the first round that wants the office to be told something.
+/// Returns the index of the first round that requests an event.
 pub fn first_wishing(rounds: &[Round]) -> Option<usize>
     ensures { result ≡ position is_wishing rounds.now }
 {
     rounds.iter().position(|round| round.stage.is_wishing())
 }
 
-/// The office has told this, of which each round takes what is of its polls.
+/// Updates all rounds by the office's notifications. Each round uses those of its polls.
 pub fn hear_all(rounds: &mut [Round], notes: &[Note])
     ensures { rounds.new ≡ map (heard notes.now) rounds.old }
 {

@@ -1,15 +1,15 @@
-//! What happens to devices.
+//! The events of devices.
 use office_events::Piece;
 use poll_core::Closing;
 
-/// What happens. A device goes by its place; at a place where no device is, nothing happens.
+/// An event of a device, which is given by its slot. An event for an empty slot has no effect.
 #[derive(Drop)]
 pub enum DeviceEvent {
-    /// The connection to a device stands.
+    /// A device was connected.
     Connected(usize),
     /// Bytes came from a device.
     Received(usize, Piece),
-    /// The connection to a device has ended, or is to be ended.
+    /// The connection to a device has ended, or is to be closed.
     Closed(usize, Closing),
     /// A second has passed.
     Tick,

@@ -1,4 +1,4 @@
-//! One event that an office is fed.
+//! Feeds one event to an office.
 ghost use Rattle.std.specs.Prelude.{◌≡◌};
 ghost use Rattle.office_rounds.specs.Passing.{Lasts};
 ghost use Rattle.office_rounds.specs.Driver.Turns as turns;
@@ -10,7 +10,7 @@ use office_books::Books;
 use office_core::Office;
 use office_events::{Answer, Event, Observer, Refusal};
 
-// A round takes what was answered to what was fed for it.
+// Passes the answer to an event to the round that requested it.
 fn answer_for(rounds: &mut [Round], place: Option<usize>, answer: Result<Answer, Refusal>)
     ensures { rounds.new ≡ answered_for place answer rounds.old }
 {
@@ -21,7 +21,7 @@ fn answer_for(rounds: &mut [Round], place: Option<usize>, answer: Result<Answer,
     }
 }
 
-/// Feeds an event for the round of a place, or of none.
+/// Feeds an event for the round of a slot, or for none.
 pub(crate) fn feed_one<B: Books, V: Observer>(
     rounds: &mut [Round],
     place: Option<usize>,
@@ -42,7 +42,7 @@ pub(crate) fn feed_one<B: Books, V: Observer>(
     observer.observe(place, at, event, answer, notes, frames);
 }
 
-/// The place of the first round that wishes something, and what it wishes.
+/// The slot of the first round that requests an event, with the event.
 pub(crate) fn first_wish(rounds: &[Round]) -> Option<(usize, Event)>
     ensures { turns.as_wished result ≡ turns.first_wish rounds.now }
 {

@@ -1,4 +1,4 @@
-//! A turn: what happened is fed, and then what the rounds wish.
+//! Takes a turn: feeds a device event, and then the events that rounds request.
 ghost use Rattle.std.specs.Prelude.{◌≡◌, ℕ, List, Some, None, slice_get};
 ghost use Rattle.office_rounds.specs.Passing.{Lasts};
 ghost use Rattle.office_rounds.specs.Driver.Turns.{at_place, brought, came, came_from, opened, table, wished};
@@ -13,11 +13,12 @@ use office_core::Office;
 use office_events::{Event, Name, Observer, Piece};
 use poll_core::Closing;
 
-/// How many wishes of the rounds a turn feeds at most, after what happened; what is wished then stays wished, and the next
-/// turn goes on.
+/// The largest number of requested events that a turn feeds after the device event.
+///
+/// Rounds keep requesting the others, and the next turn feeds them.
 pub const MOST_STEPS: u32 = 256;
 
-// Feeds what the rounds wish, until they wish nothing.
+// Feeds the events that rounds request, until none requests any.
 fn settle<B: Books, V: Observer>(
     rounds: &mut [Round],
     office: &mut Office<B>,
@@ -36,7 +37,6 @@ fn settle<B: Books, V: Observer>(
     }
 }
 
-// The connection of a device stands.
 fn join(rounds: &mut [Round], place: usize)
     ensures { rounds.new ≡ at_place place joined rounds.old }
 {
@@ -45,7 +45,6 @@ fn join(rounds: &mut [Round], place: usize)
     }
 }
 
-// The connection of a device has ended.
 fn leave(rounds: &mut [Round], place: usize, closing: Closing)
     ensures { rounds.new ≡ at_place place (leaving closing) rounds.old }
 {
@@ -54,7 +53,7 @@ fn leave(rounds: &mut [Round], place: usize, closing: Closing)
     }
 }
 
-// Feeds an event that happened, and then what the rounds wish.
+// Feeds an event, and then the events that rounds request.
 fn begin<B: Books, V: Observer>(
     rounds: &mut [Round],
     place: Option<usize>,
@@ -71,7 +70,7 @@ fn begin<B: Books, V: Observer>(
     settle(rounds, office, at, observer);
 }
 
-// Feeds what the rounds wish.
+// Feeds the events that rounds request.
 fn go_on<B: Books, V: Observer>(
     rounds: &mut [Round],
     office: &mut Office<B>,
@@ -85,7 +84,7 @@ fn go_on<B: Books, V: Observer>(
     settle(rounds, office, at, observer);
 }
 
-// The name of the device whose replies are waited for, at a place.
+// The name of the device in a slot, if its responses are pending.
 fn waiting_at(rounds: &[Round], place: usize) -> Option<Option<Name>>
     ensures { (piece : List ℕ) → came_from place result piece
         ≡ came place (slice_get rounds.now place) piece }
@@ -99,7 +98,7 @@ fn waiting_at(rounds: &[Round], place: usize) -> Option<Option<Name>>
     None
 }
 
-// Feeds bytes of a device whose replies are waited for; others are dropped.
+// Feeds the bytes of a device whose responses are pending, and drops other bytes.
 fn take_bytes<B: Books, V: Observer>(
     rounds: &mut [Round],
     place: usize,
@@ -121,8 +120,10 @@ fn take_bytes<B: Books, V: Observer>(
     }
 }
 
-/// A turn: what happens is fed to the office, and then what the rounds of the devices wish, the first of them first, until
-/// they wish nothing. All of it comes at one moment, in seconds since 1970-01-01 UTC.
+/// Takes a turn: feeds a device event to the office, and then the events that rounds request.
+///
+/// The first round that requests an event comes first. The turn ends when no round requests any, or
+/// after 256 requested events. All events have the same timestamp, in seconds since 1970-01-01 UTC.
 pub fn turn<B: Books, V: Observer>(
     rounds: &mut [Round],
     device_event: DeviceEvent,
