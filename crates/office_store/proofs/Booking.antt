@@ -1,4 +1,4 @@
--- Facts that are booked in the tables.
+-- Records that are stored in the tables.
 use Rattle.std.proofs.Common.{◌≡◌, ℕ, List, [], true, false, refl, sym, subst, Result, Ok, Err, IsTrue}
 use Rattle.sqlite.specs.Store.{Ghosts}
 use Rattle.sqlite.specs.Held.{Held, state}
@@ -16,7 +16,7 @@ use Rattle.office_store.specs.Laws.Laws.{DatabasesTellTheirFacts}
 use Rattle.office_store.specs.Answers.{answer_of}
 use Rattle.office_store.specs.Stored.{IsStored, ledger_of}
 
--- all facts that a connection holds are held for the days of one zone
+-- All records that a connection holds have the same time zone.
 pub known_in : {S : Type 0} → DatabasesTellTheirFacts → (g : Ghosts S) (zone other : List ℕ) (h : Held S) (facts others : List Fact)
     → HoldsFacts g zone h facts → HoldsFacts g other h others → HoldsFacts g other h facts
 unfolding HoldsFacts
@@ -61,7 +61,7 @@ all_booked tell g old new n zone facts (Err e) books = record {
   goes = record { clean = (books []).clean; faults = refl; zone = refl };
 }
 
--- what is booked in the tables is booked
+-- Records that are written to the tables are stored.
 pub booked : {S : Type 0} → DatabasesTellTheirFacts → (g : Ghosts S) (old new : Held S) (n m : Failures) (zone : Zone) (facts given : List Fact) → given ≡ facts
     → (done : Result (Unit {0}) RowFault) (answer : Result (Unit {0}) BooksFault) → answer ≡ answer_of done → m ≡ faults_after answer n
     → ((text : List ℕ) → BooksFacts g text given old new done)
@@ -72,7 +72,7 @@ booked tell g old new n m zone facts given these done answer is count books =
     let P : Result (Unit {0}) BooksFault → Type 0 = λ a. Books (ledger_of g old n zone) (ledger_of g new (faults_after a n) zone) given a in
     subst F these (subst M (sym count) (subst P (sym is) (all_booked tell g old new n zone given done books)))
 
--- the facts that an open connection holds are those of one database
+-- The records that an open connection holds are those of one database.
 pub one_books : {S : Type 0} → DatabasesTellTheirFacts → (g : Ghosts S) (h : Held S) (facts others : List Fact)
     → HasCleanDisk (state g h) → IsTrue (state g h).is_open → IsStored g h facts → IsStored g h others → AreSame facts others
 unfolding HoldsFacts

@@ -1,4 +1,4 @@
--- What the making or the opening of books answers, and what becomes of the connection.
+-- The result of creating or opening a store, and its connection.
 use Rattle.std.specs.Prelude.{◌≡◌, ◌⊎◌, Result, Ok, Err}
 use Rattle.sqlite.specs.Store.{Ghosts}
 use Rattle.sqlite.specs.Held.{Held}
@@ -8,18 +8,19 @@ use Rattle.store_files.specs.declared.faults.OpenFault.TheVariants.{NotOurs, Zon
 use Rattle.office_store.specs.declared.books.SqlBooks.{SqlBooks}
 use Rattle.office_store.specs.declared.books.Unopened.{Unopened}
 
--- the zone of the books, or why there are none
+-- The time zone of the store, or the fault.
 abbrev pub told_by : {S : Type 0} {g : Ghosts S} → Result (SqlBooks S g) (Unopened S)
     → Result Zone OpenFault
 told_by (Ok books) = Ok books.zone
 told_by (Err unopened) = Err unopened.fault
 
--- the connection of the books, or the one that is handed back
+-- The connection of the store, or the connection that is returned with the fault.
 abbrev pub connection_in : {S : Type 0} {g : Ghosts S} → Result (SqlBooks S g) (Unopened S) → Held S
 connection_in (Ok books) = books.connection
 connection_in (Err unopened) = unopened.connection
 
--- A connection is handed back as it was where its database is not ours to take, or the text is no zone.
+-- The connection is returned unchanged if its database is not ours, or if the text is not a time
+-- zone.
 abbrev pub HandsBackUntouched : {S : Type 0} → Held S → Unopened S → Type 0
 HandsBackUntouched connection unopened =
     (unopened.fault ≡ NotOurs) ⊎ (unopened.fault ≡ NoZone)

@@ -1,4 +1,4 @@
--- What is known of books in a database.
+-- The records of a store in a database.
 use Rattle.std.specs.Prelude.{ℕ, List, IsTrue}
 use Rattle.sqlite.specs.Store.{Ghosts}
 use Rattle.sqlite.specs.Held.{Held, state}
@@ -10,20 +10,21 @@ use Rattle.office_books.specs.Ledgers.{Ledger}
 use Rattle.store_facts.specs.Holding.{HoldsFacts, LeavesFacts}
 
 module _ {S : Type 0} (g : Ghosts S) where
-  -- The database has the tables of these facts, for the days of some zone.
+  -- The database has the tables of these records, for the days of some time zone.
   pub record IsStored (h : Held S) (facts : List Fact) : Type 0 where
     pub zone : List ℕ
     pub holds : HoldsFacts g zone h facts
 
-  -- It has the tables of some facts, and whatever a stop leaves of it has the tables of one of these lists, for the days of
-  -- the same zone.
+  -- The database has the tables of some records. A crash leaves the tables of one of these lists,
+  -- for the same time zone.
   pub record MayBeLeft (h : Held S) (left : List (List Fact)) : Type 0 where
     pub zone : List ℕ
     pub facts : List Fact
     pub holds : HoldsFacts g zone h facts
     pub leaves : LeavesFacts g zone h left
 
-  -- Books are clean while their store gave back what was written to it, and open while their connection is.
+  -- The ledger is clean while the database gave back what was written to it, and open while the
+  -- connection is open.
   abbrev pub ledger_of : Held S → Failures → Zone → Ledger
   ledger_of h failures zone = record {
     holds = IsStored h;

@@ -1,4 +1,4 @@
-//! Facts that are entered in the tables of the books, inside a transaction, and booked in one.
+//! Writing records to the tables of the store, in one transaction.
 
 mod books;
 mod corrections;

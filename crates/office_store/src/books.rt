@@ -1,4 +1,4 @@
-//! Books in a SQLite database: the connection to it, the zone of its days, and how they failed so far.
+//! The store in a SQLite database: its connection, its time zone, and its failures so far.
 ghost use Rattle.std.specs.Prelude.{◌≡◌, false};
 
 use interval_core::Zone;
@@ -7,7 +7,7 @@ use sqlite::{Alter, Connection};
 use std::alloc::Global;
 use store_files::OpenFault;
 
-/// Books in a database. No transaction is under way between calls.
+/// The store of an office in a database. No transaction is open between calls.
 #[derive(Drop)]
 pub struct SqlBooks<S: Alter> {
     pub(crate) connection: Connection<S>,
@@ -17,7 +17,7 @@ pub struct SqlBooks<S: Alter> {
     ghost idle: { connection.in_transaction ≡ false },
 }
 
-/// A database that didn't become books: its connection, and why.
+/// A database that was not opened as a store: its connection, and the reason.
 #[derive(Drop)]
 pub struct Unopened<S: Alter> {
     pub connection: Connection<S>,
@@ -25,7 +25,7 @@ pub struct Unopened<S: Alter> {
 }
 
 impl<S: Alter> SqlBooks<S> {
-    /// The connection to the database, whose tables stay.
+    /// Returns the connection to the database. The tables stay.
     pub fn into_connection(self) -> Connection<S>
         ensures { result ≡ self.connection }
     {

@@ -1,4 +1,4 @@
-//! How books are made in a database, or found in one.
+//! Creating a store in a database, or opening one.
 ghost use Rattle.std.specs.Prelude.{◌≡◌, ◌≢◌, ◌⊎◌, ℕ, List, [], false, Err, IsTrue, IfOk, IfErr};
 ghost use Rattle.sqlite.specs.Held.{state};
 ghost use Rattle.sqlite.specs.State.{HasCleanDisk};
@@ -23,9 +23,11 @@ use std::alloc::Global;
 use store_files::OpenFault;
 
 impl<S: Alter> SqlBooks<S> {
-    /// Makes the tables of new books in a database that has no tables, for the days of a zone. It is one transaction, whose
-    /// commit is the last call of the database. Faults: `NotOurs` where the database has any table, index or view, or a
-    /// transaction is under way; `Zone` where the text is no zone.
+    /// Creates the tables of a new store in a database without tables, for the days of a time zone.
+    /// Runs one transaction, whose commit is the last call of the database.
+    ///
+    /// Faults: `NotOurs` if the database has any table, index or view, or a transaction is open.
+    /// `Zone` if the text is not a time zone.
     pub fn create(
         alloc: Global,
         connection: Connection<S>,
@@ -58,10 +60,13 @@ impl<S: Alter> SqlBooks<S> {
         }
     }
 
-    /// Opens the books of a database. A file of version 1 or 2 is brought to version 3 in one transaction, whose commit is
-    /// the last call of the database; each meter of version 1 has a counter that turns over at 2^32. Faults: `NotOurs`
-    /// where a transaction is under way, where the tables aren't those of version 1, 2 or 3 by their names and order, or
-    /// where the file tells another version than its tables'; `Zone` where the file's zone is none.
+    /// Opens the store of a database. Upgrades a file of version 1 or 2 to version 3 in one
+    /// transaction, whose commit is the last call of the database. Each meter of version 1 gets a
+    /// counter that rolls over at 2^32.
+    ///
+    /// Faults: `NotOurs` if a transaction is open, or if `meta` has another version than the
+    /// tables. Also `NotOurs` if the tables don't have the names of version 1, 2 or 3 in their
+    /// order. `Zone` if the file's zone is invalid.
     pub fn open(alloc: Global, connection: Connection<S>) -> Result<SqlBooks<S>, Unopened<S>>
         ensures busy { IsTrue connection.in_transaction
             → (told_by result ≡ Err OpenFault.NotOurs) × (connection_in result ≡ connection) }

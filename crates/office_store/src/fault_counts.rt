@@ -1,4 +1,4 @@
-//! Faults of the tables, as books tell and note them.
+//! Mapping and counting faults of the tables.
 ghost use Rattle.std.specs.Prelude.{◌≡◌};
 ghost use Rattle.office_books.specs.Faults.{faults_after};
 ghost use Rattle.office_store.specs.Answers.{answer_of, fault_of};
@@ -7,7 +7,7 @@ use office_books::{BooksFault, Failures, StoreFault};
 use sqlite::{Error, ErrorCode};
 use store_tables::RowFault;
 
-/// What a fault of the tables is to the books.
+/// Maps a fault of the tables to a fault of the store.
 fn fault_of(fault: RowFault) -> BooksFault
     ensures { result ≡ fault_of fault }
 {
@@ -18,7 +18,7 @@ fn fault_of(fault: RowFault) -> BooksFault
     }
 }
 
-/// What the books answer of what the tables answered. A failure is noted.
+/// Maps the result of a query to that of the store, and counts a failure.
 pub(crate) fn answered<T: Drop>(
     failures: &mut Failures,
     found: Result<T, RowFault>,

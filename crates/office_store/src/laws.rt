@@ -1,4 +1,4 @@
-//! Laws of the office's tables.
+//! Theorems about the tables of an office.
 
 mod laws;
 

@@ -1,4 +1,4 @@
-//! Books in a SQLite database.
+//! The store of an office in a SQLite database.
 #![tactic(auto)]
 
 mod bookings;

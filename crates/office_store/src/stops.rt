@@ -1,4 +1,4 @@
-//! What a stop leaves of the office's files.
+//! The files of an office after a crash.
 
 mod connection_end;
 mod laws;

@@ -1,4 +1,4 @@
-//! Books over the tables of a database.
+//! The trait `Books` over the tables of a database.
 use crate::books::SqlBooks;
 use crate::fault_counts::answered;
 use crate::laws::databases_tell_their_facts;

@@ -1,4 +1,4 @@
-//! The devices in the tables of the books: devices, the points of their lists, and registers.
+//! The devices in the tables of the store: devices, the points of their lists, and registers.
 
 mod columns;
 mod devices;

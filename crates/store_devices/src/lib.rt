@@ -1,4 +1,5 @@
-//! Devices and polls in the tables of the books: lists, registers, outcomes, held readings and kept replies.
+//! The rows of devices and polls in the tables of the store: lists, registers, outcomes, rejected
+//! readings and kept requests.
 #![tactic(auto)]
 
 mod devices;

@@ -1,4 +1,5 @@
-//! The polls in the tables of the books: polls, their outcomes, readings that were held, and replies that are kept.
+//! The polls in the tables of the store: polls, their outcomes, rejected readings, and kept
+//! requests.
 
 mod columns;
 mod holds;

@@ -1,4 +1,4 @@
--- Shares of a meter that are booked in rows.
+-- Shares of a meter that are added to its interval rows.
 use Rattle.std.proofs.Common.{◌≡◌, ℕ, ◌+◌, ◌==◌, ◌&&◌, ◌||◌, Bool, true, false, cond, inl, inr, List, [], ◌∷◌, ◌++◌, map, filter, refl, sym, ap, ap₂, subst, ◌∙◌, bytes_eq, IsPermutation, arith}
 use Rattle.std.specs.List.{list_any}
 use Rattle.std.proofs.lemmas.Bool.{cases_Bool, cond-true, cond-false}
@@ -20,7 +20,7 @@ use Rattle.store_facts.proofs.Passing.{map_agree, any_agree, filter_edited, filt
 abbrev pub has_start : ℕ → Share → Bool
 has_start start row = row.start == start
 
--- no two rows have one start
+-- No two rows have the same start.
 abbrev pub AreApart : List Share → Type 0
 AreApart [] = Unit {0}
 AreApart (row ∷ rows) = (list_any (has_start row.start) rows ≡ false) × AreApart rows
@@ -41,7 +41,7 @@ untouched share [] h = refl
 untouched share (row ∷ rows) h =
     let parts = neither _ _ h in ap₂ ◌∷◌ (cond-false _ _ _ parts.0) (untouched share rows parts.1)
 
--- the row of the start is there: its energy grows
+-- A row with this start exists: its energy grows.
 joined_there : (share : Share) (rows : List Share) → AreApart rows → list_any (has_start share.start) rows ≡ true → journal.with_share share rows ≡ map (grown share) rows
 joined_there share [] apart h = absurd (cc)
 joined_there share (row ∷ rows) apart h =
@@ -55,7 +55,7 @@ joined_there share (row ∷ rows) apart h =
           cond-false _ _ _ off ∙ ap₂ ◌∷◌ (sym (cond-false _ _ _ off)) (joined_there share rows apart.1 more)
     ]
 
--- it is not: the share stands after the others
+-- No row has this start: the share becomes a new row after the others.
 stands_after : (share : Share) (rows : List Share) → list_any (has_start share.start) rows ≡ false → journal.with_share share rows ≡ rows ++ share ∷ []
 stands_after share [] h = refl
 stands_after share (row ∷ rows) h =
@@ -95,7 +95,7 @@ apart_with share rows h =
 pub itself : (meter : List ℕ) → bytes_eq meter meter ≡ true
 itself meter = (bytes_eq-Decides meter meter).1 refl
 
--- the rows of a meter are those of the journal
+-- The rows of a meter are those of the journal.
 abbrev pub AreRowsOf : (meter : List ℕ) → List Interval → List Share → Type 0
 AreRowsOf meter rows shares = IsPermutation (filter (is_of meter) rows) (map (interval_of meter) shares)
 
@@ -114,7 +114,7 @@ any_there meter start rows shares are =
     ∙ any_map (is_at meter start) (interval_of meter) shares
     ∙ any_agree (λ share. is_at meter start (interval_of meter share)) (has_start start) (at_start meter start) shares
 
--- an edit that keeps the meters, and does to the rows of one what is done to its shares
+-- An edit that keeps the meters of all rows, and edits the shares of one meter.
 edited : (meter : List ℕ) (f : Interval → Interval) (h : Share → Share) (rows : List Interval) (shares : List Share)
     → ((i : Interval) → (f i).meter ≡ i.meter) → ((share : Share) → f (interval_of meter share) ≡ interval_of meter (h share))
     → AreRowsOf meter rows shares → AreRowsOf meter (map f rows) (map h shares)
@@ -139,7 +139,7 @@ raise_meter : (b : Bool) (share : Share) (i : Interval) → (let made : Interval
 raise_meter true share i = refl
 raise_meter false share i = refl
 
--- a share is booked
+-- One share is added.
 pub booked_one : (meter : List ℕ) (share : Share) (rows : List Interval) (shares : List Share) → AreApart shares → AreRowsOf meter rows shares
     → AreRowsOf meter (with_share meter share rows) (journal.with_share share shares)
 booked_one meter share rows shares apart are =

@@ -1,4 +1,4 @@
--- One more entry of a meter, in the tables.
+-- A further entry of a meter, in the tables.
 use Rattle.std.proofs.Common.{◌≡◌, ◌≢◌, ℕ, ◌+◌, Bool, true, false, cond, inl, inr, List, [], ◌∷◌, map, filter, Option, Some, None, bytes_eq, refl, sym, ap, subst, ◌∙◌, IsPermutation, arith}
 use Rattle.std.specs.List.{AllByRecursion}
 use Rattle.std.proofs.lemmas.Bool.{cases_Bool, cond-true, cond-false}
@@ -36,7 +36,7 @@ use Rattle.store_facts.proofs.Placed.{placed_changed}
 use Rattle.store_facts.proofs.Booked.{AreApart, booked, others_booked}
 use Rattle.store_facts.proofs.Energy.{opening_apart, rows_small, found_recorded}
 
--- The fact leaves every other meter as it was.
+-- The record leaves every other meter unchanged.
 abbrev pub SparesOthers : (f : Fact) → (facts : List Fact) → (meter : List ℕ) → Type 0
 SparesOthers f facts meter = (o : Opening) → same meter o.meter ≡ false → Stays f facts o
 

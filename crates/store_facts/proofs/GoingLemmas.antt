@@ -1,4 +1,4 @@
--- Calls inside a transaction, one after the other, and the transaction.
+-- Calls inside a transaction, one after another, and the transaction.
 use Rattle.std.proofs.Common.{◌≡◌, true, false, [], inl, inr, ℕ, List, Ok, Err, Result, IsTrue, OnOk, OnErr, IfOk, IfErr, refl, sym, subst, ◌∙◌, arith}
 use Rattle.sqlite.specs.declared.error.Error.{Error}
 use Rattle.sqlite.specs.Order.{Row}
@@ -19,7 +19,7 @@ both_ok : {X E : Type 0} {P Q R : Type 0} (r : Result X E) → (P → Q → R) �
 both_ok (Ok x) f p q = f p q
 both_ok (Err e) f p q = tt
 
--- one statement
+-- One statement.
 pub of_steps : {X E : Type 0} (old new : State) (r : Result X E) (Makes : Content → Content → Type 0) → StepsTo old new r (Turns Makes) → Goes old new r Makes
 of_steps old new r Makes one = record {
   kept = λ clean inside content has. one.kept clean inside;
@@ -27,7 +27,7 @@ of_steps old new r Makes one = record {
   survives = one.survives;
 }
 
--- one question
+-- One query.
 pub of_answer : {S A D E X : Type 0} (g : Ghosts S) (old new : Held S) (tree : ℕ) (columns : X → Row) (Answers : List X → A → Type 0) (a : A)
     → AsksInside {X = A} {E = D} g old new (Ok a) → TellsAnswer g old new tree columns (Ok a) Answers
     → Goes {X = A} {E = E} (state g old) (state g new) (Ok a) (Told tree columns Answers a)
@@ -51,7 +51,7 @@ more_ok : {X E : Type 0} {P Q : Type 0} (r : Result X E) → (P → Q) → OnOk 
 more_ok (Ok x) f h = f h
 more_ok (Err e) f h = tt
 
--- two calls, of which the first went well
+-- Two calls, the first of them Ok.
 pub goes_then : {X Y D E : Type 0} (a b c : State) (x : X) (r : Result Y E) (P Q R : Content → Content → Type 0) → Goes {X = X} {E = D} a b (Ok x) P → Goes b c r Q
     → ((before mid after : Content) → P before mid → Q mid after → R before after) → Goes a c r R
 goes_then a b c x r P Q R one two goes = record {
@@ -67,7 +67,7 @@ goes_then a b c x r P Q R one two goes = record {
   survives = survives_then a b c (λ _. ⊥) (λ _. ⊥) (λ _. ⊥) (λ _ db none. none) (λ _ db none. none) one.survives two.survives;
 }
 
--- the second failed
+-- The second call failed.
 pub then_failed : {X Y Z D E F : Type 0} (a b c : State) (x : X) (e : E) (f : F) (P Q R : Content → Content → Type 0) → Goes {X = X} {E = D} a b (Ok x) P → Goes {X = Y} b c (Err e) Q
     → Goes {X = Z} a c (Err f) R
 then_failed a b c x e f P Q R one two = record {
@@ -79,14 +79,14 @@ then_failed a b c x e f P Q R one two = record {
   survives = survives_then a b c (λ _. ⊥) (λ _. ⊥) (λ _. ⊥) (λ _ db none. none) (λ _ db none. none) one.survives two.survives;
 }
 
--- what failed stays so, whatever it was to make, and what went well may be refused after
+-- A failed call has any postcondition. A call that was Ok may be refused afterwards.
 pub failed : {X Y D E : Type 0} (a b : State) (e : D) (d : E) (P Q : Content → Content → Type 0) → Goes {X = X} a b (Err e) P → Goes {X = Y} a b (Err d) Q
 failed a b e d P Q one = record { kept = one.kept; makes = λ clean inside content has. tt; survives = one.survives }
 
 pub then_refused : {X Y D E : Type 0} (a b : State) (x : X) (d : E) (P Q : Content → Content → Type 0) → Goes {X = X} {E = D} a b (Ok x) P → Goes {X = Y} a b (Err d) Q
 then_refused a b x d P Q one = record { kept = one.kept; makes = λ clean inside content has. tt; survives = one.survives }
 
--- what is made is more than is told, and the answer is another
+-- A call with a weaker postcondition and another result value.
 pub told_less : {X Y D E : Type 0} (a b : State) (x : X) (y : Y) (P Q : Content → Content → Type 0) → ((content after : Content) → P content after → Q content after)
     → Goes {X = X} {E = D} a b (Ok x) P → Goes {X = Y} {E = E} a b (Ok y) Q
 told_less a b x y P Q tells one = record {
@@ -95,7 +95,7 @@ told_less a b x y P Q tells one = record {
   survives = one.survives;
 }
 
--- nothing is done
+-- No call.
 still_there : (a : State) → Survives a a (λ _. ⊥)
 still_there a = record { clean = omega arith; shield = λ is. is; counts = omega arith; limit = refl; closes = λ clean is. inl is; crash = λ clean db left. inl left }
 
@@ -121,7 +121,7 @@ module _ {S : Type 0} (g : Ghosts S) (old : Held S) (mid end : State) (Makes : C
   kept_begun : (new : State) → KeepsCommit (state g (record old { in_transaction = true })) new → KeepsCommit (state g old) new
   kept_begun new k = record { was_open = k.was_open; committed = k.committed }
 
-  -- a transaction up to its commit
+  -- A transaction up to its commit.
   pub committed : {D : Type 0} (r : Result (Unit {0}) Error) → Goes {X = Unit {0}} {E = D} (state g (record old { in_transaction = true })) mid (Ok tt) Makes
       → (HasCleanDisk end → OnOk r (IsTrue mid.in_transaction × Shows mid end mid.now mid.now false × KeepsCounts mid end × (end.marks ≡ []))) → (HasCleanDisk end → IfErr r (FailsToCommit mid end))
       → Survives mid end (λ db. db ≡ mid.now.trees) → Commits (state g old) end r Makes
@@ -138,7 +138,7 @@ module _ {S : Type 0} (g : Ghosts S) (old : Held S) (mid end : State) (Makes : C
             (λ _ db none. absurd none) (λ clean db is. record { db = mid.now; made = made clean; same = is }) done.survives crash);
       }
 
-  -- one that was given up
+  -- A transaction that was rolled back.
   pub given_up : {X Y D E : Type 0} (e : D) (d : E) → Goes {X = X} (state g (record old { in_transaction = true })) mid (Err e) Makes → (HasCleanDisk end → IsRolledBack mid end) → Survives mid end (λ _. ⊥)
       → Commits {X = Y} (state g old) end (Err d) Makes
   given_up e d done undone crash =

@@ -25,7 +25,7 @@ use Rattle.store_facts.specs.Tables.{meta_tree, meta_columns, ArePoints}
 use Rattle.store_facts.specs.Recording.{Records}
 use Rattle.store_facts.proofs.Recorded.{stay, entries_stay, intervals_stay}
 
--- all are the device's
+-- All of them are points of the device.
 own_points : (device : List ℕ) (ps : List Point) → AllByRecursion (λ (p : Listed). is_point_of device p ≡ true) (map (listed_at device) ps)
 own_points device [] = tt
 own_points device (p ∷ ps) = (same_itself device, own_points device ps)
@@ -39,7 +39,7 @@ without_step : (b : Bool) (p : Listed) (rest : List Listed) (passes : Listed →
 without_step true p rest passes is more = more
 without_step false p rest passes is more = cond-false _ _ _ is ∙ more
 
--- none of the device's is left
+-- No point of the device is left.
 none_left : (device : List ℕ) (rows : List Listed) → filter (is_point_of device) (without_where (is_point_of device) rows) ≡ []
 none_left device [] = refl
 none_left device (p ∷ rows) = without_step (is_point_of device p) p (without_where (is_point_of device) rows) (is_point_of device) refl (none_left device rows)
@@ -50,7 +50,7 @@ spared_step true c p rest rows passes is off more = more ∙ sym (cond-false _ _
 spared_step false true p rest rows passes is off more = cond-true _ _ _ is ∙ ap (λ l. p ∷ l) more
 spared_step false false p rest rows passes is off more = cond-false _ _ _ is ∙ more
 
--- those of another stay
+-- The points of another device stay.
 others_left : (device other : List ℕ) (rows : List Listed) → same device other ≡ false
     → filter (is_point_of other) (without_where (is_point_of device) rows) ≡ filter (is_point_of other) rows
 others_left device other [] off = refl
@@ -58,7 +58,7 @@ others_left device other (p ∷ rows) off =
     spared_step (is_point_of device p) (is_point_of other p) p (without_where (is_point_of device) rows) rows (is_point_of other) refl
     (λ here. ap (λ t. same t other) (same_text p.device device here) ∙ off) (others_left device other rows off)
 
--- A list that is put takes the place of the one that its device has.
+-- A new list replaces the previous list of its device.
 pub list_put : (put : DeviceList) (facts : List Fact) (ps : List Point) (content after : Content) → map (listed_at put.device) ps ≡ placed_on (listed put.device) 0 put.list.points
     → Edits list_tree.points point_columns (with_list put.device ps) content after → ArePoints facts content → ArePoints (fact.List put ∷ facts) after
 list_put put facts ps content after are e a = record {
@@ -92,7 +92,7 @@ list_put put facts ps content after are e a = record {
         filter-append (is_point_of device) news rest
         ∙ ap₂ ◌++◌ (filter_none (is_point_of device) news (other_points put.device device ps off)) (others_left put.device device a.rows off)
 
--- the list of a device
+-- The record of a device's list.
 pub list_recorded : (put : DeviceList) (ps : List Point) (content after : Content)
     → map (listed_at put.device) ps ≡ placed_on (listed put.device) 0 put.list.points
     → Edits list_tree.points point_columns (with_list put.device ps) content after → Records (fact.List put) content after

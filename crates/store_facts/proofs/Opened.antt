@@ -70,7 +70,7 @@ module _ (facts : List Fact) (o : Opening) (begins : Begins facts o) (new : open
       still None = refl
       still (Some x) = refl
 
--- An installation, at the place after the last, with its range and its opening.
+-- An installation, at the index after the last, with its range and its opening.
 pub opening_recorded : OpeningsBegin → (o : Opening) (place : ℕ) (zone : List ℕ) (facts : List Fact) (content one two after : Content)
     → AreOf zone facts content → AreLawful (fact.Opening o ∷ facts)
     → IsAfter meter_tree.installations installed_columns every installed_place place content

@@ -14,7 +14,7 @@ map_agree f g same xs = λ i. map (λ x. same x i) xs
 pub any_agree : {X : Type 0} (p q : X → Bool) → ((x : X) → p x ≡ q x) → (xs : List X) → list_any p xs ≡ list_any q xs
 any_agree p q same xs = λ i. list_any (λ x. same x i) xs
 
--- the edit changes no test
+-- The edit changes the result of no test.
 pub filter_edited : {X : Type 0} (p : X → Bool) (f : X → X) → ((x : X) → p (f x) ≡ p x) → (xs : List X) → filter p (map f xs) ≡ map f (filter p xs)
 filter_edited p f keeps xs = filter-map p f xs ∙ ap (map f) (filter_agree (λ x. p (f x)) p keeps xs)
 
@@ -23,7 +23,7 @@ fixed_step : {X : Type 0} (b : Bool) (p : X → Bool) (f : X → X) (x : X) (xs 
 fixed_step true p f x xs e same more = cond-true _ _ _ e ∙ ap₂ ◌∷◌ (same refl) more
 fixed_step false p f x xs e same more = cond-false _ _ _ e ∙ more
 
--- the rows that pass stay
+-- The edit leaves the rows that pass unchanged.
 pub filter_spared : {X : Type 0} (p : X → Bool) (f : X → X) → ((x : X) → p (f x) ≡ p x) → ((x : X) → p x ≡ true → f x ≡ x) → (xs : List X) → filter p (map f xs) ≡ filter p xs
 filter_spared p f keeps same [] = refl
 filter_spared p f keeps same (x ∷ xs) = fixed_step (p x) p f x xs (keeps x) (same x) (filter_spared p f keeps same xs)
@@ -37,7 +37,7 @@ any_step false p q x xs e implies more =
       | inr is ↦ more ∙ sym (ap (λ b. b || list_any q xs) is)
     ]
 
--- one of those that pass is among all
+-- A row that passes is one of all rows.
 pub any_filter : {X : Type 0} (p q : X → Bool) → ((x : X) → q x ≡ true → p x ≡ true) → (xs : List X) → list_any q (filter p xs) ≡ list_any q xs
 any_filter p q implies [] = refl
 any_filter p q implies (x ∷ xs) = any_step (p x) p q x xs refl (implies x) (any_filter p q implies xs)
@@ -60,7 +60,7 @@ all_step : {X : Type 0} (b : Bool) (P : X → Type 0) (p : X → Bool) (x : X) (
 all_step true P p x xs e other h more = (h.0, more h.1)
 all_step false P p x xs e other h more = (other e, more h)
 
--- all, where those that pass have it, and each that does not
+-- A property of the rows that pass and of the rows that don't is a property of all rows.
 pub all_passing : {X : Type 0} (P : X → Type 0) (p : X → Bool) → ((x : X) → p x ≡ false → P x) → (xs : List X) → AllByRecursion P (filter p xs) → AllByRecursion P xs
 all_passing P p other [] h = tt
 all_passing P p other (x ∷ xs) h = all_step (p x) P p x xs refl (other x) h (all_passing P p other xs)

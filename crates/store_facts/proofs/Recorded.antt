@@ -1,4 +1,4 @@
--- Facts that change nothing of meters, in the tables.
+-- Records that change no meter, in the tables.
 use Rattle.std.proofs.Common.{◌≡◌, ◌≢◌, ℕ, ◌+◌, List, [], ◌∷◌, map, filter, length, Option, Some, None, refl, sym, ap, subst, ◌∙◌, IsPermutation, arith}
 use Rattle.sqlite.specs.Order.{Row}
 use Rattle.office_events.specs.declared.facts.Device.{Device}
@@ -54,7 +54,7 @@ intervals_stay facts others content after same of a = record {
   each = λ meter. subst (λ rs. IsPermutation (filter (is_interval_of meter) a.rows) (map (interval_of meter) rs)) (sym (of meter)) (a.each meter);
 }
 
--- a device, at the place after the last
+-- A device, at the index after the last.
 pub device_recorded : (device : Device) (place : ℕ) (content after : Content) → IsAfter list_tree.devices device_columns every device_place place content
     → Edits list_tree.devices device_columns (with_row (added place device)) content after → Records (fact.Device device) content after
 device_recorded device place content after following e zone facts a lawful = record {
@@ -78,7 +78,7 @@ device_recorded device place content after following e zone facts a lawful = rec
   replies = stay poll_tree.replies reply_columns (map kept (replies_in facts)) content after (e.others 16 (λ is. omega (arith, is))) a.replies;
 }
 
--- a register, at the place after the last
+-- A register, at the index after the last.
 pub register_recorded : (register : Register) (place : ℕ) (content after : Content) → IsAfter list_tree.registers register_columns every register_place place content
     → Edits list_tree.registers register_columns (with_row (registered place register)) content after → Records (fact.Register register) content after
 register_recorded register place content after following e zone facts a lawful = record {
@@ -102,7 +102,7 @@ register_recorded register place content after following e zone facts a lawful =
   replies = stay poll_tree.replies reply_columns (map kept (replies_in facts)) content after (e.others 16 (λ is. omega (arith, is))) a.replies;
 }
 
--- a poll
+-- A poll.
 pub poll_recorded : (poll : Poll) (content after : Content) → Edits poll_tree.polls poll_columns (with_row (started poll)) content after → Records (fact.Poll poll) content after
 poll_recorded poll content after e zone facts a lawful = record {
   lawful = lawful;
@@ -121,7 +121,7 @@ poll_recorded poll content after e zone facts a lawful = record {
   replies = stay poll_tree.replies reply_columns (map kept (replies_in facts)) content after (e.others 16 (λ is. omega (arith, is))) a.replies;
 }
 
--- the end of a poll
+-- An outcome.
 pub outcome_recorded : (ended : EndedPoll) (content after : Content) → Edits poll_tree.outcomes outcome_columns (with_row (outcome_row ended)) content after → Records (fact.Outcome ended) content after
 outcome_recorded ended content after e zone facts a lawful = record {
   lawful = lawful;
@@ -140,7 +140,7 @@ outcome_recorded ended content after e zone facts a lawful = record {
   replies = stay poll_tree.replies reply_columns (map kept (replies_in facts)) content after (e.others 16 (λ is. omega (arith, is))) a.replies;
 }
 
--- a reply
+-- A kept request.
 pub reply_recorded : (reply : Reply) (content after : Content) → Edits poll_tree.replies reply_columns (with_row (kept reply)) content after → Records (fact.Reply reply) content after
 reply_recorded reply content after e zone facts a lawful = record {
   lawful = lawful;

@@ -1,4 +1,4 @@
--- Rows of a query, handed on to a sink in order, as they come.
+-- Streaming the rows of a query to a sink, in order.
 use Rattle.std.specs.Prelude.{◌≡◌, ◌≤◌, ◌⊎◌, ℕ, List, [], ◌∷◌, ◌++◌, length, Result, Ok, Err, OnOk, IfErr}
 use Rattle.std.specs.List.{AllByRecursion, AllZip}
 use Rattle.sqlite.specs.Given.{IsPlain}
@@ -16,29 +16,31 @@ use Rattle.store_tables.specs.Content.{Content, AreTables}
 use Rattle.store_tables.specs.Failing.{IsFault, StateAfterCall}
 use Rattle.store_tables.specs.Asking.{Asks}
 
--- The sink took such rows, and nothing else.
+-- The sink took only rows with this property.
 abbrev pub TookSome : {K T : Type 0} → (IsRow : T → Type 0) → (takes : K → T → K → Type 0)
     → (before after : K) → Type 0
 TookSome {K} {T} IsRow takes before after =
     (rows : List T) × AllByRecursion IsRow rows × TakesAll takes before rows after
 
--- more than any table has: so many are counted at most
+-- The most rows that a stream counts: 2^64 - 1, more than any table has.
 abbrev pub most_rows : ℕ
 most_rows = 18446744073709551615
 
+-- The sink took the greatest count of rows.
 abbrev pub TookMost : {K T : Type 0} → (takes : K → T → K → Type 0) → (before after : K) → Type 0
 TookMost {K} {T} takes before after =
     (rows : List T) × (length rows ≡ most_rows) × TakesAll takes before rows after
 
--- Why not all rows are handed on: the store's own error, a row that is not sound, or the count's end.
+-- Why a stream ends early: an error of the store, a row that is not sound, or the greatest count of
+-- rows.
 abbrev pub IsStreamFault : {K T : Type 0} → (old new : State) → (takes : K → T → K → Type 0)
     → (before after : K) → (IsSound : Type 0) → RowFault → Type 0
 IsStreamFault old new takes before after IsSound e =
     IsFault old new IsSound e ⊎ ((e ≡ Sql InvalidQuery) × TookMost takes before after)
 
--- What the sink took begins what the rows of some tables are, in order, and at Ok is all of it. Whatever the tables hold, it
--- took nothing but such rows. Damage is told only where some row of the tables is not sound, and any other fault is one of the
--- store's own.
+-- The sink took the first rows of some tables, in order, and at Ok all of them. It took only rows
+-- with the property `IsRow`, even from damaged tables. Damage is reported only if a row of the
+-- tables is not sound. Any other fault is an error of the store, or the greatest count.
 pub record HandsOn {S K T Tables : Type 0} (g : Ghosts S) (old new : Held S)
     (takes : K → T → K → Type 0) (before after : K)
     (result : Result (Unit {0}) RowFault) (IsRow : T → Type 0) (Have : Tables → Content → Type 0)
@@ -58,19 +60,19 @@ pub record HandsOn {S K T Tables : Type 0} (g : Ghosts S) (old new : Held S)
       → IfErr result
       (IsStreamFault (state g old) (state g new) takes before after (AreSound tables))
 
--- ---- the rows of a query, each read in one way
+-- ---- the rows of a query, with one reader
 
--- what the rows are read as
+-- The values that the rows are read as.
 abbrev pub AreRead : {T : Type 0} → (reads : Row → Result T RowFault) → List Row → List T → Type 0
 AreRead reads = AllZip (λ row read. reads row ≡ Ok read)
 
--- a query that changes nothing was asked, whose answer begins with these rows
+-- A query that changes nothing ran, and its answer begins with these rows.
 abbrev pub IsAsked : {S : Type 0} → Ghosts S → (sql : List ℕ) → (params : Row)
     → (old asked : Held S) → (given : List Row) → Type 0
 IsAsked g sql params old asked given =
     IsUnchanged (state g old) (state g asked) × Begins sql params (state g asked) given
 
--- a call of the query failed, of a store that had gone on since
+-- A call of the query failed, after calls that left the rows unchanged.
 pub record HasStopped {S : Type 0} (g : Ghosts S) (sql : List ℕ) (params : Row) (old new : Held S)
     (e : Error) : Type 0 where
   pub asked : Held S
@@ -79,7 +81,8 @@ pub record HasStopped {S : Type 0} (g : Ghosts S) (sql : List ℕ) (params : Row
   pub counts : (state g asked).faults ≤ (state g new).faults
   pub fails : FailsToQuery sql params (state g asked) (state g new) e
 
--- Why rows are read no further: a call of the query failed, all that are counted were read, or the next row can't be read.
+-- Why the reading ended: a call of the query failed, the greatest count was reached, or the next
+-- row can't be read.
 abbrev pub IsReadFault : {S T : Type 0} → Ghosts S → (sql : List ℕ) → (params : Row)
     → (reads : Row → Result T RowFault) → (old new : Held S) → (given : List Row) → (read : List T)
     → RowFault → Type 0
@@ -89,7 +92,7 @@ IsReadFault {S} g sql params reads old new given read Damaged =
     (asked : Held S) × (row : Row) × IsAsked g sql params old asked (given ++ row ∷ [])
     × (reads row ≡ Err Damaged)
 
--- The rows of a query were read from the first on and handed on, at Ok all of them.
+-- The rows of a query were read from the first, and handed to the sink, at Ok all of them.
 pub record HandsOnQuery {S K T : Type 0} (g : Ghosts S) (sql : List ℕ) (params : Row)
     (reads : Row → Result T RowFault) (old new : Held S)
     (takes : K → T → K → Type 0) (before after : K) (result : Result (Unit {0}) RowFault) : Type 0
@@ -104,7 +107,7 @@ pub record HandsOnQuery {S K T : Type 0} (g : Ghosts S) (sql : List ℕ) (params
         × Shown sql params (state g asked) (state g end) given)
     pub fault : IfErr result (IsReadFault g sql params reads old new given rows)
 
--- the same where the store gave back what was written, of a query that asks the tables alone
+-- The same for a query of tables alone, if the store gave back what was written.
 abbrev pub HandsOnPlain : {S K T : Type 0} → Ghosts S → (sql : List ℕ) → (params : Row)
     → (reads : Row → Result T RowFault) → (old new : Held S)
     → (takes : K → T → K → Type 0) → (before after : K)

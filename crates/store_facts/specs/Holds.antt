@@ -1,4 +1,4 @@
--- Rows of the table `holds`: how they are read, and which of them are handed on, in which order.
+-- Rows of `holds`: how they are read, and which of them a stream gives, in which order.
 use Rattle.std.specs.Prelude.{◌≡◌, ◌≤◌, ℕ, ℤ, pos, negsuc, nat_le, nat_lt, List, [], ◌∷◌, map, Bool, bytes_eq, ◌&&◌, ◌==◌, IsTrue, Option, Some, None, if◌then◌else◌, Result, Ok}
 use Rattle.std.specs.List.{AllByRecursion}
 use Rattle.sqlite.specs.declared.types.Value.{Value}
@@ -18,7 +18,7 @@ use Rattle.store_devices.specs.Polls.Rows.{Held, hold_columns, hold_place}
 
 -- ---- one row
 
--- the cause of a number, if it is that of one
+-- The cause with a number, if there is one.
 abbrev pub cause_of : ℕ → Option Cause
 cause_of n =
     if n == 1 then Some cause.NotAccumulated else
@@ -30,11 +30,12 @@ cause_of n =
     if n == 7 then Some cause.TotalFull else
     if n == 8 then Some cause.NotBelowRange else None
 
--- a number of sixteen bits, one of them its sign
+-- A signed 16-bit integer.
 abbrev pub has_sixteen_bits : ℤ → Bool
 has_sixteen_bits (pos n) = nat_le n 32767
 has_sixteen_bits (negsuc n) = nat_le n 32767
 
+-- The 16-bit integer that a value encodes.
 abbrev pub sixteen_in : Value → Option ℤ
 sixteen_in (Int n) = if has_sixteen_bits n then Some n else None
 sixteen_in Null = None
@@ -42,18 +43,18 @@ sixteen_in (Real x) = None
 sixteen_in (Text t) = None
 sixteen_in (Blob b) = None
 
--- a counter has 32 bits
+-- The greatest value of a 32-bit counter.
 abbrev pub greatest_raw : ℕ
 greatest_raw = 4294967295
 
--- what the queries show of a row
+-- The columns that the queries show of a rejected reading.
 abbrev pub reading_shown : Held → Row
 reading_shown h =
     Int (pos h.row.poll) ∷ Int (pos h.row.moment) ∷ Int (pos h.row.raw) ∷ Int h.row.sf
     ∷ Int (pos (cause_number h.row.cause))
     ∷ []
 
--- the reading that a row of a meter has
+-- The rejected reading of a row of a meter.
 abbrev pub reading_of : (meter : List ℕ) → Held → HeldReading
 reading_of meter h = record {
   meter = meter;
@@ -64,17 +65,18 @@ reading_of meter h = record {
   cause = h.row.cause;
 }
 
--- its values are in their ranges
+-- Every value of a rejected reading is in its range.
 pub record IsSoundReading (reading : HeldReading) : Type 0 where
   pub poll : IsPlace reading.poll
   pub at : reading.at ≤ latest_moment
   pub raw : reading.raw ≤ greatest_raw
   pub sf : IsTrue (has_sixteen_bits reading.sf)
 
+-- Every value of the row is in its range.
 abbrev pub HasSoundReading : Held → Type 0
 HasSoundReading h = IsSoundReading (reading_of h.meter h)
 
--- the reading that the columns of a row of a meter are, or damage
+-- The rejected reading that a row of a meter shows, or damage.
 abbrev pub reading_in : (meter : List ℕ) → Row → Result HeldReading RowFault
 reading_in meter row =
     and_then (or_damaged (whole_in 1 greatest_place (column row 0))) (λ poll.
@@ -85,27 +87,34 @@ reading_in meter row =
     and_then (or_damaged (cause_of number)) (λ cause.
     Ok (record { meter = meter; poll = poll; at = at; raw = raw; sf = sf; cause = cause })))))))
 
--- ---- the rows of a meter, by their places
+-- ---- the rows of a meter, in order of index
 
+-- The rows of `holds`.
 abbrev pub HaveHolds : List Held → Content → Type 0
 HaveHolds = HasRows holds hold_columns
 
+-- The row is of this meter.
 abbrev pub is_of : (meter : List ℕ) → Held → Bool
 is_of meter h = bytes_eq h.meter meter
 
+-- The rejected readings of a meter, in the order in which they were recorded.
 abbrev pub AreReadingsOf : (meter : List ℕ) → List Held → List HeldReading → Type 0
 AreReadingsOf meter rows all =
     (found : List Held) × AreFound (is_of meter) (FirstFirst hold_place) rows found
     × (all ≡ map (reading_of meter) found)
 
+-- Every row is sound.
 abbrev pub AreSoundHolds : List Held → Type 0
 AreSoundHolds = AllByRecursion HasSoundReading
 
--- ---- of these those alone whose moment is a moment or later, and before another
+-- ---- the rows of a meter with timestamps in a range
 
+-- The timestamp of the row is at least `from` and less than `till`.
 abbrev pub is_between : (from till : ℕ) → Held → Bool
 is_between from till h = nat_le from h.row.moment && nat_lt h.row.moment till
 
+-- The rejected readings of a meter with timestamps of at least `from` and less than `till`, in the
+-- order in which they were recorded.
 abbrev pub AreReadingsBetween : (meter : List ℕ) → (from till : ℕ) → List Held → List HeldReading
     → Type 0
 AreReadingsBetween meter from till rows all =

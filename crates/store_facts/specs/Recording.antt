@@ -1,4 +1,4 @@
--- What recording a fact makes of the tables.
+-- The tables after a record.
 use Rattle.std.specs.Prelude.{◌≡◌, ℕ, ◌+◌, Bool, List, ◌∷◌, ◌++◌, reverse, Option, Some, None}
 use Rattle.sqlite.specs.Order.{Row}
 use Rattle.office_events.specs.declared.facts.Fact.{Fact}
@@ -7,30 +7,31 @@ use Rattle.store_tables.specs.Answer.{IsLast}
 use Rattle.store_tables.specs.Content.{Content, HasRows}
 use Rattle.store_facts.specs.Tables.{AreOf}
 
--- The tables of some facts come to be those with this fact too, where it may follow them.
+-- The tables of some records become the tables of these records and the new one, if the new one may
+-- follow.
 abbrev pub Records : Fact → Content → Content → Type 0
 Records f content after = (zone : List ℕ) (facts : List Fact) → AreOf zone facts content
     → AreLawful (f ∷ facts) → AreOf zone (f ∷ facts) after
 
--- the same of several, one after the other
+-- The same for several records, one after another.
 abbrev pub RecordsAll : List Fact → Content → Content → Type 0
 RecordsAll fs content after =
     (zone : List ℕ) (facts : List Fact) → AreOf zone facts content → AreLawful (reverse fs ++ facts)
     → AreOf zone (reverse fs ++ facts) after
 
--- the place after the last
+-- The index after the last index.
 abbrev pub next_place : Option ℕ → ℕ
 next_place None = 1
 next_place (Some place) = place + 1
 
--- The place is after that of the last row that passes, whatever rows the table has.
+-- The index after that of the last row that passes the test.
 abbrev pub IsAfter : {X : Type 0} → (tree : ℕ) → (columns : X → Row) → (passes : X → Bool)
     → (key : X → ℕ) → (place : ℕ) → Content → Type 0
 IsAfter {X} tree columns passes key place content =
     (rows : List X) → HasRows tree columns rows content
     → (last : Option ℕ) × (place ≡ next_place last) × IsLast passes (λ x n. n ≡ key x) key rows last
 
--- It was asked for, and nothing was changed.
+-- A query for the next index changed nothing.
 pub record IsNext {X : Type 0} (tree : ℕ) (columns : X → Row) (passes : X → Bool) (key : X → ℕ)
     (place : ℕ) (content after : Content) : Type 0 where
   pub same : after ≡ content

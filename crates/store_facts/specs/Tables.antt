@@ -1,4 +1,4 @@
--- When tables are those of facts.
+-- When tables are those of lawful records.
 use Rattle.std.specs.Prelude.{ℕ, pos, List, [], ◌∷◌, map}
 use Rattle.std.specs.List.{filter}
 use Rattle.std.specs.List.Sorted.{IsPermutation}
@@ -21,10 +21,11 @@ use Rattle.store_devices.specs.Polls.Trees as poll_tree
 use Rattle.store_devices.specs.Polls.Rows.{poll_columns, outcome_columns, hold_columns, reply_columns}
 use Rattle.store_facts.specs.Rows.{placed, placed_on, added, listed, points_of, registered, installed_row, ranged, entries_of, voided, interval_of, started, outcome_row, held_row, kept}
 
--- the table `meta` has one row: the version of the tables, and the zone of the civil days
+-- The table `meta` has one row: the version of the tables, and the time zone of the civil days.
 abbrev pub meta_tree : ℕ
 meta_tree = 0
 
+-- The columns of the row of `meta`, at version 3.
 abbrev pub meta_columns : (zone : List ℕ) → Row
 meta_columns zone = Int (pos 1) ∷ Null ∷ Int (pos 3) ∷ Text zone ∷ []
 
@@ -36,14 +37,14 @@ pub record ArePoints (facts : List Fact) (content : Content) : Type 0 where
       → IsPermutation (filter (is_point_of device) rows)
       (placed_on (listed device) 0 (points_of facts device))
 
--- The entries of each meter are its opening and what came after.
+-- The entries of each meter are its opening and the entries after it.
 pub record AreEntries (facts : List Fact) (content : Content) : Type 0 where
   pub rows : List Entered
   pub there : HasRows entry_tree.entries entry_columns rows content
   pub each : (meter : List ℕ)
       → IsPermutation (filter (is_entry_of meter) rows) (entries_of facts meter)
 
--- The rows of each meter have the energy of its intervals.
+-- The interval rows of each meter have its energy by quarter hours.
 pub record AreIntervals (facts : List Fact) (content : Content) : Type 0 where
   pub rows : List Interval
   pub there : HasRows interval_tree.intervals interval_columns rows content
@@ -51,7 +52,7 @@ pub record AreIntervals (facts : List Fact) (content : Content) : Type 0 where
       → IsPermutation (filter (is_interval_of meter) rows)
       (map (interval_of meter) (rows_of_meter facts meter))
 
--- The tables have the rows of these lawful facts, the latest first, and name this zone.
+-- The tables have the rows of these lawful records, the latest first, and name this time zone.
 pub record AreOf (zone : List ℕ) (facts : List Fact) (content : Content) : Type 0 where
   pub lawful : AreLawful facts
   pub meta : HasRows meta_tree meta_columns (zone ∷ []) content

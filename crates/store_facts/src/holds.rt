@@ -1,4 +1,4 @@
-//! The readings that were held, in the tables of the books.
+//! Rejected readings in the tables of the store.
 
 mod columns;
 mod streams;

@@ -1,4 +1,4 @@
-//! The energy of meters by intervals, in the tables of the books.
+//! The energy of meters by quarter hours, in the tables of the store.
 
 mod columns;
 mod step_shares;

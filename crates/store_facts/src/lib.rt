@@ -1,4 +1,4 @@
-//! The facts of the office in the tables of the books: which rows stand for which facts.
+//! The records of an office in the tables of the store: which rows encode which records.
 #![tactic(auto)]
 
 pub mod holds;

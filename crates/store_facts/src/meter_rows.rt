@@ -6,7 +6,8 @@ ghost use Rattle.store_tables.specs.Meters.Trees.{installations};
 
 use sqlite::{Alter, Connection, Error, Row, params};
 
-/// The rows of the installations at a register, in order of place; `read_installation` reads each.
+/// Queries the installations at a register in order of their indices. `read_installation` reads
+/// each row.
 pub fn register_meter_rows<S: Alter>(
     conn: &mut Connection<S>,
     register: &str,

@@ -1,4 +1,4 @@
-//! Names, as texts of the tables.
+//! Names as texts of the tables.
 ghost use Rattle.std.specs.Prelude.{◌≡◌, IfOk, IfErr, IsUtf8};
 ghost use Rattle.office_events.specs.Names.{named};
 ghost use Rattle.store_tables.specs.declared.faults.RowFault.TheVariants.{Damaged};
@@ -8,7 +8,7 @@ use office_events::Name;
 use std::str;
 use store_tables::RowFault;
 
-/// The text of a name. One that is no text is damage.
+/// Returns the text of a name. A name that is not UTF-8 is damage.
 pub fn text(name: &Name) -> Result<&str, RowFault>
     ensures text { IfOk result (λ text. text.now ≡ name.now) }
     ensures fault { IfErr result (λ e. (e ≡ Damaged) × (¬ IsUtf8 name.now)) }
@@ -19,7 +19,7 @@ pub fn text(name: &Name) -> Result<&str, RowFault>
     }
 }
 
-/// The name that a text spells. One that spells none is damage.
+/// Parses a name. A text that is not a name is damage.
 pub fn name(text: &str) -> Result<Name, RowFault>
     ensures { result ≡ or_damaged (named text.now) }
 {

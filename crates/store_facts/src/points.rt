@@ -1,4 +1,4 @@
-//! The points of a device's list.
+//! The points of a device's list as rows of `points`.
 ghost use Rattle.std.specs.Prelude.{◌≡◌, ◌++◌, ◌∷◌, [], IfOk, All};
 ghost use Rattle.std.specs.Fmt.{signed_decimal};
 ghost use Rattle.std.specs.String.{string_bytes};
@@ -16,28 +16,29 @@ use store_devices::{Point, PointRow};
 use store_tables::{GREATEST_PLACE, RowFault};
 use sun_points::PointType;
 
-/// The text of a type. Want of memory is the database's.
+/// Returns the text of a point type. Out of memory becomes an error of SQLite, as for every text
+/// here.
 fn kind(alloc: Global, kind: PointType) -> Result<String, Error>
     ensures { IfOk result (λ text. string_bytes text ≡ written.type_text kind) }
 {
     Ok(type_text(alloc, kind)?)
 }
 
-/// The text of an exponent.
+/// Returns the text of an exponent.
 fn exponent(alloc: Global, exponent: i8) -> Result<String, Error>
     ensures { IfOk result (λ text. string_bytes text ≡ signed_decimal exponent) }
 {
     Ok(format!(in alloc; "{exponent}")?)
 }
 
-/// A copy of a text.
+/// Returns a copy of a text.
 fn copy(alloc: Global, text: &str) -> Result<String, Error>
     ensures { IfOk result (λ copy. string_bytes copy ≡ text.now) }
 {
     Ok(String::from_str(alloc, text)?)
 }
 
-/// The text of a point's name. One that is no text is damage.
+/// Returns the text of a point's name. A name that is not UTF-8 is damage.
 fn name(alloc: Global, name: &PointName) -> Result<String, RowFault>
     ensures { IfOk result (λ text. string_bytes text ≡ name.now) }
 {
@@ -47,7 +48,7 @@ fn name(alloc: Global, name: &PointName) -> Result<String, RowFault>
     }
 }
 
-/// The text of a scale.
+/// Returns the text of a scale: empty, an exponent, or the name of a point.
 fn scale(alloc: Global, scale: &PointScale) -> Result<String, RowFault>
     ensures { IfOk result (λ text. string_bytes text ≡ written.scale_text scale.now) }
 {
@@ -58,7 +59,6 @@ fn scale(alloc: Global, scale: &PointScale) -> Result<String, RowFault>
     }
 }
 
-/// The numbers of a point at a place of its list.
 fn numbers(place: u64, function: ReadFunction, area: u8, address: u16) -> PointRow
     ensures row { result ≡ point_row place function area address }
     ensures sound { IsPlace place → IsSoundPoint result }
@@ -71,7 +71,7 @@ fn numbers(place: u64, function: ReadFunction, area: u8, address: u16) -> PointR
     }
 }
 
-/// A point at a place of its list.
+/// Converts a point at index `place` of its list.
 fn point_at(alloc: Global, point: &ListedPoint, place: u64) -> Result<Point, RowFault>
     ensures listed { IfOk result (IsPlacedPoint place point.now) }
     ensures sound { IsPlace place → IfOk result (λ p. IsSoundPoint p.row) }
@@ -94,7 +94,7 @@ fn push(points: &mut Vec<Point>, point: Point) -> Result<(), Error>
     Ok(())
 }
 
-/// The points of a list with their places, which count from 1. A name that is no text is damage.
+/// Converts the points of a list. Their indices begin at 1. A name that is not UTF-8 is damage.
 pub fn points_at(alloc: Global, points: &[ListedPoint]) -> Result<Vec<Point>, RowFault>
     ensures listed { IfOk result (ArePlacedPoints points.now) }
     ensures sound { IfOk result (λ ps. All (λ p. IsSoundPoint p.row) ps.items) }

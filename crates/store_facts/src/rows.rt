@@ -1,4 +1,4 @@
-//! The rows of facts.
+//! Conversions from records to rows.
 ghost use Rattle.std.specs.Prelude.{◌≡◌, ◌≤◌, true, IsTrue};
 ghost use Rattle.energy_core.specs.Account.{IsScale, moment_of};
 ghost use Rattle.store_tables.specs.Columns.{is_within};
@@ -16,7 +16,7 @@ use office_events::{Device, EndedPoll, HeldReading, Opening, Poll, Register, Sca
 use store_devices::{DeviceRow, HoldRow, OutcomeRow, PollRow, RegisterRow, RegisterScale};
 use store_tables::{EntryRow, InstallationRow, LATEST_MOMENT, LastRow};
 
-/// A device at a place.
+/// Returns the row of a device at index `place`.
 pub fn device_row(device: Device, place: u64) -> DeviceRow
     ensures row { result ≡ (rows.added place device).row }
     ensures sound { IsPlace place → IsSoundDevice result }
@@ -38,7 +38,7 @@ fn scale(source: ScaleSource) -> RegisterScale
     }
 }
 
-/// A register at a place.
+/// Returns the row of a register at index `place`.
 pub fn register_row(register: Register, place: u64) -> RegisterRow
     ensures row { result ≡ (rows.registered place register).row }
     ensures sound { rows.GivesSoundRow place register result }
@@ -51,7 +51,8 @@ pub fn register_row(register: Register, place: u64) -> RegisterRow
     }
 }
 
-/// Where an installation stands, with its whole energy in mWh.
+/// Returns the last entry of an installation as columns. `total` is its energy since the opening,
+/// in mWh.
 pub fn last_row(last: Last, total: u64) -> LastRow
     ensures { result ≡ record { moment = last.at; raw = last.raw; sf = last.sf; total = total } }
 {
@@ -63,7 +64,7 @@ pub fn last_row(last: Last, total: u64) -> LastRow
     }
 }
 
-/// Where the counter stands after an entry.
+/// Returns the state of the counter after an entry.
 pub fn counter_after(entry: &EntryRow) -> Last
     ensures { result ≡ rows.counter_after entry.now }
 {
@@ -93,7 +94,7 @@ fn kind(kind: EntryKind) -> store_tables::EntryKind
     }
 }
 
-/// An entry at a place, and the scale factor after it.
+/// Returns the row of an entry at index `place`, with the scale factor after the entry.
 pub fn entry_row(of: EntryKind, entry: Entry, place: u64, sf: &i16) -> EntryRow
     ensures row { result ≡ rows.entry_row sf.now
         (record { place = place; kind = of; entry = entry; stands = true }) }
@@ -127,7 +128,7 @@ pub fn entry_row(of: EntryKind, entry: Entry, place: u64, sf: &i16) -> EntryRow
     }
 }
 
-/// Whether a scale factor is one that counters and the tables can have.
+/// Returns whether counters and the tables allow a scale factor: -3 to 3.
 pub fn is_scale(sf: i16) -> bool
     ensures within { result ≡ is_within 3 sf }
     ensures lawful { IsTrue result → IsScale sf }
@@ -135,7 +136,7 @@ pub fn is_scale(sf: i16) -> bool
     MIN_SCALE <= sf && sf <= MAX_SCALE
 }
 
-/// Whether the tables can have the numbers of an opening.
+/// Returns whether every number of an opening is in the range of its column.
 pub fn is_sound_opening(opening: &Opening) -> bool
     ensures { result ≡ true → IsSoundOpening opening.now }
 {
@@ -147,7 +148,7 @@ pub fn is_sound_opening(opening: &Opening) -> bool
         && is_scale(opening.sf)
 }
 
-/// An installation at a place, where it was opened.
+/// Returns the row of a new installation at index `place`.
 pub fn begun_row(opening: &Opening, place: u64) -> InstallationRow
     ensures row { result ≡ (rows.installed_as place (rows.begun opening.now)).row }
     ensures sound { IsPlace place → IsSoundOpening opening.now → IsSoundInstallation result }
@@ -166,7 +167,7 @@ pub fn begun_row(opening: &Opening, place: u64) -> InstallationRow
     }
 }
 
-/// The entry of an opening, which has the place 1.
+/// Returns the entry of an opening. Its index is 1.
 pub fn opening_row(opening: &Opening) -> EntryRow
     ensures row { result ≡ rows.opening_row opening.now }
     ensures sound { IsSoundOpening opening.now → IsSoundEntry result }
@@ -183,7 +184,7 @@ pub fn opening_row(opening: &Opening) -> EntryRow
     }
 }
 
-/// A poll.
+/// Returns the row of a poll.
 pub fn poll_row(poll: Poll) -> PollRow
     ensures row { result ≡ (rows.started poll).row }
     ensures sound { IsPlace poll.number → poll.at ≤ latest_moment → IsSoundPoll result }
@@ -199,7 +200,7 @@ pub fn poll_row(poll: Poll) -> PollRow
     }
 }
 
-/// How a poll ended.
+/// Returns the row of an outcome.
 pub fn outcome_row(ended: EndedPoll) -> OutcomeRow
     ensures { result ≡ rows.outcome_row ended }
 {
@@ -210,7 +211,7 @@ pub fn outcome_row(ended: EndedPoll) -> OutcomeRow
     }
 }
 
-/// A held reading at a place.
+/// Returns the row of a rejected reading at index `place`.
 pub fn hold_row(held: HeldReading, place: u64) -> HoldRow
     ensures { result ≡ (rows.held_row place held).row }
 {

@@ -1,4 +1,4 @@
-//! Rows of a query, handed on as they come: what is kept of them does not grow with their number.
+//! Streaming the rows of a query to a sink, in memory that does not grow with the number of rows.
 ghost use Rattle.sqlite.specs.Given.{IsPlain};
 ghost use Rattle.sqlite.specs.Listing.{understood};
 ghost use Rattle.sqlite.specs.Values.{bound};
@@ -11,17 +11,17 @@ use sqlite::types::ValueRef;
 use sqlite::{Alter, Connection, Error, Row};
 use store_tables::RowFault;
 
-/// How the rows of a query are read.
+/// A reader of the rows of a query.
 pub(crate) trait RowReader<T> {
     ghost use Rattle.std.specs.Prelude.{◌≡◌, Result, IfOk, IfErr};
     ghost use Rattle.sqlite.specs.Order as order;
     ghost use Rattle.store_tables.specs.declared.faults.RowFault as faults;
     ghost use Rattle.store_tables.specs.declared.faults.RowFault.TheVariants.{Damaged};
 
-    /// What a row is read as.
+    /// The value that a row is read as, or its fault.
     ghost reads: { Self → order.Row → Result T faults.RowFault };
 
-    /// What holds of all that is read.
+    /// A property of every value that is read.
     ghost is_row: { T → Type 0 };
 
     /// Reads a row.
@@ -31,7 +31,7 @@ pub(crate) trait RowReader<T> {
         ensures damage { IfErr result (λ e. e ≡ Damaged) };
 }
 
-/// Hands on the rows that a query shows, as they come.
+/// Streams the rows that a query shows to `sink`. Ends with `InvalidQuery` after 2^64 - 1 rows.
 pub(crate) fn hand_on<S: Alter, T, R: RowReader<T>, K: RowSink<T>>(
     conn: &mut Connection<S>,
     sql: &str,

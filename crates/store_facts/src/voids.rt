@@ -1,4 +1,4 @@
-//! What the void of an entry asks of the tables, and takes out of them.
+//! The queries and the deletions that the void of an entry needs.
 
 mod entries;
 mod neighbours;

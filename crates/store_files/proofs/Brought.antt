@@ -1,4 +1,4 @@
--- What the statements of an opening make of a file, and what the opening leaves.
+-- The effect of an opening's statements on a file, and the connection after an opening.
 use Rattle.std.proofs.Common.{◌≡◌, inl, inr, ℕ, List, [], ◌∷◌, ◌++◌, map, drop, append-nil, Ok, Err, Result, IsErrAnd, IsTrue, refl, sym, ap, subst, ◌∙◌, arith, IsPermutation}
 use Rattle.std.proofs.lemmas.List.Sorted.{IsPermutation-refl, IsPermutation-trans, IsPermutation-map}
 use Rattle.sqlite.specs.Order.{Row}
@@ -23,7 +23,7 @@ use Rattle.store_files.proofs.Grown.{has_not, has_split}
 abbrev SetsVersion : Content → Content → Type 0
 SetsVersion = Edits meta meta_columns (changed_where every (with_version 3))
 
--- the rows of a file without the tables that are to come
+-- The rows of a file of version 2, with `voids` empty.
 abbrev after_second : Content → Content
 after_second content = with_rows 20 [] content
 
@@ -122,10 +122,10 @@ brought_first {E} {D} {F} shown a b c d x r one two three =
       last.2,
     ))
 
--- ---- what the opening leaves
+-- ---- the connection after an opening
 
 module _ (layout : Layout) (zone : List ℕ) (content : Content) where
-  -- a question before it
+  -- A query before the opening.
   pub after_question : {X E : Type 0} (a b c : State) (r : Result X E) → IsUnchanged a b → Survives a b (λ _. ⊥) → OpensFile layout zone content b c r → OpensFile layout zone content a c r
   after_question a b c (Ok x) same crash it = record { ok = it.ok; err = tt; survives = survives_then a b c (λ _. ⊥) _ _ (λ _ db none. absurd none) (λ _ db is. is) crash it.survives }
   after_question a b c (Err e) same crash it = record {
@@ -134,12 +134,12 @@ module _ (layout : Layout) (zone : List ℕ) (content : Content) where
     survives = survives_then a b c (λ _. ⊥) _ _ (λ _ db none. absurd none) (λ _ db is. is) crash it.survives;
   }
 
-  -- a call before it that commits nothing
+  -- A call that commits nothing, before the opening.
   pub after_kept : {X E : Type 0} (a b c : State) (r : Result X E) → KeepsCommit a b → Survives a b (λ _. ⊥) → OpensFile layout zone content b c r → OpensFile layout zone content a c r
   after_kept a b c (Ok x) kept crash it = record { ok = it.ok; err = tt; survives = survives_then a b c (λ _. ⊥) _ _ (λ _ db none. absurd none) (λ _ db is. is) crash it.survives }
   after_kept a b c (Err e) kept crash it = record { ok = tt; err = kept_then a b c kept it.err; survives = survives_then a b c (λ _. ⊥) _ _ (λ _ db none. absurd none) (λ _ db is. is) crash it.survives }
 
-  -- nothing is done
+  -- No call.
   pub untouched : {X E : Type 0} (a : State) (e : E) → OpensFile {X = X} layout zone content a a (Err e)
   untouched a e = record {
     ok = tt;
@@ -147,7 +147,7 @@ module _ (layout : Layout) (zone : List ℕ) (content : Content) where
     survives = record { clean = omega arith; shield = λ is. is; counts = omega arith; limit = refl; closes = λ clean is. inl is; crash = λ clean db left. inl left };
   }
 
-  -- a question that failed, or whose answer ends the opening
+  -- A query that failed, or whose answer ends the opening.
   pub given_up : {X E : Type 0} (a b : State) (e : E) → KeepsCommit a b → Survives a b (λ _. ⊥) → OpensFile {X = X} layout zone content a b (Err e)
   given_up a b e kept crash = record { ok = tt; err = kept; survives = survives_weaker a b _ _ (λ _ db none. absurd none) crash }
 
@@ -159,14 +159,14 @@ module _ (layout : Layout) (zone : List ℕ) (content : Content) where
   passed_on a b e (Ok y) Q fails it = absurd fails
   passed_on a b e (Err d) Q fails it = record { ok = tt; err = it.err; survives = it.survives }
 
-  -- the answer alone is another
+  -- The same with another result value.
   pub told_as : {X Y E D : Type 0} (a b : State) (x : X) (y : Y) → OpensFile {X = X} {E = E} layout zone content a b (Ok x) → OpensFile {X = Y} {E = D} layout zone content a b (Ok y)
   told_as a b x y it = record { ok = it.ok; err = tt; survives = it.survives }
 
   pub failed_as : {X Y E D : Type 0} (a b : State) (e : E) (d : D) → OpensFile {X = X} layout zone content a b (Err e) → OpensFile {X = Y} layout zone content a b (Err d)
   failed_as a b e d it = record { ok = tt; err = it.err; survives = it.survives }
 
-  -- a transaction
+  -- A transaction.
   pub transacted : {X E : Type 0} (a b : State) (r : Result X E) (Goes : Database → Database → Type 0) → HasCleanDisk b → TransactsTo a b r Goes
       → ((db : Database) → Goes a.now db → (after : Content) × IsBrought layout zone content after × AreTables db after) → OpensFile layout zone content a b r
   transacted a b r Goes clean done brings = record {
@@ -175,7 +175,7 @@ module _ (layout : Layout) (zone : List ℕ) (content : Content) where
     survives = survives_weaker a b _ _ (λ _ trees (h : (db : Database) × Goes a.now db × (trees ≡ db.trees)). let it = brings h.0 h.1 in (it.0, it.1, h.0, it.2, h.2)) done.survives;
   }
 
--- a file of version 3 stays
+-- A file of version 3 is unchanged.
 pub third : {E : Type 0} (zone : List ℕ) (content : Content) (s : State) → IsOpenTo Third zone content s → OpensFile {X = Unit {0}} {E = E} Third zone content s s (Ok tt)
 third zone content s it = record {
   ok = (it.is_open, content, record { marked = it.file.marked; with_ranges = refl; with_voids = refl; others = λ t off on away. refl }, it.file.tables);
@@ -183,11 +183,11 @@ third zone content s it = record {
   survives = record { clean = omega arith; shield = λ is. is; counts = omega arith; limit = refl; closes = λ clean is. inl is; crash = λ clean db left. inl left };
 }
 
--- the file as the connection sees it
+-- The file as the connection sees it.
 pub seen : (layout : Layout) (zone : List ℕ) (content : Content) (s : State) → IsOpenTo layout zone content s → IsFile layout zone s.now content
 seen layout zone content s it = subst (λ d. IsFile layout zone d content) (sym it.settled) it.file
 
--- a question leaves the connection open to the file
+-- A query leaves the connection open to the file.
 pub still_open : (layout : Layout) (zone : List ℕ) (content : Content) (a b : State) → IsUnchanged a b → IsOpenTo layout zone content a → IsOpenTo layout zone content b
 still_open layout zone content a b same it = record {
   is_open = same.0.is_open;

@@ -1,4 +1,4 @@
--- What the row of `meta` tells.
+-- What an opening learns from the row of `meta`.
 use Rattle.std.proofs.Common.{◌≡◌, ◌⊎◌, ◌≢◌, ◌≤◌, inl, inr, ℕ, length, IsSome, IsTrue, ◌==◌, eqb-true, eq-eqb, true, false, Ok, Err, Result, OnOk, IfOk, IfErr, IsErrAnd, refl, sym, ap, subst, ◌∙◌, arith}
 use Rattle.std.proofs.lemmas.Result.{IfOk-weaker}
 use Rattle.std.specs.Prelude.{IsUtf8}
@@ -38,7 +38,7 @@ is_store : (a b : State) (e : OpenFault) → (e ≡ Store) ⊎ (e ≡ Memory) �
 is_store a b e (inl is) own = subst (IsOwnFault a b) (sym is) own
 is_store a b e (inr is) own = subst (IsOwnFault a b) (sym is) tt
 
--- what an error of the store means
+-- The fault that an error of the store means.
 pub own_fault : (a b : State) (error : Error) (e : OpenFault) → e ≡ fault_of error → (e ≡ Store) ⊎ (e ≡ Memory) → a.faults ≤ b.faults → IsStoreError a b error → IsOwnFault a b e
 own_fault a b error e is kind up (inl want) = subst (IsOwnFault a b) (sym (is ∙ ap fault_of want)) tt
 own_fault a b error e is kind up (inr (inl failed)) = is_store a b e kind (up, inl failed)
@@ -50,9 +50,9 @@ later_own a b c Memory goes own = tt
 later_own a b c NotOurs goes own = absurd own
 later_own a b c NoZone goes own = absurd own
 
--- ---- what is told
+-- ---- the result of an opening
 
--- they tell nothing of the file
+-- The fault says nothing about the file.
 pub tells_fault : (version : ℕ) (m : Meta) (a b : State) (e : OpenFault) → IsOwnFault a b e → KeepsCommit a b → TellsOpening version m a b (Err e)
 tells_fault version m a b e own kept =
     let is = own_kind a b e own in
@@ -71,7 +71,7 @@ pub tells_err : (version : ℕ) (m : Meta) (a b : State) (e : OpenFault) (r : Re
 tells_err version m a b e (Ok z) fails it = absurd fails
 tells_err version m a b e (Err d) fails it = subst (λ f. TellsOpening version m a b (Err f)) (sym fails) it
 
--- the file was told to be ours, and then the store failed
+-- The file is ours, and then the store failed.
 pub tells_later : (version : ℕ) (m : Meta) (a b c : State) (z : Zone) (e : OpenFault) (r : Result Zone OpenFault) → (version ≡ 3 → ⊥) → TellsOpening version m a b (Ok z) → (e ≡ Store) ⊎ (e ≡ Memory) → IsErrAnd r (λ d. d ≡ e) → KeepsCommit a c → TellsOpening version m a c r
 tells_later version m a b c z e (Ok y) earlier it is fails kept = absurd fails
 tells_later version m a b c z e (Err d) earlier it is fails kept =
@@ -97,7 +97,7 @@ tells_well version m a b c z it = record {
   kept = tt;
 }
 
--- the store had gone on before it was asked
+-- A call ran before the query.
 pub tells_since : (version : ℕ) (m : Meta) (a b c : State) (r : Result Zone OpenFault) → StateAfterCall a b → KeepsCommit a b → TellsOpening version m b c r → TellsOpening version m a c r
 tells_since version m a b c (Ok z) goes kept it = record {
   other = λ off. ((it.other off).0, tt);
@@ -118,7 +118,7 @@ tells_since version m a b c (Err e) goes kept it = record {
   kept = kept_then a b c kept it.kept;
 }
 
--- the row was read
+-- The row was read.
 memory_or : (a b : State) (e : OpenFault) → (e ≡ NoZone) ⊎ (e ≡ Memory) → (e ≡ NoZone) ⊎ IsOwnFault a b e
 memory_or a b e (inl is) = inl is
 memory_or a b e (inr is) = inr (subst (IsOwnFault a b) (sym is) tt)
@@ -147,7 +147,7 @@ none_of : (P : Type 0) (Q : Zone → Type 0) (r : Result Zone OpenFault) → (P 
 none_of P Q (Ok z) out h = out h.1
 none_of P Q (Err e) out h = tt
 
--- the version is this, and the zone was read
+-- The version is right, and the zone was read.
 pub tells_zone : (version : ℕ) (m : Meta) (r : Result Zone OpenFault) → m.version ≡ version → IfErr r (λ e. (e ≡ NoZone) ⊎ (e ≡ Memory)) → IfOk r (λ z. HasRule m.zone z × IsZone m.zone)
     → (IsUtf8 m.zone → IsZone m.zone → IfErr r (λ e. e ≢ NoZone)) → ReadsMeta version m r
 tells_zone version m r same fault zone rule = record {
@@ -165,13 +165,13 @@ any_ok (Err e) p = tt
 pub unchanged_kept : (a b : State) → IsUnchanged a b → KeepsCommit a b
 unchanged_kept a b same = record { was_open = λ _. same.0.was_open; committed = λ _. same.0.committed_is }
 
--- one layout alone has version 3
+-- Only one layout has version 3.
 pub is_third : (layout : Layout) → version_of layout ≡ 3 → layout ≡ Third
 is_third First is = absurd (omega (arith, is))
 is_third Second is = absurd (omega (arith, is))
 is_third Third is = refl
 
--- a layout has its own count of tables
+-- Each layout has its own number of tables.
 pub one_layout : (l k : Layout) → names_of (schema_of l) ≡ names_of (schema_of k) → l ≡ k
 one_layout First First same = refl
 one_layout First Second same = absurd (let n : 11 ≡ 12 = ap length same in omega (arith, n))
@@ -183,7 +183,7 @@ one_layout Third First same = absurd (let n : 13 ≡ 11 = ap length same in omeg
 one_layout Third Second same = absurd (let n : 13 ≡ 12 = ap length same in omega (arith, n))
 one_layout Third Third same = refl
 
--- a file that was found to be of this version is left as it was committed, where bringing it to the last version fails
+-- If the upgrade of a file of this version fails, the file stays as it was committed.
 pub kept_of : (layout : Layout) (m : Meta) (content : Content) (a b c : State) (z : Zone) → IsTrue a.is_open → a.now ≡ a.committed → AreTablesIn (schema_of layout) a.now content → IsMarked m content
     → TellsOpening (version_of layout) m a b (Ok z) → KeepsCommit a b → IsUnchanged a b → (IsOpenTo layout m.zone content b → KeepsCommit b c) → KeepsCommit a c
 kept_of layout m content a b c z is_open settled has marked told kept same brings =

@@ -8,14 +8,15 @@ use Rattle.store_tables.specs.Failing.{HasFailed}
 use Rattle.store_files.specs.declared.faults.OpenFault.{OpenFault}
 use Rattle.store_files.specs.declared.faults.OpenFault.TheVariants.{NotOurs, Zone, Store, Memory}
 
+-- The number of a fault.
 abbrev pub open_fault_number : OpenFault → ℕ
 open_fault_number NotOurs = 1
 open_fault_number Zone = 2
 open_fault_number Store = 3
 open_fault_number Memory = 4
 
--- The store's own fault: it was shut or its disk failed, or a limit that is set lets a question take no more steps. Want of
--- memory is told as such.
+-- A fault of the store: the database was closed, its disk failed, or a limit of steps was reached.
+-- Out of memory is the fault `Memory`.
 abbrev pub IsOwnFault : (old new : State) → OpenFault → Type 0
 IsOwnFault old new Store =
     (old.faults ≤ new.faults) × (HasFailed old new ⊎ IsSome old.step_limit)
@@ -23,7 +24,7 @@ IsOwnFault old new Memory = ⊤
 IsOwnFault old new NotOurs = ⊥
 IsOwnFault old new Zone = ⊥
 
--- want of memory is told, and any other error is the store's
+-- Out of memory is `Memory`. Any other error of SQLite is `Store`.
 abbrev pub fault_of : Error → OpenFault
 fault_of (SqliteFailure OutOfMemory) = Memory
 fault_of _ = Store

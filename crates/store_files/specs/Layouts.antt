@@ -1,4 +1,4 @@
--- Which tables a file of the books has, by its version.
+-- The tables of each version of a file.
 use Rattle.std.specs.Prelude.{◌≡◌, ◌==◌, ◌+◌, ℕ, Bool, List, [], take, map, filter}
 use Rattle.std.specs.List.{list_any}
 use Rattle.sqlite.specs.Schema.{Schema}
@@ -8,15 +8,15 @@ use Rattle.store_tables.specs.Schema.{books_schema}
 use Rattle.store_files.specs.declared.layouts.Layout.{Layout}
 use Rattle.store_files.specs.declared.layouts.Layout.TheVariants.{First, Second, Third}
 
--- a database without tables
+-- A database without tables.
 abbrev pub no_schema : Schema
 no_schema = record { tables = []; indexes = []; views = [] }
 
--- the index belongs to one of the tables
+-- The index belongs to one of the tables.
 abbrev pub is_index_of : List Table → Index → Bool
 is_index_of tables i = list_any (λ (t : Table). t.tree == i.table) tables
 
--- so many of the tables, in the order in which they are made, with their indexes
+-- The first `n` tables in the order in which they are created, with their indexes.
 abbrev pub first_tables : ℕ → Schema
 first_tables n =
     let tables = take n books_schema.tables in
@@ -26,21 +26,24 @@ first_tables n =
       views = [];
     }
 
+-- The version of a layout.
 abbrev pub version_of : Layout → ℕ
 version_of First = 1
 version_of Second = 2
 version_of Third = 3
 
--- Version 1 has all tables but the last two, and each later one has one more.
+-- Version 1 has all tables but the last two. Each later version has one more.
 abbrev pub table_count : Layout → ℕ
 table_count layout = version_of layout + 10
 
+-- The schema of a layout.
 abbrev pub schema_of : Layout → Schema
 schema_of layout = first_tables (table_count layout)
 
+-- The names of a schema's tables, in order.
 abbrev pub names_of : Schema → List (List ℕ)
 names_of schema = map (λ (t : Table). t.name) schema.tables
 
--- the tables have the names of this layout's
+-- The tables have the names of this layout.
 abbrev pub IsNamedAs : Schema → Layout → Type 0
 IsNamedAs schema layout = names_of schema ≡ names_of (schema_of layout)

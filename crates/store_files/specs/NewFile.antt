@@ -1,16 +1,16 @@
--- What the making of a file leaves.
+-- The tables after a file was created.
 use Rattle.std.specs.Prelude.{◌≡◌, ◌≢◌, ℕ, List, []}
 use Rattle.sqlite.specs.Effect.{Database}
 use Rattle.store_tables.specs.Content.{Content, AreTables}
 use Rattle.store_files.specs.Layouts.{no_schema}
 use Rattle.store_files.specs.Meta.{meta, IsMarked}
 
--- version 3 and this zone, and no other row
+-- Version 3 and this zone, and no other row.
 pub record IsNew (zone : List ℕ) (content : Content) : Type 0 where
   pub marked : IsMarked (record { version = 3; zone = zone }) content
   pub empty : (t : ℕ) → t ≢ meta → content t ≡ []
 
--- a database without tables becomes one with new tables
+-- A database without tables gets the tables of a new store.
 abbrev pub Makes : (zone : List ℕ) → Database → Database → Type 0
 Makes zone old new = old.schema ≡ no_schema
     → (content : Content) × IsNew zone content × AreTables new content

@@ -1,4 +1,4 @@
--- What the row of `meta` tells to whom opens the file, and what the finding of it leaves.
+-- What an opening reads from `meta`, and the connection after it.
 use Rattle.std.specs.Prelude.{◌≡◌, ◌≢◌, ◌⊎◌, ℕ, [], ◌∷◌, Vec, Result, Err, OnOk, OnErr, IfOk, IfErr, IsUtf8, IsTrue}
 use Rattle.sqlite.specs.Order.{Row}
 use Rattle.sqlite.specs.State.{State, KeepsCommit, Survives, IsUnchanged}
@@ -13,12 +13,13 @@ use Rattle.store_files.specs.Layouts.{version_of, schema_of}
 use Rattle.store_files.specs.Meta.{Meta, meta_shown, IsMarked}
 use Rattle.store_files.specs.Zones.{IsZone}
 
--- The row of `meta` alone is answered, and nothing was changed.
+-- The query shows the row of `meta` alone, and nothing changed.
 abbrev pub ShowsMeta : {Z : Type 0} → Content → (old new : State) → Vec Row Z → Type 0
 ShowsMeta content old new rows =
     IsUnchanged old new × ((m : Meta) → IsMarked m content → rows.items ≡ meta_shown m ∷ [])
 
--- What the row of `meta` tells: another version is not ours, and a text that is no zone is none.
+-- The result of reading `meta`: `NotOurs` for another version, `Zone` for a text that is not a time
+-- zone.
 pub record ReadsMeta (version : ℕ) (m : Meta) (result : Result Zone OpenFault) : Type 0 where
   pub other : m.version ≢ version → result ≡ Err NotOurs
   pub ours : m.version ≡ version → IfErr result (λ e. (e ≡ NoZone) ⊎ (e ≡ Memory))
@@ -26,9 +27,9 @@ pub record ReadsMeta (version : ℕ) (m : Meta) (result : Result Zone OpenFault)
   pub rule : IsUtf8 m.zone → IsZone m.zone → IfErr result (λ e. e ≢ NoZone)
   pub none : (IsZone m.zone → ⊥) → OnOk result ⊥
 
--- A file that tells another version is not opened, nor one whose zone is none, and the fault tells which, unless the store
--- itself failed. A file of this version is ours, and its zone is answered; where it is version 3 and has one, unless the store
--- itself failed.
+-- The result of an opening, unless the store itself failed. A file of another version, or with an
+-- invalid zone, is not opened, and the fault says which. A file of this version is ours, and the
+-- opening returns its zone. A file of version 3 with a valid zone is opened.
 pub record TellsOpening (version : ℕ) (m : Meta) (old new : State)
     (result : Result Zone OpenFault) : Type 0 where
   pub other : m.version ≢ version
@@ -42,7 +43,7 @@ pub record TellsOpening (version : ℕ) (m : Meta) (old new : State)
       → IfErr result (IsOwnFault old new)
   pub kept : OnErr result (KeepsCommit old new)
 
--- The zone is asked for where the tables are those of this layout. The question changes nothing and commits nothing.
+-- The zone was queried from tables of this layout. The query changes nothing and commits nothing.
 pub record FindsZone (layout : Layout) (content : Content) (old new : State)
     (result : Result Zone OpenFault) : Type 0 where
   pub kept : KeepsCommit old new
@@ -50,14 +51,14 @@ pub record FindsZone (layout : Layout) (content : Content) (old new : State)
   pub survives : Survives old new (λ _. ⊥)
   pub told : (m : Meta) → IsMarked m content → TellsOpening (version_of layout) m old new result
 
--- what is told of an open file whose tables are of this layout, with nothing that waits for a commit
+-- The result of opening a file of this layout, over an open connection with no uncommitted changes.
 abbrev pub TellsOfLayout : Layout → (old new : State) → Result Zone OpenFault → Type 0
 TellsOfLayout layout old new result =
     (content : Content) → IsTrue old.is_open → old.now ≡ old.committed
     → AreTablesIn (schema_of layout) old.now content
     → (m : Meta) → IsMarked m content → TellsOpening (version_of layout) m old new result
 
--- what is told of a file whose tables are of a layout, by the row of `meta` that it has
+-- The result of opening a file of any layout, by the row of `meta` that the file has.
 abbrev pub TellsOfFile : (old new : State) → Result Zone OpenFault → Type 0
 TellsOfFile old new result =
     (layout : Layout) (content : Content) → AreTablesIn (schema_of layout) old.committed content

@@ -1,4 +1,4 @@
--- What an opening makes of a file of an earlier version.
+-- The tables after an opening upgraded a file of an earlier version.
 use Rattle.std.specs.Prelude.{◌≡◌, ◌≢◌, ℕ, List, [], ◌∷◌, ◌++◌, map, Vec, Result, IsTrue, OnOk, OnErr}
 use Rattle.std.specs.List.Sorted.{IsPermutation}
 use Rattle.sqlite.specs.declared.types.Value.{Value}
@@ -14,21 +14,22 @@ use Rattle.store_files.specs.declared.layouts.Layout.TheVariants.{First, Second,
 use Rattle.store_files.specs.Layouts.{version_of, schema_of}
 use Rattle.store_files.specs.Meta.{meta, IsMarked}
 
--- the tree of the table of voids
+-- The tree number of `voids`.
 abbrev pub voids : ℕ
 voids = 20
 
--- The database has the tables of this layout with these rows, tells its version, and this zone.
+-- The database has the tables of this layout with these rows, the version of the layout, and this
+-- zone.
 pub record IsFile (layout : Layout) (zone : List ℕ) (db : Database)
     (content : Content) : Type 0 where
   pub tables : AreTablesIn (schema_of layout) db content
   pub marked : IsMarked (record { version = version_of layout; zone = zone }) content
 
--- the counter of a meter of version 1 counts to 2^32
+-- The range of a meter of version 1: 2^32 values.
 abbrev pub full_range : Installed → Ranged
 full_range i = record { meter = i.meter; range = 4294967296 }
 
--- a range for each installation, where there were none
+-- Each installation of version 1 gets a range. Later versions keep their ranges.
 abbrev pub HasRanges : Layout → (content after : Content) → Type 0
 HasRanges First content after =
     (is : List Installed) → HasRows installations installed_columns is content
@@ -36,40 +37,41 @@ HasRanges First content after =
 HasRanges Second content after = after ranges ≡ content ranges
 HasRanges Third content after = after ranges ≡ content ranges
 
--- no voids, where there was no table of them
+-- Versions 1 and 2 get no voids. Version 3 keeps its voids.
 abbrev pub HasVoids : Layout → (content after : Content) → Type 0
 HasVoids First content after = after voids ≡ []
 HasVoids Second content after = after voids ≡ []
 HasVoids Third content after = after voids ≡ content voids
 
--- Version 3 and the same zone. All else is as it was.
+-- Version 3 and the same zone. All other rows are unchanged.
 pub record IsBrought (layout : Layout) (zone : List ℕ) (content after : Content) : Type 0 where
   pub marked : IsMarked (record { version = 3; zone = zone }) after
   pub with_ranges : HasRanges layout content after
   pub with_voids : HasVoids layout content after
   pub others : (t : ℕ) → t ≢ meta → t ≢ ranges → t ≢ voids → after t ≡ content t
 
--- a file of this layout becomes one of version 3
+-- A file of this layout is upgraded to version 3.
 abbrev pub Brings : Layout → (zone : List ℕ) → Database → Database → Type 0
 Brings layout zone old new = (content : Content) → IsFile layout zone old content
     → (after : Content) × IsBrought layout zone content after × AreTables new after
 
--- ---- the meters of a file of version 1, as a question shows them
+-- ---- the meters of a file of version 1, as a query shows them
 
+-- The column that the query shows of an installation: its meter.
 abbrev pub meter_shown : Installed → Row
 meter_shown i = Text i.meter ∷ []
 
--- a row for each of its meters, in any order
+-- A row for each meter of the file, in any order.
 abbrev pub AreMetersOf : Content → (shown : List Row) → Type 0
 AreMetersOf content shown =
     (is : List Installed) → HasRows installations installed_columns is content
     → IsPermutation (map meter_shown is) shown
 
--- these are answered, and nothing was changed
+-- The query shows these rows, and nothing changed.
 abbrev pub ShowsMeters : {Z : Type 0} → Content → (old new : State) → Vec Row Z → Type 0
 ShowsMeters content old new rows = IsUnchanged old new × AreMetersOf content rows.items
 
--- the text of a value, if it is one
+-- The text of a value, or an empty text.
 abbrev pub text_in : Value → List ℕ
 text_in Null = []
 text_in (Int n) = []
@@ -77,29 +79,33 @@ text_in (Real x) = []
 text_in (Text t) = t
 text_in (Blob b) = []
 
+-- The range of the meter that a row shows: 2^32 values.
 abbrev pub range_in : Row → Ranged
 range_in row = record { meter = text_in (column row 0); range = 4294967296 }
 
--- a range for the meter of each row
+-- A range for the meter of each row is added.
 abbrev pub with_ranges : List Row → List Ranged → List Ranged
 with_ranges shown rs = map range_in shown ++ rs
 
+-- The table `ranges` gets a range for the meter of each row.
 abbrev pub GivesRanges : List Row → Content → Content → Type 0
 GivesRanges shown = Edits ranges ranged_columns (with_ranges shown)
 
 -- ---- one opening
 
--- what the statements of an opening of a file of version 1 do, where these rows show its meters
+-- The effect of upgrading a file of version 1, if these rows show its meters.
 abbrev pub BringsFirst : (shown : List Row) → Database → Database → Type 0
 BringsFirst shown old new =
     (zone : List ℕ) (content : Content) → IsFile First zone old content
     → AreMetersOf content shown
     → (after : Content) × IsBrought First zone content after × AreTables new after
 
+-- The effect of upgrading a file of version 2.
 abbrev pub BringsSecond : Database → Database → Type 0
 BringsSecond old new = (zone : List ℕ) → Brings Second zone old new
 
--- What an opening leaves of a connection to a file: the file of version 3, or what there was. A stop leaves one or the other.
+-- The connection after an opening: the upgraded file at Ok, otherwise the old file. A crash leaves
+-- the new file or the old.
 pub record OpensFile {X E : Type 0} (layout : Layout) (zone : List ℕ) (content : Content)
     (old new : State) (result : Result X E) : Type 0 where
   pub ok : OnOk result
@@ -110,13 +116,13 @@ pub record OpensFile {X E : Type 0} (layout : Layout) (zone : List ℕ) (content
       (λ trees. (after : Content) × IsBrought layout zone content after × (db : Database)
       × AreTables db after × (trees ≡ db.trees))
 
--- an open connection to such a file, with nothing that waits for a commit
+-- An open connection to a file of this layout, with no uncommitted changes.
 pub record IsOpenTo (layout : Layout) (zone : List ℕ) (content : Content) (s : State) : Type 0 where
   pub is_open : IsTrue s.is_open
   pub settled : s.now ≡ s.committed
   pub file : IsFile layout zone s.committed content
 
--- what an opening leaves, whichever layout an open file has
+-- The connection after an opening, for any layout.
 abbrev pub OpensAnyFile : {X E : Type 0} → (old new : State) → Result X E → Type 0
 OpensAnyFile old new result =
     (layout : Layout) (zone : List ℕ) (content : Content)

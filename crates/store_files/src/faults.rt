@@ -1,4 +1,4 @@
-//! Why a file is not opened, or not made.
+//! Why a file is not opened or not created.
 ghost use Rattle.std.specs.Prelude.{◌≡◌, ◌⊎◌};
 ghost use Rattle.store_files.specs.Faults.{open_fault_number, fault_of};
 
@@ -6,21 +6,22 @@ use sqlite::{Error, ErrorCode};
 use std::fmt;
 use std::fmt::{Display, Formatter};
 
-/// Why a database doesn't become books.
+/// Why a database was not opened as an office's store, or not made one.
 #[derive(Clone, Copy, Debug, PartialEq, Eq)]
 pub enum OpenFault {
-    /// Its tables aren't those of books, or its version isn't known.
+    /// The tables are not those of an office, their version is unknown, or a transaction is open.
+    /// For a new file: the database is not empty.
     NotOurs,
-    /// The text is no zone.
+    /// The text is not a time zone.
     Zone,
-    /// The database refused or failed.
+    /// SQLite refused the statement or failed.
     Store,
-    /// Memory is wanting.
+    /// Memory ran out.
     Memory,
 }
 
 impl OpenFault {
-    /// The number of the fault, from 1. No text of the program shows it.
+    /// Returns the number of the fault, from 1. No text of the program shows this number.
     pub fn number(self) -> u8
         ensures { result ≡ open_fault_number self }
     {
@@ -48,7 +49,7 @@ impl Display for OpenFault {
 
 impl std::error::Error for OpenFault {}
 
-/// What an error of the database means to whom opens the file.
+/// Returns the fault that an error of SQLite means for an opening.
 pub(crate) fn fault_of(error: Error) -> OpenFault
     ensures value { result ≡ fault_of error }
     ensures kind { (result ≡ OpenFault.Store) ⊎ (result ≡ OpenFault.Memory) }

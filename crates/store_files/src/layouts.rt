@@ -1,4 +1,4 @@
-//! Which tables a file of the books has, by its version.
+//! The tables of each version of a file.
 ghost use Rattle.std.specs.Prelude.{◌≡◌, ◌≢◌, ◌↔◌, map, IsTrue, IfSome, IfNone};
 ghost use Rattle.sqlite.specs.Table.{Table};
 ghost use Rattle.store_files.specs.declared.layouts.Layout.{Layout};
@@ -6,7 +6,8 @@ ghost use Rattle.store_files.specs.Layouts.{version_of, IsNamedAs};
 
 use sqlite_schema::schema::{Schema, Table};
 
-/// The layout of a file: version 1 has no ranges and no voids, version 2 has ranges, and version 3 all tables.
+/// The layout of a file. Version 1 lacks `ranges` and `voids`, version 2 lacks `voids`, and version
+/// 3 has all tables.
 #[derive(Clone, Copy, Debug, PartialEq, Eq)]
 pub enum Layout {
     First,
@@ -15,7 +16,7 @@ pub enum Layout {
 }
 
 impl Layout {
-    /// The version that the file tells of itself.
+    /// Returns the version that `meta` has for this layout.
     pub fn version(self) -> u64
         ensures { result ≡ version_of self }
     {
@@ -27,7 +28,7 @@ impl Layout {
     }
 }
 
-/// The tables of version 3, in the order in which they are made.
+/// The tables of version 3, in the order in which they are created.
 const NAMES: [&str; 13] = [
     "meta",
     "devices",
@@ -44,7 +45,7 @@ const NAMES: [&str; 13] = [
     "voids",
 ];
 
-/// Whether the tables have these names, in this order.
+/// Returns whether the tables have these names, in this order.
 fn are_named(tables: &[Table], names: &[&str]) -> bool
     ensures { IsTrue result ↔ (map (λ (t : Table). t.name) tables.now
         ≡ map (λ name. name.now) names.now) }
@@ -60,7 +61,7 @@ fn are_named(tables: &[Table], names: &[&str]) -> bool
     true
 }
 
-/// The layout whose tables these are, by their names.
+/// Returns the layout whose tables have the names of these tables.
 pub fn layout_of(schema: &Schema) -> Option<Layout>
     ensures found { IfSome result (IsNamedAs schema.now) }
     ensures none { IfNone result ((layout : Layout) → ¬ IsNamedAs schema.now layout) }

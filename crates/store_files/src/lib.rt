@@ -1,4 +1,5 @@
-//! The file of the books: how its tables are made, found again, and brought from an earlier version.
+//! The file of an office's store: how its tables are created, found again, and upgraded from an
+//! earlier version.
 #![tactic(auto)]
 
 mod faults;

@@ -1,4 +1,4 @@
-//! How a file is made.
+//! Creating a file.
 ghost use Rattle.std.specs.Prelude.{◌≡◌, ◌≢◌, ◌⊎◌, ◌↔◌, false, IsTrue, Err, IfOk, IfErr};
 ghost use Rattle.sqlite.specs.Held.{state};
 ghost use Rattle.store_tables.specs.Steps.{StepsTo, TransactsTo, IsSameBorrow};
@@ -15,7 +15,7 @@ use interval_core::Zone;
 use sqlite::{Alter, Connection, Error, Transaction};
 use sqlite_schema::schema::Schema;
 
-/// Whether a schema has no table, index or view.
+/// Returns whether a schema has no table, index or view.
 fn is_blank(schema: &Schema) -> bool
     ensures { IsTrue result ↔ (schema.now ≡ no_schema) }
 {
@@ -24,7 +24,7 @@ fn is_blank(schema: &Schema) -> bool
         && schema.views.as_slice().is_empty()
 }
 
-/// All tables, and the row of `meta`.
+/// Creates all tables, and inserts the row of `meta`.
 fn fill<S: Alter>(tx: &mut Transaction<'_, S>, zone: &str) -> Result<usize, Error>
     ensures same_reference { IsSameBorrow tx.old.conn tx.new.conn }
     ensures does { StepsTo (state S.Store tx.old.conn.now) (state S.Store tx.new.conn.now) result
@@ -34,7 +34,7 @@ fn fill<S: Alter>(tx: &mut Transaction<'_, S>, zone: &str) -> Result<usize, Erro
     insert_meta(tx, zone)
 }
 
-/// All tables and the row of `meta`, or nothing.
+/// Creates all tables and inserts the row of `meta`, in one transaction.
 fn made<S: Alter>(conn: &mut Connection<S>, zone: &str) -> Result<(), Error>
     requires autocommit { conn.old.in_transaction ≡ false }
     ensures autocommit { conn.new.in_transaction ≡ false }
@@ -46,7 +46,7 @@ fn made<S: Alter>(conn: &mut Connection<S>, zone: &str) -> Result<(), Error>
     tx.commit()
 }
 
-/// The same, with the fault that its error means.
+/// Does the same as `made`, and maps its error to a fault.
 fn make<S: Alter>(conn: &mut Connection<S>, zone: &str) -> Result<(), OpenFault>
     requires autocommit { conn.old.in_transaction ≡ false }
     ensures autocommit { conn.new.in_transaction ≡ false }
@@ -60,9 +60,11 @@ fn make<S: Alter>(conn: &mut Connection<S>, zone: &str) -> Result<(), OpenFault>
     }
 }
 
-/// Makes the tables of new books in a database without tables, and answers their zone. It is one transaction, whose
-/// commit is the last call of the database. Faults: `NotOurs` where the database has any table, index or view, or a
-/// transaction is under way; `Zone` where the text is no zone.
+/// Creates the tables of a new store in a database without tables, and returns their time zone.
+/// Runs one transaction, whose commit is the last call of the database.
+///
+/// Faults: `NotOurs` if the database has any table, index or view, or a transaction is open. `Zone`
+/// if the text is not a time zone.
 pub fn create<S: Alter>(conn: &mut Connection<S>, zone: &str) -> Result<Zone, OpenFault>
     ensures busy { IsTrue conn.old.in_transaction → result ≡ Err OpenFault.NotOurs }
     ensures others { conn.old.schema ≢ no_schema → result ≡ Err OpenFault.NotOurs }

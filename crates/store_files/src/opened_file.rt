@@ -1,4 +1,4 @@
-//! How a file is opened.
+//! Opening a file.
 ghost use Rattle.std.specs.Prelude.{◌≡◌, ◌≢◌, ◌⊎◌, ◌↔◌, false, [], ◌∷◌, IsTrue, IfOk, IfErr};
 ghost use Rattle.std.specs.Prelude.{IsUtf8, Err, OnErr};
 ghost use Rattle.sqlite.specs.State.{HasCleanDisk, KeepsCommit, Survives};
@@ -22,7 +22,7 @@ use interval_core::Zone;
 use sqlite::{Alter, Connection, Error, Row};
 use store_tables::{RowFault, check_open, text, whole};
 
-/// The rows of `meta`.
+/// Queries the rows of `meta`.
 fn meta_rows<S: Alter>(conn: &mut Connection<S>) -> Result<Vec<Row>, Error>
     ensures clean { HasCleanDisk (state S.Store conn.new) → HasCleanDisk (state S.Store conn.old) }
     ensures mode { conn.old.in_transaction ≡ false → conn.new.in_transaction ≡ false }
@@ -42,14 +42,14 @@ fn meta_rows<S: Alter>(conn: &mut Connection<S>) -> Result<Vec<Row>, Error>
     conn.query_all("SELECT version, zone FROM meta", &[])
 }
 
-/// Whether the row of `meta` tells this version.
+/// Returns whether the row of `meta` has this version.
 fn has_version(row: &Row, version: u64) -> bool
     ensures { (m : Meta) → row.now ≡ meta_shown m → IsTrue result ↔ (m.version ≡ version) }
 {
     whole(row, 0, version, version).is_ok()
 }
 
-/// The zone that the row of `meta` tells.
+/// Reads the time zone from the row of `meta`.
 fn told_zone(row: &Row) -> Result<Zone, OpenFault>
     ensures fault { (m : Meta) → row.now ≡ meta_shown m
         → IfErr result (λ e. (e ≡ OpenFault.Zone) ⊎ (e ≡ OpenFault.Memory)) }
@@ -65,7 +65,7 @@ fn told_zone(row: &Row) -> Result<Zone, OpenFault>
     }
 }
 
-/// The zone that the rows of `meta` tell, if they tell this version.
+/// Reads the time zone from the only row of `meta`, if the row has this version.
 fn zone_in(rows: &[Row], version: u64) -> Result<Zone, OpenFault>
     ensures tells { (m : Meta) → rows.now ≡ meta_shown m ∷ [] → ReadsMeta version m result }
 {
@@ -81,7 +81,7 @@ fn zone_in(rows: &[Row], version: u64) -> Result<Zone, OpenFault>
     }
 }
 
-/// The zone that the file tells, if its version is that of its tables.
+/// Returns the time zone of the file, if its version is that of its tables.
 fn stored_zone<S: Alter>(conn: &mut Connection<S>, layout: Layout) -> Result<Zone, OpenFault>
     ensures clean { HasCleanDisk (state S.Store conn.new) → HasCleanDisk (state S.Store conn.old) }
     ensures mode { conn.old.in_transaction ≡ false → conn.new.in_transaction ≡ false }
@@ -95,7 +95,7 @@ fn stored_zone<S: Alter>(conn: &mut Connection<S>, layout: Layout) -> Result<Zon
     }
 }
 
-/// The same as `bring`, with the fault that its error means.
+/// Upgrades a file as `bring` does, and maps its error to a fault.
 fn brought<S: Alter>(conn: &mut Connection<S>, layout: Layout) -> Result<(), OpenFault>
     requires autocommit { conn.old.in_transaction ≡ false }
     ensures autocommit { conn.new.in_transaction ≡ false }
@@ -112,7 +112,7 @@ fn brought<S: Alter>(conn: &mut Connection<S>, layout: Layout) -> Result<(), Ope
     }
 }
 
-/// Opens a file of a layout, where the store still answers.
+/// Opens a file of a layout, after the check that the database is open.
 fn open_settled<S: Alter>(conn: &mut Connection<S>, layout: Layout) -> Result<Zone, OpenFault>
     requires autocommit { conn.old.in_transaction ≡ false }
     ensures autocommit { conn.new.in_transaction ≡ false }
@@ -147,10 +147,13 @@ fn open_as<S: Alter>(conn: &mut Connection<S>, found: Layout) -> Result<Zone, Op
     }
 }
 
-/// Opens a file, and answers its zone. A file of version 1 or 2 is brought to version 3 in one transaction, whose commit is
-/// the last call of the database; each meter of version 1 has a counter that turns over at 2^32. Faults: `NotOurs` where a
-/// transaction is under way, where the tables aren't those of version 1, 2 or 3 by their names and order, or where the file
-/// tells another version than its tables'; `Zone` where the file's zone is none. After a fault the file is as it was.
+/// Opens a file, and returns its time zone. Upgrades a file of version 1 or 2 to version 3 in one
+/// transaction, whose commit is the last call of the database. Each meter of version 1 gets a
+/// counter that rolls over at 2^32.
+///
+/// Faults: `NotOurs` if a transaction is open, or if `meta` has another version than the tables.
+/// Also `NotOurs` if the tables don't have the names of version 1, 2 or 3 in their order. `Zone` if
+/// the file's zone is invalid. After a fault the file is unchanged.
 #[tactic(auto, using(crate::proofs::Brought::untouched))]
 pub fn open<S: Alter>(conn: &mut Connection<S>) -> Result<Zone, OpenFault>
     ensures busy { IsTrue conn.old.in_transaction

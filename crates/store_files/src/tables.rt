@@ -1,4 +1,4 @@
-//! The texts that make the tables, in order.
+//! The CREATE TABLE statements, in order.
 ghost use Rattle.sqlite.specs.Held.{state};
 ghost use Rattle.store_tables.specs.Steps.{StepsTo, IsSameBorrow};
 ghost use Rattle.store_files.specs.Growing.{Grows};
@@ -148,7 +148,7 @@ pub(crate) fn create_voids<S: Alter>(tx: &mut Transaction<'_, S>) -> Result<usiz
     )
 }
 
-/// The tables of the file, of devices, points and registers.
+/// Creates `meta`, and the tables of devices, points and registers.
 fn create_lists<S: Alter>(tx: &mut Transaction<'_, S>) -> Result<usize, Error>
     ensures same_reference { IsSameBorrow tx.old.conn tx.new.conn }
     ensures does { StepsTo (state S.Store tx.old.conn.now) (state S.Store tx.new.conn.now) result
@@ -160,7 +160,7 @@ fn create_lists<S: Alter>(tx: &mut Transaction<'_, S>) -> Result<usize, Error>
     create_registers(tx)
 }
 
-/// The tables of installations, entries, polls and held readings.
+/// Creates the tables of installations, entries, polls and rejected readings.
 fn create_meters<S: Alter>(tx: &mut Transaction<'_, S>) -> Result<usize, Error>
     ensures same_reference { IsSameBorrow tx.old.conn tx.new.conn }
     ensures does { StepsTo (state S.Store tx.old.conn.now) (state S.Store tx.new.conn.now) result
@@ -172,7 +172,7 @@ fn create_meters<S: Alter>(tx: &mut Transaction<'_, S>) -> Result<usize, Error>
     create_holds(tx)
 }
 
-/// The tables of outcomes, interval rows and kept requests.
+/// Creates the tables of outcomes, interval rows and kept requests.
 fn create_answers<S: Alter>(tx: &mut Transaction<'_, S>) -> Result<usize, Error>
     ensures same_reference { IsSameBorrow tx.old.conn tx.new.conn }
     ensures does { StepsTo (state S.Store tx.old.conn.now) (state S.Store tx.new.conn.now) result
@@ -183,7 +183,7 @@ fn create_answers<S: Alter>(tx: &mut Transaction<'_, S>) -> Result<usize, Error>
     create_replies(tx)
 }
 
-/// The tables of version 1.
+/// Creates the tables of version 1.
 fn create_first<S: Alter>(tx: &mut Transaction<'_, S>) -> Result<usize, Error>
     ensures same_reference { IsSameBorrow tx.old.conn tx.new.conn }
     ensures does { StepsTo (state S.Store tx.old.conn.now) (state S.Store tx.new.conn.now) result
@@ -194,7 +194,7 @@ fn create_first<S: Alter>(tx: &mut Transaction<'_, S>) -> Result<usize, Error>
     create_answers(tx)
 }
 
-/// The tables that versions 2 and 3 brought.
+/// Creates the tables that versions 2 and 3 added.
 pub(crate) fn create_last<S: Alter>(tx: &mut Transaction<'_, S>) -> Result<usize, Error>
     ensures same_reference { IsSameBorrow tx.old.conn tx.new.conn }
     ensures does { StepsTo (state S.Store tx.old.conn.now) (state S.Store tx.new.conn.now) result
@@ -204,7 +204,7 @@ pub(crate) fn create_last<S: Alter>(tx: &mut Transaction<'_, S>) -> Result<usize
     create_voids(tx)
 }
 
-/// All tables.
+/// Creates all tables.
 pub(crate) fn create_tables<S: Alter>(tx: &mut Transaction<'_, S>) -> Result<usize, Error>
     ensures same_reference { IsSameBorrow tx.old.conn tx.new.conn }
     ensures does { StepsTo (state S.Store tx.old.conn.now) (state S.Store tx.new.conn.now) result

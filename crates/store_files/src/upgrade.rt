@@ -1,4 +1,4 @@
-//! How a file of an earlier version is brought to version 3.
+//! Upgrading a file of an earlier version to version 3.
 ghost use Rattle.std.specs.Prelude.{◌≡◌, false, IfOk, OnErr, string_bytes};
 ghost use Rattle.sqlite.specs.Order.{column};
 ghost use Rattle.sqlite.specs.declared.types.Value.TheVariants.{Text};
@@ -17,7 +17,7 @@ use crate::tables::{create_last, create_voids};
 use sqlite::{Alter, Connection, Error, Row, Transaction};
 use store_tables::insert_range;
 
-/// The meters of a file of version 1.
+/// Queries the meters of a file of version 1.
 fn meter_rows<S: Alter>(conn: &mut Connection<S>) -> Result<Vec<Row>, Error>
     ensures clean { HasCleanDisk (state S.Store conn.new) → HasCleanDisk (state S.Store conn.old) }
     ensures mode { conn.old.in_transaction ≡ false → conn.new.in_transaction ≡ false }
@@ -34,14 +34,14 @@ fn meter_rows<S: Alter>(conn: &mut Connection<S>) -> Result<Vec<Row>, Error>
     conn.query_all("SELECT meter FROM installations", &[])
 }
 
-/// The meter of a row.
+/// Reads the meter of a row.
 fn meter_in(row: &Row) -> Result<String, Error>
     ensures { IfOk result (λ meter. column row.now 0 ≡ Text (string_bytes meter)) }
 {
     row.get(0)
 }
 
-/// The range of a counter that turns over at 2^32, for the meter of each row.
+/// Inserts a range of 2^32 for the meter of each row.
 fn give_ranges<S: Alter>(tx: &mut Transaction<'_, S>, meters: &[Row]) -> Result<(), Error>
     ensures same_reference { IsSameBorrow tx.old.conn tx.new.conn }
     ensures does { Steps (state S.Store tx.old.conn.now) (state S.Store tx.new.conn.now) result
@@ -73,7 +73,7 @@ fn bring_second<S: Alter>(tx: &mut Transaction<'_, S>) -> Result<usize, Error>
     set_version(tx)
 }
 
-/// Ranges and voids, and the version, or nothing.
+/// Adds `ranges` and `voids` and sets the version, in one transaction.
 fn add_ranges<S: Alter>(conn: &mut Connection<S>, meters: &[Row]) -> Result<(), Error>
     requires autocommit { conn.old.in_transaction ≡ false }
     ensures autocommit { conn.new.in_transaction ≡ false }
@@ -85,7 +85,7 @@ fn add_ranges<S: Alter>(conn: &mut Connection<S>, meters: &[Row]) -> Result<(), 
     tx.commit()
 }
 
-/// Voids and the version, or nothing.
+/// Adds `voids` and sets the version, in one transaction.
 fn add_voids<S: Alter>(conn: &mut Connection<S>) -> Result<(), Error>
     requires autocommit { conn.old.in_transaction ≡ false }
     ensures autocommit { conn.new.in_transaction ≡ false }
@@ -97,7 +97,7 @@ fn add_voids<S: Alter>(conn: &mut Connection<S>) -> Result<(), Error>
     tx.commit()
 }
 
-/// A file of version 1 becomes one of version 3, or stays.
+/// Upgrades a file of version 1 to version 3, or leaves it unchanged.
 fn open_first<S: Alter>(conn: &mut Connection<S>) -> Result<(), Error>
     requires autocommit { conn.old.in_transaction ≡ false }
     ensures autocommit { conn.new.in_transaction ≡ false }
@@ -110,7 +110,8 @@ fn open_first<S: Alter>(conn: &mut Connection<S>) -> Result<(), Error>
     add_ranges(conn, &meters)
 }
 
-/// A file of any version becomes one of version 3, or stays. The commit is the last call of the database.
+/// Upgrades a file of any version to version 3, or leaves it unchanged. The commit is the last call
+/// of the database.
 pub(crate) fn bring<S: Alter>(conn: &mut Connection<S>, layout: Layout) -> Result<(), Error>
     requires autocommit { conn.old.in_transaction ≡ false }
     ensures autocommit { conn.new.in_transaction ≡ false }

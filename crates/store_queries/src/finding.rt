@@ -1,4 +1,4 @@
-//! What the tables of the books answer of the facts that they hold.
+//! Queries for devices, lists, registers, polls, kept requests and the latest time.
 
 mod device_rows;
 mod kept;

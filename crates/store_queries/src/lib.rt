@@ -1,4 +1,5 @@
-//! What is looked up in the tables: devices, lists and polls, and meters, entries and quarter hours.
+//! Queries over the tables of the store: devices, lists and polls, and meters, entries and quarter
+//! hours.
 #![tactic(auto)]
 
 mod finding;

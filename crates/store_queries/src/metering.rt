@@ -1,4 +1,4 @@
-//! Look-ups of meters over the tables of the books.
+//! Queries for meters, entries, quarter hours and rejected readings.
 
 mod around;
 mod entries;

@@ -1,4 +1,4 @@
--- What UPDATE and DELETE make of the rows of a table.
+-- The rows of a table after UPDATE and DELETE.
 use Rattle.std.proofs.Common.{◌≡◌, inl, inr, ℤ, List, [], ◌∷◌, ◌++◌, map, filter, flat_map, Bool, true, false, cond, not, ◌&&◌, ◌||◌, refl, sym, ap, subst, ◌∙◌, arith, ◌<ℤ◌, if◌then◌else◌}
 use Rattle.std.specs.List.{AllByRecursion, IsDistinct, list_any}
 use Rattle.std.specs.List.Sorted.{IsPermutation}
@@ -68,7 +68,7 @@ module _ (p : Row → Bool) where
   abbrev chosen : List Row → List ℤ
   chosen rows = ids_of (filter p rows)
 
-  -- the rowid of another row picks none of these
+  -- The rowid of another row selects none of these rows.
   none_of : (r : Row) (rows : List Row) → rowid r ≡ Int (id_of r) → AllByRecursion (λ y. same_id (id_of r) y ≡ false) (map id_of rows) → picks (chosen rows) r ≡ false
   none_of r [] keyed apart = refl
   none_of r (s ∷ rows) keyed apart = elim (cases_Bool (p s)) [
@@ -110,7 +110,7 @@ same_picks : (ids more : List ℤ) (rows : List Row) → IsPermutation ids more 
 same_picks ids more [] same = tt
 same_picks ids more (r ∷ rows) same = (sym (list_any-IsPermutation (λ id. has_rowid id r) ids more same), same_picks ids more rows same)
 
--- the rows that stay are those that were not chosen
+-- The remaining rows are those that were not chosen.
 pub left_are : (p : Row → Bool) (rows : List Row) (ids : List ℤ) → AreApart rows → IsPermutation (ids_of (filter p rows)) ids → without_all rows ids ≡ filter (λ r. not (p r)) rows
 left_are p rows ids apart same =
     without_is rows ids ∙ (same_filter (picks ids) (picks (ids_of (filter p rows))) rows (same_picks (ids_of (filter p rows)) ids rows same)
@@ -159,7 +159,7 @@ module _ (p : Row → Bool) (f : Row → Row) where
       IsPermutation-sym _ _ (subst (IsPermutation (map changed rows)) (both ∙ (ap (λ xs. xs ++ map changed (filter (λ r. not (p r)) rows)) (chosen_change rows) ∙ ap (λ ys. map f (filter p rows) ++ ys) (others_stay rows)))
       (IsPermutation-map changed rows (filter p rows ++ filter (λ r. not (p r)) rows) (IsPermutation-filter_both p (λ r. not (p r)) (λ r. refl) rows)))
 
-  -- The news are what f makes of the chosen rows, in any order, and come in the place of those.
+  -- The new rows are `f` of the chosen rows, in any order, and replace the chosen rows.
   pub edited_rows : (rows news : List Row) (ids : List ℤ) → AreApart rows → IsPermutation (ids_of (filter p rows)) ids → IsPermutation (map f (filter p rows)) news → are_fresh (without_all rows ids) news ≡ true
       → IsPermutation (map changed rows) (put_all (without_all rows ids) news)
   edited_rows rows news ids apart same_ids same_news fresh =

@@ -1,4 +1,4 @@
--- Why the store answers an error to a question.
+-- Why a query of the store fails.
 use Rattle.std.proofs.Common.{◌≡◌, ◌⊎◌, inl, inr, ℕ, ◌≤◌, List, [], ◌∷◌, length, false, true, Option, Ok, Err, Result, IfOk, IfErr, IsErrAnd, MatchResult, nat_le, IsTrue, IsSome, codes, refl, sym, ap, subst, ◌∙◌, arith, append-nil}
 use Rattle.std.proofs.lemmas.Bool.{leb-true, cases_Bool}
 use Rattle.sqlite.specs.Order.{Row}
@@ -29,7 +29,7 @@ use Rattle.store_tables.specs.declared.faults.RowFault.TheVariants.{Sql, Damaged
 use Rattle.store_tables.specs.Failing.{HasFailed, IsStoreError, IsFault, IsRowFault, StateAfterCall}
 use Rattle.store_tables.proofs.Scans.{scan}
 
--- the text is one statement with so many parameters
+-- The text is one complete statement with this number of parameters.
 abbrev pub IsWhole : (sql : List ℕ) → (count : ℕ) → Result Compiled CompileError → Type 0
 IsWhole sql count (Ok c) = IsTrue (nat_le (length sql) c.tail) × (length c.names ≡ count) × (c.formats ≡ [])
 IsWhole sql count (Err e) = ⊥
@@ -61,14 +61,14 @@ pub probe_whole : (schema : Schema) → IsWhole (codes "SELECT 1") 0 (understood
 unfolding understood everything
 probe_whole schema = (refl, refl, refl)
 
--- what is said of an error is said of the one that is passed on
+-- A property of an error also applies to the error that is passed on.
 pub passed : {X E : Type 0} (P : E → Type 0) (e : E) (r : Result X E) → IsErrAnd r (λ d. d ≡ e) → P e → IfErr r P
 passed P e (Ok x) fails h = absurd fails
 passed P e (Err d) fails h = subst P (sym fails) h
 
 -- ---- queries
 
--- The text asks a question that tables of this schema can answer, with these parameters.
+-- The text is a query that a database of this schema can answer, with these parameters.
 pub record Suits (schema : Schema) (sql : List ℕ) (params : Row) : Type 0 where
   pub query : Query
   pub names : List (List ℕ)
@@ -124,12 +124,12 @@ module _ (schema : Schema) (sql : List ℕ) (params : Row) (suits : Suits schema
       let bare = subst IsPlain (sym known) suits.plain in
       absurd (let f = subst IsSome bare.0 late.2 in cc)
 
--- an answer is told, or why there is none
+-- From a weaker answer and a weaker error to a result.
 pub told : {A : Type 0} (r : Result A Error) (P Q : A → Type 0) (R T : Error → Type 0) → ((a : A) → P a → Q a) → ((e : Error) → R e → T e) → IfOk r P → IfErr r R → MatchResult r Q T
 told (Ok a) P Q R T tells fails ok err = tells a ok
 told (Err e) P Q R T tells fails ok err = fails e err
 
--- a question was refused, whatever it was to tell
+-- The result of a failed query.
 pub failed_on : {A : Type 0} (P : A → Type 0) (Q : Error → Type 0) (e : Error) (r : Result A Error) → IsErrAnd r (λ d. d ≡ e) → Q e → MatchResult r P Q
 failed_on P Q e (Ok a) fails h = absurd fails
 failed_on P Q e (Err d) fails h = subst Q (sym fails) h
@@ -140,7 +140,7 @@ pub on_err : {X E : Type 0} {P Q : E → Type 0} (r : Result X E) → ((e : E) �
 on_err (Ok x) f h = tt
 on_err (Err e) f h = f e h
 
--- nothing was asked, or one call went by
+-- The state after no call.
 pub still_goes : (a : State) → StateAfterCall a a
 still_goes a = record { faults = omega arith; closes = λ is. inl is; limit = refl }
 
@@ -157,7 +157,7 @@ goes_then a b c one two = record {
   limit = two.limit ∙ one.limit;
 }
 
--- a store that failed since had failed before it is asked again
+-- If the store has failed between `b` and `c`, it has failed between `a` and `c`.
 pub later_failed : (a b c : State) → StateAfterCall a b → b.faults ≤ c.faults → HasFailed b c → HasFailed a c
 later_failed a b c goes up (inr more) = inr (let first = goes.faults in omega arith)
 later_failed a b c goes up (inl shut) = elim (cases_Bool a.is_open) [
@@ -177,12 +177,12 @@ pub later_fault : (a b c : State) (Sound : Type 0) (f : RowFault) → StateAfter
 later_fault a b c Sound (Sql e) goes up why = later_error a b c e goes up why
 later_fault a b c Sound Damaged goes up why = why
 
--- what is sound has a part that is
+-- A fault of a part is a fault of the whole.
 pub less_fault : (a b : State) (Sound Part : Type 0) (f : RowFault) → (Sound → Part) → IsFault a b Part f → IsFault a b Sound f
 less_fault a b Sound Part (Sql e) part why = why
 less_fault a b Sound Part Damaged part not = λ sound. not (part sound)
 
--- a row that was answered is not read
+-- The fault of a row is a fault of the look-up.
 pub row_fault : (a b : State) (Sound One : Type 0) (f : RowFault) → (Sound → One) → IsRowFault One f → IsFault a b Sound f
 row_fault a b Sound One (Sql e) part why = inl why
 row_fault a b Sound One Damaged part not = λ sound. not (part sound)

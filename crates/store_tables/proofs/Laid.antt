@@ -1,4 +1,4 @@
--- The stored rows of a table, and what they stand for.
+-- The stored rows of a table, and the values that they encode.
 use Rattle.std.proofs.Common.{◌≡◌, inl, inr, ℤ, List, [], ◌∷◌, map, filter, Bool, true, false, not, if◌then◌else◌, refl, sym, ap, ap₂, ◌∙◌, subst, IsPermutation}
 use Rattle.std.specs.List.{AllByRecursion}
 use Rattle.std.proofs.lemmas.Bool.{cases_Bool}
@@ -11,7 +11,7 @@ use Rattle.store_tables.specs.Content.{told, id_of, changed_where, without_where
 use Rattle.store_tables.proofs.Permuted.{unmapped}
 use Rattle.store_tables.proofs.Edits.{changed}
 
--- the stored row of some columns
+-- The stored row of some columns.
 abbrev pub laid : Bool → ℤ → Row → Row
 laid true n columns = columns
 laid false n columns = Int n ∷ columns
@@ -27,7 +27,7 @@ module _ {X : Type 0} (numbered : Bool) (columns : X → Row) where
   abbrev pub lay : Numbered X → Row
   lay z = laid numbered z.0 (columns z.1)
 
-  -- the stored rows stand for these, in any order
+  -- The stored rows encode these values, in any order.
   pub record IsLaid (kept : List Row) (xs : List X) : Type 0 where
     pub all : List (Numbered X)
     pub rows : kept ≡ map lay all
@@ -73,7 +73,7 @@ module _ {X : Type 0} (numbered : Bool) (columns : X → Row) where
   laid_more rows xs n x h = record { all = (n, x) ∷ h.all; rows = ap (λ rs. laid numbered n (columns x) ∷ rs) h.rows; same = IsPermutation-cons x _ _ h.same }
 
   module _ (test : Row → Bool) (p : X → Bool) (tells : (n : ℤ) (x : X) → test (laid numbered n (columns x)) ≡ p x) where
-    -- the rows that pass are those that are to pass
+    -- The test on stored rows selects the rows of the values that pass.
     chosen : (all : List (Numbered X)) → filter test (map lay all) ≡ map lay (filter (λ (z : Numbered X). p z.1) all)
     chosen [] = refl
     chosen (z ∷ all) = elim (cases_Bool (p z.1)) [

@@ -13,12 +13,12 @@ use Rattle.store_tables.specs.Failing.{IsRowFault}
 use Rattle.store_tables.specs.Columns.{whole_in, within, is_within, function_in, or_damaged, and_then}
 use Rattle.store_tables.specs.Asking.{ReadsRow}
 
--- It reads as this, and is damaged only where it is unsound.
+-- The result has the property `Is`, or reports damage only if the row is not sound.
 pub record IsFair {A : Type 0} (Sound : Type 0) (Is : A → Type 0) (result : Result A RowFault) : Type 0 where
   pub read : IfOk result Is
   pub fault : IfErr result (IsRowFault Sound)
 
--- what is not sound has a part that is not
+-- A row with an unsound part is not sound.
 pub less_sound : (Sound Part : Type 0) → (Sound → Part) → (e : RowFault) → IsRowFault Part e → IsRowFault Sound e
 less_sound Sound Part part (Sql e) is = is
 less_sound Sound Part part Damaged not = λ sound. not (part sound)
@@ -28,7 +28,7 @@ module _ {A B : Type 0} (Sound : Type 0) (Is : B → Type 0) (next : A → Resul
   tested true x sound rest = rest
   tested false x sound rest = record { read = tt; fault = λ is. let f = sound is in cc }
 
-  -- a column that is read as it is
+  -- A column that is in its range.
   pub fair_some : (o : Option A) (x : A) → o ≡ Some x → IsFair Sound Is (next x) → IsFair Sound Is (and_then (or_damaged o) next)
   fair_some o x is rest = rw is rest
 
@@ -37,7 +37,7 @@ both true b e f = f
 both false b e f = absurd (let g = e in cc)
 
 module _ {B : Type 0} (Sound : Type 0) (Is : B → Type 0) where
-  -- a whole number within its bounds, and a number within its bound
+  -- An integer within its bounds.
   pub fair_whole : (next : ℕ → Result B RowFault) (low high n : ℕ) → (Sound → (low ≤ n) × (n ≤ high)) → IsFair Sound Is (next n) → IsFair Sound Is (and_then (or_damaged (whole_in low high (Int (pos n)))) next)
   fair_whole next low high n sound rest = tested Sound Is next (nat_le low n && nat_le n high) n (λ is. both _ _ (le-leb low n (sound is).0) (le-leb n high (sound is).1)) rest
 
@@ -48,23 +48,23 @@ module _ {B : Type 0} (Sound : Type 0) (Is : B → Type 0) where
   if_fair true x sound is = record { read = is; fault = tt }
   if_fair false x sound is = record { read = tt; fault = λ s. let f = sound s in cc }
 
-  -- a part of the row that is read by itself
+  -- A part of the row that has its own reader.
   pub fair_then : {A : Type 0} (Part : Type 0) (a : A) (first : Result A RowFault) (next : A → Result B RowFault) → (Sound → Part) → IsFair Part (λ x. x ≡ a) first → IsFair Sound Is (next a) → IsFair Sound Is (and_then first next)
   fair_then Part a (Ok x) next part one rest = subst (λ y. IsFair Sound Is (next y)) (sym one.read) rest
   fair_then Part a (Err e) next part one rest = record { read = tt; fault = less_sound Sound Part part e one.fault }
 
--- the last number of a row
+-- The last integer of a row.
 pub fair_last : (Sound : Type 0) (Is : ℕ → Type 0) (low high n : ℕ) → (Sound → (low ≤ n) × (n ≤ high)) → Is n → IsFair Sound Is (or_damaged (whole_in low high (Int (pos n))))
 fair_last Sound Is low high n sound is = if_fair Sound Is (nat_le low n && nat_le n high) n (λ s. both _ _ (le-leb low n (sound s).0) (le-leb n high (sound s).1)) is
 
--- a part that was read
+-- If both parts were read, the first part was read.
 pub then_read : {A B : Type 0} (first : Result A RowFault) (next : A → Result B RowFault) (b : B) → and_then first next ≡ Ok b → (a : A) × (first ≡ Ok a) × (next a ≡ Ok b)
 then_read (Ok a) next b e = (a, refl, e)
 then_read (Err f) next b e = absurd (let g = e in cc)
 
 -- ---- what was read is within its bounds
 
--- a number that was read, and the rest of the row
+-- A value was read, and then the remaining columns.
 pub record HasRead {X B : Type 0} (o : Option X) (next : X → Result B RowFault) (b : B) : Type 0 where
   pub value : X
   pub is : o ≡ Some value

@@ -29,7 +29,7 @@ no_limit = lit (Int (negsuc 0))
 abbrev pub one : Term
 one = lit (Int (pos 1))
 
--- a column is a parameter, and the orders of ORDER BY
+-- The test that a column equals a parameter.
 abbrev pub is_param : (column param : ℕ) → Term
 is_param column param = op2 (Compare Eq Binary) (col 1 column) (col 0 param)
 
@@ -53,7 +53,7 @@ scan tree tests project order limit = record {
   offset = lit (Int (pos 0));
 }
 
--- no table is computed first
+-- The query has no common table expression.
 pub overlay_none : (db : Trees) (tree : ℕ) → overlay db [] tree ≡ db tree
 overlay_none db tree = elim (cases_Bool (nat_le (2 ^ 31) tree)) [
   | inl high ↦ rw high refl
@@ -64,7 +64,7 @@ module _ (params : Row) where
   abbrev pub env : Row → Env
   env r = params ∷ r ∷ []
 
-  -- the row passes WHERE, and what the query shows of it
+  -- Whether a row passes WHERE.
   abbrev pub passes : List Term → Row → Bool
   passes tests r = list_all (holds (env r)) tests
 
@@ -79,7 +79,7 @@ module _ (params : Row) where
     outputs_are [] = refl
     outputs_are (r ∷ rows) = ap (λ os. output query (env r) ∷ os) (outputs_are rows)
 
-    -- what is kept, before it is ordered
+    -- The rows that pass, before they are ordered.
     pub kept_are : (db : Trees) (rows : List Row) (a : IsAnswer query (overlay db []) params rows) → a.kept ≡ map (λ r. output query (env r)) (filter (passes tests) (db tree))
     kept_are db rows a = a.distinct ∙ (ap (map (output query)) (a.grouped ∙ (ap (flat_map (λ r. cond (passes tests r) (env r ∷ []) [])) (overlay_none db tree) ∙ picked (passes tests) env (db tree))) ∙ outputs_are (filter (passes tests) (db tree)))
 
@@ -87,7 +87,7 @@ module _ (params : Row) where
     shown_are [] = refl
     shown_are (r ∷ rows) = ap (λ rs. shows project r ∷ rs) (shown_are rows)
 
--- without ORDER BY and LIMIT, as UPDATE and DELETE ask
+-- A query without ORDER BY and LIMIT, as in UPDATE and DELETE.
 pub asked : (params : Row) (tree : ℕ) (tests project : List Term) (db : Trees) (rows : List Row) → IsAnswer (scan tree tests project [] no_limit) (overlay db []) params rows
     → IsPermutation (map (shows params project) (filter (passes params tests) (db tree))) rows
 asked params tree tests project db rows a =

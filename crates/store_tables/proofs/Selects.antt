@@ -1,4 +1,4 @@
--- What a SELECT from one table answers.
+-- The answer of a SELECT from one table.
 use Rattle.std.proofs.Common.{◌≡◌, ◌≤◌, ◌<ℤ◌, ℕ, ℤ, suc, pos, List, [], ◌∷◌, map, filter, drop, take, length, Bool, true, false, Option, Some, None, option_map, slice_get, Ordering, Less, Equal, Greater, is_lt, is_gt, refl, sym, ap, subst, ◌∙◌, arith, IsPermutation, IsSorted}
 use Rattle.std.specs.List.{AllByRecursion}
 use Rattle.std.specs.Cmp.{IsTotalOrder}
@@ -89,7 +89,7 @@ module _ {X : Type 0} (tree : ℕ) (tests project : List Term) (order : List (Te
         a.shown ∙ ap (page query params) (ap (map (λ (o : Output). o.1)) moved.2 ∙ shown_all moved.0),
       )
 
-  -- a text with this meaning, over the tables of the books
+  -- A text with this meaning, over the tables of the store.
   pub selects : (old new : State) (text : List ℕ) (names : List (List ℕ)) (content : Content) (xs : List X) (rows : List Row) → HasTree books_schema.tables tree → AreTables old.now content → HasRows tree columns xs content
       → command_of (understood books_schema text) ≡ Select (record { lets = []; body = query }) names → reads_listing books_schema text ≡ false → IsPlain (understood books_schema text)
       → Shown text params old new rows → (found : List X) × AreFound p R xs found × (rows ≡ page query params (map shown found))
@@ -124,6 +124,6 @@ not_above a b Less h e = omega (arith, ints)
 not_above a b Equal h e = omega (arith, ints)
 not_above a b Greater h e = absurd (let f = e in cc)
 
--- ORDER BY one column of numbers
+-- ORDER BY one column of integers.
 pub in_order : (a b : ℕ) → is_gt (ordering_then (value_cmp (Int (pos a)) (Int (pos b))) Equal) ≡ false → a ≤ b
 in_order a b e = not_above a b (int_cmp (pos a) (pos b)) (int_ranks (pos a) (pos b)) (sym (ap is_gt (then-Equal _ ∙ value_cmp-Int (pos a) (pos b))) ∙ e)

@@ -1,4 +1,4 @@
--- One table of a database is written, and the others stay.
+-- A write to one table leaves the other tables unchanged.
 use Rattle.std.proofs.Common.{◌≡◌, ◌≢◌, ◌⊎◌, inl, inr, ℕ, ℤ, List, [], map, flat_map, length, ◌==◌, Bool, true, false, cond, Ok, Err, Result, refl, sym, ap, subst, ◌∙◌, IsPermutation}
 use Rattle.std.specs.List.{filter_map}
 use Rattle.std.proofs.lemmas.List.Sorted.{IsPermutation-refl}
@@ -34,7 +34,7 @@ pub cast_null : cast Integer Null ≡ Null
 unfolding unary
 cast_null = either _ Null
 
--- a rowid stays what it is
+-- A cast keeps a rowid.
 pub rowid_stays : (r : Row) → rowid r ≡ Int (id_of r) → cast Integer (rowid r) ≡ rowid r
 rowid_stays r keyed = ap (cast Integer) keyed ∙ (cast_int (id_of r) ∙ sym keyed)
 
@@ -45,7 +45,7 @@ went (inr on) = on
 pub same_value : {B E : Type 0} {a b : B} → ◌≡◌ {A = Result B E} (Ok a) (Ok b) → a ≡ b
 same_value e = cc
 
--- No reference of the books acts, whatever rows of whatever table change or go.
+-- No foreign key of the store changes rows, for any change or deletion of rows.
 acts_not : (k : ℕ) (deletes : Bool) (olds news : List Row)
     → flat_map (λ (child : Table). filter_map (λ (ref : Reference). work_by 0 k (pairs olds news) child ref (deed_for Enforced deletes ref) (parent_key books_schema.tables ref)) child.references) books_schema.tables ≡ []
 acts_not k true olds news = refl
@@ -54,7 +54,7 @@ acts_not k false olds news = refl
 pub nothing_acts : (k : ℕ) (olds news : List Row) → works books_schema Enforced 0 k olds news ≡ []
 nothing_acts k olds news = acts_not k (length news == 0) olds news
 
--- The table has other rows, and nothing else is another.
+-- One table has other rows, and everything else is unchanged.
 pub record Rewrites (form : Schema) (k : ℕ) (old new : Database) : Type 0 where
   pub schema : new.schema ≡ form
   pub sound : IsDatabase new

@@ -1,4 +1,4 @@
--- What an UPDATE and a DELETE do.
+-- The effect of an UPDATE and of a DELETE.
 use Rattle.std.proofs.Common.{◌≡◌, ℕ, ℤ, List, [], ◌∷◌, map, filter, drop, Bool, not, Some, None, Ok, Err, Result, OnOk, refl, sym, ap, subst, ◌∙◌, slice_get, IsPermutation}
 use Rattle.std.proofs.lemmas.List.Sorted.{IsPermutation-map}
 use Rattle.sqlite.specs.declared.types.Value.TheVariants.{Null, Int}
@@ -63,7 +63,7 @@ module _ (t : Table) (at : ℕ) (place : slice_get books_schema.tables at ≡ So
     news_are [] = refl
     news_are (r ∷ rows) = ap (λ rs. made r ∷ rs) (news_are rows)
 
-    -- the rows that pass are changed, and keep their rowids
+    -- The rows that pass are changed, and keep their rowids.
     record Changes (old new : Database) : Type 0 where
       rewrites : Rewrites books_schema k old new
       rows : AreApart (old.trees k) → IsPermutation (map (changed chosen made) (old.trees k)) (new.trees k)
@@ -121,7 +121,7 @@ module _ (t : Table) (at : ℕ) (place : slice_get books_schema.tables at ≡ So
   gone_are [] = refl
   gone_are (r ∷ rows) = ap (λ ids. id_of r ∷ ids) (gone_are rows)
 
-  -- the rows that pass are gone
+  -- The rows that pass are deleted.
   record Goes (old new : Database) : Type 0 where
     rewrites : Rewrites books_schema k old new
     rows : AreApart (old.trees k) → new.trees k ≡ filter (λ r. not (chosen r)) (old.trees k)

@@ -1,4 +1,4 @@
--- A value of a row as a number or a text within its bounds.
+-- Readers of one value of a row, within bounds.
 use Rattle.std.specs.Prelude.{ℕ, suc, ℤ, pos, negsuc, Bool, nat_le, ◌&&◌, ◌==◌, if◌then◌else◌, List, Option, Some, None, Result, Ok, Err}
 use Rattle.std.specs.List.{slice_get}
 use Rattle.std.specs.Option.{option_and_then}
@@ -10,7 +10,7 @@ use Rattle.sqlite.specs.declared.types.Value.TheVariants.{Null, Int, Real, Text,
 use Rattle.store_tables.specs.declared.faults.RowFault.{RowFault}
 use Rattle.store_tables.specs.declared.faults.RowFault.TheVariants.{Damaged}
 
--- a whole number from low to high
+-- An integer from `low` to `high`.
 abbrev pub whole_in : (low high : ℕ) → Value → Option ℕ
 whole_in low high (Int (pos n)) = if nat_le low n && nat_le n high then Some n else None
 whole_in low high (Int (negsuc n)) = None
@@ -19,12 +19,12 @@ whole_in low high (Real x) = None
 whole_in low high (Text t) = None
 whole_in low high (Blob b) = None
 
--- from -bound to bound
+-- Whether an integer is from `-bound` to `bound`.
 abbrev pub is_within : (bound : ℕ) → ℤ → Bool
 is_within bound (pos n) = nat_le n bound
 is_within bound (negsuc n) = nat_le (suc n) bound
 
--- a number from -bound to bound
+-- An integer from `-bound` to `bound`.
 abbrev pub within : (bound : ℕ) → Value → Option ℤ
 within bound (Int n) = if is_within bound n then Some n else None
 within bound Null = None
@@ -32,29 +32,32 @@ within bound (Real x) = None
 within bound (Text t) = None
 within bound (Blob b) = None
 
--- a function by which registers are read
+-- The Modbus read function with this code.
 abbrev pub function_of : ℕ → Option ReadFunction
 function_of code =
     if code == 3 then Some HoldingRegisters else if code == 4 then Some InputRegisters else None
 
+-- The Modbus read function that a value encodes.
 abbrev pub function_in : Value → Option ReadFunction
 function_in v = option_and_then function_of (whole_in 3 4 v)
 
+-- The value, or damage if there is none.
 abbrev pub or_damaged : {X : Type 0} → Option X → Result X RowFault
 or_damaged None = Err Damaged
 or_damaged (Some x) = Ok x
 
--- the next column, unless this one is damaged
+-- Continues with the next column, unless this column is damaged.
 abbrev pub and_then : {X Y : Type 0} → Result X RowFault → (X → Result Y RowFault)
     → Result Y RowFault
 and_then (Err e) next = Err e
 and_then (Ok x) next = next x
 
--- the whole number in the first column of a row, if there is a row, and of the first of some rows
+-- The integer in the first column of a row, if there is a row.
 abbrev pub first_of : (low high : ℕ) → Option Row → Result (Option ℕ) RowFault
 first_of low high None = Ok None
 first_of low high (Some row) =
     and_then (or_damaged (whole_in low high (column row 0))) (λ n. Ok (Some n))
 
+-- The integer in the first column of the first row, if there is a row.
 abbrev pub first_in : (low high : ℕ) → List Row → Result (Option ℕ) RowFault
 first_in low high rows = first_of low high (slice_get rows 0)

@@ -1,4 +1,4 @@
--- What the tables hold.
+-- The rows of the tables, and the edits that statements make.
 use Rattle.std.specs.Prelude.{◌≡◌, ◌≢◌, ◌⊎◌, ℕ, ℤ, ◌==◌, Bool, true, false, List, [], ◌∷◌, map, drop, filter, not, if◌then◌else◌}
 use Rattle.std.specs.List.{list_any, AllByRecursion, IsDistinct}
 use Rattle.std.specs.List.Sorted.{IsPermutation}
@@ -12,32 +12,34 @@ use Rattle.sqlite.specs.Schema.{Schema}
 use Rattle.sqlite.specs.Effect.{Database, IsDatabase}
 use Rattle.store_tables.specs.Schema.{books_schema}
 
--- a table of these has this tree
+-- A table of the list has this tree number.
 abbrev pub HasTree : List Table → ℕ → Type 0
 HasTree [] t = ⊥
 HasTree (x ∷ xs) t = (t ≡ x.tree) ⊎ HasTree xs t
 
--- The rows of each table, by the number of its tree, in any order.
--- A row is its columns. Where its number is its rowid, it begins with that, and its own column has NULL.
+-- The rows of each table, by the table's tree number, in any order. If a table's integer primary
+-- key is its rowid, its rows begin with the rowid, and the key's own column is NULL.
 abbrev pub Content : Type 0
 Content = ℕ → List Row
 
--- the tables whose key is their rowid
+-- The tables whose primary key is their rowid.
 abbrev pub is_numbered : ℕ → Bool
 is_numbered t = list_any (λ n. n == t) (0 ∷ 1 ∷ 5 ∷ 7 ∷ 11 ∷ 12 ∷ 13 ∷ [])
 
--- a stored row without a rowid that no one gave it
+-- The columns of a stored row, without a rowid that SQLite chose.
 abbrev pub told : Bool → Row → Row
 told true row = row
 told false row = drop 1 row
 
+-- The rowid of a stored row, as an integer.
 abbrev pub id_of : Row → ℤ
 id_of r = id_in (rowid r)
 
+-- Whether two rowids are equal.
 abbrev pub same_id : ℤ → ℤ → Bool
 same_id x y = is_eq (int_cmp x y)
 
--- each row has a rowid, and no two have one
+-- Each row has a rowid, and no two rows have the same.
 pub record AreApart (rows : List Row) : Type 0 where
   pub keyed : AllByRecursion (λ r. rowid r ≡ Int (id_of r)) rows
   pub distinct : IsDistinct same_id (map id_of rows)
@@ -50,10 +52,11 @@ pub record AreTablesIn (form : Schema) (db : Database) (content : Content) : Typ
   pub apart : (t : ℕ) → HasTree form.tables t → AreApart (db.trees t)
   pub sound : IsDatabase db
 
+-- A database of the store's schema has these rows.
 abbrev pub AreTables : Database → Content → Type 0
 AreTables = AreTablesIn books_schema
 
--- one table has other rows
+-- The content with the rows of one table replaced.
 abbrev pub with_rows : ℕ → List Row → Content → Content
 with_rows k rows content t = if t == k then rows else content t
 
@@ -61,18 +64,20 @@ with_rows k rows content t = if t == k then rows else content t
 abbrev pub HasRows : {X : Type 0} → (tree : ℕ) → (columns : X → Row) → List X → Content → Type 0
 HasRows tree columns xs content = IsPermutation (map columns xs) (content tree)
 
--- Whatever rows the table had, it has what the edit makes of them. Every other table stays.
+-- The edit applies to all rows of one table. Every other table is unchanged.
 pub record Edits {X : Type 0} (tree : ℕ) (columns : X → Row) (edit : List X → List X)
     (content after : Content) : Type 0 where
   pub rows : (xs : List X) → HasRows tree columns xs content → HasRows tree columns (edit xs) after
   pub others : (t : ℕ) → t ≢ tree → after t ≡ content t
 
--- The three edits: a row comes, the rows that pass a test change, and those that pass it go.
+-- The three edits: add a row, change the rows that pass a test, delete the rows that pass a test.
 abbrev pub with_row : {X : Type 0} → X → List X → List X
 with_row x xs = x ∷ xs
 
+-- The rows that pass a test are changed.
 abbrev pub changed_where : {X : Type 0} → (X → Bool) → (X → X) → List X → List X
 changed_where p f xs = map (λ x. if p x then f x else x) xs
 
+-- The rows that pass a test are deleted.
 abbrev pub without_where : {X : Type 0} → (X → Bool) → List X → List X
 without_where p xs = filter (λ x. not (p x)) xs

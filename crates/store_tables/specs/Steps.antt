@@ -1,4 +1,4 @@
--- What a call leaves of a connection inside a transaction, and after one.
+-- The effect of a call inside a transaction, and of a complete transaction.
 use Rattle.std.specs.Prelude.{◌≡◌, Result, IsTrue, OnOk, OnErr}
 use Rattle.std.specs.Borrow.{MutBor}
 use Rattle.sqlite.specs.Effect.{Database}
@@ -7,19 +7,22 @@ use Rattle.sqlite.specs.State.{State, HasCleanDisk, KeepsCommit, Survives}
 use Rattle.store_tables.specs.Schema.{books_schema}
 use Rattle.store_tables.specs.Content.{Content, AreTablesIn}
 
--- the same borrow, known by its name: so whoever lent the connection finds in it what the call left
+-- The same borrow, by its ghost name: the lender of the connection gets back the state that the
+-- call left.
 abbrev pub IsSameBorrow : {X : Type 0} → MutBor X → MutBor X → Type 0
 IsSameBorrow old new = new.ghost_name ≡ old.ghost_name
 
--- the tables hold what is made of what they held
+-- The new tables have a content that `Makes` allows after the old content.
 abbrev pub TurnsIn : Schema → (Content → Content → Type 0) → Database → Database → Type 0
 TurnsIn schema Makes old new = (content : Content) → AreTablesIn schema old content
     → (after : Content) × Makes content after × AreTablesIn schema new after
 
+-- The same for databases of the store's schema.
 abbrev pub Turns : (Content → Content → Type 0) → Database → Database → Type 0
 Turns = TurnsIn books_schema
 
--- At Ok a step inside a transaction makes one database of another. Nothing is committed.
+-- A step inside a transaction. At Ok, `Goes` relates the new database to the old. Nothing is
+-- committed.
 pub record StepsTo {X E : Type 0} (old new : State) (result : Result X E)
     (Goes : Database → Database → Type 0) : Type 0 where
   pub kept : HasCleanDisk new → IsTrue old.in_transaction → KeepsCommit old new
@@ -28,12 +31,13 @@ pub record StepsTo {X E : Type 0} (old new : State) (result : Result X E)
   pub rows : HasCleanDisk new → IsTrue old.in_transaction → OnOk result (Goes old.now new.now)
   pub survives : Survives old new (λ _. ⊥)
 
--- At Ok the tables of the books hold what the step makes of what they held.
+-- At Ok, `Makes` relates the new content of the store's tables to the old content.
 abbrev pub Steps : {X E : Type 0} → State → State → Result X E → (Content → Content → Type 0)
     → Type 0
 Steps old new result Makes = StepsTo old new result (Turns Makes)
 
--- All is committed, or nothing is. A stop leaves what there was, or all.
+-- A complete transaction. Everything is committed, or nothing is. A crash leaves the old rows, or
+-- all changes.
 pub record TransactsTo {X E : Type 0} (old new : State) (result : Result X E)
     (Goes : Database → Database → Type 0) : Type 0 where
   pub ok : HasCleanDisk new
@@ -41,6 +45,8 @@ pub record TransactsTo {X E : Type 0} (old new : State) (result : Result X E)
   pub err : HasCleanDisk new → OnErr result (KeepsCommit old new)
   pub survives : Survives old new (λ trees. (db : Database) × Goes old.now db × (trees ≡ db.trees))
 
+-- A complete transaction after which `Makes` relates the new content of the store's tables to the
+-- old content.
 abbrev pub Transacts : {X E : Type 0} → State → State → Result X E → (Content → Content → Type 0)
     → Type 0
 Transacts old new result Makes = TransactsTo old new result (Turns Makes)

@@ -1,4 +1,4 @@
-//! Columns of a row that a query answered.
+//! Readers of single columns of a result row, which check type and range.
 ghost use Rattle.std.specs.Prelude.{◌≡◌, ◌≤◌, string_bytes, IsUtf8, IfOk, IfErr, IfSome};
 ghost use Rattle.sqlite.specs.declared.types.Value.TheVariants.{Text};
 ghost use Rattle.sqlite.specs.Order.{column};
@@ -11,7 +11,7 @@ use mb_wire::ReadFunction;
 use sqlite::types::ValueRef;
 use sqlite::{Error, ErrorCode, Row};
 
-/// A column that is a whole number from `low` to `high`.
+/// Reads a column as an integer from `low` to `high`.
 pub fn whole(row: &Row, at: usize, low: u64, high: u64) -> Result<u64, RowFault>
     ensures read { result ≡ or_damaged (whole_in low high (column row.now at)) }
     ensures bounds { IfOk result (λ n. (low ≤ n) × (n ≤ high)) }
@@ -32,7 +32,7 @@ pub fn whole(row: &Row, at: usize, low: u64, high: u64) -> Result<u64, RowFault>
     }
 }
 
-/// The whole number from `low` to `high` in the first column of the first of these rows, if there is a row.
+/// Reads the first column of the first row as an integer from `low` to `high`, if there is a row.
 pub fn first_whole(rows: &[Row], low: u64, high: u64) -> Result<Option<u64>, RowFault>
     ensures read { result ≡ first_in low high rows.now }
     ensures bounds { IfOk result (λ found. IfSome found (λ n. (low ≤ n) × (n ≤ high))) }
@@ -43,7 +43,7 @@ pub fn first_whole(rows: &[Row], low: u64, high: u64) -> Result<Option<u64>, Row
     }
 }
 
-/// A column that is a number from -3 to 3, as a SunSpec scale factor of these books.
+/// Reads a column as a SunSpec scale factor from -3 to 3, the range that the store keeps.
 pub fn scale(row: &Row, at: usize) -> Result<i16, RowFault>
     ensures { result ≡ or_damaged (within 3 (column row.now at)) }
 {
@@ -59,7 +59,7 @@ pub fn scale(row: &Row, at: usize) -> Result<i16, RowFault>
     }
 }
 
-/// A column that is a function by which registers are read, 3 or 4.
+/// Reads a column as the Modbus function code of a read: 3 or 4.
 pub fn function(row: &Row, at: usize) -> Result<ReadFunction, RowFault>
     ensures { result ≡ or_damaged (function_in (column row.now at)) }
 {
@@ -70,7 +70,7 @@ pub fn function(row: &Row, at: usize) -> Result<ReadFunction, RowFault>
     }
 }
 
-/// A column that is a text. One that is none, or no UTF-8, is damage.
+/// Reads a column as a text. A column of another type, or a text that is not UTF-8, is damage.
 pub fn text(row: &Row, at: usize) -> Result<String, RowFault>
     ensures read { IfOk result (λ s. column row.now at ≡ Text (string_bytes s)) }
     ensures fault { (t : _) → column row.now at ≡ Text t → IfErr result (IsRowFault (IsUtf8 t)) }

@@ -1,4 +1,4 @@
-//! The entries of meters in the tables of the books, and which of them were voided.
+//! The entries of meters, and which of them are voided, in the tables of the store.
 
 mod columns;
 mod entries;

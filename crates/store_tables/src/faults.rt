@@ -1,14 +1,14 @@
-//! Why a row is not answered.
+//! The reasons why a look-up returns no value.
 use sqlite::Error;
 use std::fmt;
 use std::fmt::{Display, Formatter};
 
-/// Why a call on the tables answers no row.
+/// Why a look-up in the tables returned no value.
 #[derive(Clone, Copy, Debug, PartialEq, Eq)]
 pub enum RowFault {
-    /// The database refused or failed.
+    /// SQLite refused the statement or failed.
     Sql(Error),
-    /// A row has a value that none of these tables may have.
+    /// A row has a value outside the range of its column.
     Damaged,
 }
 

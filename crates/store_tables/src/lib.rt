@@ -1,4 +1,4 @@
-//! The tables of the books.
+//! The schema of an office's store, and statements on the rows of meters and entries.
 #![tactic(auto)]
 
 mod columns;

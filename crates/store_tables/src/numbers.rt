@@ -1,10 +1,10 @@
-//! Numbers as SQL's.
+//! Integers as parameters of SQL statements.
 ghost use Rattle.std.specs.Prelude.{◌≡◌, ◌<◌, ◌^◌, pos};
 ghost use Rattle.sqlite.specs.declared.types.Value.TheVariants.{Int};
 
 use sqlite::types::Value;
 
-/// The number as SQL's.
+/// Returns the SQL integer of an unsigned number.
 pub fn number(n: u64) -> Value
     requires { n < 2 ^ 63 }
     ensures { result ≡ Int (pos n) }
@@ -12,7 +12,7 @@ pub fn number(n: u64) -> Value
     Value::Int(n as i64)
 }
 
-/// The number as SQL's, with its sign.
+/// Returns the SQL integer of a signed number.
 pub fn signed(n: &i16) -> Value
     ensures { result ≡ Int n.now }
 {

@@ -1,4 +1,4 @@
-//! A call that finds out whether the store still answers.
+//! A check that the database is open.
 ghost use Rattle.std.specs.Prelude.{◌≡◌, false, IsTrue, OnOk, IfErr};
 ghost use Rattle.sqlite.specs.State.{HasCleanDisk, KeepsCommit, Survives};
 ghost use Rattle.sqlite.specs.Held.{state};
@@ -6,7 +6,8 @@ ghost use Rattle.store_tables.specs.Failing.{IsStoreError};
 
 use sqlite::{Alter, Connection, Error};
 
-/// Answers only where the store is open, and then with no transaction under way: what is seen is what is committed.
+/// Returns Ok only if the database is open and has no open transaction. A query then sees the
+/// committed rows.
 pub fn check_open<S: Alter>(conn: &mut Connection<S>) -> Result<(), Error>
     requires { conn.old.in_transaction ≡ false }
     ensures autocommit { conn.new.in_transaction ≡ false }

@@ -1,4 +1,4 @@
--- The latest timestamp in a file whose books were opened.
+-- The latest timestamp in a file with an opened store.
 use Rattle.std.proofs.Common.{◌≡◌, ℕ, List, Result, Ok, Err, IfOk}
 use Rattle.sqlite.specs.Store.{Ghosts}
 use Rattle.sqlite.specs.Held.{Held, state}

@@ -1,11 +1,11 @@
--- What is told of books that were made, or not.
+-- The result of creating a store.
 use Rattle.std.proofs.Common.{◌≡◌, Result, Ok, Err, ap}
 
--- A value is no error.
+-- A value is not an error.
 pub not_both : {Z E : Type 0} (zone : Z) (fault : E) → Ok zone ≡ Err fault → ⊥
 not_both zone fault both = cc
 
--- An error that is told in place of a value is told in place of another.
+-- The same error in two results is equal.
 pub same_fault : {Z Y E : Type 0} (told meant : E) → (let r : Result Z E = Err told in r) ≡ Err meant
     → (let r : Result Y E = Err told in r) ≡ Err meant
 same_fault {Y = Y} {E = E} told meant same =

@@ -1,4 +1,4 @@
--- What the file of a database is found to hold, and what is known of books in it.
+-- The records of a database's file, and the model of a store in it.
 use Rattle.std.specs.Prelude.{ℕ, List}
 use Rattle.sqlite.specs.Store.{Ghosts}
 use Rattle.sqlite.specs.Held.{Held}
@@ -10,12 +10,12 @@ use Rattle.office_store.specs.Database.{HasFile}
 use Rattle.office_store.specs.declared.books.SqlBooks.{SqlBooks}
 
 module _ {S : Type 0} (g : Ghosts S) where
-  -- The file of the connection has the facts of what was accepted before.
+  -- The file of the connection has the records of a history of accepted events.
   pub record HasPast (h : Held S) (past : History) : Type 0 where
     pub zone : List ℕ
     pub is_past : IsPast past
     pub has : HasFile g zone h (facts_of past)
 
-  -- what is known of books in a database
+  -- The model of a store in a database.
   abbrev pub ledger_beneath : SqlBooks S g → Ledger
   ledger_beneath books = ledger_of g books.connection books.failures books.zone

@@ -1,4 +1,4 @@
--- The making of an office in a database.
+-- Creating an office in a database.
 use Rattle.std.specs.Prelude.{◌≡◌, ℕ, List, [], Ok}
 use Rattle.std.specs.declared.result.Result.{Result}
 use Rattle.sqlite.specs.Store.{Ghosts}
@@ -9,8 +9,8 @@ use Rattle.store_files.specs.NewFile.{Makes}
 use Rattle.store_tables.specs.Steps.{TransactsTo}
 use Rattle.office_store.specs.Database.{HoldsAlone}
 
--- The tables of a new office were made from here on, in one transaction: the connection came to hold no facts, and a stop
--- then left nothing else. What becomes of the connection afterwards is not said.
+-- The tables of a new office were created in one transaction. The connection then held no records,
+-- and a crash left nothing else. Nothing is said about the connection afterwards.
 pub record IsMade {S : Type 0} (g : Ghosts S) (zone : List ℕ) (from : Held S) : Type 0 where
   pub made : Held S
   pub told : Zone

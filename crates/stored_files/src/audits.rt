@@ -1,4 +1,4 @@
-//! The audit of an office in a database.
+//! The audit of an office in a database, and the check of whether files continue each other.
 ghost use Rattle.std.specs.Prelude.{◌≡◌, ◌↔◌, ◌⊎◌, ◌++◌, [], false, Err, Some, IsTrue, IfOk, IfErr, OnOk, option_map, string_bytes};
 ghost use Rattle.std.specs.Io.KnownBytes.{Appends};
 ghost use Rattle.sqlite.specs.Held.{state};
@@ -22,29 +22,29 @@ use sun_points::Sink;
 use table_audit::{Findings, audit_tables, put_findings};
 use table_seals::{FiledMeter, FiledOffice, Joining, filed_meters, put_joins};
 
-/// Why there is no audit.
+/// Why an audit has no result.
 #[derive(Clone, Copy, Debug, PartialEq, Eq)]
 pub enum AuditFault {
-    /// The tables aren't those of an office.
+    /// The tables are not those of an office.
     NotOurs,
-    /// The tables are those of an earlier program.
+    /// The tables are those of an earlier version of the program.
     Earlier,
-    /// A row has a value that can't be read, or a name that is no word.
+    /// A row has a value that can't be read, or a name that is not a word.
     Unsealable,
-    /// A name, or the zone, is no text.
+    /// A name or the time zone is not a text.
     NoText,
-    /// A text is that of no seal.
+    /// The text is not a seal.
     NoSeal,
-    /// The file of a seal can't be read.
+    /// The file of the seal can't be read.
     Unread,
     /// The database failed.
     Store,
     Memory,
-    /// What is told can't be written.
+    /// The result can't be written.
     Output,
 }
 
-/// Whether a database has the tables of an office, and no transaction is under way.
+/// Checks that a database has the tables of an office, and that no transaction is open.
 pub(crate) fn check_ours<S: Alter>(connection: &Connection<S>) -> Result<(), AuditFault>
     ensures foreign { ((layout : TheLayout) → ¬ IsNamedAs connection.now.schema layout)
         → result ≡ Err AuditFault.NotOurs }
@@ -62,7 +62,7 @@ pub(crate) fn check_ours<S: Alter>(connection: &Connection<S>) -> Result<(), Aud
     }
 }
 
-/// Why the store told nothing.
+/// Maps a fault of the tables to that of an audit.
 pub(crate) fn fault_of(fault: RowFault) -> AuditFault
     ensures { (result ≡ AuditFault.Memory) ⊎ (result ≡ AuditFault.Store) }
 {
@@ -72,8 +72,8 @@ pub(crate) fn fault_of(fault: RowFault) -> AuditFault
     }
 }
 
-/// Whether the tables of an office in a database have for each meter the rows of a lawful journal, and its polls one after the
-/// other. Nothing is written to it.
+/// Audits an office in a database: whether each meter has the rows of a lawful journal, and whether
+/// the polls are complete and in order. Writes nothing to the database.
 pub fn audit_stored<S: Alter>(
     alloc: Global,
     connection: &mut Connection<S>,
@@ -92,7 +92,7 @@ pub fn audit_stored<S: Alter>(
     }
 }
 
-/// Writes what an audit tells, and answers whether all is fine.
+/// Writes the result of an audit. Returns whether the tables are fine.
 pub fn write_audit<W: Write>(
     alloc: Global,
     findings: &Findings,
@@ -112,8 +112,10 @@ pub fn write_audit<W: Write>(
     }
 }
 
-/// The meters of an office in a database, each kept under the name by which its file is told, so that the next file is held to
-/// them. Nothing is written to it.
+/// Returns the meters of an office in a database, for the check of whether the next file continues
+/// them. Each meter has the name of its file for messages. Fails with `NoText` if a value of a
+/// meter can't be read: after an audit without differences, only because a name is not a text.
+/// Writes nothing to the database.
 pub fn meters_stored<'a, S: Alter>(
     alloc: Global,
     connection: &mut Connection<S>,
@@ -138,8 +140,9 @@ pub fn meters_stored<'a, S: Alter>(
     }
 }
 
-/// Holds a file to those before it, by its zone and its meters: after the lines so far one for each way in which it doesn't go on from
-/// them. Where memory is wanting, some lines may lack, and what was kept is gone.
+/// Checks a file against the earlier files, by its time zone and its meters. Adds a line for each
+/// way in which it does not continue them. If memory runs out, lines may be missing, and what was
+/// kept of the files is lost.
 pub fn hold_to_earlier<'a>(
     alloc: Global,
     joining: &mut Joining<'a>,
@@ -169,7 +172,7 @@ pub fn hold_to_earlier<'a>(
     }
 }
 
-/// Writes what is told of files that are to go on from each other, by these lines, and answers whether nothing differs.
+/// Writes the lines about files that should continue each other. Returns whether there are none.
 pub fn write_joins<W: Write>(
     alloc: Global,
     lines: &[Vec<u8>],

@@ -1,4 +1,4 @@
-//! A backup: a file that holds an office alone, without its log.
+//! Backups: files that hold an office alone, without a log.
 
 mod faults;
 mod whole;

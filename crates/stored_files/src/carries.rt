@@ -1,4 +1,4 @@
-//! A new office in a database, which begins where another one stands.
+//! The rollover of an office into a new database.
 
 mod stored;
 mod zones;

@@ -1,4 +1,4 @@
-//! The end of a command of the program: its exit status, and what is said of it.
+//! The end of a command: its exit status, and its message.
 
 mod ending;
 mod failure;

@@ -1,4 +1,4 @@
-//! The file of an office: a connection to it, or why there is none.
+//! The file of an office: how a connection to it is opened, and why it may not be.
 
 mod beside;
 mod faults;

@@ -1,4 +1,4 @@
-//! What offices in databases tell together of a register, one after the other.
+//! What the offices in several databases report together of a register.
 
 mod stored;
 

@@ -1,4 +1,5 @@
-//! What is done with files of an office in a database, and how a command ends: over any store and writer.
+//! Commands over the files of an office in a database, for any store and writer, and how a command
+//! ends.
 #![tactic(auto)]
 
 mod audits;

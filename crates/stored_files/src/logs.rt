@@ -1,4 +1,4 @@
-//! The write-ahead log beside a database file, before anything opens the two.
+//! The check of the write-ahead log beside a database file, before the two are opened.
 mod check;
 mod emptied;
 mod format;

@@ -1,4 +1,4 @@
-//! The making of an office in a database.
+//! Creating an office in a database.
 ghost use Rattle.std.specs.Prelude.{◌≡◌, ◌≢◌, ◌⊎◌, false, Err, IfErr, OnOk};
 ghost use Rattle.store_files.specs.Layouts.{no_schema};
 ghost use Rattle.store_files.specs.Zones.{IsZone};
@@ -8,7 +8,8 @@ use office_store::{OpenFault, SqlBooks};
 use sqlite::{Alter, Connection};
 use std::alloc::Global;
 
-/// Makes the tables of a new office in a database that has no tables, for the days of a zone, as `SqlBooks::create` does.
+/// Creates the tables of a new office in a database without tables, for the days of a time zone, as
+/// `SqlBooks::create` does.
 pub fn create_stored<S: Alter + Drop>(
     alloc: Global,
     connection: Connection<S>,

@@ -1,4 +1,4 @@
-//! What is reported of an office that was recovered.
+//! The report on an office that was recovered.
 ghost use Rattle.std.specs.Prelude.{◌≡◌, ◌++◌, ℕ, List, [], OnOk, IfOk, codes, decimal, string_bytes};
 ghost use Rattle.std.specs.Io.KnownBytes.{Appends};
 ghost use Rattle.office_events.specs.declared.facts.Fact.{Fact};
@@ -15,7 +15,7 @@ use std::io::Write;
 use sun_points::Sink;
 use table_seals::FiledMeter;
 
-// Why an office was not opened, as an audit says it.
+// Maps a fault of an office's opening to that of an audit.
 fn opening_fault(fault: OpenFault) -> AuditFault {
     match fault {
         OpenFault::NotOurs => AuditFault::NotOurs,
@@ -25,7 +25,7 @@ fn opening_fault(fault: OpenFault) -> AuditFault {
     }
 }
 
-// The latest timestamp that books have.
+// The latest timestamp of a store.
 fn latest_in_books<S: Alter + Drop>(books: SqlBooks<S>) -> Result<u64, AuditFault>
     ensures { IfOk result (IsLatestIn S.Store books) }
 {
@@ -36,7 +36,7 @@ fn latest_in_books<S: Alter + Drop>(books: SqlBooks<S>) -> Result<u64, AuditFaul
     }
 }
 
-/// The latest timestamp that is recorded in a database, in seconds since 1970-01-01 UTC.
+/// Returns the latest timestamp of the records in a database, in seconds since 1970-01-01 UTC.
 pub fn latest_stored<S: Alter + Drop>(
     alloc: Global,
     connection: Connection<S>,
@@ -63,7 +63,7 @@ fn put_number(text: &mut Vec<u8>, number: u64) -> Result<(), AllocError>
     put(text, buffer.format(number).as_bytes())
 }
 
-// Adds a line with the last entry of a meter.
+// Appends a line with the last entry of a meter.
 fn put_last_entry(text: &mut Vec<u8>, meter: &str, at: u64) -> Result<(), AllocError>
     ensures { OnOk result (text.new.items ≡ with_last_entry text.old.items meter.now at) }
 {
@@ -73,7 +73,7 @@ fn put_last_entry(text: &mut Vec<u8>, meter: &str, at: u64) -> Result<(), AllocE
     put(text, b", later ones may be lost\n")
 }
 
-// Adds such a line for a meter that was open.
+// Appends such a line for an open meter.
 fn put_open_meter(text: &mut Vec<u8>, meter: &FiledMeter<'_>) -> Result<(), AllocError>
     ensures { OnOk result (text.new.items ≡ with_open_meter text.old.items meter.now) }
 {
@@ -93,7 +93,7 @@ fn put_open_meters(text: &mut Vec<u8>, meters: &[FiledMeter<'_>]) -> Result<(), 
     Ok(())
 }
 
-// Adds what a recovered office has up to when, and which of its meters may lack entries.
+// Appends the latest timestamp of a recovered office, and the meters that may lack later entries.
 fn put_recovered(
     text: &mut Vec<u8>,
     latest: u64,
@@ -107,7 +107,8 @@ fn put_recovered(
     put_open_meters(text, meters)
 }
 
-/// Writes up to when a recovered office goes, and which of its meters may lack later entries.
+/// Writes the latest timestamp of a recovered office, and which of its meters may lack later
+/// entries.
 pub fn write_recovered<W: Write>(
     alloc: Global,
     latest: u64,

@@ -22,7 +22,7 @@ use table_seals::{
     Checked, NoSeal, Seal, check_seal, put_checked, put_seal, read_seal, seal_tables,
 };
 
-/// The seal of what the tables of an office in a database have. Nothing is written to it.
+/// Seals the tables of an office in a database. Writes nothing to the database.
 pub fn seal_stored<S: Alter>(
     alloc: Global,
     connection: &mut Connection<S>,
@@ -60,8 +60,8 @@ pub fn write_seal<W: Write>(alloc: Global, seal: &Seal, output: &mut W) -> Resul
     }
 }
 
-/// Which meters the tables of an office in a database don't have any more as the seal of this text says, and whether their polls
-/// differ. Nothing is written to it.
+/// Checks an office in a database against the seal of a text. Returns the meters that the tables no
+/// longer have as they were sealed, and whether the polls differ. Writes nothing to the database.
 pub fn check_stored_seal<S: Alter>(
     alloc: Global,
     connection: &mut Connection<S>,
@@ -90,7 +90,7 @@ pub fn check_stored_seal<S: Alter>(
     }
 }
 
-/// Writes what a check tells, and answers whether nothing differs.
+/// Writes the result of a check. Returns whether nothing differs.
 pub fn write_checked<W: Write>(
     alloc: Global,
     checked: &Checked,

@@ -1,4 +1,4 @@
--- What is done over the books that a database is found to hold.
+-- Tasks over the store that a database is found to have.
 use Rattle.std.specs.Prelude.{ℕ, List}
 use Rattle.sqlite.specs.Store.{Ghosts}
 use Rattle.office_rules.specs.History.{History, facts_of}
@@ -10,12 +10,13 @@ use Rattle.office_store.specs.declared.books.SqlBooks.{SqlBooks}
 use Rattle.stored_files.specs.BooksFound.{ledger_beneath}
 
 module _ {S : Type 0} (g : Ghosts S) where
-  -- what is known of books in a database that keep what look-ups answered
+  -- The model of a cached store in a database.
   abbrev pub ledger_in : KeptBooks (SqlBooks S g) → Ledger
   ledger_in books = ledger_over (ledger_beneath g) books
 
-  -- Books were found that hold the facts of what was accepted before, and a stop leaves nothing else; and this was done
-  -- between them and the books that were left, if the store gave back what was written until then.
+  -- A store was found with the records of a history of accepted events, and a crash leaves nothing
+  -- else. `Does` relates this store to the store after the task, if the database gave back what was
+  -- written up to then.
   pub record OverBooks (past : History)
       (Does : (found left : KeptBooks (SqlBooks S g)) → Type 0) : Type 0 where
     pub zone : List ℕ

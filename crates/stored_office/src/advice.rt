@@ -1,4 +1,5 @@
-//! What is said to people beside what a round prints: what its device lacks, and what its refusals and held readings mean.
+//! Messages beside the lines of a round: what its device lacks, and what its refusals and rejected
+//! readings mean.
 
 mod ends;
 mod lacking;

@@ -1,4 +1,4 @@
-//! The program's commands over an office in a database: over any store, clock, sockets and writer.
+//! The program's commands over an office in a database, for any store, clock, sockets and writer.
 #![tactic(auto)]
 
 mod advice;

@@ -1,4 +1,4 @@
-//! The headline over books in a database.
+//! The headline for stores in a database.
 
 mod runs;
 

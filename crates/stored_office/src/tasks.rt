@@ -1,4 +1,5 @@
-//! The tasks of the program over an office in a database, as one call: over any store, clock, sockets and writer; and how they end.
+//! The program's tasks over an office in a database, for any store, clock, sockets and writer, and
+//! how the tasks end.
 
 mod ends;
 mod tasks;

@@ -1,4 +1,4 @@
--- What agrees with a check after all entries is lawful, and nothing else is.
+-- Rows that agree with a check of all entries are lawful, and no others are.
 use Rattle.std.proofs.Common.{◌≡◌, ℕ, ◌+◌, ◌-◌, ◌<◌, List, [], ◌∷◌, ◌++◌, reverse, take, drop, length, get_or, Option, Some, None, MatchOption, Err, refl, sym, ap, subst, ◌∙◌, arith}
 use Rattle.std.proofs.lemmas.List.{reverse-append, take_all, take-append-drop, append_cancel_right}
 use Rattle.energy_core.specs.declared.entries.Last.{Last}
@@ -16,13 +16,13 @@ use Rattle.meter_audit.proofs.Apart.{same_head, told_more}
 use Rattle.store_tables.specs.declared.meters.rows.InstallationRow.{InstallationRow}
 use Rattle.table_audit.specs.Lawful.{last_shown, IsOpenedBy, tables_from, IsLawful, RestAgrees}
 
--- ---- one row after the other
+-- ---- one row after another
 
 pub gone_more : (meter : Installed) (rows : List TableRow) (i : ℕ) (d : TableRow) (new : Progress) → i < length rows
     → HasGone meter (get_or rows i d ∷ reverse (take i rows)) [] new → HasGone meter (reverse (take (i + 1) rows)) [] new
 gone_more meter rows i d new lt gone = subst (λ (told : List TableRow). HasGone meter told [] new) (sym (told_more rows i d lt)) gone
 
--- the latest first, a row stands between the later ones and those before it
+-- A row is between the later rows and the earlier ones, with the latest first.
 split_at : (rows : List TableRow) (i : ℕ) (d : TableRow) → i < length rows
     → reverse rows ≡ reverse (drop (i + 1) rows) ++ get_or rows i d ∷ reverse (take i rows)
 split_at rows i d lt =
@@ -42,7 +42,7 @@ pub refused_so : RefusedIsNotFine → (meter : Installed) (rows : List TableRow)
 refused_so law meter rows i d old new o fault may lt gone is goes =
     refused_there law meter rows i d old fault may lt gone (subst (GoesOver meter old (get_or rows i d) new) is goes)
 
--- the rows after the first
+-- The rows after the first.
 pub all_later : (rows : List TableRow) → take (length rows - 1) (drop 1 rows) ≡ drop 1 rows
 all_later [] = refl
 all_later (row ∷ rows) = take_all (length (row ∷ rows) - 1) rows (omega (arith))
@@ -61,7 +61,7 @@ meter_with range ceiling opening = record { range = range; ceiling = ceiling; op
 pub shows_itself : (row : TableRow) (last : Last) → row ≡ opening_row last → row ≡ opening_row (last_shown row)
 shows_itself row last is = let same : last_shown row ≡ last = ap last_shown is in is ∙ ap opening_row (sym same)
 
--- no two meters of one range and ceiling are opened by one row
+-- One row opens only one meter with a range and a ceiling.
 same_meter : (range ceiling : ℕ) (row : TableRow) (m n : Installed) → IsOpenedBy range ceiling row m → IsOpenedBy range ceiling row n → m ≡ n
 same_meter range ceiling row m n h g =
     let opening : m.opening ≡ n.opening = ap last_shown (sym h.opening_is ∙ g.opening_is) in
@@ -75,7 +75,7 @@ opening_last entries opening later last first is =
     ap (λ (rs : List TableRow). reverse rs) first ∙ reverse-append (opening ∷ []) later
     ∙ ap (λ (r : TableRow). reverse later ++ r ∷ []) is
 
--- the same rows, opened by the same meter
+-- The same rows, opened by the same meter.
 record HasOpened (range : ℕ) (row : InstallationRow) (voids : List ℕ) (entries : List TableRow) (shares : List Share) (meter : Installed)
     (later : List TableRow) : Type 0 where
   fine : AreFine meter (tables_from entries shares row)
@@ -108,7 +108,7 @@ pub no_entry : (range : ℕ) (row : InstallationRow) (voids : List ℕ) (entries
 no_entry range row voids entries shares none lawful =
     let both : [] ≡ lawful.opening ∷ lawful.later = sym none ∙ lawful.first in absurd (cc)
 
--- where the rows after the opening are those of none that fit, they are not lawful
+-- If the rows after the opening are not those of fitting lines, they are not lawful.
 pub not_told : (range : ℕ) (row : InstallationRow) (voids : List ℕ) (entries : List TableRow) (shares : List Share) (meter : Installed)
     (opening : TableRow) (later : List TableRow) → entries ≡ opening ∷ later → IsOpenedBy range row.ceiling opening meter
     → (AreTold meter (reverse later) → ⊥) → IsLawful range row voids entries shares → ⊥

@@ -1,4 +1,4 @@
--- What differs of polls, one row after the other, and when nothing does.
+-- The differences of polls, one row after another, and when there are none.
 use Rattle.std.proofs.Common.{◌≡◌, ◌+◌, ◌-◌, ◌<◌, ◌≤◌, ◌==◌, ℕ, zero, suc, Bool, true, false, nat_lt, nat_le, ◌&&◌, ◌||◌, if◌then◌else◌, List, [], ◌∷◌, ◌++◌, drop, length, get_or, Option, Some, Result, Ok, Err, unwrap_or, refl, sym, ap, subst, ◌∙◌, append_assoc, arith, add-one}
 use Rattle.std.specs.List.{list_any, list_all}
 use Rattle.std.proofs.Math.Seq.{drop-cons}
@@ -21,7 +21,7 @@ use Rattle.table_audit.specs.Polls.{are_numbered, is_begun, has_begun, IsFineRun
 use Rattle.table_audit.specs.Reading.{all_in}
 use Rattle.table_audit.proofs.Named.{append_none, both_none}
 
--- ---- one row after the other
+-- ---- one row after another
 
 pub each_more : (differs : Row → List Difference) (rows : List Row) (i : ℕ) (row : Row) (found next all : List Difference) → i < length rows → row ≡ get_or rows i row
     → found ++ each_of differs (drop i rows) ≡ all → next ≡ found ++ differs row → next ++ each_of differs (drop (i + 1) rows) ≡ all
@@ -140,7 +140,7 @@ gap_closed next below none = not_lt next below (if_none (nat_lt next below) (NoP
 closed_gap : (next below : ℕ) → below ≤ next → gap next below ≡ []
 closed_gap next below h = ap (λ (b : Bool). let ds : List Difference = if b then NoPolls next (below - 1) ∷ [] else [] in ds) (lt_not next below h)
 
--- the next number, which is told by nothing
+-- The next number shows no difference.
 record IsNext (next last n : ℕ) : Type 0 where
   is : n ≡ next
   inside : n ≤ last
@@ -244,7 +244,7 @@ module _ (poll_rows : List Row) (polls : List PollRow) (polls_read : all_in poll
       (same_begun one.0 poll_rows polls polls_read ∙ both.0)
       ∙ none_early rows two.0 two.1 both.1
 
--- ---- a run, and one after the other
+-- ---- a run, and one run after another
 
 none_is_fine : (run last : ℕ) (rows : RunRows) → differences_of_run run last rows ≡ [] → IsFineRun run last rows
 none_is_fine run last rows none =

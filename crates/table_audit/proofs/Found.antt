@@ -1,4 +1,4 @@
--- What was read of a meter's rows decides whether they are fine.
+-- The values that were read of a meter's rows decide whether the rows are fine.
 use Rattle.std.proofs.Common.{◌≡◌, ◌↔◌, ℕ, Bool, false, List, [], ◌∷◌, Option, Some, None, Result, Ok, Err, Vec, IfOk, IsTrue, sym, ap, subst, ◌∙◌}
 use Rattle.interval_core.specs.declared.shares.Share.{Share}
 use Rattle.meter_audit.specs.declared.rows.TableRow.{TableRow}
@@ -12,11 +12,11 @@ use Rattle.table_audit.specs.Reading.{entry_in, place_in, share_in, range_in, al
 use Rattle.table_audit.specs.Lawful.{IsLawful}
 use Rattle.table_audit.specs.Fine.{IsFine}
 
--- what holds never
+-- A property that never holds.
 pub never : (P : Type 0) → (P → ⊥) → IsTrue false ↔ P
 never P none = (λ f. absurd (let e : false ≡ Rattle.std.proofs.Common.true = f in cc), λ h. absurd (none h))
 
--- what tells of one thing tells of another that holds as it does
+-- A result for one property is a result for an equivalent property.
 pub told_by : {E P Q : Type 0} (r : Result Bool E) → IfOk r (λ b. IsTrue b ↔ P) → ((b : Bool) → IsTrue b ↔ P → IsTrue b ↔ Q)
     → IfOk r (λ b. IsTrue b ↔ Q)
 told_by (Ok b) h both = both b h
@@ -25,7 +25,7 @@ told_by (Err e) h both = tt
 pub told_too : {E P Q : Type 0} (r : Result Bool E) → IfOk r (λ b. IsTrue b ↔ P) → (P → Q) → (Q → P) → IfOk r (λ b. IsTrue b ↔ Q)
 told_too r h to from = told_by r h (λ b same. (λ is. to (same.0 is), λ q. same.1 (from q)))
 
--- rows that were read, all of them
+-- Rows that were read completely.
 pub what_was_read : {X Z : Type 0} (read : Row → Result X RowFault) (given rows : List Row) (o : Option (Vec X Z)) (found : Vec X Z)
     → given ≡ rows → o ≡ Some found → AreRead read given o → all_in read rows ≡ Ok found.items
 what_was_read read given rows o found same is h = ap (all_in read) (sym same) ∙ subst (AreRead read given) is h
@@ -78,7 +78,7 @@ module _ (row : InstallationRow) (rows : MeterRows) where
         (subst (λ n. IsLawful n row fine.voids fine.entries fine.shares) same_range fine.lawful)))),
   )
 
-  -- the same, where it was handed on as slices
+  -- The same for values that were passed as slices.
   pub fine_found : (range : ℕ) (voids named vs : List ℕ) (entries es : List TableRow) (shares ss : List Share) (b : Bool)
       → named ≡ voids → vs ≡ voids → es ≡ entries → ss ≡ shares
       → all_in range_in rows.ranges.items ≡ Ok (range ∷ []) → all_in place_in rows.voids.items ≡ Ok voids

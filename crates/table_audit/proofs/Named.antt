@@ -1,4 +1,4 @@
--- Differences of a meter among those of others.
+-- The differences of a meter among those of others.
 use Rattle.std.proofs.Common.{◌≡◌, ◌↔◌, ◌+◌, ◌-◌, ◌<◌, ◌≤◌, ◌^◌, ℕ, zero, suc, min, Bool, true, false, List, [], ◌∷◌, ◌++◌, None, map, take, length, get_or, IsTrue, refl, sym, ap, subst, ◌∙◌, append_assoc, arith}
 use Rattle.std.proofs.lemmas.List.{take_all, take_at, take_more, length-map, length-append, length-take, length-take-le, map-append}
 use Rattle.sqlite.specs.Order.{Row}
@@ -91,7 +91,7 @@ all_kept meter differences i old mid new le kept same = record {
   kept = ap (λ v. v.items) same ∙ kept.kept;
 }
 
--- ---- nothing is told of what is fine
+-- ---- fine rows have no differences
 
 none_told_named : (meter : List ℕ) (differences : List Difference) (old new : Findings) → KeepsFirst meter differences old new
     → (new.first.items ≡ []) ↔ ((old.first.items ≡ []) × (differences ≡ []))
@@ -124,7 +124,7 @@ told_named place row rows meter fine before found given old new last given_is la
       λ is. items ∙ told.1 (is.0, as_fine.0 (same.1 is.1)),
     )
 
--- ---- differences of no meter
+-- ---- differences without a meter
 
 take_twice : {X : Type 0} (n : ℕ) (xs ys : List X) → take n (take n xs ++ ys) ≡ take n (xs ++ ys)
 take_twice zero xs ys = refl
@@ -180,6 +180,6 @@ none_so_told ds old new told none no_more =
     told.kept ∙ ap (λ (fs : List Finding). take MOST (fs ++ map of_none ds)) none
     ∙ ap (λ (es : List Difference). take MOST (map of_none es)) no_more ∙ take_all MOST [] (omega arith)
 
--- a finding of no meter is its difference's
+-- A finding without a meter is determined by its difference.
 pub with_none : (n : ℕ) (fs : List Finding) (f : Finding) → f.meter ≡ None → take n (fs ++ f ∷ []) ≡ take n (fs ++ of_none f.difference ∷ [])
 with_none n fs f none = ap (λ m. let g : Finding = record { meter = m; difference = f.difference } in take n (fs ++ g ∷ [])) none

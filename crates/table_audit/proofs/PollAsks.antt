@@ -1,4 +1,4 @@
--- What the queries show of polls and outcomes, whatever their columns hold.
+-- What the queries show of polls and outcomes, for any values of their columns.
 use Rattle.std.proofs.Common.{◌≡◌, ℤ, Bool, true, false, ◌&&◌, List, [], ◌∷◌, refl, sym, ap, ◌∙◌}
 use Rattle.std.specs.Ordering.{is_gt}
 use Rattle.sqlite.specs.declared.types.Value.TheVariants.{Int}

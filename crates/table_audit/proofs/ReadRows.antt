@@ -1,4 +1,4 @@
--- Rows read one after the other.
+-- Rows that are read one after another.
 use Rattle.std.proofs.Common.{◌≡◌, ℕ, zero, suc, ◌+◌, ◌<◌, ◌≤◌, List, [], ◌∷◌, ◌++◌, length, take, get_or, Result, Ok, Err, refl, sym, ap, ◌∙◌, arith}
 use Rattle.std.proofs.lemmas.List.{take_more, take_all}
 use Rattle.sqlite.specs.Order.{Row}
@@ -8,7 +8,7 @@ use Rattle.store_tables.proofs.ReadLemmas.{ok_is, then_read}
 use Rattle.table_audit.specs.Reading.{all_in}
 
 module _ {X : Type 0} (read : Row → Result X RowFault) where
-  -- the rows and one more
+  -- The rows and one more.
   read_more : (rows : List Row) (row : Row) (xs : List X) (x : X) → all_in read rows ≡ Ok xs → read row ≡ Ok x
       → all_in read (rows ++ row ∷ []) ≡ Ok (xs ++ x ∷ [])
   read_more [] row xs x h g =
@@ -25,7 +25,7 @@ module _ {X : Type 0} (read : Row → Result X RowFault) where
       → read (get_or rows i d) ≡ Ok x → all_in read (take (i + 1) rows) ≡ Ok (xs ++ x ∷ [])
   next_read rows i d xs x lt h g = ap (all_in read) (take_more rows i d lt) ∙ read_more (take i rows) (get_or rows i d) xs x h g
 
-  -- one that can't be read
+  -- A row that can't be read.
   pub unread : (rows : List Row) (i : ℕ) (d : Row) (e : RowFault) → i < length rows → read (get_or rows i d) ≡ Err e
       → (xs : List X) → all_in read rows ≡ Ok xs → ⊥
   unread [] i d e lt g xs h = absurd (omega (arith, lt))
@@ -37,11 +37,11 @@ module _ {X : Type 0} (read : Row → Result X RowFault) where
       let two = then_read (all_in read rows) _ xs one.2 in
       unread rows i d e (omega (arith, lt)) g two.0 two.1
 
-  -- all of them
+  -- All rows.
   pub all_read : (rows : List Row) (i : ℕ) (xs : List X) → length rows ≤ i → all_in read (take i rows) ≡ Ok xs → all_in read rows ≡ Ok xs
   all_read rows i xs le h = ap (all_in read) (sym (take_all i rows le)) ∙ h
 
-  -- one is read of one row
+  -- One value is read from one row.
   pub read_one : (rows : List Row) (x : X) → all_in read rows ≡ Ok (x ∷ []) → length rows ≡ 1
   read_one [] x h = let f : [] ≡ x ∷ [] = ok_is h in absurd (cc)
   read_one (row ∷ []) x h = refl

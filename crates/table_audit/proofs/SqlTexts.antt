@@ -1,4 +1,4 @@
--- What the texts mean that are asked here alone.
+-- The meaning of the SQL texts that only this crate has.
 use Rattle.std.proofs.Common.{◌≡◌, List, [], ◌∷◌, codes, ℕ, ℤ, false, refl}
 use Rattle.sqlite.specs.declared.types.Value.TheVariants.{Int, Text}
 use Rattle.sqlite.specs.Collation.TheVariants.{Binary}
@@ -14,7 +14,7 @@ use Rattle.store_tables.specs.Schema.{books_schema}
 use Rattle.store_tables.proofs.Failures.{Suits, suits_scan}
 use Rattle.store_tables.proofs.Scans.{scan, no_limit, one, is_param, rising, falling}
 
--- rows of a meter
+-- The rows of a meter.
 abbrev pub of_meter : List Term
 of_meter = is_param 1 0 ∷ []
 
@@ -128,7 +128,7 @@ pub last_poll_suits : Suits books_schema last_poll []
 unfolding understood everything
 last_poll_suits = suits_scan 11 [] last_project ((col 1 0, falling) ∷ []) one last_poll last_names [] (refl, refl, refl) last_poll_plain last_poll_unlisted last_poll_is refl
 
--- ---- rows with numbers from one up to another
+-- ---- rows with numbers in a range
 
 abbrev pub in_run : List Term
 in_run = op2 (Compare Ge Binary) (col 1 0) (col 0 0) ∷ op2 (Compare Le Binary) (col 1 0) (col 0 1) ∷ []

@@ -1,4 +1,4 @@
--- When what was read of a meter is that of a lawful journal.
+-- When the values that were read of a meter are those of a lawful journal.
 use Rattle.std.specs.Prelude.{◌≡◌, ℕ, Bool, true, nat_lt, nat_le, ◌&&◌, List, [], ◌∷◌, reverse, length}
 use Rattle.energy_core.specs.declared.entries.Last.{Last}
 use Rattle.interval_core.specs.declared.shares.Share.{Share}
@@ -12,27 +12,27 @@ use Rattle.meter_audit.specs.Passing.{MayBeChecked}
 use Rattle.store_tables.specs.declared.meters.rows.LastRow.{LastRow}
 use Rattle.store_tables.specs.declared.meters.rows.InstallationRow.{InstallationRow}
 
--- a meter of this range and ceiling, which was opened by this row
+-- The meter has this range and ceiling, and this row is its opening.
 pub record IsOpenedBy (range ceiling : ℕ) (row : TableRow) (meter : Installed) : Type 0 where
   pub range_is : meter.range ≡ range
   pub ceiling_is : meter.ceiling ≡ ceiling
   pub opening_is : row ≡ opening_row meter.opening
 
--- where the counter stands after an opening
+-- The state of the counter after an opening.
 abbrev pub last_shown : TableRow → Last
 last_shown row = record { at = row.moment; raw = row.raw; sf = row.sf }
 
--- Places rise, from after one up to another.
+-- The indices rise from after one index up to another.
 abbrev pub rises : (after most : ℕ) → List ℕ → Bool
 rises after most [] = true
 rises after most (place ∷ places) =
     nat_lt after place && nat_le place most && rises place most places
 
--- where the row of an installation says that the counter stands
+-- The state of the counter that an installation has.
 abbrev pub last_in : LastRow → Last
 last_in last = record { at = last.moment; raw = last.raw; sf = last.sf }
 
--- what the tables tell of a meter, by entries in order of their places
+-- The tables of a meter, from its entries in order of index.
 abbrev pub tables_from : List TableRow → List Share → InstallationRow → Tables
 tables_from entries shares row = record {
   entries = reverse entries;
@@ -42,8 +42,8 @@ tables_from entries shares row = record {
   ended = row.is_ended;
 }
 
--- They are those of a lawful journal of a meter that was opened by the first entry. Each void names one of the later ones,
--- and no two name the same.
+-- The values are those of a lawful journal of a meter that the first entry opens. Each void is of a
+-- later entry, and no entry has two voids.
 pub record IsLawful (range : ℕ) (row : InstallationRow) (voids : List ℕ)
     (entries : List TableRow) (shares : List Share) : Type 0 where
   pub opening : TableRow
@@ -55,13 +55,13 @@ pub record IsLawful (range : ℕ) (row : InstallationRow) (voids : List ℕ)
   pub fine : AreFine meter (tables_from entries shares row)
   pub named : rises 1 (length entries) voids ≡ true
 
--- The row of an installation says where a check stands.
+-- The installation has the state that a check ends with.
 pub record StandsThere (row : InstallationRow) (check : Check) : Type 0 where
   pub last : last_in row.last ≡ check.last
   pub total : row.last.total ≡ check.total
   pub ended : row.is_ended ≡ check.is_ended
 
--- What else was read agrees with a check after all entries.
+-- The remaining rows agree with a check of all entries.
 pub record RestAgrees (progress : Progress) (row : InstallationRow) (voids : List ℕ) (last : ℕ)
     (shares : List Share) : Type 0 where
   pub named : rises 1 last voids ≡ true

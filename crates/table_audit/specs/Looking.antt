@@ -1,4 +1,4 @@
--- What is looked up in the tables that a connection holds, whatever they hold.
+-- Queries of the tables of a connection, for any content.
 use Rattle.std.specs.Prelude.{◌≡◌, false, Result, IfOk, IfErr, IsTrue}
 use Rattle.sqlite.specs.Order.{Row}
 use Rattle.sqlite.specs.Tree.{Trees}
@@ -9,18 +9,20 @@ use Rattle.store_tables.specs.declared.faults.RowFault.{RowFault}
 use Rattle.store_tables.specs.Content.{Content, AreTables}
 use Rattle.store_tables.specs.Failing.{IsFault, StateAfterCall}
 
--- a row as it is
+-- A row as the table has it.
 abbrev pub itself : Row → Row
 itself row = row
 
 module _ {S : Type 0} (g : Ghosts S) where
-  -- While the connection is open and its store gave back what was written, the last commit has these tables.
+  -- The last commit has these tables, while the connection is open and its store gave back what was
+  -- written.
   unfoldable pub HoldsTables : Held S → Content → Type 0
   HoldsTables h content =
       HasCleanDisk (state g h) → IsTrue (state g h).is_open
       → AreTables (state g h).committed content
 
-  -- A look-up outside a transaction commits nothing, and a stop leaves what it left. The store goes on.
+  -- A look-up outside a transaction. It commits nothing, and a crash after it leaves what a crash
+  -- before it could leave.
   pub record OnlyLooks (old new : Held S) : Type 0 where
     pub clean : HasCleanDisk (state g new) → HasCleanDisk (state g old)
     pub mode : old.in_transaction ≡ false → new.in_transaction ≡ false
@@ -31,8 +33,8 @@ module _ {S : Type 0} (g : Ghosts S) where
     pub goes : (content : Content) → HoldsTables old content → HasCleanDisk (state g new)
         → StateAfterCall (state g old) (state g new)
 
--- What is answered is what the tables have, where the store gave back what was written. An error is the store's own, and
--- damage is never told. Nothing is changed.
+-- If the store gave back what was written, the answer is what the tables have. Any error has one of
+-- the causes of `IsStoreError`, and damage is never reported. Nothing is changed.
 pub record Finds {S A : Type 0} (g : Ghosts S) (old new : Held S) (result : Result A RowFault)
     (Says : Content → A → Type 0) : Type 0 where
   pub answer : (content : Content) → HoldsTables g old content → HasCleanDisk (state g new)

@@ -1,4 +1,4 @@
--- When the tables are fine for every meter, and what is told of them.
+-- When the tables are fine for every meter, and what an audit reports of them.
 use Rattle.std.specs.Prelude.{⊤, ◌≡◌, ◌↔◌, ◌+◌, ℕ, suc, min, ◌^◌, ◌-◌, List, [], ◌∷◌, map, length, Option, Some, None, Ok, IsUtf8}
 use Rattle.std.specs.List.{AllByRecursion}
 use Rattle.sqlite.specs.declared.types.Value.TheVariants.{Text}
@@ -14,14 +14,15 @@ use Rattle.table_audit.specs.Showing.{AreRowsOf, ShowsInstallations}
 
 -- ---- fine
 
--- A row of installations has values that it may have and this place, and its meter's rows are fine.
+-- A row of `installations` has values in their ranges and this index, and its meter's rows are
+-- fine.
 pub record IsFineMeter (place : ℕ) (row : Row) (rows : MeterRows) : Type 0 where
   pub installation : InstallationRow
   pub read : installation_in row ≡ Ok installation
   pub placed : installation.place ≡ place
   pub fine : IsFine installation rows
 
--- a row of installations, and the rows of the meter that it names, unless it names none
+-- A row of `installations`, and the rows of its meter, if it names one.
 pub record LookedAt : Type 0 where
   pub row : Row
   pub rows : Option MeterRows
@@ -29,40 +30,49 @@ pub record LookedAt : Type 0 where
 abbrev pub row_of : LookedAt → Row
 row_of looked = looked.row
 
+-- These are the rows of the meter that the row names, or the row names no meter.
 abbrev pub AreTheirs : Content → Row → Option MeterRows → Type 0
 AreTheirs content row None = (name : List ℕ) → IsUtf8 name → column row 1 ≡ Text name → ⊥
 AreTheirs content row (Some rows) =
     (name : List ℕ) × (column row 1 ≡ Text name) × AreRowsOf name content rows
 
+-- The row was read with the rows of its meter.
 abbrev pub IsLookedUp : Content → LookedAt → Type 0
 IsLookedUp content looked = AreTheirs content looked.row looked.rows
 
+-- The row names a meter, has this index, and the rows of its meter are fine.
 abbrev pub IsFineAt : (place : ℕ) → Row → Option MeterRows → Type 0
 IsFineAt place row None = ⊥
 IsFineAt place row (Some rows) = IsFineMeter place row rows
 
--- Each names a meter, has the next place, and the rows of its meter are fine. That no two name one meter is SQL's own doing.
+-- Each row names a meter, has the next index, and the rows of its meter are fine. The schema keeps
+-- two rows from naming the same meter.
 abbrev pub AreFineFrom : (place : ℕ) → List LookedAt → Type 0
 AreFineFrom place [] = ⊤
 AreFineFrom place (looked ∷ others) =
     IsFineAt place looked.row looked.rows × AreFineFrom (suc place) others
 
--- ---- counted, up to what a counter can show
+-- ---- counts, up to 2^64 - 1
 
+-- A count, up to the greatest that a counter can have.
 abbrev pub up_to_most : ℕ → ℕ
 up_to_most n = min n (2 ^ 64 - 1)
 
+-- The counts before the first row.
 abbrev pub none_counted : Counts
 none_counted = record { meters = 0; entries = 0; intervals = 0; polls = 0 }
 
+-- The count of entries with those of a meter.
 abbrev pub and_entries : Option MeterRows → ℕ → ℕ
 and_entries None n = n
 and_entries (Some rows) n = up_to_most (n + length rows.entries.items)
 
+-- The count of interval rows with those of a meter.
 abbrev pub and_intervals : Option MeterRows → ℕ → ℕ
 and_intervals None n = n
 and_intervals (Some rows) n = up_to_most (n + length rows.intervals.items)
 
+-- The counts after one more row of `installations`.
 abbrev pub counted : Option MeterRows → Counts → Counts
 counted rows counts = record {
   meters = up_to_most (counts.meters + 1);
@@ -71,20 +81,21 @@ counted rows counts = record {
   polls = counts.polls;
 }
 
+-- The counts after several rows of `installations`.
 abbrev pub counted_from : Counts → List LookedAt → Counts
 counted_from counts [] = counts
 counted_from counts (looked ∷ others) = counted_from (counted looked.rows counts) others
 
--- ---- told
+-- ---- the report
 
--- One more is told of, unless a row is fine, and its meter's rows are counted.
+-- A difference is added, unless the row and its meter's rows are fine. The rows are counted.
 pub record TellsRow (content : Content) (place : ℕ) (row : Row) (old new : Findings) : Type 0 where
   pub rows : Option MeterRows
   pub theirs : AreTheirs content row rows
   pub told : (new.first.items ≡ []) ↔ ((old.first.items ≡ []) × IsFineAt place row rows)
   pub counts : new.counts ≡ counted rows old.counts
 
--- Nothing is told exactly if all of these rows of installations are fine.
+-- There is no difference if and only if all of these rows of `installations` are fine.
 pub record TellsRows (rows : List Row) (content : Content) (found : Findings) : Type 0 where
   pub looked : List LookedAt
   pub each : map row_of looked ≡ rows
@@ -92,7 +103,7 @@ pub record TellsRows (rows : List Row) (content : Content) (found : Findings) : 
   pub told : (found.first.items ≡ []) ↔ AreFineFrom 1 looked
   pub counts : found.counts ≡ counted_from none_counted looked
 
--- the same of the rows of installations that the tables have
+-- The same for the rows of `installations` that the tables have.
 pub record TellsMeters (content : Content) (found : Findings) : Type 0 where
   pub rows : List Row
   pub shown : ShowsInstallations content rows

@@ -1,4 +1,4 @@
--- Differences of a meter among those of others.
+-- The differences of a meter among those of others.
 use Rattle.std.specs.Prelude.{◌≡◌, ◌+◌, ◌-◌, ℕ, List, ◌++◌, map, take, length, Some, None, string_bytes}
 use Rattle.std.specs.List.{AllByRecursion}
 use Rattle.table_audit.specs.declared.differences.Difference.{Difference}
@@ -10,10 +10,11 @@ use Rattle.table_audit.specs.Meters.{up_to_most}
 abbrev pub difference_of : Finding → Difference
 difference_of finding = finding.difference
 
+-- The finding has the name of this meter.
 abbrev pub IsUnder : (meter : List ℕ) → Finding → Type 0
 IsUnder meter finding = (name : _) × (finding.meter ≡ Some name) × (string_bytes name ≡ meter)
 
--- The first of a meter's differences are kept, each under its name, until there are as many as are kept of all.
+-- The differences of a meter are added under its name. At most `MOST` findings are kept.
 pub record KeepsFirst (meter : List ℕ) (differences : List Difference) (old new : Findings) :
     Type 0 where
   pub added : List Finding
@@ -21,11 +22,11 @@ pub record KeepsFirst (meter : List ℕ) (differences : List Difference) (old ne
   pub named : AllByRecursion (IsUnder meter) added
   pub kept : new.first.items ≡ take MOST (old.first.items ++ added)
 
--- a difference of no meter
+-- A difference without a meter.
 abbrev pub of_none : Difference → Finding
 of_none difference = record { meter = None; difference = difference }
 
--- Differences of no meter are told after others: they are kept until there are as many as are kept of all, and the rest counted.
+-- Differences without a meter are added. At most `MOST` findings are kept, and the others counted.
 pub record IsTold (differences : List Difference) (old new : Findings) : Type 0 where
   pub kept : new.first.items ≡ take MOST (old.first.items ++ map of_none differences)
   pub more : new.more

@@ -1,4 +1,4 @@
--- What differs of the polls of a run, in order.
+-- The differences of the polls of a run, in order.
 use Rattle.std.specs.Prelude.{ℕ, suc, min, ◌+◌, ◌-◌, ◌*◌, ◌==◌, Bool, false, nat_lt, nat_le, ◌&&◌, List, [], ◌∷◌, ◌++◌, Option, Some, None, Result, Ok, Err, if◌then◌else◌, unwrap_or}
 use Rattle.std.specs.List.{list_any}
 use Rattle.std.specs.Option.{option_map_or}
@@ -16,70 +16,77 @@ use Rattle.table_audit.specs.declared.poll_rows.PollRow.{PollRow}
 use Rattle.table_audit.specs.declared.poll_rows.RunRows.{RunRows}
 use Rattle.table_audit.specs.declared.poll_rows.TheConstants.{RUN}
 
--- the first number of a run, and its last where this is the last of all
+-- The first number of a run.
 abbrev pub first_number : (run : ℕ) → ℕ
 first_number run = run * RUN + 1
 
+-- The last number of a run, if `last` is the last number of all.
 abbrev pub last_number : (run last : ℕ) → ℕ
 last_number run last = min last ((run + 1) * RUN)
 
--- what differs of each row, one after the other
+-- The differences of each row, one row after another.
 abbrev pub each_of : (Row → List Difference) → List Row → List Difference
 each_of differs [] = []
 each_of differs (row ∷ rows) = differs row ++ each_of differs rows
 
 -- ---- values
 
--- the number that a row begins with, if a poll may have it
+-- The number of a poll in the first column, if it is in range.
 abbrev pub number_in : Row → Option ℕ
 number_in row = whole_in 1 greatest_place (column row 0)
 
--- One that has a value that it may not have is told by its number, or by 0.
+-- A row with a value out of its range is reported by its number, or by 0.
 abbrev pub unread : {X : Type 0} → PollFault → Row → Result X RowFault → List Difference
 unread fault row (Ok read) = []
 unread fault row (Err why) = Poll (unwrap_or (number_in row) 0) fault ∷ []
 
+-- The difference of a poll with a value out of its range.
 abbrev pub unread_poll : Row → List Difference
 unread_poll row = unread OutOfRange row (poll_in row)
 
+-- The difference of an outcome with a value out of its range.
 abbrev pub unread_outcome : Row → List Difference
 unread_outcome row = unread EndOutOfRange row (outcome_in row)
 
 -- ---- numbers
 
--- A poll of which another value can't be read is there by its number.
+-- A poll counts by its number, even if another value can't be read.
 abbrev pub number_by : Row → Result PollRow RowFault → Option ℕ
 number_by row (Ok poll) = Some poll.number
 number_by row (Err why) = number_in row
 
+-- The number of a poll. Its other values may be out of range.
 abbrev pub number_of : Row → Option ℕ
 number_of row = number_by row (poll_in row)
 
--- No poll has a number from the next one on, and below another.
+-- The missing numbers from `next` to `below` - 1.
 abbrev pub gap : (next below : ℕ) → List Difference
 gap next below = if nat_lt next below then NoPolls next (below - 1) ∷ [] else []
 
--- a number that rises from the next one, up to the last
+-- Whether a number is from `next` to `last`.
 abbrev pub rises : (next last number : ℕ) → Bool
 rises next last number = nat_le next number && nat_le number last
 
--- what a number tells where the next one is to be this, and the next one after it
+-- The differences that a number shows: missing numbers before it, or that it is out of order.
 abbrev pub told_at : (next last number : ℕ) → List Difference
 told_at next last number =
     if rises next last number then gap next number else Poll number OutOfOrder ∷ []
 
+-- The next number after a number.
 abbrev pub next_after : (next last number : ℕ) → ℕ
 next_after next last number = if rises next last number then number + 1 else next
 
+-- The differences that the number of a row shows, if it has one.
 abbrev pub told_by : (next last : ℕ) → Option ℕ → List Difference
 told_by next last None = []
 told_by next last (Some number) = told_at next last number
 
+-- The next number after the number of a row.
 abbrev pub after_by : (next last : ℕ) → Option ℕ → ℕ
 after_by next last None = next
 after_by next last (Some number) = next_after next last number
 
--- Numbers rise from the next one up to the last. Those that are missing are told, and those that don't rise.
+-- The missing numbers from `next` to `last`, and the numbers out of order.
 abbrev pub order_of : (next last : ℕ) → List Row → List Difference
 order_of next last [] = gap next (last + 1)
 order_of next last (row ∷ rows) =
@@ -88,13 +95,15 @@ order_of next last (row ∷ rows) =
 
 -- ---- outcomes
 
--- A row is of the outcome's poll, and the poll was started when it ended, or before. It isn't told where that can't be read.
+-- The row is of the outcome's poll, and the poll started no later than it ended. If the row can't
+-- be read, its number alone decides.
 abbrev pub began_by : OutcomeRow → Row → Result PollRow RowFault → Bool
 began_by outcome row (Ok poll) =
     (poll.number == outcome.poll) && nat_le poll.started outcome.moment
 began_by outcome row (Err why) =
     option_map_or (λ number. number == outcome.poll) (number_in row) false
 
+-- The row is of the outcome's poll, which started no later than it ended.
 abbrev pub began : OutcomeRow → Row → Bool
 began outcome row = began_by outcome row (poll_in row)
 
@@ -103,24 +112,29 @@ early_by polls (Ok outcome) =
     if list_any (began outcome) polls then [] else Poll outcome.poll EndedBefore ∷ []
 early_by polls (Err why) = []
 
--- an outcome that comes before its poll
+-- An outcome that is earlier than its poll.
 abbrev pub early : (polls : List Row) → Row → List Difference
 early polls row = early_by polls (outcome_in row)
 
--- ---- all of them
+-- ---- all differences
 
+-- The values of a run that are out of range.
 abbrev pub values_of : RunRows → List Difference
 values_of rows =
     each_of unread_poll rows.polls.items ++ each_of unread_outcome rows.outcomes.items
 
+-- The missing numbers of a run, the numbers out of order, and the outcomes that are earlier than
+-- their polls.
 abbrev pub turns_of : (run last : ℕ) → RunRows → List Difference
 turns_of run last rows =
     order_of (first_number run) (last_number run last) rows.polls.items
     ++ each_of (early rows.polls.items) rows.outcomes.items
 
+-- The differences of a run.
 abbrev pub differences_of_run : (run last : ℕ) → RunRows → List Difference
 differences_of_run run last rows = values_of rows ++ turns_of run last rows
 
+-- The differences of runs, one after another.
 abbrev pub differences_of_runs : (run last : ℕ) → List RunRows → List Difference
 differences_of_runs run last [] = []
 differences_of_runs run last (rows ∷ others) =

@@ -1,4 +1,4 @@
--- Polls and outcomes as the queries show them.
+-- Readers of the rows of `polls` and `outcomes`.
 use Rattle.std.specs.Prelude.{ℕ, ◌==◌, ◌-◌, min, Result, Ok, if◌then◌else◌}
 use Rattle.sqlite.specs.Order.{Row, column}
 use Rattle.store_tables.specs.declared.faults.RowFault.{RowFault}
@@ -7,11 +7,11 @@ use Rattle.store_tables.specs.Limits.{greatest_place, latest_moment}
 use Rattle.table_audit.specs.declared.poll_rows.OutcomeRow.{OutcomeRow}
 use Rattle.table_audit.specs.declared.poll_rows.PollRow.{PollRow}
 
--- so many registers at most from an address on
+-- The greatest count of a read from an address.
 abbrev pub greatest_count : (address : ℕ) → ℕ
 greatest_count address = min 125 (65536 - address)
 
--- what is read of a poll whose unit, transaction identifier, function, address and count are in range
+-- The number and the start of a poll, if all its numeric columns are in their ranges.
 abbrev pub poll_in : Row → Result PollRow RowFault
 poll_in row =
     and_then (or_damaged (whole_in 1 greatest_place (column row 0))) (λ number.
@@ -23,15 +23,17 @@ poll_in row =
     and_then (or_damaged (whole_in 1 (greatest_count address) (column row 6))) (λ count.
     Ok (record { number = number; started = started }))))))))
 
--- Of an exception the code is the device's, of a malformed reply 1 to 5, of a lost poll 1 to 4. Others have none.
+-- The least code of a kind of outcome. The code of an exception is the device's, of a malformed
+-- response 1 to 5, and of a lost poll 1 to 4. Other outcomes have code 0.
 abbrev pub least_code : (kind : ℕ) → ℕ
 least_code kind = if kind == 4 then 1 else if kind == 5 then 1 else 0
 
+-- The greatest code of a kind of outcome.
 abbrev pub greatest_code : (kind : ℕ) → ℕ
 greatest_code kind =
     if kind == 2 then 255 else if kind == 4 then 5 else if kind == 5 then 4 else 0
 
--- what is read of an outcome whose kind and code are those of one
+-- The poll and the time of an outcome, if all its columns are in their ranges.
 abbrev pub outcome_in : Row → Result OutcomeRow RowFault
 outcome_in row =
     and_then (or_damaged (whole_in 1 greatest_place (column row 0))) (λ poll.

@@ -1,4 +1,4 @@
--- The rows of a run of polls in the tables, whatever these hold.
+-- The rows of a run of polls in the tables, for any content.
 use Rattle.std.specs.Prelude.{◌≡◌, ℕ, ℤ, pos, negsuc, ◌+◌, ◌*◌, ◌==◌, Bool, false, ◌&&◌, List, [], ◌∷◌, if◌then◌else◌}
 use Rattle.std.specs.Ordering.{is_gt}
 use Rattle.sqlite.specs.Collation.TheVariants.{Binary}
@@ -15,66 +15,74 @@ use Rattle.table_audit.specs.Showing.{InPlace}
 use Rattle.table_audit.specs.declared.poll_rows.RunRows.{RunRows}
 use Rattle.table_audit.specs.declared.poll_rows.TheConstants.{RUN}
 
--- the tables `polls` and `outcomes`, by the numbers of their trees
+-- The tree number of `polls`.
 abbrev pub polls_tree : ℕ
 polls_tree = 11
 
+-- The tree number of `outcomes`.
 abbrev pub outcomes_tree : ℕ
 outcomes_tree = 13
 
 -- ---- the numbers of a run
 
--- the least number that SQL has
+-- The least integer of SQL.
 abbrev pub least_number : ℤ
 least_number = negsuc 9223372036854775807
 
--- Those below 1 are in the first run.
+-- The least number of a run. The first run includes all numbers below 1.
 abbrev pub low_of : (run : ℕ) → ℤ
 low_of run = if run == 0 then least_number else pos (run * RUN + 1)
 
+-- The greatest number of a run.
 abbrev pub high_of : (run : ℕ) → ℤ
 high_of run = pos ((run + 1) * RUN)
 
--- as SQL compares values
+-- Whether a value is at least `low`, as SQL compares values.
 abbrev pub is_from : (low : ℤ) → Value → Bool
 is_from low v = is_true (binary (Compare Ge Binary) v (Int low))
 
+-- Whether a value is at most `high`, as SQL compares values.
 abbrev pub is_up_to : (high : ℤ) → Value → Bool
 is_up_to high v = is_true (binary (Compare Le Binary) v (Int high))
 
--- a row begins with its number
+-- Whether the number in the first column is in a range.
 abbrev pub is_between : (low high : ℤ) → Row → Bool
 is_between low high row = is_from low (column row 0) && is_up_to high (column row 0)
 
+-- The number of the row is in this run.
 abbrev pub is_in_run : (run : ℕ) → Row → Bool
 is_in_run run row = is_between (low_of run) (high_of run) row
 
--- in SQL's order of values, the greatest number first
+-- In descending order of numbers, as SQL compares values.
 abbrev pub FromLast : Row → Row → Type 0
 FromLast row later = is_gt (value_cmp (column later 0) (column row 0)) ≡ false
 
--- ---- what the queries show of a row
+-- ---- the columns that the queries show
 
 abbrev pub number_shown : Row → Row
 number_shown row = column row 0 ∷ []
 
--- its number, the columns after the device's name, and that name last
+-- The columns that the query shows of a poll: its number, the columns after the device's name, and
+-- that name last.
 abbrev pub poll_shown : Row → Row
 poll_shown row =
     column row 0 ∷ column row 3 ∷ column row 4 ∷ column row 5 ∷ column row 6 ∷ column row 7
     ∷ column row 8 ∷ column row 2 ∷ []
 
+-- The columns that the query shows of an outcome.
 abbrev pub outcome_shown : Row → Row
 outcome_shown row = column row 0 ∷ column row 2 ∷ column row 3 ∷ column row 4 ∷ []
 
--- the greatest number of a poll, if there is a poll
+-- The query shows the greatest number of a poll, if there is a poll.
 abbrev pub ShowsLast : Content → List Row → Type 0
 ShowsLast content rows = ShowsFirst every FromLast number_shown (content polls_tree) rows
 
+-- The query shows the polls of a run.
 abbrev pub ShowsPolls : (run : ℕ) → Content → List Row → Type 0
 ShowsPolls run content rows =
     Shows (is_in_run run) InPlace poll_shown (content polls_tree) rows
 
+-- The query shows the outcomes of a run's polls.
 abbrev pub ShowsOutcomes : (run : ℕ) → Content → List Row → Type 0
 ShowsOutcomes run content rows =
     Shows (is_in_run run) InPlace outcome_shown (content outcomes_tree) rows

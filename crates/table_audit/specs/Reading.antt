@@ -1,4 +1,4 @@
--- Values of rows as the queries show them.
+-- Readers of the rows of a meter.
 use Rattle.std.specs.Prelude.{◌≡◌, ℕ, ◌==◌, Bool, List, [], ◌∷◌, Option, Some, None, Result, Ok, Vec, String, if◌then◌else◌}
 use Rattle.std.specs.Prelude.{IsUtf8, string_bytes}
 use Rattle.std.specs.List.{list_any}
@@ -15,6 +15,7 @@ use Rattle.store_tables.specs.declared.faults.RowFault.{RowFault}
 use Rattle.store_tables.specs.Columns.{whole_in, within, or_damaged, and_then}
 use Rattle.store_tables.specs.Limits.{greatest_place, latest_moment}
 
+-- The kind of an entry with a number.
 abbrev pub kind_of : ℕ → Option RowKind
 kind_of n =
     if n == 1 then Some Opening else
@@ -24,14 +25,15 @@ kind_of n =
     if n == 5 then Some Reset else
     if n == 6 then Some Rescale else None
 
+-- The kind of an entry that a value encodes.
 abbrev pub kind_in : Value → Option RowKind
 kind_in v = option_and_then kind_of (whole_in 1 6 v)
 
--- a void names the place
+-- A void is of the entry at this index.
 abbrev pub is_named : (voids : List ℕ) → (place : ℕ) → Bool
 is_named voids place = list_any (λ v. v == place) voids
 
--- an entry, and whether it was voided
+-- The entry that a row shows, and whether it is voided, or damage.
 abbrev pub entry_in : (voids : List ℕ) → Row → Result TableRow RowFault
 entry_in voids row =
     and_then (or_damaged (whole_in 1 greatest_place (column row 0))) (λ place.
@@ -52,33 +54,35 @@ entry_in voids row =
       is_voided = is_named voids place;
     }))))))))
 
--- the place of an entry that was voided
+-- The index of a voided entry, or damage.
 abbrev pub place_in : Row → Result ℕ RowFault
 place_in row = or_damaged (whole_in 1 greatest_place (column row 0))
 
+-- The energy of a quarter hour that a row shows, or damage.
 abbrev pub share_in : Row → Result Share RowFault
 share_in row =
     and_then (or_damaged (whole_in 0 latest_moment (column row 0))) (λ start.
     and_then (or_damaged (whole_in 0 MAX_TOTAL (column row 1))) (λ mwh.
     Ok (record { start = start; mwh = mwh })))
 
+-- The range that a row shows, or damage.
 abbrev pub range_in : Row → Result ℕ RowFault
 range_in row = or_damaged (whole_in MIN_RANGE MAX_RANGE (column row 0))
 
--- what each row has, or damage
+-- The value of each row, or damage.
 abbrev pub all_in : {X : Type 0} → (Row → Result X RowFault) → List Row
     → Result (List X) RowFault
 all_in read [] = Ok []
 all_in read (row ∷ rows) =
     and_then (read row) (λ x. and_then (all_in read rows) (λ xs. Ok (x ∷ xs)))
 
--- All rows were read, or one can't be.
+-- All rows were read, or one of them can't be read.
 abbrev pub AreRead : {X Z : Type 0} → (Row → Result X RowFault) → List Row → Option (Vec X Z)
     → Type 0
 AreRead {X} read rows None = (xs : List X) → all_in read rows ≡ Ok xs → ⊥
 AreRead read rows (Some found) = all_in read rows ≡ Ok found.items
 
--- the text that a column has, or that it has none
+-- The text that a column has, or none if the column has no UTF-8 text.
 abbrev pub IsTextIn : {Z : Type 0} → Value → Option (String Z) → Type 0
 IsTextIn v None = (text : List ℕ) → IsUtf8 text → v ≡ Text text → ⊥
 IsTextIn v (Some text) = v ≡ Text (string_bytes text)

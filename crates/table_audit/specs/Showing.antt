@@ -1,4 +1,4 @@
--- The rows of a meter in the tables, whatever these hold.
+-- The rows of a meter in the tables, for any content.
 use Rattle.std.specs.Prelude.{◌≡◌, ℕ, Bool, false, bytes_eq, List, [], ◌∷◌}
 use Rattle.std.specs.Ordering.{is_gt}
 use Rattle.sqlite.specs.declared.types.Value.{Value}
@@ -11,11 +11,11 @@ use Rattle.store_tables.specs.Entries.Trees as entry_tree
 use Rattle.store_tables.specs.Meters.Trees as meter_tree
 use Rattle.table_audit.specs.declared.rows.MeterRows.{MeterRows}
 
--- the table `intervals`, by the number of its tree
+-- The tree number of the table `intervals`.
 abbrev pub intervals_tree : ℕ
 intervals_tree = 14
 
--- a text of these bytes
+-- The value is a text of these bytes.
 abbrev pub is_text : List ℕ → Value → Bool
 is_text name (Text t) = bytes_eq t name
 is_text name Null = false
@@ -23,57 +23,63 @@ is_text name (Int n) = false
 is_text name (Real x) = false
 is_text name (Blob b) = false
 
--- a row of a meter begins with its name
+-- The first column of the row is the name of this meter.
 abbrev pub is_of : (meter : List ℕ) → Row → Bool
 is_of meter row = is_text meter (column row 0)
 
--- in SQL's order of values, by the second column: a place, or a start
+-- In ascending order of the second column, an index or a start, as SQL compares values.
 abbrev pub InOrder : Row → Row → Type 0
 InOrder row later = is_gt (value_cmp (column row 1) (column later 1)) ≡ false
 
--- by the first column, which has a row's number where that is its place
+-- In ascending order of the first column, which is the rowid if the key is an index.
 abbrev pub InPlace : Row → Row → Type 0
 InPlace row later = is_gt (value_cmp (column row 0) (column later 0)) ≡ false
 
--- what the query shows of a row of installations: its place, and the columns after it
+-- The columns that the query shows of an installation: its index, and the columns after it.
 abbrev pub installation_shown : Row → Row
 installation_shown row =
     column row 0 ∷ column row 2 ∷ column row 3 ∷ column row 4 ∷ column row 5 ∷ column row 6
     ∷ column row 7 ∷ column row 8 ∷ column row 9 ∷ []
 
--- what the queries show of a row: the columns after the meter's name
+-- The columns that the query shows of a range: the columns after the meter's name.
 abbrev pub range_shown : Row → Row
 range_shown row = column row 1 ∷ []
 
+-- The columns that the query shows of an entry.
 abbrev pub entry_shown : Row → Row
 entry_shown row =
     column row 1 ∷ column row 2 ∷ column row 3 ∷ column row 4 ∷ column row 5 ∷ column row 6
     ∷ column row 7 ∷ []
 
+-- The columns that the query shows of a void.
 abbrev pub void_shown : Row → Row
 void_shown row = column row 1 ∷ []
 
+-- The columns that the query shows of an interval row.
 abbrev pub share_shown : Row → Row
 share_shown row = column row 1 ∷ column row 2 ∷ []
 
--- Installations are shown by their places, all of them.
+-- The query shows all installations, in order of index.
 abbrev pub ShowsInstallations : Content → List Row → Type 0
 ShowsInstallations content rows =
     Shows every InPlace installation_shown (content meter_tree.installations) rows
 
--- Entries and voids are shown by their places, intervals by their starts.
+-- The query shows the range of a meter.
 abbrev pub ShowsRange : (meter : List ℕ) → Content → List Row → Type 0
 ShowsRange meter content rows =
     Shows (is_of meter) AnyOrder range_shown (content meter_tree.ranges) rows
 
+-- The query shows the entries of a meter, in order of index.
 abbrev pub ShowsEntries : (meter : List ℕ) → Content → List Row → Type 0
 ShowsEntries meter content rows =
     Shows (is_of meter) InOrder entry_shown (content entry_tree.entries) rows
 
+-- The query shows the voids of a meter's entries, in order of index.
 abbrev pub ShowsVoids : (meter : List ℕ) → Content → List Row → Type 0
 ShowsVoids meter content rows =
     Shows (is_of meter) InOrder void_shown (content entry_tree.voids) rows
 
+-- The query shows the interval rows of a meter, in order of their starts.
 abbrev pub ShowsIntervals : (meter : List ℕ) → Content → List Row → Type 0
 ShowsIntervals meter content rows =
     Shows (is_of meter) InOrder share_shown (content intervals_tree) rows

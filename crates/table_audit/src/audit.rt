@@ -1,4 +1,4 @@
-//! The rows of a meter, as the tables have them.
+//! The audit of one meter's rows.
 ghost use Rattle.std.specs.Prelude.{◌≡◌, ◌≤◌, ◌↔◌, false, length, IsTrue, IfOk, OnOk};
 ghost use Rattle.table_audit.specs.Looking.{Finds};
 ghost use Rattle.table_audit.specs.Fine.{IsFine, TellsFine};
@@ -13,7 +13,7 @@ use sqlite::{Alter, Connection, Error, ErrorCode};
 use std::alloc::{AllocError, Global};
 use store_tables::{InstallationRow, RowFault};
 
-/// Whether the rows of a meter are those of a lawful journal. It tells of what differs.
+/// Returns whether the rows of a meter are those of a lawful journal, and reports the differences.
 pub fn audit_rows(
     alloc: Global,
     installation: &InstallationRow,
@@ -52,8 +52,8 @@ pub fn audit_rows(
     )
 }
 
-/// Whether the tables have for a meter, which this row says was installed, the rows of a lawful journal. It tells of what
-/// differs. All rows of the meter are held in memory.
+/// Returns whether the tables have the rows of a lawful journal for the meter of this installation,
+/// and reports the differences. Memory holds all rows of the meter.
 pub fn audit_meter<S: Alter>(
     alloc: Global,
     conn: &mut Connection<S>,

@@ -1,11 +1,11 @@
-//! What an audit tells of.
+//! The differences that an audit reports.
 ghost use Rattle.std.specs.Prelude.{◌≡◌, ◌<◌, ◌≤◌, [], length, OnOk};
 
 use energy_core::Last;
 use meter_audit::{IntervalFault, RowFault};
 use std::alloc::{AllocError, Global};
 
-/// A table in which a meter has rows.
+/// A table with rows of meters.
 #[derive(Clone, Copy, Debug, PartialEq, Eq)]
 pub enum Table {
     Installations,
@@ -15,52 +15,53 @@ pub enum Table {
     Intervals,
 }
 
-/// How a poll differs from those of an office.
+/// How a poll differs from the polls of an office.
 #[derive(Clone, Copy, Debug, PartialEq, Eq)]
 pub enum PollFault {
-    /// It has a value that none may have.
+    /// The poll has a value out of its range.
     OutOfRange,
-    /// Its outcome has one.
+    /// The outcome of the poll has a value out of its range.
     EndOutOfRange,
-    /// Its number isn't above that of the poll before it, or is past the last one.
+    /// The number of the poll is not above that of the poll before it, or is past the last number.
     OutOfOrder,
-    /// Its outcome comes before it was started.
+    /// The outcome is earlier than the start of the poll.
     EndedBefore,
 }
 
-/// How the rows of a meter differ from those of a lawful journal, or those of a poll from an office's.
+/// How the rows of a meter differ from those of a lawful journal, or a poll from the polls of an
+/// office.
 #[derive(Clone, Copy, Debug, PartialEq, Eq)]
 pub enum Difference {
-    /// A row of the table has a value that none may have.
+    /// A row of the table has a value out of its range.
     OutOfRange(Table),
-    /// The row of installations at this place names no meter.
+    /// The row of `installations` at this index names no meter.
     Unnamed { place: u64 },
-    /// The place of the installation isn't the next one.
+    /// The index of the installation is not the next index.
     Installation { has: u64, wanted: u64 },
-    /// There is no entry, or the first is no lawful opening.
+    /// The meter has no entry, or its first entry is not a lawful opening.
     NotOpened,
-    /// An entry can't come after the one before it.
+    /// An entry may not follow the entry before it.
     Entry { place: u64, fault: RowFault },
-    /// A void names no entry after the opening, or one that another names too.
+    /// A void is of no entry after the opening, or of an entry with another void.
     Void { place: u64 },
-    /// The energy of a quarter hour.
+    /// The energy of a quarter hour differs.
     Interval(IntervalFault),
-    /// Where the installation says that the counter stands.
+    /// The installation has another last entry than the entries give.
     Last { has: Last, wanted: Last },
-    /// The energy that the installation has, in mWh.
+    /// The installation has another total energy than the entries give, in mWh.
     Total { has: u64, wanted: u64 },
-    /// Whether the installation says that the meter was closed.
+    /// The installation and the entries disagree on whether the meter was closed.
     Ended { wanted: bool },
-    /// No poll has a number from the first up to the last.
+    /// No poll has a number from `first` to `last`.
     NoPolls { first: u64, last: u64 },
-    /// The poll of a number; a number below 1 is told as 0.
+    /// The poll with this number. A number below 1 is reported as 0.
     Poll { poll: u64, fault: PollFault },
 }
 
-/// The most differences that are kept.
+/// The most differences that an audit keeps.
 pub const MOST: usize = 100;
 
-/// The first differences, and how many came after these.
+/// The first differences, and how many more there are.
 #[derive(Debug, Drop)]
 pub struct Differences {
     pub first: Vec<Difference>,
@@ -68,7 +69,7 @@ pub struct Differences {
 }
 
 impl Differences {
-    /// None yet.
+    /// Creates an empty list.
     pub fn new(alloc: Global) -> Differences
         ensures none { result.first.items ≡ [] }
         ensures more { result.more ≡ 0 }
@@ -79,7 +80,7 @@ impl Differences {
         }
     }
 
-    /// One more.
+    /// Keeps a difference, or counts it if `MOST` are kept.
     pub fn push(&mut self, difference: Difference) -> Result<(), AllocError>
         requires few { length self.old.first.items ≤ MOST }
         ensures told { OnOk result (0 < length self.new.first.items) }

@@ -1,4 +1,4 @@
-//! What an audit of all meters found.
+//! The findings of an audit of all tables.
 ghost use Rattle.std.specs.Prelude.{◌≡◌, ◌≤◌, ◌+◌, ◌-◌, ◌++◌, ◌∷◌, [], length, take, IsTrue, ◌↔◌};
 ghost use Rattle.std.specs.Prelude.{IfOk, OnOk, Some, None};
 ghost use Rattle.table_audit.specs.Named.{IsUnder};
@@ -7,15 +7,15 @@ use crate::differences::{Difference, MOST};
 use crate::rows::MeterRows;
 use std::alloc::{AllocError, Global};
 
-/// A difference, and the meter of which it is.
+/// A difference, with its meter.
 #[derive(Debug, Drop)]
 pub struct Finding {
-    /// The meter's name, unless a row of installations names none, or it is a poll that differs.
+    /// The meter's name. None if a row of `installations` names no meter, or if a poll differs.
     pub meter: Option<String>,
     pub difference: Difference,
 }
 
-/// How many rows were looked at.
+/// How many rows the audit read.
 #[derive(Clone, Copy, Debug, PartialEq, Eq)]
 pub struct Counts {
     pub meters: u64,
@@ -24,7 +24,7 @@ pub struct Counts {
     pub polls: u64,
 }
 
-/// The first differences of all meters, how many came after these, and how many rows were looked at.
+/// The first findings of an audit, how many more there are, and how many rows the audit read.
 #[derive(Debug, Drop)]
 pub struct Findings {
     pub first: Vec<Finding>,
@@ -37,7 +37,7 @@ impl Findings {
     ghost use Rattle.table_audit.specs.Named.{KeepsFirst, IsTold};
     ghost use Rattle.table_audit.specs.Polls.{counting_polls};
 
-    /// None yet.
+    /// Creates an empty list.
     pub(crate) fn new(alloc: Global) -> Findings
         ensures none { result.first.items ≡ [] }
         ensures more { result.more ≡ 0 }
@@ -55,14 +55,14 @@ impl Findings {
         }
     }
 
-    /// Whether the tables are fine: there is no difference.
+    /// Returns whether the tables are fine: whether there is no difference.
     pub fn is_fine(&self) -> bool
         ensures { IsTrue result ↔ (self.now.first.items ≡ []) }
     {
         self.first.is_empty()
     }
 
-    /// One more, which is kept or counted.
+    /// Keeps a finding, or counts it if `MOST` are kept.
     pub(crate) fn push(&mut self, finding: Finding) -> Result<(), AllocError>
         requires few { length self.old.first.items ≤ MOST }
         ensures kept { OnOk result (self.new.first.items
@@ -81,7 +81,7 @@ impl Findings {
         Ok(())
     }
 
-    /// The first differences of a meter, and how many came after these.
+    /// Adds the differences of a meter: the first of them, and how many more there are.
     pub(crate) fn tell(
         &mut self,
         alloc: Global,
@@ -106,7 +106,7 @@ impl Findings {
         Ok(())
     }
 
-    /// Differences of no meter.
+    /// Adds differences without a meter.
     pub(crate) fn tell_all(&mut self, found: &[Difference]) -> Result<(), AllocError>
         requires few { length self.old.first.items ≤ MOST }
         ensures told { OnOk result (IsTold found.now self.old self.new) }
@@ -119,7 +119,7 @@ impl Findings {
         Ok(())
     }
 
-    /// A meter's rows were looked at.
+    /// Counts the rows of a meter.
     pub(crate) fn count(&mut self, rows: &MeterRows)
         ensures counts { self.new.counts ≡ counted (Some rows.now) self.old.counts }
         ensures first { self.new.first ≡ self.old.first }
@@ -134,7 +134,7 @@ impl Findings {
         };
     }
 
-    /// A row of installations that names no meter was looked at.
+    /// Counts a row of `installations` that names no meter.
     pub(crate) fn count_unnamed(&mut self)
         ensures counts { self.new.counts ≡ counted None self.old.counts }
         ensures first { self.new.first ≡ self.old.first }
@@ -142,7 +142,7 @@ impl Findings {
         self.counts.meters = self.counts.meters.saturating_add(1);
     }
 
-    /// So many polls were looked at.
+    /// Sets the number of polls that the audit read.
     pub(crate) fn count_polls(&mut self, polls: u64)
         ensures { self.new ≡ counting_polls polls self.old }
     {
@@ -150,7 +150,7 @@ impl Findings {
     }
 }
 
-/// A difference of the meter of this name.
+/// Returns a difference with its meter's name.
 fn under(alloc: Global, meter: &str, difference: &Difference) -> Result<Finding, AllocError>
     ensures meter { IfOk result (IsUnder meter.now) }
     ensures difference { IfOk result (λ finding. finding.difference ≡ difference.now) }
@@ -162,7 +162,7 @@ fn under(alloc: Global, meter: &str, difference: &Difference) -> Result<Finding,
     })
 }
 
-/// A difference of no meter.
+/// Returns a difference without a meter.
 fn alone(difference: &Difference) -> Finding
     ensures meter { result.meter ≡ None }
     ensures difference { result.difference ≡ difference.now }

@@ -1,4 +1,4 @@
-//! What was read of a meter, against what its entries give.
+//! The comparison of a meter's rows with the rows that its entries give.
 ghost use Rattle.std.specs.Prelude.{◌≡◌, ◌<◌, ◌≤◌, ◌^◌, ◌↔◌, [], All, reverse, length, true};
 ghost use Rattle.std.specs.Prelude.{IsTrue, IsNone, IfSome, IfOk, OnOk, MatchOption};
 ghost use Rattle.meter_audit.specs.Fitting.{AreTold};
@@ -19,7 +19,7 @@ use meter_journal::Installed;
 use std::alloc::{AllocError, Global};
 use store_tables::InstallationRow;
 
-/// Goes over the rows after an opening, up to the first that is refused.
+/// Checks the rows after an opening, up to the first row that is refused.
 fn go_over(
     meter: &Installed,
     progress: &mut Progress,
@@ -44,7 +44,7 @@ fn go_over(
     Ok(None)
 }
 
-/// Tells of that row, and of each one after it that is refused.
+/// Reports the first refused row, and each later row that is refused.
 fn tell_refused(
     meter: &Installed,
     progress: &mut Progress,
@@ -74,7 +74,8 @@ fn tell_refused(
     Ok(())
 }
 
-/// The first of some places that doesn't rise, from after the opening's up to the last entry's.
+/// Returns the first of some indices that does not rise. All are to be after the opening and up to
+/// the last entry.
 fn first_astray(last: u64, places: &[u64]) -> Option<u64>
     ensures { IsNone result ↔ (agreeing.rises 1 last places.now ≡ true) }
 {
@@ -88,7 +89,8 @@ fn first_astray(last: u64, places: &[u64]) -> Option<u64>
     None
 }
 
-/// Tells of the first void that names no entry.
+/// Reports the first void that is of no entry, or of an entry with another void. Returns whether
+/// there is none.
 fn tell_voids(last: u64, voids: &[u64], found: &mut Differences) -> Result<bool, AllocError>
     requires few { length found.old.first.items ≤ MOST }
     ensures named { IfOk result (λ named. IsTrue named ↔ (agreeing.rises 1 last voids.now ≡ true)) }
@@ -104,7 +106,7 @@ fn tell_voids(last: u64, voids: &[u64], found: &mut Differences) -> Result<bool,
     }
 }
 
-/// Tells of each difference between interval rows, in their order.
+/// Reports each difference between interval rows, in order.
 fn tell_each(wanted: &[Share], has: &[Share], found: &mut Differences) -> Result<(), AllocError>
     requires told { 0 < length found.old.first.items }
     requires few { length found.old.first.items ≤ MOST }
@@ -126,7 +128,8 @@ fn tell_each(wanted: &[Share], has: &[Share], found: &mut Differences) -> Result
     Ok(())
 }
 
-/// Tells whether interval rows are those that the entries give, and of each difference.
+/// Reports each difference between the interval rows and those that the entries give. Returns
+/// whether there is none.
 fn tell_intervals(
     wanted: &[Share],
     has: &[Share],
@@ -147,7 +150,7 @@ fn tell_intervals(
     Ok(false)
 }
 
-/// Tells where the counter stands, if it doesn't stand where the installation says.
+/// Reports the last entry, if the installation has another. Returns whether the two agree.
 fn tell_last(has: Last, wanted: Option<Last>, found: &mut Differences) -> Result<bool, AllocError>
     requires few { length found.old.first.items ≤ MOST }
     ensures none { IfOk result (λ same. IsTrue same ↔ IsNone wanted) }
@@ -161,7 +164,7 @@ fn tell_last(has: Last, wanted: Option<Last>, found: &mut Differences) -> Result
     Ok(false)
 }
 
-/// Tells the energy, if it isn't the installation's.
+/// Reports the total energy, if the installation has another. Returns whether the two agree.
 fn tell_total(has: u64, wanted: Option<u64>, found: &mut Differences) -> Result<bool, AllocError>
     requires few { length found.old.first.items ≤ MOST }
     ensures none { IfOk result (λ same. IsTrue same ↔ IsNone wanted) }
@@ -175,7 +178,8 @@ fn tell_total(has: u64, wanted: Option<u64>, found: &mut Differences) -> Result<
     Ok(false)
 }
 
-/// Tells whether the meter was closed, if the installation doesn't say so.
+/// Reports whether the meter was closed, if the installation says otherwise. Returns whether the
+/// two agree.
 fn tell_ended(wanted: Option<bool>, found: &mut Differences) -> Result<bool, AllocError>
     requires few { length found.old.first.items ≤ MOST }
     ensures none { IfOk result (λ same. IsTrue same ↔ IsNone wanted) }
@@ -189,7 +193,8 @@ fn tell_ended(wanted: Option<bool>, found: &mut Differences) -> Result<bool, All
     Ok(false)
 }
 
-/// Tells whether the row of an installation says where the check stands, and of each difference.
+/// Reports each difference between an installation and the result of the check. Returns whether
+/// there is none.
 fn tell_standing(
     check: &Check,
     row: &InstallationRow,
@@ -218,7 +223,8 @@ fn tell_standing(
     Ok(last && total && ended)
 }
 
-/// Tells whether what else was read agrees with a check after all entries, and of each difference.
+/// Reports each difference between the remaining rows and the result of the check. Returns whether
+/// there is none.
 fn tell_rest(
     progress: &Progress,
     row: &InstallationRow,
@@ -239,7 +245,8 @@ fn tell_rest(
     Ok(named && same && stands)
 }
 
-/// Whether what was read of a meter is that of a lawful journal. It tells of what differs.
+/// Returns whether the values that were read of a meter are those of a lawful journal, and reports
+/// the differences.
 pub(crate) fn audit_read(
     alloc: Global,
     range: u64,

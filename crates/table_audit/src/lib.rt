@@ -1,4 +1,5 @@
-//! Whether the tables of a file have for each meter the rows of a lawful journal, whoever wrote them.
+//! An audit of a file's tables: whether each meter has the rows of a lawful journal, and whether
+//! the polls are complete and in order. The writer of the tables may be any program.
 #![tactic(auto)]
 
 mod audit;

@@ -1,4 +1,4 @@
-//! The rows of all meters.
+//! The audit of all meters.
 ghost use Rattle.std.specs.Prelude.{◌≡◌, ◌≤◌, ◌↔◌, [], false, length, IsTrue, IfOk, OnOk, Some, None};
 ghost use Rattle.table_audit.specs.Looking.{Finds};
 ghost use Rattle.table_audit.specs.Meters.{IsFineMeter, TellsRow, TellsRows, TellsMeters, counted};
@@ -14,7 +14,7 @@ use sqlite::{Alter, Connection, Error, ErrorCode, Row};
 use std::alloc::{AllocError, Global};
 use store_tables::RowFault;
 
-/// Tells of an installation whose place isn't the next one.
+/// Reports an installation whose index is not the next. Returns whether it is.
 fn tell_place(has: u64, wanted: u64, found: &mut Differences) -> Result<bool, AllocError>
     requires few { length found.old.first.items ≤ MOST }
     ensures placed { IfOk result (λ placed. IsTrue placed ↔ (has ≡ wanted)) }
@@ -28,7 +28,8 @@ fn tell_place(has: u64, wanted: u64, found: &mut Differences) -> Result<bool, Al
     Ok(false)
 }
 
-/// Whether a row of installations is at this place, and that of a meter whose rows are fine.
+/// Returns whether a row of `installations` has this index, and the rows of its meter are fine.
+/// Reports the differences.
 fn audit_installation(
     alloc: Global,
     place: u64,
@@ -50,7 +51,7 @@ fn audit_installation(
     Ok(placed && fine)
 }
 
-/// A row of installations that names a meter, and the rows of that meter.
+/// Audits a row of `installations` that names a meter, and the rows of that meter.
 fn audit_named(
     alloc: Global,
     place: u64,
@@ -73,7 +74,7 @@ fn audit_named(
     Ok(())
 }
 
-/// A row of installations that names no meter.
+/// Reports a row of `installations` that names no meter.
 fn audit_unnamed(place: u64, findings: &mut Findings) -> Result<(), AllocError>
     requires few { length findings.old.first.items ≤ MOST }
     ensures told { OnOk result ((findings.new.first.items ≡ []) → ⊥) }
@@ -88,7 +89,7 @@ fn audit_unnamed(place: u64, findings: &mut Findings) -> Result<(), AllocError>
     Ok(())
 }
 
-/// A row of installations, which is to be at this place, and the rows of the meter that it names.
+/// Audits a row of `installations`, which should have this index, and the rows of its meter.
 fn audit_row<S: Alter>(
     alloc: Global,
     conn: &mut Connection<S>,
@@ -115,7 +116,7 @@ fn audit_row<S: Alter>(
     }
 }
 
-/// These rows of installations, and the rows of the meters that they name.
+/// Audits these rows of `installations`, and the rows of their meters.
 fn audit_rows_of<S: Alter>(
     alloc: Global,
     conn: &mut Connection<S>,
@@ -132,8 +133,9 @@ fn audit_rows_of<S: Alter>(
     Ok(findings)
 }
 
-/// Whether the tables have for each meter the rows of a lawful journal: the differences, and how many rows were looked at. The
-/// rows of one meter at a time are held in memory, and those of `installations`.
+/// Audits whether the tables have the rows of a lawful journal for each meter. Returns the
+/// differences, and how many rows were read. Memory holds the rows of one meter at a time, and
+/// those of `installations`.
 pub fn audit_meters<S: Alter>(alloc: Global, conn: &mut Connection<S>) -> Result<Findings, RowFault>
     requires mode { conn.old.in_transaction ≡ false }
     ensures finds { Finds S.Store conn.old conn.new result TellsMeters }

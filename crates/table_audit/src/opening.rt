@@ -1,4 +1,4 @@
-//! The meter that an opening opens.
+//! The meter that an opening installs.
 ghost use Rattle.std.specs.Prelude.{◌≡◌, ◌↔◌, IsTrue, IsSome, IfSome};
 ghost use Rattle.meter_journal.specs.declared.lines.Installed.{Installed as TheMeter};
 ghost use Rattle.meter_audit.specs.Rows.{opening_row};
@@ -9,7 +9,7 @@ use energy_core::{Last, MAX_CEILING, MAX_SCALE, MIN_SCALE, Ranged};
 use meter_audit::{RowKind, TableRow};
 use meter_journal::Installed;
 
-/// Whether a row is that of an opening.
+/// Returns whether a row is an opening.
 fn is_opening(row: &TableRow) -> bool
     ensures { IsTrue result ↔ (row.now ≡ opening_row (last_shown row.now)) }
 {
@@ -20,7 +20,7 @@ fn is_opening(row: &TableRow) -> bool
         && !row.is_voided
 }
 
-/// Whether a meter may be checked.
+/// Returns whether the range, the ceiling and the opening of a meter are in their ranges.
 fn may_be_checked(meter: &Installed) -> bool
     ensures { IsTrue result ↔ MayBeChecked meter.now }
 {
@@ -32,7 +32,8 @@ fn may_be_checked(meter: &Installed) -> bool
         && meter.opening.sf <= MAX_SCALE
 }
 
-/// The meter of this range and ceiling that a row opens, if it may be checked.
+/// Returns the meter that an opening installs with this range and ceiling, if its numbers are in
+/// their ranges.
 pub(crate) fn opened(range: u64, ceiling: u64, row: &TableRow) -> Option<Installed>
     ensures may { IfSome result MayBeChecked }
     ensures opened { IfSome result (IsOpenedBy range ceiling row.now) }

@@ -1,4 +1,4 @@
-//! What differs of the polls of a run, in order.
+//! The differences of the polls of a run, in order.
 ghost use Rattle.std.specs.Prelude.{◌≡◌, ◌≤◌, ◌<◌, ◌^◌, ◌++◌, ◌∷◌, [], true, IsTrue, IfOk, OnOk};
 ghost use Rattle.std.specs.List.{list_any};
 ghost use Rattle.store_tables.specs.Limits.{greatest_place};
@@ -13,7 +13,7 @@ use store_tables::{GREATEST_PLACE, whole};
 
 // ---- values
 
-/// The number that a row begins with, if a poll may have it.
+/// Reads the number of a poll from the first column, if the number is in range.
 fn number(row: &Row) -> Option<u64>
     ensures { result ≡ differing.number_in row.now }
 {
@@ -23,7 +23,7 @@ fn number(row: &Row) -> Option<u64>
     }
 }
 
-/// One more of a poll.
+/// Appends a difference of a poll.
 fn put(found: &mut Vec<Difference>, poll: u64, fault: PollFault) -> Result<(), AllocError>
     ensures { OnOk result (found.new.items ≡ found.old.items ++ Difference.Poll poll fault ∷ []) }
 {
@@ -31,7 +31,7 @@ fn put(found: &mut Vec<Difference>, poll: u64, fault: PollFault) -> Result<(), A
     Ok(())
 }
 
-/// Tells of a poll that has a value that none may have.
+/// Reports a poll with a value out of its range.
 fn put_unread_poll(row: &Row, found: &mut Vec<Difference>) -> Result<(), AllocError>
     ensures { OnOk result (found.new.items ≡ found.old.items ++ differing.unread_poll row.now) }
 {
@@ -41,7 +41,7 @@ fn put_unread_poll(row: &Row, found: &mut Vec<Difference>) -> Result<(), AllocEr
     }
 }
 
-/// Tells of an outcome that has a value that none may have.
+/// Reports an outcome with a value out of its range.
 fn put_unread_outcome(row: &Row, found: &mut Vec<Difference>) -> Result<(), AllocError>
     ensures { OnOk result (found.new.items ≡ found.old.items ++ differing.unread_outcome row.now) }
 {
@@ -51,7 +51,7 @@ fn put_unread_outcome(row: &Row, found: &mut Vec<Difference>) -> Result<(), Allo
     }
 }
 
-/// Tells of each poll that has a value that none may have.
+/// Reports each poll with a value out of its range.
 fn put_unread_polls(rows: &[Row], found: &mut Vec<Difference>) -> Result<(), AllocError>
     ensures { OnOk result (found.new.items
         ≡ found.old.items ++ differing.each_of differing.unread_poll rows.now) }
@@ -62,7 +62,7 @@ fn put_unread_polls(rows: &[Row], found: &mut Vec<Difference>) -> Result<(), All
     Ok(())
 }
 
-/// Tells of each outcome that has a value that none may have.
+/// Reports each outcome with a value out of its range.
 fn put_unread_outcomes(rows: &[Row], found: &mut Vec<Difference>) -> Result<(), AllocError>
     ensures { OnOk result (found.new.items
         ≡ found.old.items ++ differing.each_of differing.unread_outcome rows.now) }
@@ -75,7 +75,7 @@ fn put_unread_outcomes(rows: &[Row], found: &mut Vec<Difference>) -> Result<(), 
 
 // ---- numbers
 
-/// The number of a poll, of which another value may be one that can't be read.
+/// Reads the number of a poll. Its other values may be out of range.
 fn number_of(row: &Row) -> Option<u64>
     ensures { result ≡ differing.number_of row.now }
 {
@@ -85,7 +85,7 @@ fn number_of(row: &Row) -> Option<u64>
     }
 }
 
-/// Tells of the numbers that are missing from the next one on, and below another.
+/// Reports the missing numbers from `next` to `below` - 1.
 fn put_gap(next: u64, below: u64, found: &mut Vec<Difference>) -> Result<(), AllocError>
     ensures { OnOk result (found.new.items ≡ found.old.items ++ differing.gap next below) }
 {
@@ -96,7 +96,8 @@ fn put_gap(next: u64, below: u64, found: &mut Vec<Difference>) -> Result<(), All
     Ok(())
 }
 
-/// Tells of the numbers before one, and of it if it is out of order. It answers the next number.
+/// Reports the missing numbers before a number, or that the number is out of order. Returns the
+/// next number.
 fn put_number(
     next: u64,
     last: u64,
@@ -116,7 +117,8 @@ fn put_number(
     Ok(next)
 }
 
-/// Tells of the numbers before that of a row, and of it if it is out of order. It answers the next number.
+/// Reports the missing numbers before the number of a row, or that this number is out of order.
+/// Returns the next number.
 fn put_row(next: u64, last: u64, row: &Row, found: &mut Vec<Difference>) -> Result<u64, AllocError>
     requires last { last ≤ greatest_place }
     ensures put { OnOk result (found.new.items
@@ -130,7 +132,7 @@ fn put_row(next: u64, last: u64, row: &Row, found: &mut Vec<Difference>) -> Resu
     }
 }
 
-/// Tells of each number that is missing from one up to another, and of each that is out of order.
+/// Reports each missing number from `first` to `last`, and each number that is out of order.
 fn put_order(
     first: u64,
     last: u64,
@@ -150,7 +152,8 @@ fn put_order(
 
 // ---- outcomes
 
-/// Whether a row is of the outcome's poll, and the poll was started when it ended, or before, or that can't be read.
+/// Returns whether a row is of the outcome's poll, and the poll started no later than it ended. If
+/// the row can't be read, its number alone decides.
 fn began(outcome: &OutcomeRow, row: &Row) -> bool
     ensures { result ≡ differing.began outcome.now row.now }
 {
@@ -160,7 +163,7 @@ fn began(outcome: &OutcomeRow, row: &Row) -> bool
     }
 }
 
-/// Whether the poll at the outcome's place is its own, where no number is missing, and was started by then.
+/// Returns `began` for the row at the position that the outcome's poll has if no number is missing.
 fn began_there(first: u64, polls: &[Row], outcome: &OutcomeRow) -> bool
     ensures { IsTrue result → list_any (differing.began outcome.now) polls.now ≡ true }
 {
@@ -171,7 +174,7 @@ fn began_there(first: u64, polls: &[Row], outcome: &OutcomeRow) -> bool
     false
 }
 
-/// Whether one of these polls is the outcome's, and was started by then.
+/// Returns whether one of these polls is the outcome's and started no later than it ended.
 fn began_anywhere(polls: &[Row], outcome: &OutcomeRow) -> bool
     ensures { result ≡ list_any (differing.began outcome.now) polls.now }
 {
@@ -183,7 +186,7 @@ fn began_anywhere(polls: &[Row], outcome: &OutcomeRow) -> bool
     false
 }
 
-/// The same. It is sought at its place first.
+/// Does the same as `began_anywhere`, but tries the likely position first.
 fn has_begun(first: u64, polls: &[Row], outcome: &OutcomeRow) -> bool
     ensures { result ≡ list_any (differing.began outcome.now) polls.now }
 {
@@ -193,7 +196,7 @@ fn has_begun(first: u64, polls: &[Row], outcome: &OutcomeRow) -> bool
     began_anywhere(polls, outcome)
 }
 
-/// Tells of an outcome that comes before its poll.
+/// Reports an outcome that is earlier than its poll.
 fn put_early(
     first: u64,
     polls: &[Row],
@@ -211,7 +214,7 @@ fn put_early(
     put(found, outcome.poll, PollFault::EndedBefore)
 }
 
-/// Tells of each outcome that comes before its poll.
+/// Reports each outcome that is earlier than its poll.
 fn put_each_early(
     first: u64,
     polls: &[Row],
@@ -227,9 +230,9 @@ fn put_each_early(
     Ok(())
 }
 
-// ---- all of them
+// ---- all differences
 
-/// Tells of the values of a run.
+/// Reports the values of a run that are out of range.
 fn put_values(rows: &RunRows, found: &mut Vec<Difference>) -> Result<(), AllocError>
     ensures { OnOk result (found.new.items ≡ found.old.items ++ differing.values_of rows.now) }
 {
@@ -237,7 +240,7 @@ fn put_values(rows: &RunRows, found: &mut Vec<Difference>) -> Result<(), AllocEr
     put_unread_outcomes(rows.outcomes.as_slice(), found)
 }
 
-/// What differs of a run, where this is the last number of all.
+/// Returns the differences of a run of polls. `last` is the last number of all polls.
 pub(crate) fn run_differences(
     alloc: Global,
     run: u64,
@@ -254,7 +257,8 @@ pub(crate) fn run_differences(
     Ok(found)
 }
 
-/// Tells of the numbers of a run, and of outcomes that come before their polls.
+/// Reports the missing numbers of a run, the numbers out of order, and the outcomes that are
+/// earlier than their polls.
 fn put_turns(
     run: u64,
     last: u64,

@@ -1,4 +1,4 @@
-//! Polls and outcomes, looked up in the tables by runs of numbers.
+//! Queries for polls and outcomes by runs of numbers.
 ghost use Rattle.std.specs.Prelude.{◌≡◌, ◌<◌, ◌^◌, false};
 ghost use Rattle.sqlite.specs.declared.types.Value.TheVariants.{Int};
 ghost use Rattle.store_tables.specs.Answer.{every};
@@ -12,7 +12,7 @@ use sqlite::types::Value;
 use sqlite::{Alter, Connection, Error, Row, params};
 use store_tables::{RowFault, check_open, number};
 
-/// The least number of a run, as SQL's. Those below 1 are in the first.
+/// Returns the least number of a run as an SQL integer. The first run includes all numbers below 1.
 fn low(run: u64) -> Value
     requires { run < 2 ^ 50 }
     ensures { result ≡ Int (showing.low_of run) }
@@ -23,7 +23,7 @@ fn low(run: u64) -> Value
     number(run * RUN + 1)
 }
 
-/// The greatest number of a run.
+/// Returns the greatest number of a run as an SQL integer.
 fn high(run: u64) -> Value
     requires { run < 2 ^ 50 }
     ensures { result ≡ Int (showing.high_of run) }
@@ -31,7 +31,7 @@ fn high(run: u64) -> Value
     number((run + 1) * RUN)
 }
 
-/// Asks for the greatest number of a poll.
+/// Queries the greatest number of a poll.
 fn ask_last<S: Alter>(conn: &mut Connection<S>) -> Result<Vec<Row>, Error>
     ensures asks { Asks S.Store conn.old conn.new }
     ensures shows { TellsRows S.Store conn.old conn.new showing.polls_tree itself result
@@ -40,7 +40,7 @@ fn ask_last<S: Alter>(conn: &mut Connection<S>) -> Result<Vec<Row>, Error>
     conn.query_all("SELECT poll FROM polls ORDER BY poll DESC LIMIT 1", &[])
 }
 
-/// Asks for the polls of a run, by their numbers.
+/// Queries the polls of a run, in order of their numbers.
 fn ask_polls<S: Alter>(conn: &mut Connection<S>, run: u64) -> Result<Vec<Row>, Error>
     requires { run < 2 ^ 50 }
     ensures asks { Asks S.Store conn.old conn.new }
@@ -55,7 +55,7 @@ fn ask_polls<S: Alter>(conn: &mut Connection<S>, run: u64) -> Result<Vec<Row>, E
     )
 }
 
-/// Asks for the outcomes of these polls, by their numbers.
+/// Queries the outcomes of a run's polls, in order of their numbers.
 fn ask_outcomes<S: Alter>(conn: &mut Connection<S>, run: u64) -> Result<Vec<Row>, Error>
     requires { run < 2 ^ 50 }
     ensures asks { Asks S.Store conn.old conn.new }
@@ -70,7 +70,8 @@ fn ask_outcomes<S: Alter>(conn: &mut Connection<S>, run: u64) -> Result<Vec<Row>
     )
 }
 
-/// The greatest number of a poll, in the first column of the first row, if there is a poll.
+/// Queries the greatest number of a poll. The first column of the first row has the number, if
+/// there is a poll.
 pub fn last_poll<S: Alter>(conn: &mut Connection<S>) -> Result<Vec<Row>, RowFault>
     requires { conn.old.in_transaction ≡ false }
     ensures { Finds S.Store conn.old conn.new result
@@ -81,7 +82,7 @@ pub fn last_poll<S: Alter>(conn: &mut Connection<S>) -> Result<Vec<Row>, RowFaul
     Ok(rows)
 }
 
-/// The polls of a run.
+/// Queries the polls of a run, after the check that the database is open.
 fn polls<S: Alter>(conn: &mut Connection<S>, run: u64) -> Result<Vec<Row>, RowFault>
     requires mode { conn.old.in_transaction ≡ false }
     requires run { run < 2 ^ 50 }
@@ -93,7 +94,7 @@ fn polls<S: Alter>(conn: &mut Connection<S>, run: u64) -> Result<Vec<Row>, RowFa
     Ok(rows)
 }
 
-/// The outcomes of the polls of a run.
+/// Queries the outcomes of a run's polls, after the check that the database is open.
 fn outcomes<S: Alter>(conn: &mut Connection<S>, run: u64) -> Result<Vec<Row>, RowFault>
     requires mode { conn.old.in_transaction ≡ false }
     requires run { run < 2 ^ 50 }
@@ -105,7 +106,7 @@ fn outcomes<S: Alter>(conn: &mut Connection<S>, run: u64) -> Result<Vec<Row>, Ro
     Ok(rows)
 }
 
-/// The rows that the tables have for a run of polls.
+/// Queries the rows of a run of polls.
 pub fn run_rows<S: Alter>(conn: &mut Connection<S>, run: u64) -> Result<RunRows, RowFault>
     requires mode { conn.old.in_transaction ≡ false }
     requires run { run < 2 ^ 50 }

@@ -1,4 +1,4 @@
-//! Polls and outcomes as the queries show them.
+//! Readers of the rows of `polls` and `outcomes`.
 ghost use Rattle.std.specs.Prelude.{◌≡◌, ◌≤◌};
 ghost use Rattle.table_audit.specs.PollReading as values;
 
@@ -6,7 +6,7 @@ use crate::poll_rows::{OutcomeRow, PollRow};
 use sqlite::Row;
 use store_tables::{GREATEST_PLACE, LATEST_MOMENT, RowFault, whole};
 
-/// How many registers there may be from an address on.
+/// Returns the greatest count of a read from `address`: at most 125 registers, none past 65535.
 fn room(address: u64) -> u64
     requires { address ≤ 65535 }
     ensures { result ≡ values.greatest_count address }
@@ -15,7 +15,7 @@ fn room(address: u64) -> u64
     if left < 125 { left } else { 125 }
 }
 
-/// The least code of a kind of outcome.
+/// Returns the least code of a kind of outcome.
 fn least_code(kind: u64) -> u64
     ensures { result ≡ values.least_code kind }
 {
@@ -25,7 +25,7 @@ fn least_code(kind: u64) -> u64
     }
 }
 
-/// The greatest code of a kind of outcome.
+/// Returns the greatest code of a kind of outcome.
 fn greatest_code(kind: u64) -> u64
     ensures { result ≡ values.greatest_code kind }
 {
@@ -37,7 +37,7 @@ fn greatest_code(kind: u64) -> u64
     }
 }
 
-/// A poll.
+/// Reads a poll. All its numeric columns must be in their ranges.
 pub(crate) fn poll(row: &Row) -> Result<PollRow, RowFault>
     ensures { result ≡ values.poll_in row.now }
 {
@@ -51,7 +51,7 @@ pub(crate) fn poll(row: &Row) -> Result<PollRow, RowFault>
     Ok(PollRow { number, started })
 }
 
-/// An outcome.
+/// Reads an outcome. All its columns must be in their ranges.
 pub(crate) fn outcome(row: &Row) -> Result<OutcomeRow, RowFault>
     ensures { result ≡ values.outcome_in row.now }
 {

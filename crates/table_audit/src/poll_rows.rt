@@ -1,31 +1,31 @@
-//! Polls and their outcomes, as far as they are told from each other.
+//! The values of polls and outcomes that the audit compares.
 
 use sqlite::Row;
 
-/// Polls are looked at by runs of so many numbers, from 1 on.
+/// How many numbers a run of polls has. The first run begins at number 1.
 pub const RUN: u64 = 4096;
 
-/// The rows that the tables have for a run of polls, as the queries show them, by their numbers. Those below 1 are in the
-/// first run.
+/// The rows of a run of polls, as the queries show them, in order of their numbers. The first run
+/// includes all numbers below 1.
 #[derive(Drop)]
 pub struct RunRows {
     pub polls: Vec<Row>,
     pub outcomes: Vec<Row>,
 }
 
-/// A poll.
+/// The number and the start of a poll.
 #[derive(Clone, Copy, Debug, PartialEq, Eq)]
 pub struct PollRow {
     pub number: u64,
-    /// Seconds since 1970-01-01 UTC.
+    /// The time of the start, in seconds since 1970-01-01 UTC.
     pub started: u64,
 }
 
-/// How a poll ended.
+/// The end of a poll.
 #[derive(Clone, Copy, Debug, PartialEq, Eq)]
 pub struct OutcomeRow {
     /// The number of the poll.
     pub poll: u64,
-    /// Seconds since 1970-01-01 UTC.
+    /// The time of the end, in seconds since 1970-01-01 UTC.
     pub moment: u64,
 }

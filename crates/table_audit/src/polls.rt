@@ -1,4 +1,4 @@
-//! Polls and their outcomes.
+//! The audit of polls and their outcomes, and of all tables.
 ghost use Rattle.std.specs.Prelude.{◌≡◌, ◌≤◌, ◌<◌, ◌^◌, [], false, length, IfOk, IfErr, OnOk};
 ghost use Rattle.store_tables.specs.Limits.{greatest_place};
 ghost use Rattle.store_tables.specs.Failing.{want_of_memory};
@@ -17,7 +17,7 @@ use sqlite::{Alter, Connection, Error, ErrorCode};
 use std::alloc::{AllocError, Global};
 use store_tables::{GREATEST_PLACE, RowFault, first_whole};
 
-/// Tells what differs of these rows of a run, and whether the next run is to be looked at.
+/// Reports the differences of a run's rows. Returns whether the audit continues with the next run.
 fn audit_rows_of(
     alloc: Global,
     run: u64,
@@ -38,7 +38,8 @@ fn audit_rows_of(
     Ok(rows.polls.len() > 0 || findings.first.len() < MOST)
 }
 
-/// Tells what differs of a run of polls, and whether the next run is to be looked at.
+/// Reports the differences of a run of polls. Returns whether the audit continues with the next
+/// run.
 fn audit_run<S: Alter>(
     alloc: Global,
     conn: &mut Connection<S>,
@@ -61,8 +62,9 @@ fn audit_run<S: Alter>(
     }
 }
 
-/// Tells what differs of the polls up to the last one, by runs. Once as many differences are kept as may be, a run without a
-/// poll is the last one that is looked at: each other has rows, so this ends soon, whatever the last number is.
+/// Reports the differences of the polls up to the last, by runs. Once `MOST` differences are kept,
+/// the first run without a poll is the last one read. Each other run has rows, so the audit ends
+/// soon for any last number.
 fn audit_runs<S: Alter>(
     alloc: Global,
     conn: &mut Connection<S>,
@@ -86,7 +88,7 @@ fn audit_runs<S: Alter>(
     Ok(())
 }
 
-/// Tells what differs of all polls.
+/// Reports the differences of all polls.
 fn audit_polls<S: Alter>(
     alloc: Global,
     conn: &mut Connection<S>,
@@ -107,7 +109,7 @@ fn audit_polls<S: Alter>(
     audit_runs(alloc, conn, last, findings)
 }
 
-/// Tells that the greatest number of a poll is none.
+/// Reports that the greatest number of a poll is out of range.
 fn tell_last(findings: &mut Findings) -> Result<(), RowFault>
     requires few { length findings.old.first.items ≤ MOST }
     ensures told { OnOk result (findings.new.first.items ≡ [] → ⊥) }
@@ -128,9 +130,9 @@ fn tell_last(findings: &mut Findings) -> Result<(), RowFault>
     }
 }
 
-/// Whether the tables have for each meter the rows of a lawful journal, and no poll is missing or ended before it was started:
-/// the differences, and how many rows were looked at. The rows of one meter, or of one run of polls, are held at a time, and
-/// those of `installations`.
+/// Audits all tables: whether each meter has the rows of a lawful journal, and whether no poll is
+/// missing or ended before its start. Returns the differences, and how many rows were read. Memory
+/// holds the rows of one meter or of one run of polls at a time, and those of `installations`.
 pub fn audit_tables<S: Alter>(alloc: Global, conn: &mut Connection<S>) -> Result<Findings, RowFault>
     requires mode { conn.old.in_transaction ≡ false }
     ensures finds { Finds S.Store conn.old conn.new result said.TellsTables }

@@ -1,4 +1,4 @@
-//! The rows of a meter, looked up in the tables.
+//! Queries for the rows of a meter.
 ghost use Rattle.std.specs.Prelude.{◌≡◌, false};
 ghost use Rattle.store_tables.specs.Answer.{AnyOrder, every};
 ghost use Rattle.store_tables.specs.Asking.{Asks, TellsRows, Shows};
@@ -11,7 +11,7 @@ use crate::rows::MeterRows;
 use sqlite::{Alter, Connection, Error, Row, params};
 use store_tables::{RowFault, check_open};
 
-/// Asks for the installations, by their places.
+/// Queries the installations, in order of index.
 fn ask_installations<S: Alter>(conn: &mut Connection<S>) -> Result<Vec<Row>, Error>
     ensures asks { Asks S.Store conn.old conn.new }
     ensures shows { TellsRows S.Store conn.old conn.new meter_tree.installations itself result
@@ -23,7 +23,7 @@ fn ask_installations<S: Alter>(conn: &mut Connection<S>) -> Result<Vec<Row>, Err
     )
 }
 
-/// Asks for the range of a meter.
+/// Queries the range of a meter.
 fn ask_range<S: Alter>(conn: &mut Connection<S>, meter: &str) -> Result<Vec<Row>, Error>
     ensures asks { Asks S.Store conn.old conn.new }
     ensures shows { TellsRows S.Store conn.old conn.new meter_tree.ranges itself result
@@ -35,7 +35,7 @@ fn ask_range<S: Alter>(conn: &mut Connection<S>, meter: &str) -> Result<Vec<Row>
     )
 }
 
-/// Asks for the entries of a meter, by their places.
+/// Queries the entries of a meter, in order of index.
 fn ask_entries<S: Alter>(conn: &mut Connection<S>, meter: &str) -> Result<Vec<Row>, Error>
     ensures asks { Asks S.Store conn.old conn.new }
     ensures shows { TellsRows S.Store conn.old conn.new entry_tree.entries itself result
@@ -47,7 +47,7 @@ fn ask_entries<S: Alter>(conn: &mut Connection<S>, meter: &str) -> Result<Vec<Ro
     )
 }
 
-/// Asks for the voids of a meter's entries, by their places.
+/// Queries the voids of a meter's entries, in order of index.
 fn ask_voids<S: Alter>(conn: &mut Connection<S>, meter: &str) -> Result<Vec<Row>, Error>
     ensures asks { Asks S.Store conn.old conn.new }
     ensures shows { TellsRows S.Store conn.old conn.new entry_tree.voids itself result
@@ -59,7 +59,7 @@ fn ask_voids<S: Alter>(conn: &mut Connection<S>, meter: &str) -> Result<Vec<Row>
     )
 }
 
-/// Asks for the energy of a meter by intervals, in order of their starts.
+/// Queries the energy of a meter by quarter hours, in order of their starts.
 fn ask_intervals<S: Alter>(conn: &mut Connection<S>, meter: &str) -> Result<Vec<Row>, Error>
     ensures asks { Asks S.Store conn.old conn.new }
     ensures shows { TellsRows S.Store conn.old conn.new showing.intervals_tree itself result
@@ -71,7 +71,7 @@ fn ask_intervals<S: Alter>(conn: &mut Connection<S>, meter: &str) -> Result<Vec<
     )
 }
 
-/// The installations, by their places.
+/// Queries the installations in order of index, after the check that the database is open.
 pub fn installations<S: Alter>(conn: &mut Connection<S>) -> Result<Vec<Row>, RowFault>
     requires { conn.old.in_transaction ≡ false }
     ensures { Finds S.Store conn.old conn.new result
@@ -82,7 +82,7 @@ pub fn installations<S: Alter>(conn: &mut Connection<S>) -> Result<Vec<Row>, Row
     Ok(rows)
 }
 
-/// The range of a meter.
+/// Queries the range of a meter, after the check that the database is open.
 fn range<S: Alter>(conn: &mut Connection<S>, meter: &str) -> Result<Vec<Row>, RowFault>
     requires { conn.old.in_transaction ≡ false }
     ensures { Finds S.Store conn.old conn.new result
@@ -93,7 +93,7 @@ fn range<S: Alter>(conn: &mut Connection<S>, meter: &str) -> Result<Vec<Row>, Ro
     Ok(rows)
 }
 
-/// The entries of a meter, by their places.
+/// Queries the entries of a meter, after the check that the database is open.
 fn entries<S: Alter>(conn: &mut Connection<S>, meter: &str) -> Result<Vec<Row>, RowFault>
     requires { conn.old.in_transaction ≡ false }
     ensures { Finds S.Store conn.old conn.new result
@@ -104,7 +104,7 @@ fn entries<S: Alter>(conn: &mut Connection<S>, meter: &str) -> Result<Vec<Row>, 
     Ok(rows)
 }
 
-/// The voids of a meter's entries, by their places.
+/// Queries the voids of a meter's entries, after the check that the database is open.
 fn voids<S: Alter>(conn: &mut Connection<S>, meter: &str) -> Result<Vec<Row>, RowFault>
     requires { conn.old.in_transaction ≡ false }
     ensures { Finds S.Store conn.old conn.new result
@@ -115,7 +115,7 @@ fn voids<S: Alter>(conn: &mut Connection<S>, meter: &str) -> Result<Vec<Row>, Ro
     Ok(rows)
 }
 
-/// The energy of a meter by intervals, in order of their starts.
+/// Queries the energy of a meter by quarter hours, after the check that the database is open.
 fn intervals<S: Alter>(conn: &mut Connection<S>, meter: &str) -> Result<Vec<Row>, RowFault>
     requires { conn.old.in_transaction ≡ false }
     ensures { Finds S.Store conn.old conn.new result
@@ -126,7 +126,7 @@ fn intervals<S: Alter>(conn: &mut Connection<S>, meter: &str) -> Result<Vec<Row>
     Ok(rows)
 }
 
-/// The rows that the tables have for a meter.
+/// Queries all rows of a meter.
 pub fn meter_rows<S: Alter>(conn: &mut Connection<S>, meter: &str) -> Result<MeterRows, RowFault>
     requires { conn.old.in_transaction ≡ false }
     ensures { Finds S.Store conn.old conn.new result (showing.AreRowsOf meter.now) }

@@ -1,4 +1,4 @@
-//! Values of rows as the queries show them.
+//! Readers of the rows of a meter.
 ghost use Rattle.std.specs.Prelude.{◌≡◌, ◌↔◌, ◌<◌, ◌^◌, ◌∷◌, [], All, IfOk, IfErr, IfSome};
 ghost use Rattle.sqlite.specs.Order.{column};
 ghost use Rattle.store_tables.specs.Columns.{or_damaged};
@@ -15,7 +15,7 @@ use store_tables::{
     GREATEST_PLACE, InstallationRow, LATEST_MOMENT, LastRow, RowFault, scale, whole,
 };
 
-/// The kind of an entry.
+/// Reads the kind of an entry.
 fn kind(row: &Row, at: usize) -> Result<RowKind, RowFault>
     ensures { result ≡ or_damaged (values.kind_in (column row.now at)) }
 {
@@ -30,14 +30,14 @@ fn kind(row: &Row, at: usize) -> Result<RowKind, RowFault>
     }
 }
 
-/// Whether one of these voids names a place.
+/// Returns whether one of these voids is of the entry at an index.
 fn is_named(voids: &[u64], place: u64) -> bool
     ensures { result ≡ values.is_named voids.now place }
 {
     voids.iter().any(|v| *v == place)
 }
 
-/// An entry, which one of these voids may name.
+/// Reads an entry. `voids` are the indices of the voided entries.
 fn entry(row: &Row, voids: &[u64]) -> Result<TableRow, RowFault>
     ensures read { result ≡ values.entry_in voids.now row.now }
     ensures place { IfOk result (λ entry. entry.place < 2 ^ 63) }
@@ -62,14 +62,14 @@ fn entry(row: &Row, voids: &[u64]) -> Result<TableRow, RowFault>
     })
 }
 
-/// The place that a void names.
+/// Reads the index of a voided entry.
 fn place(row: &Row) -> Result<u64, RowFault>
     ensures { result ≡ values.place_in row.now }
 {
     whole(row, 0, 1, GREATEST_PLACE)
 }
 
-/// The energy of an interval.
+/// Reads the energy of a quarter hour.
 fn share(row: &Row) -> Result<Share, RowFault>
     ensures { result ≡ values.share_in row.now }
 {
@@ -78,7 +78,7 @@ fn share(row: &Row) -> Result<Share, RowFault>
     Ok(Share { start, mwh })
 }
 
-/// The range of a meter, where it has one row.
+/// Reads the range of a meter, if it has exactly one.
 pub fn range(rows: &[Row]) -> Option<u64>
     ensures { (n : _) → (values.all_in values.range_in rows.now ≡ Ok (n ∷ [])) ↔ (result ≡ Some n) }
 {
@@ -91,7 +91,7 @@ pub fn range(rows: &[Row]) -> Option<u64>
     }
 }
 
-/// Entries in their order, unless one can't be read.
+/// Reads entries in order, unless one can't be read.
 pub fn entries(
     alloc: Global,
     rows: &[Row],
@@ -111,7 +111,7 @@ pub fn entries(
     Ok(Some(found))
 }
 
-/// The places that voids name, unless one can't be read.
+/// Reads the indices of voided entries, unless one can't be read.
 pub fn places(alloc: Global, rows: &[Row]) -> Result<Option<Vec<u64>>, AllocError>
     ensures { IfOk result (values.AreRead values.place_in rows.now) }
 {
@@ -125,7 +125,7 @@ pub fn places(alloc: Global, rows: &[Row]) -> Result<Option<Vec<u64>>, AllocErro
     Ok(Some(found))
 }
 
-/// The energy of intervals, unless one can't be read.
+/// Reads the energy of quarter hours, unless one can't be read.
 pub(crate) fn shares(alloc: Global, rows: &[Row]) -> Result<Option<Vec<Share>>, AllocError>
     ensures { IfOk result (values.AreRead values.share_in rows.now) }
 {
@@ -139,7 +139,6 @@ pub(crate) fn shares(alloc: Global, rows: &[Row]) -> Result<Option<Vec<Share>>, 
     Ok(Some(found))
 }
 
-/// A flag, which is 0 or 1.
 fn flag(row: &Row, at: usize) -> Result<bool, RowFault>
     ensures { result ≡ or_damaged (flag_in (column row.now at)) }
 {
@@ -150,7 +149,7 @@ fn flag(row: &Row, at: usize) -> Result<bool, RowFault>
     }
 }
 
-/// Where an installation says that the counter stands, and its energy.
+/// Reads the last entry and the total energy of an installation.
 fn last(row: &Row) -> Result<LastRow, RowFault>
     ensures { result ≡ last_in row.now }
 {
@@ -166,7 +165,7 @@ fn last(row: &Row) -> Result<LastRow, RowFault>
     })
 }
 
-/// The numbers of an installation.
+/// Reads all columns of an installation but its names.
 pub fn installation(row: &Row) -> Result<InstallationRow, RowFault>
     ensures { result ≡ installation_in row.now }
 {
@@ -182,7 +181,7 @@ pub fn installation(row: &Row) -> Result<InstallationRow, RowFault>
     })
 }
 
-/// The name of the meter of an installation, if it has one.
+/// Reads the name of an installation's meter, if the row has one.
 pub(crate) fn name(row: &Row) -> Result<Option<String>, RowFault>
     ensures text { IfOk result (values.IsTextIn (column row.now 1)) }
     ensures fault { IfErr result (λ fault. fault ≡ RowFault.Sql want_of_memory) }

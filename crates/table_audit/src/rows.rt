@@ -2,8 +2,8 @@
 
 use sqlite::Row;
 
-/// The rows that the tables have for a meter, as the queries show them: entries and voids by their places, intervals by their
-/// starts.
+/// The rows of a meter as the queries show them: entries and voids in order of index, intervals in
+/// order of their starts.
 #[derive(Drop)]
 pub struct MeterRows {
     pub ranges: Vec<Row>,

@@ -1,4 +1,4 @@
-//! What an audit says to a person.
+//! The printed lines of an audit.
 ghost use Rattle.std.specs.Prelude.{◌≡◌, ◌++◌, OnOk, codes, decimal};
 ghost use Rattle.std.specs.Fmt.{signed_decimal};
 ghost use Rattle.table_audit.specs.Texts as say;
@@ -10,7 +10,7 @@ use itoa::Buffer;
 use meter_audit::{IntervalFault, RowFault};
 use std::alloc::AllocError;
 
-// ---- pieces; want of memory leaves a part of each
+// ---- pieces; each leaves a part of its text if memory runs out
 
 fn put(text: &mut Vec<u8>, bytes: &[u8]) -> Result<(), AllocError>
     ensures { OnOk result (text.new.items ≡ text.old.items ++ bytes.now) }
@@ -54,7 +54,7 @@ fn table_name(table: Table) -> &'static [u8]
     }
 }
 
-/// Why an entry can't come there.
+/// Appends why an entry may not follow there.
 fn put_cause(text: &mut Vec<u8>, cause: RowFault) -> Result<(), AllocError>
     ensures { OnOk result (text.new.items ≡ say.with_cause text.old.items cause) }
 {
@@ -100,7 +100,7 @@ fn put_interval(text: &mut Vec<u8>, fault: IntervalFault) -> Result<(), AllocErr
     }
 }
 
-/// Where a counter stands: the moment, the number that it shows, and its scale factor.
+/// Appends the state of a counter: its timestamp, its value, and its scale factor.
 fn put_stand(text: &mut Vec<u8>, before: &[u8], last: Last) -> Result<(), AllocError>
     ensures { OnOk result (text.new.items ≡ say.with_stand text.old.items before.now last) }
 {
@@ -251,8 +251,8 @@ fn put_end(text: &mut Vec<u8>, found: &Findings) -> Result<(), AllocError>
     put(text, b" differences\n")
 }
 
-/// Puts at the end of a text what an audit says: a line for each difference that was kept, how many came after these, and a
-/// last line. Want of memory leaves a part of it.
+/// Appends the text of an audit: a line for each kept difference, how many more there are, and a
+/// last line. Out of memory leaves a part of the text.
 pub fn put_findings(text: &mut Vec<u8>, found: &Findings) -> Result<(), AllocError>
     ensures { OnOk result (text.new.items ≡ say.with_findings text.old.items found.now) }
 {

@@ -1,4 +1,4 @@
--- Lines of voids and of meters, one after the other.
+-- Lines of voids and of meters, one after another.
 use Rattle.std.proofs.Common.{◌≡◌, ℕ, ◌<◌, ◌^◌, true, List, [], ◌∷◌, ◌++◌, refl, sym, ap, subst, ◌∙◌, append_assoc}
 use Rattle.std.specs.Prelude.{codes, decimal, Option, Some, None, IsSomeAnd, IfSome}
 use Rattle.std.specs.List.{flat_map, AllByRecursion}
@@ -12,7 +12,7 @@ use Rattle.table_seals.proofs.Opened.{void_opened, no_void_first}
 
 -- ---- voids
 
--- the first of some voids
+-- The first of some voids.
 void_first : (meter : List ℕ) (p : ℕ) (ps rest text : List ℕ) → AreVoids meter (p ∷ ps) rest text
     → text ≡ codes "void " ++ (meter ++ 32 ∷ (decimal p ++ 10 ∷ (flat_map (void_line meter) ps ++ rest)))
 void_first meter p ps rest text h =
@@ -25,7 +25,7 @@ no_more_voids meter [] rest text none h = (refl, h.is)
 no_more_voids meter (p ∷ ps) rest text none h =
     absurd (none meter (decimal p ++ 10 ∷ (flat_map (void_line meter) ps ++ rest)) h.word (void_first meter p ps rest text h))
 
--- what follows the name in the line of a void
+-- The text after the name in the line of a void.
 pub void_number : (meter after rest text word following : List ℕ)
     → ((w r : List ℕ) → is_word w ≡ true → text ≡ codes "void " ++ (w ++ 32 ∷ r) → (word ≡ w) × (following ≡ r))
     → text ≡ codes "void " ++ (word ++ 32 ∷ following) → AreVoids meter after rest text
@@ -61,7 +61,7 @@ next_void meter after rest text word following number follows reads is numbers h
       record { word = h.word; fit = all.1; ends = h.ends; is = two.1 },
     )
 
--- the places so far, and those that follow
+-- The indices so far, and those that follow.
 pub places_so_far : (places next after ps all : List ℕ) (number : ℕ) → next ≡ places ++ number ∷ [] → after ≡ number ∷ ps → places ++ after ≡ all
     → next ++ ps ≡ all
 places_so_far places next after ps all number put is so_far =
@@ -78,7 +78,7 @@ no_more_meters (s ∷ ss) rest text none h =
     (h.is ∙ append_assoc (meter_text s) (flat_map meter_text ss) rest
     ∙ append_assoc (meter_line s) (flat_map (void_line s.meter) s.voids) (flat_map meter_text ss ++ rest)))
 
--- the first meter of which a line was read
+-- The first meter whose line was read.
 pub record FirstMeter (after : List Sealed) (rest : List ℕ) (line : MeterLine) (following : List ℕ) : Type 0 where
   pub seal : Sealed
   pub others : List Sealed
@@ -114,7 +114,7 @@ pub seals_so_far : (seals next after ss all : List Sealed) (seal : Sealed) → n
 seals_so_far seals next after ss all seal put is so_far =
     ap (λ (xs : List Sealed). xs ++ ss) put ∙ append_assoc seals (seal ∷ []) ss ∙ ap (λ (xs : List Sealed). seals ++ xs) (sym is) ∙ so_far
 
--- ---- what was found, if it was
+-- ---- the result, if there is one
 
 pub none_some : {A : Type 0} (P : A → Type 0) (o : Option A) → o ≡ None → IsSomeAnd o P → ⊥
 none_some P o is h = subst (λ q. IsSomeAnd q P) is h

@@ -1,4 +1,4 @@
--- Lines of polls, one after the other.
+-- Lines of polls, one after another.
 use Rattle.std.proofs.Common.{◌≡◌, ℕ, ◌<◌, ◌^◌, List, [], ◌∷◌, ◌++◌, refl, sym, ap, ◌∙◌, append_assoc, arith}
 use Rattle.std.specs.Prelude.{codes, decimal}
 use Rattle.std.specs.List.{flat_map}
@@ -19,7 +19,7 @@ polls_opened s rest = polls_pieces (decimal s.count) (encode_lower s.digest) res
 pending_pieces : (a rest : List ℕ) → (codes "pending " ++ a ++ codes "\n") ++ rest ≡ codes "pending " ++ (a ++ 10 ∷ rest)
 pending_pieces a rest = simp append_assoc
 
--- the first of some pending polls
+-- The first of some pending polls.
 pending_first : (p : ℕ) (ps rest text : List ℕ) → ArePending (p ∷ ps) rest text
     → text ≡ codes "pending " ++ (decimal p ++ 10 ∷ (flat_map pending_line ps ++ rest))
 pending_first p ps rest text h =

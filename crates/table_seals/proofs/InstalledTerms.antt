@@ -1,4 +1,4 @@
--- Sets of the terms that rows of installations tell.
+-- Sets of the terms of installations.
 use Rattle.std.proofs.Common.{◌≡◌, ◌↔◌, ◌⊎◌, ◌&&◌, ℕ, ◌+◌, ◌-◌, ◌<◌, Bool, true, false, cond, List, [], ◌∷◌, ◌++◌, take, length, get_or, Some, None, inl, inr, refl, sym, ap, subst, ◌∙◌, length-append, string_bytes, arith}
 use Rattle.std.specs.Prelude.{IsTrue, Any}
 use Rattle.std.specs.BTreeSet.{BTreeSet}
@@ -70,7 +70,7 @@ order_of_same a b same =
     (both_equal registers ceilings (tied_bytes _ _ same.register) (tied_numbers _ _ same.ceiling)) in
     ap is_eq all
 
--- ---- a set that has more of them
+-- ---- a set with more terms
 
 either_true : (b c : Bool) → cond b true c ≡ true → (b ≡ true) ⊎ (c ≡ true)
 either_true true c h = inl refl
@@ -94,7 +94,7 @@ adds_terms terms old new put other = (
   ]),
 )
 
--- ---- one row more
+-- ---- one more row
 
 any_more : {X : Type 0} (P : X → Type 0) (xs : List X) (y : X) → Any P xs → Any P (xs ++ y ∷ [])
 any_more P xs y h = (
@@ -141,7 +141,7 @@ without_terms row known none rows are other =
       ],
     )
 
--- the rows up to one more
+-- The rows up to one more.
 pub terms_of_next : (rows : List Row) (i : ℕ) (row : Row) (old new : BTreeSet Terms) → i < length rows → row ≡ get_or rows i row
     → AddsTermsOf row old new → AreTermsOf (take i rows) old → AreTermsOf (take (i + 1) rows) new
 terms_of_next rows i row old new lt is adds are =
@@ -169,7 +169,7 @@ installed_by known terms seal there is meter register ceiling installed are =
       λ any. is ∙ (are terms).1 (any_as Has Reads installed (λ row h. terms_there row _ _ _ _ _ _ h (sym meter) (sym register) (sym ceiling)) any),
     )
 
--- ---- what is told by a set
+-- ---- results by a set of terms
 
 pub keeps_at : (known : BTreeSet Terms) (rows : MeterRows) (seal : Sealed) (there has : Bool) → TellsInstalled known seal there
     → (IsTrue has ↔ HasSealed rows seal) → KeepsAt known rows seal (there && has)

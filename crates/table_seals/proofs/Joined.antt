@@ -1,4 +1,4 @@
--- Files that go on from each other.
+-- Files that continue each other.
 use Rattle.std.proofs.Common.{◌≡◌, ℕ, ◌+◌, ◌-◌, ◌<◌, ◌≤◌, ◌==◌, Bool, true, false, not, ◌&&◌, if◌then◌else◌, List, [], ◌∷◌, ◌++◌, map, take, drop, length, get_or, Option, Some, None, Vec, refl, sym, ap, ◌∙◌, append_assoc, eq-eqb}
 use Rattle.std.specs.Prelude.{string_bytes, bytes_eq}
 use Rattle.std.specs.List.{flat_map}
@@ -24,7 +24,7 @@ lines_of_each f [] = refl
 lines_of_each f (x ∷ xs) =
     ap (λ ls. map join_line (f x) ++ ls) (lines_of_each f xs) ∙ sym (map-append join_line (f x) (flat_map f xs))
 
--- lines of three kinds, one after the other
+-- Lines of three kinds, one after another.
 pub all_told : (old one two three : List (List ℕ)) (a b c : List Join) → one ≡ old ++ map join_line a → two ≡ one ++ map join_line b
     → three ≡ two ++ map join_line c → three ≡ old ++ map join_line (a ++ b ++ c)
 all_told old one two three a b c first second third =
@@ -46,7 +46,7 @@ joins_told known next meters news latest old one two three meters_are news_are l
     (third ∙ ap (λ (ms : List FiledMeter). two ++ flat_map (λ o. lines_of (missing_of next o)) ms) latest_are
     ∙ ap (λ ls. two ++ ls) (lines_of_each (missing_of next) (take known.latest known.meters)))
 
--- the first lines, how many come after them, and how many there are
+-- The first lines, how many more there are, and their number.
 pub lines_put : {Z : Type 0} (lines shown : List (Vec ℕ Z)) (old one two three : List ℕ) (more : ℕ) → shown ≡ take MOST lines
     → more ≡ length lines - MOST → one ≡ old ++ flat_map text_in shown → two ≡ one ++ more_lines more
     → three ≡ two ++ all_lines (length lines) → three ≡ old ++ joined_text lines
@@ -84,7 +84,7 @@ pub goes_to_end : (left most : ℕ) (name : List ℕ) (meters : List FiledMeter)
     → stay_within left name (drop i meters) ≡ stay_within most name meters → true ≡ stay_within most name meters
 goes_to_end left most name meters i le so_far = sym (ap (stay_within left name) (drop_all i meters le)) ∙ so_far
 
--- ---- a meter goes on exactly if nothing is told
+-- ---- a meter continues if and only if it has no line
 
 nothing_told : (known : List FiledMeter) (old new : FiledMeter) (found : Option JoinFault)
     → option_to_list (option_map (λ fault. Differs fault old new) found) ≡ [] → found ≡ None

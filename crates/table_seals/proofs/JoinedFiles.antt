@@ -1,4 +1,4 @@
--- Files of which nothing is told, one after the other.
+-- Files without lines, one after another.
 use Rattle.std.proofs.Common.{◌≡◌, ℕ, ◌+◌, ◌-◌, ◌≤◌, Bool, true, false, cond, List, [], ◌∷◌, ◌++◌, length, Some, None, refl, sym, ap, subst, ◌∙◌, inl, inr, arith}
 use Rattle.std.specs.Prelude.{string_bytes, nat_le}
 use Rattle.std.specs.List.{AllByRecursion, filter, find, flat_map}
@@ -25,7 +25,7 @@ module _ (passes : FiledMeter → Bool) where
   abbrev passing : List FiledMeter → List FiledMeter
   passing meters = filter passes meters
 
-  -- the first of them is the one that is found
+  -- The search finds the first of the list.
   pub first_found : (meters older : List FiledMeter) (old : FiledMeter) → passing meters ≡ old ∷ older → find passes meters ≡ Some old
   first_found [] older old h = absurd (cc)
   first_found (meter ∷ meters) older old h =
@@ -37,7 +37,7 @@ module _ (passes : FiledMeter → Bool) where
         | inr off ↦ cond-false _ _ _ off ∙ first_found meters older old (sym (cond-false _ _ _ off) ∙ h)
       ]
 
-  -- what holds of all holds of that one, and it passes
+  -- A property of all is a property of the first, and the first passes.
   pub first_holds : (P : FiledMeter → Type 0) (meters older : List FiledMeter) (new : FiledMeter) → passing meters ≡ new ∷ older
       → AllByRecursion P meters → P new × (passes new ≡ true)
   first_holds P [] older new h all = absurd (cc)
@@ -50,7 +50,7 @@ module _ (passes : FiledMeter → Bool) where
         | inr off ↦ first_holds P meters older new (sym (cond-false _ _ _ off) ∙ h) all.1
       ]
 
--- nothing is told of any
+-- None of the meters has a line.
 nothing_of_each : (known meters : List FiledMeter) → flat_map (joins_of known) meters ≡ [] → AllByRecursion (λ new. joins_of known new ≡ []) meters
 nothing_of_each known [] h = tt
 nothing_of_each known (meter ∷ meters) h =
@@ -96,9 +96,9 @@ energies_stay most name (meter ∷ meters) h =
           subst (λ ms. energy_of ms ≤ most) (sym (cond-false _ _ _ off)) (energies_stay most name meters stays)
     ]
 
--- ---- one file more
+-- ---- one more file
 
--- the meters of a name in the next file: there is none, or one
+-- The next file has one meter of a name, or none.
 one_more : (name : List ℕ) (known next : Known) (new old : List FiledMeter) → IsOfMeters next → joins_between known next ≡ []
     → IsOneMeter name known → named name next.meters ≡ new → named name known.meters ≡ old → length new ≤ 1
     → EachGoesOn (new ++ old) × (energy_of (new ++ old) ≤ MAX_TOTAL)

@@ -1,4 +1,4 @@
--- The tables of files of which nothing is told.
+-- The tables of files without lines.
 use Rattle.std.proofs.Common.{◌≡◌, ◌+◌, List, [], ◌∷◌, ◌++◌, refl, sym, ap, subst, ◌∙◌, arith}
 use Rattle.std.specs.List.{AllByRecursion}
 use Rattle.energy_core.specs.declared.entries.Last.{Last}
@@ -53,7 +53,7 @@ filed_meters_are_told row rows installation filed read fine so =
 
 -- ---- meters, the oldest first
 
--- the last of these files
+-- The last of these files.
 abbrev latest : InFile → List InFile → InFile
 latest first [] = first
 latest first (next ∷ later) = latest next later
@@ -72,7 +72,7 @@ told_more : (old : Tables) (later : List InFile) (new : InFile) → (told_by_all
 told_more old [] new = refl
 told_more old (next ∷ later) new = told_more (told_by_both old next.tables) later new
 
--- Files, the oldest first, that go on up to that of a meter.
+-- Files, the oldest first, that continue up to that of a meter.
 record GoesUpTo (tables : FiledMeter → Tables) (meter : FiledMeter) (meters : List FiledMeter) : Type 0 where
   pub first : InFile
   pub later : List InFile

@@ -1,4 +1,4 @@
--- What was found of polls, sealed or held to a seal.
+-- The polls that were found, sealed or checked against a seal.
 use Rattle.std.proofs.Common.{◌≡◌, ◌↔◌, ℕ, ◌≤◌, Bool, false, List, [], Option, Some, None, Result, Ok, Err, unwrap_or, IfOk, IfSome, refl, sym, ap, subst, ◌∙◌, arith}
 use Rattle.sha2.specs.Sha256.{sha256}
 use Rattle.store_tables.specs.Content.{Content}
@@ -27,7 +27,7 @@ reads_fault found e content is = subst (λ (r : Result (Option ℕ) RowFault). R
 
 -- ---- the seal
 
--- the polls that were read have the numbers from 1 on
+-- The polls that were read have all numbers from 1.
 read_numbered : (r : Result (Option ℕ) RowFault) (content : Content) (polls : List ReadPoll) → ReadsUpTo r content (Some polls) → AreNumbered 1 polls
 read_numbered (Ok last) content polls h = numbered h.runs polls h.read
 read_numbered (Err e) content polls h = absurd (cc)
@@ -57,7 +57,7 @@ seals_all content found few h = record {
       few h.digested;
 }
 
--- ---- held to a seal
+-- ---- checked against a seal
 
 kept_if : (polls : Option (List ReadPoll)) (found : Option PollSeal) (sealed : SealedPolls) → AreDigested sealed.count sealed.pending polls found
     → AreAsSealed found sealed ↔ KeepsPolls polls sealed
@@ -80,7 +80,7 @@ tells_kept content found sealed differ told h =
       told = (λ is. kept.0 (told.0 is), λ keeps. told.1 (kept.1 keeps));
     }
 
--- ---- read back
+-- ---- a seal that is read back
 
 pub same_polls : (count : ℕ) (digest pending : List ℕ) (seal : SealedPolls) → count ≡ seal.count → digest ≡ seal.digest → pending ≡ seal.pending
     → (let read : SealedPolls = record { count = count; digest = digest; pending = pending } in read) ≡ seal
@@ -95,7 +95,7 @@ same_tables meters polls seal m p =
     ap (λ (x : List Sealed). let read : SealedTables = record { meters = x; polls = polls } in read) m
     ∙ ap (λ (x : SealedPolls). let read : SealedTables = record { meters = seal.meters; polls = x } in read) p
 
--- ---- found, or not
+-- ---- with and without a result
 
 pub seals_found : {S : Type 0} (g : Ghosts S) (old new : Held S) (r : Result (Option PollSeal) RowFault)
     → IfOk r (λ found. IfSome found (λ seal. seal.count ≤ greatest_place)) → Finds g old new r (DigestsPolls greatest_place [])

@@ -1,4 +1,4 @@
--- What was sealed of polls stays so.
+-- What was sealed of polls stays the same.
 use Rattle.std.proofs.Common.{◌≡◌, ℕ, suc, ◌+◌, ◌<◌, ◌≤◌, ◌==◌, ◌||◌, ◌⊎◌, inl, inr, Bool, true, false, nat_le, List, [], ◌∷◌, ◌++◌, length, if◌then◌else◌, Option, Some, None, refl, ap, subst, ◌∙◌, append_assoc, arith}
 use Rattle.std.specs.List.{AllByRecursion}
 use Rattle.std.proofs.lemmas.Bool.Decides.{nat_tests}
@@ -11,7 +11,7 @@ use Rattle.table_seals.specs.PollReading.{ReadPoll}
 use Rattle.table_seals.specs.PollTexts.{poll_line, ending_text, unless_pending, poll_text, polls_text, text_then, polls_text_then, unless_ended, pending_of, pending_among}
 use Rattle.table_seals.proofs.PollNumbers.{AreNumbered, numbered, is_up_to, is_beyond}
 
--- ---- which are named as pending
+-- ---- the polls that are listed as pending
 
 named_more : (xs ys : List ℕ) (n : ℕ) → is_named (xs ++ ys) n ≡ (is_named xs n || is_named ys n)
 named_more xs ys n = list_any-append (λ v. v == n) xs ys
@@ -35,7 +35,7 @@ earlier m n lt = grind (arith, nat_tests)
 same : (m n : ℕ) → m ≡ n → m == n ≡ true
 same m n is = grind (arith, nat_tests)
 
--- an earlier number isn't that of a poll among these
+-- No poll of the list has an earlier number.
 not_among : (k n : ℕ) (polls : List ReadPoll) → AreNumbered k polls → n < k → is_named (pending_among polls) n ≡ false
 not_among k n [] h lt = refl
 not_among k n (poll ∷ polls) h lt =
@@ -51,11 +51,11 @@ abbrev is_pending : Option Ending → Bool
 is_pending None = true
 is_pending (Some ending) = false
 
--- exactly those that have no outcome are named
+-- The numbers are those of the polls without an outcome.
 abbrev Names : List ℕ → ReadPoll → Type 0
 Names pending poll = is_named pending poll.numbers.number ≡ is_pending poll.ending
 
--- no number from one on is named
+-- The list has no number from `k` on.
 abbrev NoneFrom : ℕ → List ℕ → Type 0
 NoneFrom k front = (n : ℕ) → k ≤ n → is_named front n ≡ false
 
@@ -90,7 +90,7 @@ names_all k front (poll ∷ polls) h none =
           (names_all (suc k) (front ++ pending_of poll) polls h.1 (front_more k front poll h.0 none)),
     )
 
--- ---- the text that they had
+-- ---- the text that the polls had
 
 ending_stays : (ending now : Option Ending) (b : Bool) → b ≡ is_pending ending → (ending ≡ None) ⊎ (now ≡ ending)
     → ending_text (unless_pending b now) ≡ ending_text ending

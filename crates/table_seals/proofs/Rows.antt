@@ -1,4 +1,4 @@
--- Rows of installations and seals, one after the other.
+-- Rows of `installations` and their seals, one after another.
 use Rattle.std.proofs.Common.{◌≡◌, ℕ, ◌+◌, ◌<◌, Bool, true, false, List, [], ◌∷◌, ◌++◌, map, take, length, get_or, Some, refl, sym, ap, subst, ◌∙◌, append_assoc}
 use Rattle.std.proofs.lemmas.List.{take_more, map-append}
 use Rattle.std.proofs.lemmas.Option.{slice_get-get_or}
@@ -60,7 +60,7 @@ next_told installed content seals i seal old new lt is before one =
 pub none_told : (installed : List Row) (content : Content) (names : List (List ℕ)) → names ≡ [] → TellsNames installed [] content names
 none_told installed content names none = record { kept = []; told = tt; names_are = none }
 
--- the row at an index, whatever is said of what would be after the end
+-- The row at an index, for any default.
 pub not_this : (rows : List Row) (i : ℕ) (row x : Row) → i < length rows → row ≡ get_or rows i row → get_or rows i x ≡ x → row ≡ x
 not_this rows i row x lt is at =
     let one : Some (get_or rows i row) ≡ Some (get_or rows i x) = sym (slice_get-get_or rows i row lt) ∙ slice_get-get_or rows i x lt in

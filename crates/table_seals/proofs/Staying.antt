@@ -1,4 +1,4 @@
--- What stays of a meter's entries, whatever lines come after them.
+-- What stays the same of a meter's entries, for all lines that follow.
 use Rattle.std.proofs.Common.{◌≡◌, ℕ, ◌==◌, Bool, true, false, not, ◌&&◌, ◌||◌, List, [], ◌∷◌, ◌++◌, map, reverse, take, length, ◌+◌, Some, None, append_assoc, refl, sym, ap, subst, ◌∙◌, inl, inr}
 use Rattle.std.specs.Prelude.{ℤ}
 use Rattle.std.specs.List.{flat_map, list_any}
@@ -51,7 +51,7 @@ scale_more meter row rows =
           ∙ sym (ap (λ b. sf_after b row.entry (scale_after meter rows)) is)
     ]
 
--- a reading leaves it
+-- A reading leaves the scale factor unchanged.
 read_leaves : (k : EntryKind) (e : Entry) (stands : Bool) (sf : ℤ) → is_read k e ≡ true → sf_after stands e sf ≡ sf
 unfolding sf_after
 read_leaves k e false sf read = refl
@@ -70,7 +70,7 @@ rolls_leave last (Change at before new scale) true sf = refl
 
 -- ---- the line of a row
 
--- the rollovers of a reading are not in it
+-- The line does not have the rollovers of a reading.
 line_of : (sf : ℤ) (place : ℕ) (k : EntryKind) (e : Entry) (stands : Bool) → List ℕ
 line_of sf place k e stands = entry_line (table_row sf (record { place = place; kind = k; entry = e; stands = stands }))
 
@@ -88,7 +88,7 @@ second_true : (a b : Bool) → a && b ≡ true → b ≡ true
 second_true true b h = h
 second_true false b h = absurd (cc)
 
--- a row that is rolled tells the same
+-- A row with other rollovers has the same line.
 record TellsSame (row next : EntryRow) : Type 0 where
   line : (sf : ℤ) → entry_line (table_row sf next) ≡ entry_line (table_row sf row)
   scale : (sf : ℤ) → sf_after next.stands next.entry sf ≡ sf_after row.stands row.entry sf
@@ -117,7 +117,7 @@ rolled_same last row =
 abbrev pub lines_of : Installed → List EntryRow → List (List ℕ)
 lines_of meter rows = map entry_line (later_rows meter rows)
 
--- the same lines, and the same scale factor after them
+-- The same lines, and the same scale factor after them.
 record SameLines (meter : Installed) (rows next : List EntryRow) : Type 0 where
   lines : lines_of meter next ≡ lines_of meter rows
   scale : scale_after meter next ≡ scale_after meter rows
@@ -206,7 +206,7 @@ begins_so meter more lines h =
           ∙ ap (λ ls. ls ++ reverse all.0) (sym (entry_lines meter lines)),
     )
 
--- the same lines make the same text
+-- The same lines make the same text.
 same_text : (xs ys : List TableRow) → map entry_line xs ≡ map entry_line ys → entries_text xs ≡ entries_text ys
 same_text xs ys same =
     sym (flat_map-map (λ (l : List ℕ). l) entry_line xs) ∙ ap (λ ls. flat_map (λ (l : List ℕ). l) ls) same
@@ -232,7 +232,7 @@ or_keeps false b false d f g h = g h
 abbrev at_place : ℕ → TableRow → Bool
 at_place place entry = (entry.place == place) && entry.is_voided
 
--- rows of which one is struck
+-- Rows with one voided row.
 abbrev struck_at : ℕ → List EntryRow → Bool
 struck_at place rows = list_any (λ row. (row.place == place) && not row.stands) rows
 

@@ -32,7 +32,7 @@ above b h = grind (arith, nat_tests)
 is_above : (b : ℕ) → 32 < b → nat_lt 32 b ≡ true
 is_above b lt = grind (arith, nat_tests)
 
--- a word has no end of a word in it
+-- A word does not contain the character that ends a word.
 pub is_free : (word : List ℕ) (end : ℕ) → is_word word ≡ true → end ≤ 32 → (i : ℕ) → i < length word → get_or word i 0 ≡ end → ⊥
 is_free [] end h le i lt e = absurd (omega (arith, lt))
 is_free (b ∷ bs) end h le zero lt e =
@@ -62,7 +62,7 @@ hex_word (b ∷ bytes) h =
     and_is _ _ (digit_word (b / 16) (omega (arith, small)))
     (and_is _ _ (digit_word (b % 16) (omega arith)) (hex_word bytes (λ i. h (suc i))))
 
--- ---- a text that comes first
+-- ---- the first part of a text
 
 pub stripped : (before text rest : List ℕ) → StripsPrefix (FindsTextPrefix before) text rest → text ≡ before ++ rest
 stripped before text rest h = h.1.1 ∙ ap (λ t. before ++ t) (sym h.2)
@@ -90,7 +90,7 @@ pub parts_are : (before text rest : List ℕ) (end : ℕ) (r : Option (Bor (List
 parts_are before text rest end None is h = tt
 parts_are before text rest end (Some x) is h = is ∙ ap (λ t. before ++ t) h ∙ sym (append_assoc before x.0.now (end ∷ x.1.now))
 
--- ---- what follows an end is a text
+-- ---- the rest after an end is a text
 
 utf8_after : (text front following : List ℕ) (end : ℕ) → IsUtf8 text → text ≡ front ++ end ∷ following → end ≤ 32 → IsUtf8 following
 utf8_after text front following end u is le =

@@ -1,4 +1,4 @@
--- Whether the tables still have what was sealed.
+-- Whether the tables keep what was sealed.
 use Rattle.std.specs.Prelude.{⊤, ◌≡◌, ◌↔◌, ◌≤◌, ℕ, Bool, true, false, List, [], ◌∷◌, ◌++◌, map, take, length, string_bytes, IsTrue, Any}
 use Rattle.std.specs.List.{list_all}
 use Rattle.sha2.specs.Sha256.{sha256}
@@ -14,13 +14,13 @@ use Rattle.table_seals.specs.Sealed.{Sealed, SealedTables}
 use Rattle.table_seals.specs.Tables.{HasTerms, HasRead}
 use Rattle.table_seals.specs.Texts.{entries_text}
 
--- a row of installations has the meter on the same terms
+-- A row of `installations` has the meter on the same terms.
 abbrev pub IsInstalled : List Row → Sealed → Type 0
 IsInstalled installed seal =
     Any (λ row. HasTerms row seal.meter seal.register seal.ceiling) installed
 
--- Its first entries are those that were sealed, of the same range, and what was voided still is. More entries and voids may have
--- come.
+-- The first entries are those that were sealed, with the same range, and the sealed voids still
+-- exist. There may be more entries and voids.
 pub record HasSealed (rows : MeterRows) (seal : Sealed) : Type 0 where
   pub voids : List ℕ
   pub all_entries : List TableRow
@@ -29,16 +29,18 @@ pub record HasSealed (rows : MeterRows) (seal : Sealed) : Type 0 where
   pub same : sha256 (entries_text (take seal.entries all_entries)) ≡ seal.digest
   pub still : list_all (λ place. is_named voids place) seal.voids ≡ true
 
+-- The tables keep a meter as it was sealed.
 abbrev pub Keeps : List Row → MeterRows → Sealed → Type 0
 Keeps installed rows seal = IsInstalled installed seal × HasSealed rows seal
 
--- It is told whether the tables keep a meter as it was sealed.
+-- The result says whether the tables keep a meter as it was sealed.
 pub record TellsKept (installed : List Row) (seal : Sealed) (content : Content) (kept : Bool) :
     Type 0 where
   pub rows : MeterRows
   pub theirs : AreRowsOf seal.meter content rows
   pub told : IsTrue kept ↔ Keeps installed rows seal
 
+-- The results say for each seal whether the tables keep its meter.
 abbrev pub AreTold : List Row → Content → List Sealed → List Bool → Type 0
 AreTold installed content [] [] = ⊤
 AreTold installed content (seal ∷ seals) (kept ∷ others) =
@@ -46,39 +48,40 @@ AreTold installed content (seal ∷ seals) (kept ∷ others) =
 AreTold installed content [] (kept ∷ others) = ⊥
 AreTold installed content (seal ∷ seals) [] = ⊥
 
--- the name of a meter that is not kept
+-- The name of a meter that differs.
 abbrev pub unless_kept : (kept : Bool) → (meter : List ℕ) → List (List ℕ)
 unless_kept true meter = []
 unless_kept false meter = meter ∷ []
 
--- It is put after the names of those before it.
+-- The name of the meter is appended if the meter differs.
 pub record TellsMeter (installed : List Row) (seal : Sealed) (content : Content)
     (old new : List (List ℕ)) : Type 0 where
   pub kept : Bool
   pub told : TellsKept installed seal content kept
   pub names : new ≡ old ++ unless_kept kept seal.meter
 
--- the names of those that are not kept
+-- The names of the meters that differ.
 abbrev pub differing : List Sealed → List Bool → List (List ℕ)
 differing [] kept = []
 differing (seal ∷ seals) [] = []
 differing (seal ∷ seals) (kept ∷ others) = unless_kept kept seal.meter ++ differing seals others
 
--- The meters that differ are told by their names, in the order of the seal.
+-- The names of the meters that differ are reported, in the order of the seal.
 pub record TellsNames (installed : List Row) (seals : List Sealed) (content : Content)
     (names : List (List ℕ)) : Type 0 where
   pub kept : List Bool
   pub told : AreTold installed content seals kept
   pub names_are : names ≡ differing seals kept
 
--- the same of the rows of installations that the tables have
+-- The same for the rows of `installations` that the tables have.
 pub record TellsMeters (seals : List Sealed) (content : Content) (names : List (List ℕ)) : Type 0
   where
     pub installed : List Row
     pub shown : ShowsInstallations content installed
     pub tells : TellsNames installed seals content names
 
--- The meters that differ are told, whether the polls do, and how many meters the seal has.
+-- The result has the meters that differ, whether the polls differ, and how many meters the seal
+-- has.
 pub record TellsTables (seal : SealedTables) (content : Content) (checked : Checked) : Type 0 where
   pub meters : TellsMeters seal.meters content (map string_bytes checked.differing.items)
   pub polls : TellsPolls seal.polls content checked.polls_differ

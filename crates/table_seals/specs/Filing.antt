@@ -1,4 +1,4 @@
--- Which meters the tables have, as they are kept of a file.
+-- The meters of a file's tables, as they are kept for a join.
 use Rattle.std.specs.Prelude.{⊤, ◌≡◌, ℕ, List, [], ◌∷◌, Option, Some, None, Ok, Vec, string_bytes}
 use Rattle.std.specs.List.{slice_get}
 use Rattle.meter_audit.specs.declared.rows.TableRow.{TableRow}
@@ -15,7 +15,7 @@ use Rattle.table_audit.specs.Showing.{ShowsInstallations}
 use Rattle.table_seals.specs.declared.filed.FiledMeter.{FiledMeter}
 use Rattle.table_seals.specs.Tables.{HasRead}
 
--- where a row of installations says that its meter stands
+-- The state of the meter that an installation has.
 abbrev pub standing_in : InstallationRow → Standing
 standing_in row = record {
   last = last_in row.last;
@@ -23,8 +23,8 @@ standing_in row = record {
   is_ended = row.is_ended;
 }
 
--- A meter is that of a row of installations, which tells its names, its ceiling and where it stands, and its first entry opens
--- it.
+-- The meter is that of the installation, with its names, its ceiling and its state. Its first entry
+-- is its opening.
 pub record IsFiledAs (row : Row) (rows : MeterRows) (filed : FiledMeter) : Type 0 where
   pub meter_is : column row 1 ≡ Text (string_bytes filed.meter)
   pub register_is : column row 2 ≡ Text (string_bytes filed.register)
@@ -38,25 +38,25 @@ pub record IsFiledAs (row : Row) (rows : MeterRows) (filed : FiledMeter) : Type 
   pub read : HasRead rows filed.installed.range voids (opening ∷ later)
   pub opened : filed.installed.opening ≡ last_shown opening
 
--- It is kept under the name of the file, or a value of it can't be read.
+-- The meter is kept under the name of the file, or one of its values can't be read.
 abbrev pub IsFiled : (file : List ℕ) → Row → MeterRows → Option FiledMeter → Type 0
 IsFiled file row rows None = (filed : FiledMeter) → IsFiledAs row rows filed → ⊥
 IsFiled file row rows (Some filed) = (filed.file.now ≡ file) × IsFiledAs row rows filed
 
--- A row that names no meter has none.
+-- A row that names no meter has none to keep.
 abbrev pub IsFiledAt : (file : List ℕ) → Row → Option MeterRows → Option FiledMeter → Type 0
 IsFiledAt file row (Some rows) found = IsFiled file row rows found
 IsFiledAt file row None None = ⊤
 IsFiledAt file row None (Some filed) = ⊥
 
--- It is the meter of a row of installations and of the rows that the tables have for it.
+-- The meter is that of an installation and of the rows that the tables have for the meter.
 pub record FilesRow (file : List ℕ) (content : Content) (row : Row) (found : Option FiledMeter) :
     Type 0 where
   pub rows : Option MeterRows
   pub theirs : AreTheirs content row rows
   pub is_filed : IsFiledAt file row rows found
 
--- A meter for each row, in their order.
+-- There is a meter for each row, in the order of the rows.
 abbrev pub AreFiled : (file : List ℕ) → Content → List Row → List FiledMeter → Type 0
 AreFiled file content [] [] = ⊤
 AreFiled file content (row ∷ rows) (filed ∷ others) =
@@ -69,19 +69,19 @@ abbrev pub HasUnfiled : (file : List ℕ) → List Row → Content → Type 0
 HasUnfiled file rows content =
     (i : ℕ) × (row : Row) × (slice_get rows i ≡ Some row) × FilesRow file content row None
 
--- All meters are kept, or there is one that can't be read.
+-- All meters are kept, or one of them can't be read.
 abbrev pub FilesRows : {Z : Type 0} → (file : List ℕ) → List Row → Content
     → Option (Vec FiledMeter Z) → Type 0
 FilesRows file rows content None = HasUnfiled file rows content
 FilesRows file rows content (Some filed) = AreFiled file content rows filed.items
 
--- A row of installations that the tables have can't be read.
+-- A row of `installations` in the tables can't be read.
 pub record HasUnfiledMeter (file : List ℕ) (content : Content) : Type 0 where
   pub rows : List Row
   pub shown : ShowsInstallations content rows
   pub unfiled : HasUnfiled file rows content
 
--- the same of the rows of installations that the tables have
+-- The same for the rows of `installations` that the tables have.
 pub record FilesMeters {Z : Type 0} (file : List ℕ) (content : Content)
     (found : Option (Vec FiledMeter Z)) : Type 0 where
   pub rows : List Row

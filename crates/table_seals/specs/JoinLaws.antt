@@ -1,4 +1,4 @@
--- Laws of files that go on from each other.
+-- Theorems about files that continue each other.
 use Rattle.std.specs.Prelude.{⊤, ◌≡◌, ◌↔◌, ◌≤◌, ◌+◌, ℕ, true, List, [], ◌∷◌, ◌++◌, length, Some, Ok, string_bytes}
 use Rattle.std.specs.List.{AllByRecursion, filter}
 use Rattle.energy_core.specs.declared.limits.TheConstants.{MAX_TOTAL}
@@ -15,34 +15,36 @@ use Rattle.table_seals.specs.declared.filed.FiledMeter.{FiledMeter}
 use Rattle.table_seals.specs.Filing.{IsFiledAs}
 use Rattle.table_seals.specs.Joins.{Known, known_with, joins_by, joins_of_all, is_meter, is_within}
 
--- The meter that was left so in an earlier file goes on as this one, at the same register, and its energies are together within
--- the limit of one meter.
+-- The meter of an earlier file continues as this meter, at the same register. The energy of all its
+-- files is within the limit of one meter.
 pub record MeterGoesOn (known : List FiledMeter) (old new : FiledMeter) : Type 0 where
   pub goes_on : GoesOnAs old.installed old.standing.last old.standing.is_ended new.installed
   pub register : string_bytes new.register ≡ string_bytes old.register
   pub within : is_within known new ≡ true
 
--- Nothing is told of a meter that an earlier file has exactly if it goes on so.
+-- A meter of an earlier file has no line if and only if it continues so.
 abbrev pub JoinedMetersGoOn : Type 0
 JoinedMetersGoOn = (known : List FiledMeter) (old new : FiledMeter)
     → (joins_by known new (Some old) ≡ []) ↔ MeterGoesOn known old new
 
 -- ---- over several files
 
--- the meters of a name, of each file that has one
+-- The meters with this name, of all files that have one.
 abbrev pub named : (name : List ℕ) → List FiledMeter → List FiledMeter
 named name meters = filter (is_meter name) meters
 
+-- The total energy of meters.
 abbrev pub energy_of : List FiledMeter → ℕ
 energy_of [] = 0
 energy_of (meter ∷ meters) = meter.standing.total + energy_of meters
 
--- Of a file no two meters have one name, as the key of its table has it, and each has no more energy than a meter may have.
+-- No two meters of a file have the same name, by the key of the table. Each has at most the energy
+-- of one meter.
 pub record IsOfMeters (file : Known) : Type 0 where
   pub apart : (name : List ℕ) → length (named name file.meters) ≤ 1
   pub totals : AllByRecursion (λ meter. meter.standing.total ≤ MAX_TOTAL) file.meters
 
--- Each of these goes on where the one after it in the list was left: the latest is the first.
+-- Each meter continues the next one in the list: the latest is the first.
 abbrev pub EachGoesOn : List FiledMeter → Type 0
 EachGoesOn [] = ⊤
 EachGoesOn (new ∷ []) = ⊤
@@ -50,26 +52,27 @@ EachGoesOn (new ∷ old ∷ older) =
     GoesOnAs old.installed old.standing.last old.standing.is_ended new.installed
     × EachGoesOn (old ∷ older)
 
--- The meters of a name are one that goes on through all files that have it, with its energy within the limit of one meter.
+-- The meters of a name continue through all files that have them, and their total energy is within
+-- the limit of one meter.
 pub record IsOneMeter (name : List ℕ) (known : Known) : Type 0 where
   pub goes_on : EachGoesOn (named name known.meters)
   pub energy : energy_of (named name known.meters) ≤ MAX_TOTAL
 
--- what is kept of all files
+-- What is kept of all files.
 abbrev pub known_with_all : Known → (later : List Known) → Known
 known_with_all known [] = known
 known_with_all known (next ∷ later) = known_with_all (known_with known next) later
 
--- Where nothing is told of files, those of each name are one meter.
+-- If the files are of such meters and have no lines, the meters of each name are one meter.
 abbrev pub JoinedFilesAreOne : Type 0
 JoinedFilesAreOne = (first : Known) (later : List Known) → IsOfMeters first
     → AllByRecursion IsOfMeters later
     → joins_of_all first later ≡ []
     → (name : List ℕ) → IsOneMeter name (known_with_all first later)
 
--- ---- and their tables
+-- ---- the tables of several files
 
--- These tables are fine, and tell of a meter what is kept of it.
+-- The tables are fine, and have the state of the meter that is kept.
 pub record IsToldBy (meter : FiledMeter) (tables : Tables) : Type 0 where
   pub well : IsWellInstalled meter.installed
   pub fine : AreFine meter.installed tables
@@ -77,7 +80,7 @@ pub record IsToldBy (meter : FiledMeter) (tables : Tables) : Type 0 where
   pub total : tables.total ≡ meter.standing.total
   pub ended : tables.ended ≡ meter.standing.is_ended
 
--- A meter that is kept of a file which an audit finds fine is one of such tables.
+-- A meter that is kept of a file which an audit finds fine has such tables.
 abbrev pub FiledMetersAreTold : Type 0
 FiledMetersAreTold = (row : Row) (rows : MeterRows) (installation : InstallationRow)
     (filed : FiledMeter) → installation_in row ≡ Ok installation
@@ -87,19 +90,22 @@ FiledMetersAreTold = (row : Row) (rows : MeterRows) (installation : Installation
 abbrev pub in_file : (tables : FiledMeter → Tables) → FiledMeter → InFile
 in_file tables meter = record { meter = meter.installed; tables = tables meter }
 
--- each of these meters with its tables, the oldest first where they have the latest first
+-- Each of these meters with its tables. The list of meters has the latest first, and the result has
+-- the oldest first.
 abbrev pub in_files : (tables : FiledMeter → Tables) → List FiledMeter → List InFile
 in_files tables [] = []
 in_files tables (meter ∷ older) = in_files tables older ++ in_file tables meter ∷ []
 
--- What all files tell of a meter is what one lawful journal comes to, from where it was opened in the first of them.
+-- All files together have the numbers of one lawful journal of the meter, from its opening in the
+-- first file.
 pub record HasOneJournal (tables : FiledMeter → Tables) (meters : List FiledMeter) : Type 0 where
   pub first : InFile
   pub later : List InFile
   pub are : in_files tables meters ≡ first ∷ later
   pub lawful : AreLawful first.meter (told_by_all first.tables later)
 
--- So it is of each meter of files of which nothing is told, and each of which is fine by itself.
+-- The same for meters that continue each other and whose tables are fine, with a total energy
+-- within the limit of one meter.
 abbrev pub JoinedFilesAreLawful : Type 0
 JoinedFilesAreLawful = (tables : FiledMeter → Tables) (meter : FiledMeter)
     (older : List FiledMeter) → AllByRecursion (λ m. IsToldBy m (tables m)) (meter ∷ older)

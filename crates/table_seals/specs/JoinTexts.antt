@@ -1,4 +1,5 @@
--- What is said of files that are to go on from each other: a line for each difference, and a last one.
+-- The printed lines about files that should continue each other: one for each difference, and a
+-- last line.
 use Rattle.std.specs.Prelude.{ℕ, ◌-◌, ◌==◌, List, [], ◌++◌, take, map, length, flat_map, if◌then◌else◌, codes, decimal, string_bytes, Vec}
 use Rattle.std.specs.Fmt.{signed_decimal}
 use Rattle.energy_core.specs.declared.entries.Last.{Last}
@@ -8,24 +9,25 @@ use Rattle.table_seals.specs.declared.join_faults.JoinFault.{JoinFault}
 use Rattle.table_seals.specs.declared.join_faults.JoinFault.TheVariants as fault
 use Rattle.table_seals.specs.Joins.{Join, OtherZone, Differs, Overlaps, Missing}
 
--- the moment, what the counter shows, and its scale factor
+-- The timestamp, the counter and its scale factor.
 abbrev pub stand : Last → List ℕ
 stand last =
     decimal last.at ++ codes " " ++ decimal last.raw ++ codes " " ++ signed_decimal last.sf
 
--- what a meter has in a file, and what it has in the file before
+-- The value of a meter in a file, and its value in the earlier file.
 abbrev pub both_say : (what : List ℕ) → (has had : List ℕ) → (old new : FiledMeter) → List ℕ
 both_say what has had old new =
     what ++ has ++ codes " in " ++ new.file.now ++ codes ", and " ++ had ++ codes " in "
     ++ old.file.now
 
--- in which file it is so, and in which it was
+-- A property of a meter in a file, and another in the earlier file.
 abbrev pub both_files : (before between : List ℕ) → (old new : FiledMeter) → List ℕ
 both_files before between old new = before ++ new.file.now ++ between ++ old.file.now
 
 abbrev pub one_file : (before after : List ℕ) → (new : FiledMeter) → List ℕ
 one_file before after new = before ++ new.file.now ++ after
 
+-- Why a meter does not continue.
 abbrev pub fault_text : JoinFault → (old new : FiledMeter) → List ℕ
 fault_text fault.Closed old new =
     both_files (codes "is in ") (codes ", and was closed in ") old new
@@ -42,9 +44,11 @@ fault_text fault.Opening old new =
 fault_text fault.Energy old new =
     one_file (codes "has more energy in all files up to ") (codes " than a meter may have") new
 
+-- The name of the meter at the beginning of a line.
 abbrev pub meter_said : FiledMeter → List ℕ
 meter_said meter = codes "meter " ++ string_bytes meter.meter ++ codes " "
 
+-- The line of a difference.
 abbrev pub join_line : Join → List ℕ
 join_line (OtherZone old new) =
     codes "zone is " ++ new.zone ++ codes " in " ++ new.file ++ codes ", and " ++ old.zone
@@ -59,25 +63,28 @@ join_line (Missing old file) =
     meter_said old ++ codes "is not in " ++ file ++ codes ", and is open in " ++ old.file.now
     ++ codes "\n"
 
+-- The lines of differences.
 abbrev pub lines_of : List Join → List (List ℕ)
 lines_of joins = map join_line joins
 
--- the lines as they are held
+-- The text of a line.
 abbrev pub text_in : {Z : Type 0} → Vec ℕ Z → List ℕ
 text_in line = line.items
 
 abbrev pub texts_of : {Z : Type 0} → List (Vec ℕ Z) → List (List ℕ)
 texts_of lines = map text_in lines
 
+-- How many more lines there are.
 abbrev pub more_lines : ℕ → List ℕ
 more_lines more = if more == 0 then [] else codes "and " ++ decimal more ++ codes " more\n"
 
+-- The last line: how many lines there are.
 abbrev pub all_lines : ℕ → List ℕ
 all_lines all =
     if all == 0 then codes "joined: fine\n"
     else decimal all ++ codes " differences between files\n"
 
--- the first of these lines, how many come after them, and how many there are
+-- The first of these lines, how many more there are, and their number.
 abbrev pub joined_text : {Z : Type 0} → List (Vec ℕ Z) → List ℕ
 joined_text lines =
     flat_map text_in (take MOST lines) ++ more_lines (length lines - MOST)

@@ -1,4 +1,4 @@
--- What stays sealed, whatever comes after it.
+-- What stays sealed, for everything that follows.
 use Rattle.std.specs.Prelude.{⊤, ◌≡◌, ◌⊎◌, [], ◌∷◌, Some, None, ℕ, ◌==◌, Bool, true, ◌&&◌, List, ◌++◌, take, length, reverse}
 use Rattle.std.specs.List.{list_any}
 use Rattle.meter_journal.specs.declared.lines.Installed.{Installed}
@@ -12,43 +12,42 @@ use Rattle.table_seals.specs.PollReading.{ReadPoll, polls_of}
 use Rattle.table_seals.specs.PollTexts.{polls_text, polls_text_then, pending_among}
 use Rattle.table_seals.specs.Texts.{entries_text}
 
--- the entries that the tables have for a meter with this journal, the opening first
+-- The entries that the tables have for a meter with this journal, the opening first.
 abbrev pub entries_by : Installed → Journal → List TableRow
 entries_by meter lines = reverse (table_rows meter (rows_of meter.opening lines))
 
--- a void names the entry at a place
+-- The entry at an index is voided.
 abbrev pub is_voided_at : (place : ℕ) → List TableRow → Bool
 is_voided_at place entries = list_any (λ entry. (entry.place == place) && entry.is_voided) entries
 
--- Whatever lines come after a lawful journal: entries, readings that are held, voids. Its entries are still the first ones,
--- with the same text.
+-- The entries of a lawful journal stay its first entries, with the same text. This holds for all
+-- lines that follow: entries, rejected readings and voids.
 abbrev pub FirstEntriesStay : Type 0
 FirstEntriesStay = (meter : Installed) (more lines : Journal) → IsWellInstalled meter
     → AreFitting meter (more ++ lines)
     → entries_text (take (length (entries_by meter lines)) (entries_by meter (more ++ lines)))
     ≡ entries_text (entries_by meter lines)
 
--- And what was voided stays voided.
+-- Voided entries stay voided.
 abbrev pub VoidsStay : Type 0
 VoidsStay = (meter : Installed) (more lines : Journal) → IsWellInstalled meter
     → AreFitting meter (more ++ lines) → (place : ℕ)
     → is_voided_at place (entries_by meter lines) ≡ true
     → is_voided_at place (entries_by meter (more ++ lines)) ≡ true
 
--- the same poll, which may have an outcome by now if it had none
+-- The same poll. If it was pending, it may have an outcome now.
 pub record IsLater (poll later : ReadPoll) : Type 0 where
   pub numbers : later.numbers ≡ poll.numbers
   pub device : later.device ≡ poll.device
   pub ending : (poll.ending ≡ None) ⊎ (later.ending ≡ poll.ending)
 
--- the same polls, and more
+-- The same polls, and more.
 abbrev pub AreLater : (polls later : List ReadPoll) → Type 0
 AreLater [] more = ⊤
 AreLater (poll ∷ polls) [] = ⊥
 AreLater (poll ∷ polls) (other ∷ later) = IsLater poll other × AreLater polls later
 
--- Whatever polls come after those that the rows tell, and outcomes of those that had none: the text that those had then is the
--- same.
+-- The text of the polls stays the same, for all later polls and later outcomes of pending polls.
 abbrev pub PollsStay : Type 0
 PollsStay = (rows later_rows : List RunRows) (polls later : List ReadPoll)
     → polls_of rows ≡ Some polls → polls_of later_rows ≡ Some later → AreLater polls later

@@ -1,4 +1,4 @@
--- Polls as the rows of the tables tell them, each with its outcome.
+-- The polls that rows show, each with its outcome.
 use Rattle.std.specs.Borrow.{Bor}
 use Rattle.std.specs.Prelude.{◌≡◌, ℕ, suc, ◌+◌, ◌==◌, List, [], ◌∷◌, ◌++◌, length, drop, Option, Some, None, Result, Ok, Err, if◌then◌else◌}
 use Rattle.std.specs.List.{fold}
@@ -15,7 +15,7 @@ use Rattle.table_seals.specs.Tables.{is_word}
 
 -- ---- a row
 
--- the numbers of a poll
+-- The numbers of a poll, or damage.
 abbrev pub numbers_in : Row → Result PollNumbers RowFault
 numbers_in row =
     and_then (or_damaged (whole_in 1 greatest_place (column row 0))) (λ number.
@@ -35,7 +35,7 @@ numbers_in row =
       count = count;
     }))))))))
 
--- a name that is a word
+-- A name that is a word.
 abbrev pub word_in : Value → Option (List ℕ)
 word_in (Text t) = if is_word t then Some t else None
 word_in Null = None
@@ -43,12 +43,12 @@ word_in (Int n) = None
 word_in (Real x) = None
 word_in (Blob b) = None
 
--- The word of a column was read, or there is none.
+-- The word of a column was read, or the column has none.
 abbrev pub IsWordIn : Value → Option (Bor (List ℕ)) → Type 0
 IsWordIn v None = word_in v ≡ None
 IsWordIn v (Some word) = word_in v ≡ Some word.now
 
--- how a poll ended
+-- The outcome of a poll, or damage.
 abbrev pub ending_in : Row → Result Ending RowFault
 ending_in row =
     and_then (or_damaged (whole_in 1 greatest_place (column row 0))) (λ poll.
@@ -59,27 +59,28 @@ ending_in row =
 
 -- ---- a poll with its outcome, if it has one
 
+-- A poll with its outcome, if it has one.
 pub record ReadPoll : Type 0 where
   pub numbers : PollNumbers
   pub device : List ℕ
   pub ending : Option Ending
 
--- the outcome that was read, if it is that of the poll with this number
+-- The outcome that was read, if it is of the poll with this number.
 abbrev pub if_of : (number : ℕ) → Result Ending RowFault → Option Ending
 if_of number (Err e) = None
 if_of number (Ok ending) = if ending.poll == number then Some ending else None
 
--- the outcome in the first of some rows, if it is that of the poll with this number
+-- The outcome in the first row, if it is of the poll with this number.
 abbrev pub ending_at : (number : ℕ) → List Row → Option Ending
 ending_at number [] = None
 ending_at number (row ∷ rows) = if_of number (ending_in row)
 
--- the rows after an outcome, if there was one
+-- The rows after an outcome, if there was one.
 abbrev pub rows_after : Option Ending → List Row → List Row
 rows_after None rows = rows
 rows_after (Some ending) rows = drop 1 rows
 
--- the poll that was read, if it has this number
+-- The poll that was read, if it has this number.
 abbrev pub if_numbered : (number : ℕ) → Result PollNumbers RowFault → Option (List ℕ)
     → Option Ending → Option ReadPoll
 if_numbered number (Err e) word ending = None
@@ -88,17 +89,19 @@ if_numbered number (Ok numbers) (Some device) ending =
     if numbers.number == number
     then Some (record { numbers = numbers; device = device; ending = ending }) else None
 
+-- The poll of a row, if it can be read and has this number.
 abbrev pub poll_at : (number : ℕ) → Row → Option Ending → Option ReadPoll
 poll_at number row ending = if_numbered number (numbers_in row) (word_in (column row 7)) ending
 
--- ---- one after the other
+-- ---- one poll after another
 
 abbrev pub and_more : Option ReadPoll → Option (List ReadPoll) → Option (List ReadPoll)
 and_more None more = None
 and_more (Some poll) None = None
 and_more (Some poll) (Some polls) = Some (poll ∷ polls)
 
--- The polls of some rows, if each can be read, and has the next number. No outcome is left: each is that of a poll there.
+-- The polls of some rows, if each can be read and has the next number. Each outcome is of one of
+-- these polls.
 abbrev pub polls_in : (next : ℕ) → (polls outcomes : List Row) → Option (List ReadPoll)
 polls_in next [] [] = Some []
 polls_in next [] (row ∷ rows) = None
@@ -106,17 +109,18 @@ polls_in next (row ∷ rows) outcomes =
     and_more (poll_at next row (ending_at next outcomes))
     (polls_in (suc next) rows (rows_after (ending_at next outcomes) outcomes))
 
--- ---- one run after the other
+-- ---- one run after another
 
 abbrev pub after : List ReadPoll → Option (List ReadPoll) → Option (List ReadPoll)
 after polls None = None
 after polls (Some more) = Some (polls ++ more)
 
+-- The polls so far, with those of one more run.
 abbrev pub with_run : Option (List ReadPoll) → RunRows → Option (List ReadPoll)
 with_run None rows = None
 with_run (Some polls) rows =
     after polls (polls_in (length polls + 1) rows.polls.items rows.outcomes.items)
 
--- The polls of runs, if each can be read. They have the numbers from 1 on, and none is missing.
+-- The polls of all runs, if each can be read. They have all numbers from 1.
 abbrev pub polls_of : List RunRows → Option (List ReadPoll)
 polls_of runs = fold with_run (Some []) runs

@@ -1,4 +1,4 @@
--- The text of polls of which a seal has the digest.
+-- The text of polls whose digest a seal has.
 use Rattle.std.specs.Prelude.{ℕ, Bool, true, false, nat_le, List, [], ◌∷◌, ◌++◌, flat_map, Option, Some, None, if◌then◌else◌}
 use Rattle.std.specs.Prelude.{codes, decimal}
 use Rattle.table_audit.specs.Reading.{is_named}
@@ -6,7 +6,7 @@ use Rattle.table_seals.specs.declared.poll_values.Ending.{Ending}
 use Rattle.table_seals.specs.declared.poll_values.PollNumbers.{PollNumbers}
 use Rattle.table_seals.specs.PollReading.{ReadPoll}
 
--- poll NUMBER DEVICE UNIT STARTED TID FUNCTION ADDRESS COUNT
+-- The line of a poll: poll NUMBER DEVICE UNIT STARTED TID FUNCTION ADDRESS COUNT
 abbrev pub poll_line : PollNumbers → (device : List ℕ) → List ℕ
 poll_line poll device =
     codes "poll " ++ decimal poll.number ++ codes " " ++ device ++ codes " " ++ decimal poll.unit
@@ -14,31 +14,33 @@ poll_line poll device =
     ++ decimal poll.function ++ codes " " ++ decimal poll.address ++ codes " "
     ++ decimal poll.count ++ codes "\n"
 
--- outcome MOMENT KIND CODE
+-- The line of an outcome: outcome MOMENT KIND CODE
 abbrev pub ending_line : Ending → List ℕ
 ending_line ending =
     codes "outcome " ++ decimal ending.moment ++ codes " " ++ decimal ending.kind ++ codes " "
     ++ decimal ending.code ++ codes "\n"
 
+-- The line of an outcome, if there is one.
 abbrev pub ending_text : Option Ending → List ℕ
 ending_text None = []
 ending_text (Some ending) = ending_line ending
 
--- the line of a poll, and that of its outcome, if it has one
+-- The line of a poll, and the line of its outcome, if it has one.
 abbrev pub poll_text : ReadPoll → List ℕ
 poll_text poll = poll_line poll.numbers poll.device ++ ending_text poll.ending
 
+-- The text of polls.
 abbrev pub polls_text : List ReadPoll → List ℕ
 polls_text polls = flat_map poll_text polls
 
--- ---- what was sealed of polls that were read later
+-- ---- the text at the time of the seal
 
--- no outcome, of a poll that had none
+-- The outcome, unless the poll was pending.
 abbrev pub unless_pending : Bool → Option Ending → Option Ending
 unless_pending true ending = None
 unless_pending false ending = ending
 
--- nothing, of a poll that came later
+-- The text of a poll at the time of the seal, or nothing for a later poll.
 abbrev pub text_then : (last : ℕ) → (pending : List ℕ) → ReadPoll → List ℕ
 text_then last pending poll =
     if nat_le poll.numbers.number last
@@ -46,7 +48,8 @@ text_then last pending poll =
     ++ ending_text (unless_pending (is_named pending poll.numbers.number) poll.ending)
     else []
 
--- the text that polls had when there were these, up to the last, and some of them had no outcome
+-- The text that the polls had at the time of the seal, up to the poll `last`, when the polls
+-- `pending` had no outcome.
 abbrev pub polls_text_then : (last : ℕ) → (pending : List ℕ) → List ReadPoll → List ℕ
 polls_text_then last pending polls = flat_map (text_then last pending) polls
 
@@ -56,8 +59,10 @@ abbrev pub unless_ended : (number : ℕ) → Option Ending → List ℕ
 unless_ended number None = number ∷ []
 unless_ended number (Some ending) = []
 
+-- The number of a poll, if it is pending.
 abbrev pub pending_of : ReadPoll → List ℕ
 pending_of poll = unless_ended poll.numbers.number poll.ending
 
+-- The numbers of the pending polls.
 abbrev pub pending_among : List ReadPoll → List ℕ
 pending_among polls = flat_map pending_of polls

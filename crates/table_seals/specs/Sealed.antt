@@ -1,10 +1,11 @@
--- What a seal tells.
+-- The values of a seal.
 use Rattle.std.specs.Prelude.{ℕ, List, map, string_bytes}
 use Rattle.table_seals.specs.declared.seals.MeterSeal.{MeterSeal}
 use Rattle.table_seals.specs.declared.seals.PollSeal.{PollSeal}
 use Rattle.table_seals.specs.declared.seals.Seal.{Seal}
 
--- its name, register and terms, how many entries it had, their digest, and the places of those that voids name
+-- The seal of a meter: its name, register and terms, the number and the digest of its entries, and
+-- the indices of the voided entries.
 pub record Sealed : Type 0 where
   pub meter : List ℕ
   pub register : List ℕ
@@ -14,6 +15,7 @@ pub record Sealed : Type 0 where
   pub digest : List ℕ
   pub voids : List ℕ
 
+-- The values of a meter's seal.
 abbrev pub sealed_of : MeterSeal → Sealed
 sealed_of seal = record {
   meter = string_bytes seal.meter;
@@ -25,12 +27,13 @@ sealed_of seal = record {
   voids = seal.voids.items;
 }
 
--- how many polls there were, the digest of their text, and which had no outcome
+-- The seal of polls: their number, the digest of their text, and the pending polls.
 pub record SealedPolls : Type 0 where
   pub count : ℕ
   pub digest : List ℕ
   pub pending : List ℕ
 
+-- The values of the polls' seal.
 abbrev pub sealed_polls_of : PollSeal → SealedPolls
 sealed_polls_of seal = record {
   count = seal.count;
@@ -38,11 +41,12 @@ sealed_polls_of seal = record {
   pending = seal.pending.items;
 }
 
--- the meters in the order of their places, and the polls
+-- The seal of a file: its meters in order of index, and its polls.
 pub record SealedTables : Type 0 where
   pub meters : List Sealed
   pub polls : SealedPolls
 
+-- The values of a file's seal.
 abbrev pub sealed_tables_of : Seal → SealedTables
 sealed_tables_of seal = record {
   meters = map sealed_of seal.meters.items;

@@ -1,4 +1,4 @@
--- What the rows of a meter tell that a seal speaks of.
+-- The values of a meter's rows that a seal covers.
 use Rattle.std.specs.Prelude.{◌≡◌, ℕ, nat_lt, Bool, List, [], ◌∷◌, Option, Some, None, Ok, string_bytes, IsUtf8}
 use Rattle.std.specs.List.{list_all}
 use Rattle.energy_core.specs.declared.limits.TheConstants.{MAX_CEILING}
@@ -11,7 +11,7 @@ use Rattle.table_audit.specs.Reading.{entry_in, place_in, range_in, all_in}
 use Rattle.table_seals.specs.declared.tables.ReadRows.{ReadRows}
 use Rattle.table_seals.specs.declared.tables.Terms.{Terms}
 
--- a row of installations has this meter, its register and its ceiling
+-- The row of `installations` has this meter, this register and this ceiling.
 pub record HasTerms (row : Row) (meter register : List ℕ) (ceiling : ℕ) : Type 0 where
   pub meter_is : column row 1 ≡ Text meter
   pub register_is : column row 2 ≡ Text register
@@ -19,26 +19,26 @@ pub record HasTerms (row : Row) (meter register : List ℕ) (ceiling : ℕ) : Ty
   pub meter_text : IsUtf8 meter
   pub register_text : IsUtf8 register
 
--- They were read, or there are none.
+-- The terms were read, or the row has none.
 abbrev pub TermsAreRead : Row → Option Terms → Type 0
 TermsAreRead row None = (meter register : List ℕ) (ceiling : ℕ)
     → HasTerms row meter register ceiling → ⊥
 TermsAreRead row (Some terms) =
     HasTerms row (string_bytes terms.meter) (string_bytes terms.register) terms.ceiling
 
--- the rows of a meter have one range, and these voids and entries
+-- The rows of a meter have one range, and these voids and entries.
 pub record HasRead (rows : MeterRows) (range : ℕ) (voids : List ℕ) (entries : List TableRow) :
     Type 0 where
   pub range_read : all_in range_in rows.ranges.items ≡ Ok (range ∷ [])
   pub voids_read : all_in place_in rows.voids.items ≡ Ok voids
   pub entries_read : all_in (entry_in voids) rows.entries.items ≡ Ok entries
 
--- They were read, or one of them can't be.
+-- The rows were read, or one of them can't be.
 abbrev pub RowsAreRead : MeterRows → Option ReadRows → Type 0
 RowsAreRead rows None = (range : ℕ) (voids : List ℕ) (entries : List TableRow)
     → HasRead rows range voids entries → ⊥
 RowsAreRead rows (Some read) = HasRead rows read.range read.voids.items read.entries.items
 
--- no space and no end of a line in it
+-- A word: all bytes are greater than 32, so none is a space or the end of a line.
 abbrev pub is_word : List ℕ → Bool
 is_word text = list_all (λ byte. nat_lt 32 byte) text

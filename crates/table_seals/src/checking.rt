@@ -1,4 +1,4 @@
-//! Whether the tables still have what was sealed.
+//! Checking whether the tables keep what was sealed.
 ghost use Rattle.std.specs.Prelude.{◌≡◌, ◌↔◌, ◌++◌, false, map, IsTrue, IfOk, OnOk, string_bytes};
 ghost use Rattle.std.specs.List.{list_all};
 ghost use Rattle.table_audit.specs.Looking.{Finds};
@@ -20,21 +20,21 @@ use std::collections::BTreeSet;
 use store_tables::RowFault;
 use table_audit::{MeterRows, installations, meter_rows};
 
-/// Whether one of these voids names a place.
+/// Returns whether one of these voids is of the entry at an index.
 fn is_named(voids: &[u64], place: u64) -> bool
     ensures { result ≡ values.is_named voids.now place }
 {
     voids.iter().any(|v| *v == place)
 }
 
-/// Whether all these places are still voided.
+/// Returns whether the entries at all these indices are still voided.
 fn are_named(voids: &[u64], places: &[u64]) -> bool
     ensures { result ≡ list_all (λ place. values.is_named voids.now place) places.now }
 {
     places.iter().all(|place| is_named(voids, *place))
 }
 
-/// Whether the rows of a meter have what was sealed.
+/// Returns whether the rows of a meter keep what was sealed.
 fn has_sealed(alloc: Global, rows: &MeterRows, seal: &MeterSeal) -> Result<bool, AllocError>
     ensures { IfOk result (λ has. IsTrue has ↔ HasSealed rows.now (sealed_of seal.now)) }
 {
@@ -57,7 +57,8 @@ fn has_sealed(alloc: Global, rows: &MeterRows, seal: &MeterSeal) -> Result<bool,
     Ok(digest.as_slice() == seal.digest.as_slice())
 }
 
-/// Whether a meter is installed on the terms of a seal, by all terms on which meters are, and its rows have what was sealed.
+/// Returns whether a meter is installed on the terms of its seal, and its rows keep what was
+/// sealed. `known` has the terms of all meters.
 fn keeps(
     alloc: Global,
     known: &BTreeSet<Terms>,
@@ -71,7 +72,7 @@ fn keeps(
     Ok(there && has)
 }
 
-/// Whether the tables keep a meter as it was sealed.
+/// Returns whether the tables keep a meter as it was sealed.
 fn check_meter<S: Alter>(
     alloc: Global,
     conn: &mut Connection<S>,
@@ -89,7 +90,7 @@ fn check_meter<S: Alter>(
     }
 }
 
-/// The name of a meter, if it differs, after those before it.
+/// Appends the name of a meter that differs.
 fn tell(
     alloc: Global,
     kept: bool,
@@ -107,7 +108,7 @@ fn tell(
     Ok(())
 }
 
-/// Whether the tables keep a meter as it was sealed. Its name is told if they don't.
+/// Checks a meter, and appends its name if the tables don't keep it as it was sealed.
 fn check_told<S: Alter>(
     alloc: Global,
     conn: &mut Connection<S>,
@@ -127,7 +128,7 @@ fn check_told<S: Alter>(
     }
 }
 
-/// The names of those of these meters that the tables don't keep as they were sealed.
+/// Returns the names of the meters that the tables don't keep as they were sealed.
 fn check_each<S: Alter>(
     alloc: Global,
     conn: &mut Connection<S>,
@@ -146,7 +147,7 @@ fn check_each<S: Alter>(
     Ok(differing)
 }
 
-/// The same by the rows of installations that the tables have.
+/// Does the same with the terms that the tables have.
 fn check_meters<S: Alter>(
     alloc: Global,
     conn: &mut Connection<S>,
@@ -163,9 +164,12 @@ fn check_meters<S: Alter>(
     }
 }
 
-/// Which meters of a seal the tables don't have any more as they were sealed, and whether their polls differ. More meters, entries,
-/// voids and polls are no difference, nor are outcomes of polls that were pending. The rows of one meter, or of one run of polls,
-/// are held in memory at a time, with their text, and those of `installations` with their terms.
+/// Checks a seal: returns the meters that the tables no longer have as they were sealed, and
+/// whether the polls differ. Further meters, entries, voids and polls are no difference. The same
+/// holds for outcomes of polls that were pending.
+///
+/// Memory holds the rows of one meter or of one run of polls at a time, with their text. It also
+/// holds the rows of `installations`, with their terms.
 pub fn check_seal<S: Alter>(
     alloc: Global,
     conn: &mut Connection<S>,

@@ -1,4 +1,4 @@
-//! What is said of a check.
+//! The result of a check, and its printed lines.
 ghost use Rattle.std.specs.Prelude.{◌≡◌, ◌++◌, ◌↔◌, OnOk, IsTrue, flat_map};
 ghost use Rattle.table_seals.specs.Checking.{IsAsSealed};
 ghost use Rattle.table_seals.specs.Texts as say;
@@ -6,7 +6,8 @@ ghost use Rattle.table_seals.specs.Texts as say;
 use crate::texts::{put, put_number, put_word};
 use std::alloc::AllocError;
 
-/// The names of the meters that differ from a seal, how many meters it has, and whether the polls differ.
+/// The names of the meters that differ from a seal, how many meters the seal has, and whether the
+/// polls differ.
 #[derive(Debug, Drop)]
 pub struct Checked {
     pub differing: Vec<String>,
@@ -15,7 +16,7 @@ pub struct Checked {
 }
 
 impl Checked {
-    /// Whether no meter differs, and the polls don't.
+    /// Returns whether no meter differs, and the polls don't.
     pub fn is_fine(&self) -> bool
         ensures { IsTrue result ↔ IsAsSealed self.now }
     {
@@ -75,8 +76,8 @@ fn put_total(
     put(text, b" meters differ\n")
 }
 
-/// Puts at the end of a text what a check says: a line for each meter that differs, one if the polls do, and a last line. Want of memory leaves a
-/// part of it.
+/// Appends the text of a check: a line for each meter that differs, a line if the polls differ, and
+/// a last line. Out of memory leaves a part of the text.
 pub fn put_checked(text: &mut Vec<u8>, checked: &Checked) -> Result<(), AllocError>
     ensures { OnOk result (text.new.items ≡ text.old.items ++ say.checked_text checked.now) }
 {

@@ -1,11 +1,11 @@
-//! What is kept of an office's file, so that the next one is held to it.
+//! What is kept of an office's file, to check whether the next file continues it.
 use meter_audit::Standing;
 use meter_journal::Installed;
 
-/// A meter as a file has it: at which register, as it was opened there, and where it stands at the end.
+/// A meter as a file has it: its register, its opening, and its state at the end of the file.
 #[derive(Debug, Drop)]
 pub struct FiledMeter<'a> {
-    /// The name by which the file is told.
+    /// The name of the file in messages.
     pub file: &'a str,
     pub meter: String,
     pub register: String,
@@ -13,8 +13,9 @@ pub struct FiledMeter<'a> {
     pub standing: Standing,
 }
 
-/// An office's file: its zone, and its meters. Of several files one after the other, the name and the zone of the latest, its
-/// meters, so many, and after them those of the files before it.
+/// An office's file: its time zone, and its meters. For several files, the name and the zone are
+/// those of the latest file. The meters of the latest file are first, `latest` of them, and the
+/// meters of the earlier files follow.
 #[derive(Debug, Drop)]
 pub struct FiledOffice<'a> {
     pub file: &'a str,

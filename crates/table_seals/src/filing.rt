@@ -1,4 +1,4 @@
-//! The meters that the tables of a file have.
+//! Reading the meters of a file's tables.
 ghost use Rattle.std.specs.Prelude.{◌≡◌, ◌++◌, ◌∷◌, [], false, IfOk, IfErr, OnOk};
 ghost use Rattle.store_tables.specs.Failing.{want_of_memory};
 ghost use Rattle.table_audit.specs.Looking.{Finds};
@@ -16,7 +16,7 @@ use std::alloc::{AllocError, Global};
 use store_tables::{InstallationRow, RowFault};
 use table_audit::{MeterRows, installation, installations, meter_rows};
 
-/// Where a row of installations says that its meter stands.
+/// Returns the state of the meter that an installation has.
 fn standing_of(row: &InstallationRow) -> Standing
     ensures { result ≡ standing_in row.now }
 {
@@ -31,7 +31,7 @@ fn standing_of(row: &InstallationRow) -> Standing
     }
 }
 
-/// Where the counter stood at an entry that opened its meter.
+/// Returns the state of the counter at an opening.
 fn shown_by(opening: &TableRow) -> Last
     ensures { result ≡ last_shown opening.now }
 {
@@ -42,7 +42,8 @@ fn shown_by(opening: &TableRow) -> Last
     }
 }
 
-/// The meter of a row of installations and of the rows of that meter, unless a value can't be read.
+/// Builds a meter from its row of `installations` and its other rows. None if a value can't be
+/// read.
 fn filed_of<'a>(
     alloc: Global,
     file: &'a str,
@@ -81,7 +82,8 @@ fn filed_of<'a>(
     }))
 }
 
-/// The meter of a row of installations and of the rows that the tables have for it, unless a value can't be read.
+/// Queries the rows of an installation's meter, and builds the meter. None if a value can't be
+/// read.
 fn file_row<'a, S: Alter>(
     alloc: Global,
     conn: &mut Connection<S>,
@@ -104,7 +106,7 @@ fn file_row<'a, S: Alter>(
     }
 }
 
-/// One more meter.
+/// Appends a meter.
 fn keep<'a>(meters: &mut Vec<FiledMeter<'a>>, filed: FiledMeter<'a>) -> Result<(), RowFault>
     ensures kept { OnOk result (meters.new.items ≡ meters.old.items ++ filed.entry ∷ []) }
     ensures fault { IfErr result (λ fault. fault ≡ RowFault.Sql want_of_memory) }
@@ -115,7 +117,7 @@ fn keep<'a>(meters: &mut Vec<FiledMeter<'a>>, filed: FiledMeter<'a>) -> Result<(
     }
 }
 
-/// The meters of these rows of installations, unless a value can't be read.
+/// Builds the meters of these rows of `installations`. None if a value can't be read.
 fn file_rows<'a, S: Alter>(
     alloc: Global,
     conn: &mut Connection<S>,
@@ -136,9 +138,9 @@ fn file_rows<'a, S: Alter>(
     Ok(Some(meters))
 }
 
-/// The meters that the tables of a file have, in the order of their places, each kept under the name by which the file is told.
-/// There are none where a value of one can't be read, which an audit tells of, or a name is no text. The rows of one meter are held
-/// in memory at a time, and those of `installations`.
+/// Returns the meters of a file's tables in order of index, under the name that the file has in
+/// messages. None if a value of a meter can't be read, which an audit reports, or if a name is not
+/// a text. Memory holds the rows of one meter at a time, and those of `installations`.
 pub fn filed_meters<'a, S: Alter>(
     alloc: Global,
     conn: &mut Connection<S>,

@@ -1,4 +1,4 @@
-//! The terms on which meters are installed.
+//! The terms of installed meters.
 ghost use Rattle.std.specs.Prelude.{IfOk, OnOk};
 ghost use Rattle.table_seals.specs.Installed.{AddsTerms, AddsTermsOf, AreTermsOf, TellsInstalled};
 ghost use Rattle.table_seals.specs.Sealed.{sealed_of};
@@ -9,7 +9,7 @@ use sqlite::Row;
 use std::alloc::{AllocError, Global};
 use std::collections::BTreeSet;
 
-/// Terms more.
+/// Adds terms to the set.
 fn add(known: &mut BTreeSet<Terms>, terms: Terms) -> Result<(), AllocError>
     ensures { OnOk result (AddsTerms terms known.old known.new) }
 {
@@ -17,7 +17,7 @@ fn add(known: &mut BTreeSet<Terms>, terms: Terms) -> Result<(), AllocError>
     Ok(())
 }
 
-/// Those of a row more, if it tells some.
+/// Adds the terms of a row, if it has some.
 fn add_row(known: &mut BTreeSet<Terms>, row: &Row) -> Result<(), AllocError>
     ensures { OnOk result (AddsTermsOf row.now known.old known.new) }
 {
@@ -30,7 +30,7 @@ fn add_row(known: &mut BTreeSet<Terms>, row: &Row) -> Result<(), AllocError>
     }
 }
 
-/// The terms that rows of installations tell.
+/// Collects the terms of the rows of `installations`.
 pub(crate) fn terms_in(alloc: Global, installed: &[Row]) -> Result<BTreeSet<Terms>, AllocError>
     ensures { IfOk result (AreTermsOf installed.now) }
 {
@@ -41,7 +41,8 @@ pub(crate) fn terms_in(alloc: Global, installed: &[Row]) -> Result<BTreeSet<Term
     Ok(known)
 }
 
-/// Whether the meter of a seal is installed on the same terms, by all terms on which meters are.
+/// Returns whether the meter of a seal is installed on the same terms. `known` has the terms of all
+/// meters.
 pub(crate) fn is_installed(known: &BTreeSet<Terms>, seal: &MeterSeal) -> Result<bool, AllocError>
     ensures { IfOk result (TellsInstalled known.now (sealed_of seal.now)) }
 {

@@ -1,18 +1,18 @@
-//! How a meter doesn't go on.
+//! Why a meter does not continue from one file to the next.
 
-/// How a meter doesn't go on from the file before.
+/// Why a meter of a file does not continue the meter of the earlier file.
 #[derive(Clone, Copy, Debug, PartialEq, Eq)]
 pub enum JoinFault {
-    /// It was closed there.
+    /// The meter was closed in the earlier file.
     Closed,
-    /// It was at another register.
+    /// The meter was at another register.
     Register,
-    /// Its counter had another range.
+    /// The counter had another range.
     Range,
-    /// It had another ceiling.
+    /// The meter had another ceiling.
     Ceiling,
-    /// Its counter stood elsewhere than where it is opened.
+    /// The opening differs from the last entry of the earlier file.
     Opening,
-    /// Its energy of all files is more than one meter may have.
+    /// The total energy of all files is more than one meter may have.
     Energy,
 }

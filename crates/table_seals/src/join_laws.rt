@@ -1,27 +1,31 @@
-//! Laws of files that go on from each other. Each function's clause is the law.
+//! Theorems about files that continue each other. Each function's contract is the theorem.
 ghost use Rattle.table_seals.specs.JoinLaws.{JoinedFilesAreOne, JoinedMetersGoOn};
 ghost use Rattle.table_seals.specs.JoinLaws.{FiledMetersAreTold, JoinedFilesAreLawful};
 
 use meter_audit::files_are_one_history;
 
-/// Of a meter that an earlier file has nothing is told exactly if it was left there as it is opened in the next one.
+/// Theorem: a meter of an earlier file has no line if and only if it continues from its last entry
+/// there.
 pub fn joined_meters_go_on()
     ensures { JoinedMetersGoOn }
 {}
 
-/// Where nothing is told of files, the meters of each name are one that goes on through all files that have it, and its energy of all
-/// is within the limit of one meter.
+/// Theorem: suppose that no two meters of a file have the same name, and each has at most the
+/// energy of one meter. If the files have no lines, the meters of each name continue through all
+/// files that have them. Their total energy is then within the limit of one meter.
 pub fn joined_files_are_one()
     ensures { JoinedFilesAreOne }
 {}
 
-/// What is kept of a meter of a file that an audit finds fine is what its tables tell, and they are those of a lawful journal.
+/// Theorem: the meter that is kept of a file is the meter of its tables, if an audit finds the file
+/// fine. The tables are those of a lawful journal.
 pub fn filed_meters_are_told()
     ensures { FiledMetersAreTold }
 {}
 
-/// Meters of which each goes on where the one before was left, and the tables of each of which are fine, are together what one lawful
-/// journal comes to.
+/// Theorem: suppose that each meter continues the earlier one, the tables of each are fine, and
+/// their total energy is within the limit of one meter. Then all of them together have the numbers
+/// of one lawful journal.
 pub fn joined_files_are_lawful()
     ensures { JoinedFilesAreLawful }
 {

@@ -1,4 +1,4 @@
-//! What is said of files that are to go on from each other.
+//! The printed lines about files that should continue each other.
 ghost use Rattle.std.specs.Prelude.{◌≡◌, ◌++◌, OnOk, IfOk, flat_map, decimal};
 ghost use Rattle.table_seals.specs.Joins as joins;
 ghost use Rattle.table_seals.specs.JoinTexts as say;
@@ -10,7 +10,7 @@ use energy_core::Last;
 use std::alloc::{AllocError, Global};
 use table_audit::MOST;
 
-// ---- pieces; want of memory leaves a part of each
+// ---- pieces; each leaves a part of its text if memory runs out
 
 fn put_stand(text: &mut Vec<u8>, last: &Last) -> Result<(), AllocError>
     ensures { OnOk result (text.new.items ≡ text.old.items ++ say.stand last.now) }
@@ -20,7 +20,7 @@ fn put_stand(text: &mut Vec<u8>, last: &Last) -> Result<(), AllocError>
     put_scale(text, b" ", last.sf)
 }
 
-/// What a meter has in a file, and what it had in the one before.
+/// Appends the value of a meter in a file, and its value in the earlier file.
 fn put_words(
     text: &mut Vec<u8>,
     what: &[u8],
@@ -152,7 +152,7 @@ fn put_meter(text: &mut Vec<u8>, meter: &FiledMeter<'_>) -> Result<(), AllocErro
 
 // ---- lines
 
-/// How a meter of the next file doesn't go on.
+/// Returns the line on why a meter of the next file does not continue.
 pub(crate) fn fault_line(
     alloc: Global,
     fault: JoinFault,
@@ -169,7 +169,7 @@ pub(crate) fn fault_line(
     Ok(line)
 }
 
-/// That a meter begins while another is still read at its register.
+/// Returns the line on a meter that begins before the last entry of another meter at its register.
 pub(crate) fn overlap_line(
     alloc: Global,
     old: &FiledMeter<'_>,
@@ -194,7 +194,7 @@ pub(crate) fn overlap_line(
     Ok(line)
 }
 
-/// That a meter which is open isn't in the next file.
+/// Returns the line on an open meter that is not in the next file.
 pub(crate) fn missing_line(
     alloc: Global,
     old: &FiledMeter<'_>,
@@ -210,7 +210,7 @@ pub(crate) fn missing_line(
     Ok(line)
 }
 
-/// That the zones differ.
+/// Returns the line on two files with different time zones.
 pub(crate) fn zone_line(
     alloc: Global,
     old: &FiledOffice<'_>,
@@ -228,7 +228,7 @@ pub(crate) fn zone_line(
     Ok(line)
 }
 
-// ---- all of them
+// ---- all lines
 
 fn put_lines(text: &mut Vec<u8>, lines: &[Vec<u8>]) -> Result<(), AllocError>
     ensures { OnOk result (text.new.items ≡ text.old.items
@@ -260,8 +260,8 @@ fn put_all(text: &mut Vec<u8>, all: u64) -> Result<(), AllocError>
     put(text, b" differences between files\n")
 }
 
-/// Puts at the end of a text what is said of files: the first lines of these, how many come after them, and how many there are.
-/// Want of memory leaves a part of it.
+/// Appends the text about files: the first of these lines, how many more there are, and their
+/// number. Out of memory leaves a part of the text.
 pub fn put_joins(text: &mut Vec<u8>, lines: &[Vec<u8>]) -> Result<(), AllocError>
     ensures { OnOk result (text.new.items ≡ text.old.items ++ say.joined_text lines.now) }
 {

@@ -1,4 +1,4 @@
-//! Files of an office, one after the other.
+//! The files of an office, one after another.
 ghost use Rattle.std.specs.Prelude.{◌≡◌, ◌++◌, [], Some, None, IfOk, OnOk, option_map};
 ghost use Rattle.table_seals.specs.Joins.{known_of, known_with};
 
@@ -6,7 +6,7 @@ use crate::filed::FiledOffice;
 use crate::joins::tell_joins;
 use std::alloc::{AllocError, Global};
 
-/// What is kept of files and of the next one.
+/// Merges what is kept of earlier files with the next file.
 fn with_next<'a>(
     known: FiledOffice<'a>,
     next: FiledOffice<'a>,
@@ -26,8 +26,8 @@ fn with_next<'a>(
     })
 }
 
-/// Files one after the other, the oldest first: what is kept of them, and a line for each way in which one doesn't go on from those
-/// before it.
+/// Files one after another, the oldest first: what is kept of them, and a line for each way in
+/// which a file does not continue the earlier files.
 #[derive(Debug, Drop)]
 pub struct Joining<'a> {
     pub known: Option<FiledOffice<'a>>,
@@ -38,7 +38,7 @@ impl<'a> Joining<'a> {
     ghost use Rattle.table_seals.specs.Joins.{after_next, joins_after};
     ghost use Rattle.table_seals.specs.JoinTexts.{lines_of, texts_of};
 
-    /// None yet. The allocator is kept; no memory is taken.
+    /// Creates a list without files. Keeps the allocator, and allocates no memory.
     pub fn new(alloc: Global) -> Joining<'a>
         ensures none { result.known ≡ None }
         ensures lines { result.lines.items ≡ [] }
@@ -49,8 +49,8 @@ impl<'a> Joining<'a> {
         }
     }
 
-    /// Takes the next file. They go on from each other exactly if there is no line. Where memory is wanting, some lines may lack, and
-    /// what was kept is gone.
+    /// Adds the next file. The files continue each other if and only if there is no line. If memory
+    /// runs out, lines may be missing, and `known` is lost.
     pub fn join(&mut self, alloc: Global, next: FiledOffice<'a>) -> Result<(), AllocError>
         ensures lines { OnOk result (texts_of self.new.lines.items ≡ texts_of self.old.lines.items
             ++ lines_of (joins_after (option_map known_of self.old.known) (known_of next.entry))) }

@@ -1,4 +1,4 @@
-//! Whether an office's files go on from each other.
+//! Checking whether an office's files continue each other.
 ghost use Rattle.std.specs.Prelude.{◌≡◌, ◌++◌, ◌∷◌, [], Some, None, OnOk, flat_map};
 ghost use Rattle.std.specs.List.{find};
 ghost use Rattle.std.specs.Option.{option_copied};
@@ -11,35 +11,36 @@ use crate::join_lines::{fault_line, missing_line, overlap_line, zone_line};
 use energy_core::{Last, MAX_TOTAL};
 use std::alloc::{AllocError, Global};
 
-/// Whether a meter has the name.
+/// Returns whether the meter has this name.
 fn is_meter(name: &str, meter: &FiledMeter<'_>) -> bool
     ensures { result ≡ joins.is_meter name.now meter.now }
 {
     meter.meter.as_str() == name
 }
 
-/// Whether one of these meters has the name.
+/// Returns whether one of these meters has the name.
 fn has_meter(name: &str, meters: &[FiledMeter<'_>]) -> bool
     ensures { result ≡ joins.has_meter name.now meters.now }
 {
     meters.iter().any(|meter| is_meter(name, meter))
 }
 
-/// The first of these meters that has the name.
+/// Returns the first of these meters with the name.
 fn meter_in<'m, 'a>(name: &str, meters: &'m [FiledMeter<'a>]) -> Option<&'m FiledMeter<'a>>
     ensures { option_copied result ≡ find (joins.is_meter name.now) meters.now }
 {
     meters.iter().find(|meter| is_meter(name, *meter))
 }
 
-/// Whether both show the same counter at the same moment and scale.
+/// Returns whether both have the same counter, timestamp and scale factor.
 fn is_same(last: &Last, other: &Last) -> bool
     ensures { result ≡ joins.is_same last.now other.now }
 {
     last.at == other.at && last.raw == other.raw && last.sf == other.sf
 }
 
-/// How much energy may still come after a meter, if it has the name.
+/// Returns how much of the energy limit is left after a meter, if it has the name. None if the
+/// meter exceeds the limit.
 fn left_after(most: u64, name: &str, meter: &FiledMeter<'_>) -> Option<u64>
     ensures { result ≡ joins.left_after most name.now meter.now }
 {
@@ -54,7 +55,7 @@ fn left_after(most: u64, name: &str, meter: &FiledMeter<'_>) -> Option<u64>
     }
 }
 
-/// Whether the energies of the meter of a name are together no more than this.
+/// Returns whether the meters of a name together have at most the energy `most`.
 fn stay_within(most: u64, name: &str, meters: &[FiledMeter<'_>]) -> bool
     ensures { result ≡ joins.stay_within most name.now meters.now }
 {
@@ -68,7 +69,8 @@ fn stay_within(most: u64, name: &str, meters: &[FiledMeter<'_>]) -> bool
     true
 }
 
-/// Whether the energies of a meter of the next file and of the files before it are within the limit of one meter.
+/// Returns whether a meter of the next file and its earlier files together have at most the energy
+/// of one meter.
 fn is_within(known: &[FiledMeter<'_>], new: &FiledMeter<'_>) -> bool
     ensures { result ≡ joins.is_within known.now new.now }
 {
@@ -78,7 +80,7 @@ fn is_within(known: &[FiledMeter<'_>], new: &FiledMeter<'_>) -> bool
     }
 }
 
-/// How a meter doesn't go on from the file before.
+/// Returns why a meter does not continue the meter of the earlier file.
 fn fault_between(within: bool, old: &FiledMeter<'_>, new: &FiledMeter<'_>) -> Option<JoinFault>
     ensures { result ≡ joins.fault_between within old.now new.now }
 {
@@ -103,7 +105,7 @@ fn fault_between(within: bool, old: &FiledMeter<'_>, new: &FiledMeter<'_>) -> Op
     None
 }
 
-/// Whether a meter begins at its register while another is still read there.
+/// Returns whether a meter begins before the last entry of another meter at its register.
 fn is_beyond(new: &FiledMeter<'_>, old: &FiledMeter<'_>) -> bool
     ensures { result ≡ joins.is_beyond new.now old.now }
 {
@@ -111,7 +113,8 @@ fn is_beyond(new: &FiledMeter<'_>, old: &FiledMeter<'_>) -> bool
         && new.installed.opening.at < old.standing.last.at
 }
 
-/// The first of these meters that is still read at the register of another when that begins.
+/// Returns the first of these meters with a last entry at the same register after the meter's
+/// opening.
 fn overlapped<'m, 'a>(
     new: &FiledMeter<'_>,
     known: &'m [FiledMeter<'a>],
@@ -121,7 +124,7 @@ fn overlapped<'m, 'a>(
     known.iter().find(|old| is_beyond(new, *old))
 }
 
-/// One more line.
+/// Appends a line.
 fn keep(lines: &mut Vec<Vec<u8>>, line: Vec<u8>) -> Result<(), AllocError>
     ensures { OnOk result (texts_of lines.new.items
         ≡ texts_of lines.old.items ++ line.items ∷ []) }
@@ -130,7 +133,7 @@ fn keep(lines: &mut Vec<Vec<u8>>, line: Vec<u8>) -> Result<(), AllocError>
     Ok(())
 }
 
-/// How a meter of the next file doesn't go on from one of the same name.
+/// Reports why a meter of the next file does not continue the earlier meter of its name.
 fn tell_fault(
     alloc: Global,
     lines: &mut Vec<Vec<u8>>,
@@ -150,7 +153,7 @@ fn tell_fault(
     }
 }
 
-/// Where a meter that no file before has begins too early.
+/// Reports a new meter that begins before the last entry of another meter at its register.
 fn tell_overlap(
     alloc: Global,
     lines: &mut Vec<Vec<u8>>,
@@ -169,7 +172,7 @@ fn tell_overlap(
     }
 }
 
-/// What is told of a meter of the next file.
+/// Reports the difference of a meter of the next file, if there is one.
 fn tell_meter(
     alloc: Global,
     lines: &mut Vec<Vec<u8>>,
@@ -191,7 +194,7 @@ fn tell_meter(
     }
 }
 
-/// What is told of the meters of the next file.
+/// Reports the differences of the meters of the next file.
 fn tell_meters(
     alloc: Global,
     lines: &mut Vec<Vec<u8>>,
@@ -207,14 +210,14 @@ fn tell_meters(
     Ok(())
 }
 
-/// Whether a meter is open in the file before, and isn't among those of the next one.
+/// Returns whether a meter is open in the earlier file, and not in the next.
 fn is_missing(next: &[FiledMeter<'_>], old: &FiledMeter<'_>) -> bool
     ensures { result ≡ joins.is_missing next.now old.now }
 {
     !old.standing.is_ended && !has_meter(&old.meter, next)
 }
 
-/// Tells it.
+/// Reports an open meter that is not in the next file.
 fn tell_missing(
     alloc: Global,
     lines: &mut Vec<Vec<u8>>,
@@ -231,7 +234,7 @@ fn tell_missing(
     keep(lines, line)
 }
 
-/// The same of all meters of the file before.
+/// Reports each open meter that is not in the next file.
 fn tell_each_missing(
     alloc: Global,
     lines: &mut Vec<Vec<u8>>,
@@ -248,7 +251,7 @@ fn tell_each_missing(
     Ok(())
 }
 
-/// That the days of the next file are those of another zone.
+/// Reports that the next file has another time zone.
 fn tell_zone(
     alloc: Global,
     lines: &mut Vec<Vec<u8>>,
@@ -265,7 +268,8 @@ fn tell_zone(
     keep(lines, line)
 }
 
-/// Tells how the next file doesn't go on from those before it: a line for each difference, after those that were told.
+/// Reports how the next file does not continue the earlier files: appends a line for each
+/// difference.
 pub(crate) fn tell_joins(
     alloc: Global,
     lines: &mut Vec<Vec<u8>>,

@@ -1,18 +1,20 @@
-//! What who keeps a seal may rely on. Each function's clause is the law, over all lawful journals, and all rows of polls.
+//! Theorems that the keeper of a seal may rely on, over all lawful journals and all rows of polls.
+//! Each function's contract is the theorem.
 ghost use Rattle.table_seals.specs.Laws.{FirstEntriesStay, VoidsStay, PollsStay};
 
-/// Whatever comes after a journal, its entries are still the first ones, with the same text. So an office that goes on keeps
-/// what was sealed.
+/// Theorem: the entries of a journal stay its first entries, with the same text, for all lines that
+/// follow. So an office keeps the entries that were sealed.
 pub fn first_entries_stay()
     ensures { FirstEntriesStay }
 {}
 
-/// Whatever comes after a journal, what was voided stays voided.
+/// Theorem: voided entries stay voided, for all lines that follow.
 pub fn voids_stay()
     ensures { VoidsStay }
 {}
 
-/// Whatever polls come later, and outcomes of those that had none, the text of those that were there then is the same.
+/// Theorem: the text of the sealed polls stays the same, for all later polls and later outcomes of
+/// pending polls.
 pub fn polls_stay()
     ensures { PollsStay }
 {}

@@ -1,5 +1,6 @@
-//! Seals of what the tables of a file record, whether another file, or the same one years later, still has that, and whether the
-//! next file goes on where one ends.
+//! Seals of the tables of a file: signed-off digests. A check of a seal shows whether the same file
+//! years later, or another file, still has what was sealed. The crate also checks whether the next
+//! file continues an earlier one.
 #![tactic(auto)]
 
 mod checking;

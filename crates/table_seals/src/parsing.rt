@@ -1,4 +1,4 @@
-//! A seal read back from its text.
+//! Parsing a seal from its text.
 ghost use Rattle.std.specs.Prelude.{◌≡◌, ◌≤◌, ◌<◌, ◌^◌, ◌++◌, ◌∷◌, ℕ, List, true, map, codes};
 ghost use Rattle.std.specs.Prelude.{length, decimal, IfSome, IfOk, IsSomeAnd, IsUtf8, MatchResult};
 ghost use Rattle.hex.specs.Hex.{encode_lower, IsBytes};
@@ -14,15 +14,15 @@ use crate::seals::{MeterSeal, PollSeal, Seal};
 use crate::texts::put_seal;
 use std::alloc::{AllocError, Global};
 
-/// Why there is no seal.
+/// Why a text is not read as a seal.
 #[derive(Clone, Copy, Debug, PartialEq, Eq)]
 pub enum NoSeal {
-    /// The text is that of none.
+    /// The text is not the text of a seal.
     Other,
     Memory,
 }
 
-/// What a line tells of a meter.
+/// The values in the line of a meter.
 #[derive(Clone, Copy)]
 struct MeterLine<'a> {
     meter: &'a str,
@@ -33,14 +33,15 @@ struct MeterLine<'a> {
     digest: [u8; 32],
 }
 
-/// What a line tells of polls.
+/// The values in the line of polls.
 #[derive(Clone, Copy)]
 struct PollsLine {
     count: u64,
     digest: [u8; 32],
 }
 
-/// The word after a text that comes first, and what follows its end.
+/// Parses a word after the prefix `before`. Returns the word, and the text after the character
+/// `end`.
 fn field<'a>(text: &'a str, before: &str, end: char) -> Option<(&'a str, &'a str)>
     requires { end ≤ 32 }
     ensures reads { (word rest : List ℕ) → values.is_word word ≡ true
@@ -58,7 +59,8 @@ fn field<'a>(text: &'a str, before: &str, end: char) -> Option<(&'a str, &'a str
     rest.split_once(end)
 }
 
-/// The number after a text that comes first, and what follows its end.
+/// Parses a number after the prefix `before`. Returns the number, and the text after the character
+/// `end`.
 fn number<'a>(text: &'a str, before: &str, end: char) -> Option<(u64, &'a str)>
     requires { end ≤ 32 }
     ensures reads { (n : ℕ) (rest : List ℕ) → n < 2 ^ 64
@@ -77,7 +79,8 @@ fn number<'a>(text: &'a str, before: &str, end: char) -> Option<(u64, &'a str)>
     }
 }
 
-/// What follows the end of the digest after a text that comes first. The digest is put into these bytes.
+/// Parses a digest after the prefix `before` into `bytes`. Returns the text after the character
+/// `end`.
 fn digest<'a>(text: &'a str, before: &str, end: char, bytes: &mut [u8]) -> Option<&'a str>
     requires ends { end ≤ 32 }
     requires long { length bytes.old ≡ 32 }
@@ -96,7 +99,7 @@ fn digest<'a>(text: &'a str, before: &str, end: char, bytes: &mut [u8]) -> Optio
     }
 }
 
-/// What the line of a meter tells that comes first, and what follows the line.
+/// Parses the line of a meter. Returns its values, and the text after the line.
 fn meter_line<'a>(text: &'a str) -> Option<(MeterLine<'a>, &'a str)>
     ensures reads { (seal : Sealed) (rest : List ℕ) → IsSealable seal
         → text.now ≡ say.meter_line seal ++ rest
@@ -141,7 +144,7 @@ fn meter_line<'a>(text: &'a str) -> Option<(MeterLine<'a>, &'a str)>
     Some((line, rest))
 }
 
-/// The places that lines of voids tell which come first, and what follows these.
+/// Parses lines of voids. Returns the indices of the voided entries, and the text after the lines.
 fn voids<'a>(alloc: Global, text: &'a str) -> Result<Option<(Vec<u64>, &'a str)>, AllocError>
     ensures reads { (meter places rest : List ℕ) → AreVoids meter places rest text.now
         → IfOk result (λ found.
@@ -163,7 +166,7 @@ fn voids<'a>(alloc: Global, text: &'a str) -> Result<Option<(Vec<u64>, &'a str)>
     Ok(Some((places, rest)))
 }
 
-/// The seal that a line and its voids tell.
+/// Builds the seal of a meter from its line and its voids.
 fn seal_in(alloc: Global, line: &MeterLine<'_>, voids: Vec<u64>) -> Result<MeterSeal, AllocError>
     ensures { (seal : Sealed) → IsLineOf seal line.now → voids.items ≡ seal.voids
         → IfOk result (λ found. sealed_of found ≡ seal) }
@@ -182,7 +185,7 @@ fn seal_in(alloc: Global, line: &MeterLine<'_>, voids: Vec<u64>) -> Result<Meter
     })
 }
 
-/// The seals of meters that come first, and what follows these.
+/// Parses the seals of meters. Returns them, and the text after them.
 fn meters<'a>(alloc: Global, text: &'a str) -> Result<Option<(Vec<MeterSeal>, &'a str)>, AllocError>
     ensures reads { (seals : List Sealed) (rest : List ℕ) → AreMeters seals rest text.now
         → IfOk result (λ found. IsSomeAnd found (λ read.
@@ -203,7 +206,7 @@ fn meters<'a>(alloc: Global, text: &'a str) -> Result<Option<(Vec<MeterSeal>, &'
     Ok(Some((seals, rest)))
 }
 
-/// What the line of polls tells that comes first, and what follows the line.
+/// Parses the line of polls. Returns its values, and the text after the line.
 fn polls_line<'a>(text: &'a str) -> Option<(PollsLine, &'a str)>
     ensures reads { (seal : SealedPolls) (rest : List ℕ) → ArePollsSealable seal
         → text.now ≡ say.polls_line seal ++ rest
@@ -226,7 +229,7 @@ fn polls_line<'a>(text: &'a str) -> Option<(PollsLine, &'a str)>
     Some((line, rest))
 }
 
-/// The numbers that lines of pending polls tell which come first.
+/// Parses lines of pending polls. Returns the numbers of the polls.
 fn pending(alloc: Global, text: &str) -> Result<Vec<u64>, AllocError>
     ensures { (polls rest : List ℕ) → ArePending polls rest text.now
         → IfOk result (λ read. read.items ≡ polls) }
@@ -240,7 +243,7 @@ fn pending(alloc: Global, text: &str) -> Result<Vec<u64>, AllocError>
     Ok(polls)
 }
 
-/// The seal of polls that comes first.
+/// Parses the seal of polls.
 fn polls(alloc: Global, text: &str) -> Result<Option<PollSeal>, AllocError>
     ensures { (seal : SealedPolls) (rest : List ℕ) → ArePolls seal rest text.now
         → IfOk result (λ found. IsSomeAnd found (λ read. sealed_polls_of read ≡ seal)) }
@@ -258,7 +261,7 @@ fn polls(alloc: Global, text: &str) -> Result<Option<PollSeal>, AllocError>
     }))
 }
 
-/// The seal that comes first.
+/// Parses the seals of meters, and then that of polls.
 fn tables(alloc: Global, text: &str) -> Result<Option<Seal>, AllocError>
     ensures { (seal : SealedTables) (rest : List ℕ) → AreTables seal rest text.now
         → IfOk result (λ found. IsSomeAnd found (λ read. sealed_tables_of read ≡ seal)) }
@@ -274,7 +277,7 @@ fn tables(alloc: Global, text: &str) -> Result<Option<Seal>, AllocError>
     Ok(Some(Seal { meters, polls }))
 }
 
-/// The seal of a text: that of which it is the text, if there is one.
+/// Parses a seal. The text must be exactly the text that `put_seal` writes for the seal.
 pub fn read_seal(alloc: Global, text: &str) -> Result<Seal, NoSeal>
     ensures is { IfOk result (λ seal. text.now ≡ say.seal_text (sealed_tables_of seal)) }
     ensures reads { (seal : SealedTables) → AreTablesSealable seal

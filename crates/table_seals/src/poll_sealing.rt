@@ -1,4 +1,4 @@
-//! The seal of the polls that the tables have, and whether they still have what was sealed.
+//! Sealing the polls of the tables, and checking them against a seal.
 ghost use Rattle.std.specs.Prelude.{◌≡◌, ◌↔◌, ◌<◌, ◌≤◌, ◌+◌, ◌^◌, false, IfOk, IfErr, IfSome};
 ghost use Rattle.sha2.specs.Hashers.{Holds256};
 ghost use Rattle.store_tables.specs.Failing.{want_of_memory};
@@ -16,8 +16,9 @@ use std::alloc::{AllocError, Global};
 use store_tables::{GREATEST_PLACE, RowFault, first_whole};
 use table_audit::{RUN, RunRows, last_poll, run_rows};
 
-/// Adds the text that the polls of a run had then, and the numbers of those that are pending now. Answers the number after the
-/// last, unless the rows can't be read.
+/// Adds to the digest the text that the polls of a run had at the time of the seal. Collects the
+/// numbers of the polls that are pending now. Returns the number after the last, or None if the
+/// rows can't be read.
 fn add_run(
     alloc: Global,
     hasher: &mut Sha256,
@@ -47,7 +48,7 @@ fn add_run(
     Ok(found)
 }
 
-/// The same of the rows that the tables have for a run.
+/// Queries the rows of a run, and adds them as `add_run` does.
 fn look_run<S: Alter>(
     alloc: Global,
     conn: &mut Connection<S>,
@@ -73,8 +74,8 @@ fn look_run<S: Alter>(
     }
 }
 
-/// The runs up to that of the last poll: how many polls they have, the digest of the text that these had then, and which are
-/// pending now, unless a row can't be read.
+/// Digests the runs up to that of the last poll. Returns the number of polls, the digest of the
+/// text that they had when they were sealed, and the pending polls. None if a row can't be read.
 fn digest_runs<S: Alter>(
     alloc: Global,
     conn: &mut Connection<S>,
@@ -115,7 +116,7 @@ fn digest_runs<S: Alter>(
     }))
 }
 
-/// The same of all polls.
+/// Digests all polls in the same way.
 fn digest_polls<S: Alter>(
     alloc: Global,
     conn: &mut Connection<S>,
@@ -133,7 +134,7 @@ fn digest_polls<S: Alter>(
     }
 }
 
-/// The seal of the polls that the tables have, unless one of their rows can't be read.
+/// Seals the polls of the tables. None if a row can't be read.
 pub(crate) fn seal_polls<S: Alter>(
     alloc: Global,
     conn: &mut Connection<S>,
@@ -144,7 +145,7 @@ pub(crate) fn seal_polls<S: Alter>(
     digest_polls(alloc, conn, GREATEST_PLACE, &[])
 }
 
-/// Whether polls that were read differ from a seal.
+/// Returns whether polls that were read differ from a seal.
 fn differ(found: &Option<PollSeal>, seal: &PollSeal) -> bool
     ensures { (result ≡ false) ↔ said.AreAsSealed found.now (sealed_polls_of seal.now) }
 {
@@ -156,8 +157,9 @@ fn differ(found: &Option<PollSeal>, seal: &PollSeal) -> bool
     }
 }
 
-/// Whether the polls that the tables have differ from a seal. More polls, and outcomes of those that were pending, are no
-/// difference. The rows of one run of polls at a time are held in memory, with their text.
+/// Returns whether the polls of the tables differ from a seal. Further polls, and outcomes of polls
+/// that were pending, are no difference. Memory holds the rows of one run of polls at a time, with
+/// their text.
 pub(crate) fn check_polls<S: Alter>(
     alloc: Global,
     conn: &mut Connection<S>,

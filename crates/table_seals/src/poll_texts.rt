@@ -1,4 +1,4 @@
-//! The text of polls of which a seal has the digest.
+//! The text of polls whose digest a seal has.
 ghost use Rattle.std.specs.Prelude.{◌≡◌, ◌≤◌, ◌++◌, ◌+◌, true, OnOk, IfOk, IfSome};
 ghost use Rattle.store_tables.specs.Limits.{greatest_place};
 ghost use Rattle.table_audit.specs.Reading as values;
@@ -52,14 +52,15 @@ fn put_ending(
     }
 }
 
-/// Whether one of these numbers is that of a poll.
+/// Returns whether one of these numbers is that of a poll.
 fn is_named(polls: &[u64], poll: u64) -> bool
     ensures { result ≡ values.is_named polls.now poll }
 {
     polls.iter().any(|number| *number == poll)
 }
 
-/// The text of a poll that was there then, with its outcome unless it was pending; of a later one nothing.
+/// Appends the text of a poll that was sealed, with its outcome unless it was pending. Appends
+/// nothing for a later poll.
 fn put_then(
     text: &mut Vec<u8>,
     last: u64,
@@ -78,7 +79,7 @@ fn put_then(
     put_ending(text, is_named(hidden, poll.number), ending)
 }
 
-/// The number of a poll after the others, if it has no outcome.
+/// Appends the number of a poll without an outcome.
 fn keep_pending(
     pending: &mut Vec<u64>,
     number: u64,
@@ -93,7 +94,8 @@ fn keep_pending(
     Ok(())
 }
 
-/// Puts the text of the poll of a row, if it has this number, and its number after the pending ones, if it is pending.
+/// Appends the text of a row's poll, if the poll has this number. Also collects its number if the
+/// poll is pending now. Returns whether the row was read.
 fn put_poll(
     text: &mut Vec<u8>,
     pending: &mut Vec<u64>,
@@ -121,7 +123,7 @@ fn put_poll(
     Ok(true)
 }
 
-/// The rows after an outcome, if there was one.
+/// Returns the rows after an outcome, if there was one.
 fn rows_after<'a>(ending: Option<Ending>, rows: &'a [Row]) -> &'a [Row]
     ensures { result.now ≡ reading.rows_after ending rows.now }
 {
@@ -134,8 +136,9 @@ fn rows_after<'a>(ending: Option<Ending>, rows: &'a [Row]) -> &'a [Row]
     }
 }
 
-/// Puts the text that the polls of a run had then, and the numbers of those that are pending now. Answers the number after the
-/// last, unless a row can't be read, or a poll hasn't the next number, or an outcome is that of none of them.
+/// Appends the text that the polls of a run had at the time of the seal. Collects the numbers of
+/// the polls that are pending now. Returns the number after the last. None if a row can't be read,
+/// or if a poll does not have the next number. Also None if an outcome is of none of these polls.
 pub(crate) fn put_rows(
     text: &mut Vec<u8>,
     pending: &mut Vec<u64>,

@@ -1,4 +1,4 @@
-//! Polls and outcomes as the queries show them, each value that a seal speaks of.
+//! Readers of the values of polls and outcomes that a seal covers.
 ghost use Rattle.std.specs.Prelude.{◌≡◌, ◌≤◌, IfOk, IfSome};
 ghost use Rattle.sqlite.specs.Order.{column};
 ghost use Rattle.store_tables.specs.Limits.{greatest_place};
@@ -21,7 +21,7 @@ pub(crate) struct PollNumbers {
     pub(crate) count: u64,
 }
 
-/// How a poll ended.
+/// The outcome of a poll.
 #[derive(Clone, Copy)]
 pub(crate) struct Ending {
     /// The number of the poll.
@@ -31,7 +31,7 @@ pub(crate) struct Ending {
     pub(crate) code: u64,
 }
 
-/// The numbers of a poll's row.
+/// Reads the numbers of a poll.
 pub(crate) fn numbers(row: &Row) -> Result<PollNumbers, RowFault>
     ensures read { result ≡ reading.numbers_in row.now }
     ensures bound { IfOk result (λ numbers. numbers.number ≤ greatest_place) }
@@ -54,7 +54,7 @@ pub(crate) fn numbers(row: &Row) -> Result<PollNumbers, RowFault>
     })
 }
 
-/// The values of an outcome's row.
+/// Reads the values of an outcome.
 pub(crate) fn outcome(row: &Row) -> Result<Ending, RowFault>
     ensures { result ≡ reading.ending_in row.now }
 {
@@ -70,14 +70,15 @@ pub(crate) fn outcome(row: &Row) -> Result<Ending, RowFault>
     })
 }
 
-/// Whether bytes have no space and no end of a line among them.
+/// Returns whether the bytes are a word: all are greater than 32, so none is a space or the end of
+/// a line.
 fn are_word(bytes: &[u8]) -> bool
     ensures { result ≡ tables.is_word bytes.now }
 {
     bytes.iter().all(|&byte| byte > 32)
 }
 
-/// A column that is a word.
+/// Reads a column as a word.
 pub(crate) fn word<'a>(row: &'a Row, at: usize) -> Option<&'a [u8]>
     ensures { reading.IsWordIn (column row.now at) result }
 {
@@ -87,7 +88,7 @@ pub(crate) fn word<'a>(row: &'a Row, at: usize) -> Option<&'a [u8]>
     }
 }
 
-/// The outcome in the first of some rows, if it is that of the poll with this number.
+/// Reads the outcome in the first row, if it is of the poll with this number.
 pub(crate) fn ending_at(number: u64, rows: &[Row]) -> Option<Ending>
     ensures { result ≡ reading.ending_at number rows.now }
 {

@@ -1,4 +1,4 @@
-//! The seal of what the tables have.
+//! Sealing the tables of a file.
 ghost use Rattle.std.specs.Prelude.{◌≡◌, ◌++◌, ◌∷◌, [], false, IfOk, IfErr, OnOk};
 ghost use Rattle.store_tables.specs.Failing.{want_of_memory};
 ghost use Rattle.table_audit.specs.Looking.{Finds};
@@ -13,14 +13,14 @@ use std::alloc::{AllocError, Global};
 use store_tables::RowFault;
 use table_audit::{MeterRows, installations, meter_rows};
 
-/// Memory is wanting.
+/// Returns the fault that reports out of memory.
 pub(crate) fn memory() -> RowFault
     ensures { result ≡ RowFault.Sql want_of_memory }
 {
     RowFault::Sql(Error::SqliteFailure(ErrorCode::OutOfMemory))
 }
 
-/// The seal of a row of installations and the rows of its meter, if there is one.
+/// Seals a meter from its row of `installations` and its other rows. None if it can't be sealed.
 fn seal_of(alloc: Global, row: &Row, rows: &MeterRows) -> Result<Option<MeterSeal>, AllocError>
     ensures { IfOk result (IsSealed row.now rows.now) }
 {
@@ -51,7 +51,7 @@ fn seal_of(alloc: Global, row: &Row, rows: &MeterRows) -> Result<Option<MeterSea
     }))
 }
 
-/// The seal of a row of installations and the rows that the tables have for its meter, if there is one.
+/// Queries the rows of an installation's meter, and seals the meter. None if it can't be sealed.
 fn seal_row<S: Alter>(
     alloc: Global,
     conn: &mut Connection<S>,
@@ -73,7 +73,7 @@ fn seal_row<S: Alter>(
     }
 }
 
-/// One more seal.
+/// Appends a seal.
 fn keep(seals: &mut Vec<MeterSeal>, seal: MeterSeal) -> Result<(), RowFault>
     ensures kept { OnOk result (seals.new.items ≡ seals.old.items ++ seal ∷ []) }
     ensures fault { IfErr result (λ fault. fault ≡ RowFault.Sql want_of_memory) }
@@ -84,7 +84,7 @@ fn keep(seals: &mut Vec<MeterSeal>, seal: MeterSeal) -> Result<(), RowFault>
     }
 }
 
-/// A seal of each of these rows of installations, unless one can't be sealed.
+/// Seals the meters of these rows of `installations`. None if one of them can't be sealed.
 fn seal_rows<S: Alter>(
     alloc: Global,
     conn: &mut Connection<S>,
@@ -104,7 +104,7 @@ fn seal_rows<S: Alter>(
     Ok(Some(seals))
 }
 
-/// The seals of the meters that the tables have, unless one can't be sealed.
+/// Seals the meters of the tables. None if one of them can't be sealed.
 fn seal_meters<S: Alter>(
     alloc: Global,
     conn: &mut Connection<S>,
@@ -116,9 +116,9 @@ fn seal_meters<S: Alter>(
     seal_rows(alloc, conn, &rows)
 }
 
-/// The seal of what the tables have: of each meter, in the order of their places, and of the polls. There is none where a name is
-/// no word, or where a value can't be read, which an audit tells of. The rows of one meter, or of one run of polls, are held in
-/// memory at a time, with their text, and those of `installations`.
+/// Seals the tables: each meter in order of index, and the polls. None if a name is not a word, or
+/// if a value can't be read, which an audit reports. Memory holds the rows of one meter or of one
+/// run of polls at a time, with their text, and those of `installations`.
 pub fn seal_tables<S: Alter>(
     alloc: Global,
     conn: &mut Connection<S>,

@@ -1,7 +1,7 @@
-//! What a seal has of meters and of polls.
+//! The seals of meters, of polls, and of a file.
 
-/// A meter as it is recorded: its name, its register and its terms, how many entries it has, the digest of these, and the places
-/// of those that voids name.
+/// The seal of a meter: its name, its register and its terms, the number and the digest of its
+/// entries, and the indices of the voided entries.
 #[derive(Debug, Drop)]
 pub struct MeterSeal {
     pub meter: String,
@@ -13,7 +13,8 @@ pub struct MeterSeal {
     pub voids: Vec<u64>,
 }
 
-/// Polls as they are recorded: how many, the digest of them and their outcomes, and the numbers of those that had no outcome.
+/// The seal of polls: their number, the digest of the polls and their outcomes, and the numbers of
+/// the pending polls.
 #[derive(Debug, Drop)]
 pub struct PollSeal {
     pub count: u64,
@@ -21,7 +22,7 @@ pub struct PollSeal {
     pub pending: Vec<u64>,
 }
 
-/// The meters in the order of their places, and the polls.
+/// The seal of a file: the seals of its meters in order of index, and that of its polls.
 #[derive(Debug, Drop)]
 pub struct Seal {
     pub meters: Vec<MeterSeal>,

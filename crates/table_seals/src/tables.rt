@@ -1,4 +1,4 @@
-//! Rows of the tables, as values of which a seal speaks.
+//! Readers of the values that the seal of a meter covers.
 ghost use Rattle.std.specs.Prelude.{◌≡◌, IfOk};
 ghost use Rattle.sqlite.specs.Order.{column};
 ghost use Rattle.table_audit.specs.Reading.{IsTextIn};
@@ -12,7 +12,7 @@ use std::alloc::{AllocError, Global};
 use store_tables::whole;
 use table_audit::{MeterRows, entries, places, range};
 
-/// What a row of installations tells of a meter.
+/// The terms of a meter that an installation has.
 #[derive(Drop, PartialEq, Eq, PartialOrd, Ord)]
 pub(crate) struct Terms {
     pub(crate) meter: String,
@@ -20,7 +20,7 @@ pub(crate) struct Terms {
     pub(crate) ceiling: u64,
 }
 
-/// What the rows of a meter tell.
+/// The values of a meter's other rows.
 #[derive(Drop)]
 pub(crate) struct ReadRows {
     pub(crate) range: u64,
@@ -28,7 +28,7 @@ pub(crate) struct ReadRows {
     pub(crate) entries: Vec<TableRow>,
 }
 
-/// A column that is a text, if it is one.
+/// Reads a column as a text, if it is one.
 pub(crate) fn text(row: &Row, at: usize) -> Result<Option<String>, AllocError>
     ensures { IfOk result (IsTextIn (column row.now at)) }
 {
@@ -39,7 +39,8 @@ pub(crate) fn text(row: &Row, at: usize) -> Result<Option<String>, AllocError>
     }
 }
 
-/// The meter of a row of installations, its register and its ceiling, unless one can't be read.
+/// Reads the meter, the register and the ceiling of an installation. None if one of them can't be
+/// read.
 pub(crate) fn terms_of(row: &Row) -> Result<Option<Terms>, AllocError>
     ensures { IfOk result (TermsAreRead row.now) }
 {
@@ -59,7 +60,7 @@ pub(crate) fn terms_of(row: &Row) -> Result<Option<Terms>, AllocError>
     }))
 }
 
-/// The range of a meter, its voids and its entries, unless one can't be read.
+/// Reads the range, the voids and the entries of a meter. None if one of them can't be read.
 pub(crate) fn read_rows(alloc: Global, rows: &MeterRows) -> Result<Option<ReadRows>, AllocError>
     ensures { IfOk result (RowsAreRead rows.now) }
 {
@@ -82,7 +83,8 @@ pub(crate) fn read_rows(alloc: Global, rows: &MeterRows) -> Result<Option<ReadRo
     }))
 }
 
-/// Whether a text has no space and no end of a line.
+/// Returns whether a text is a word: all bytes are greater than 32, so none is a space or the end
+/// of a line.
 pub(crate) fn is_word(text: &str) -> bool
     ensures { result ≡ tables.is_word text.now }
 {

@@ -1,4 +1,4 @@
-//! The text of entries of which a seal has the digest, and the text of a seal.
+//! The text of entries whose digest a seal has, and the text of a seal.
 ghost use Rattle.std.specs.Prelude.{◌≡◌, ◌++◌, OnOk, IfOk, flat_map, decimal};
 ghost use Rattle.std.specs.Fmt.{signed_decimal};
 ghost use Rattle.hex.specs.Hex.{encode_lower};
@@ -12,7 +12,7 @@ use meter_audit::{RowKind, TableRow};
 use sha2::{Digest, Sha256};
 use std::alloc::{AllocError, Global};
 
-// ---- pieces; want of memory leaves a part of each
+// ---- pieces; each leaves a part of its text if memory runs out
 
 pub(crate) fn put(text: &mut Vec<u8>, bytes: &[u8]) -> Result<(), AllocError>
     ensures { OnOk result (text.new.items ≡ text.old.items ++ bytes.now) }
@@ -95,7 +95,7 @@ fn put_entries(text: &mut Vec<u8>, entries: &[TableRow]) -> Result<(), AllocErro
     Ok(())
 }
 
-/// The digest of entries.
+/// Returns the SHA-256 digest of entries.
 pub(crate) fn digest_of(alloc: Global, entries: &[TableRow]) -> Result<[u8; 32], AllocError>
     ensures { IfOk result (λ digest. digest ≡ sha256 (say.entries_text entries.now)) }
 {
@@ -189,7 +189,7 @@ fn put_polls_part(alloc: Global, text: &mut Vec<u8>, seal: &PollSeal) -> Result<
     put_pending(text, seal.pending.as_slice())
 }
 
-/// All of a seal but its last line.
+/// Returns the text of a seal without its last line.
 fn body(alloc: Global, seal: &Seal) -> Result<Vec<u8>, AllocError>
     ensures { IfOk result (λ text. text.items ≡ say.body_text (sealed_tables_of seal.now)) }
 {
@@ -200,7 +200,7 @@ fn body(alloc: Global, seal: &Seal) -> Result<Vec<u8>, AllocError>
     Ok(text)
 }
 
-/// The text of a seal.
+/// Returns the text of a seal.
 pub fn put_seal(alloc: Global, seal: &Seal) -> Result<Vec<u8>, AllocError>
     ensures { IfOk result (λ text. text.items ≡ say.seal_text (sealed_tables_of seal.now)) }
 {

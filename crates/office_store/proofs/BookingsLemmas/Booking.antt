@@ -1,4 +1,4 @@
--- Facts that are entered one after the other, and their transaction.
+-- Records that are written one after another, and their transaction.
 use Rattle.std.proofs.Common.{◌≡◌, ◌≢◌, ◌==◌, Bool, true, false, ℕ, ◌+◌, ◌<◌, List, [], ◌∷◌, ◌++◌, Ok, Err, Result, IsErrAnd, take, length, get_or, sym, ap, subst, ◌∙◌}
 use Rattle.std.proofs.lemmas.List.{take_more}
 use Rattle.sqlite.specs.Store.{Ghosts}
@@ -14,11 +14,11 @@ use Rattle.store_facts.proofs.Committed.{untouched}
 use Rattle.store_facts.proofs.GoingLemmas as going
 use Rattle.store_facts.proofs.Following.{none_recorded, one_recorded}
 
--- so far none
+-- No record is written yet.
 pub begun : (a : State) → Goes {X = Unit {0}} {E = RowFault} a a (Ok tt) (RecordsAll [])
 begun a = going.nothing_done a tt (RecordsAll []) none_recorded
 
--- one more
+-- One more record.
 pub came : (fs : List Fact) (i : ℕ) (f : Fact) (a b c : State) → i < length fs → f ≡ get_or fs i f → Goes {X = Unit {0}} {E = RowFault} a b (Ok tt) (RecordsAll (take i fs))
     → Goes {X = Unit {0}} {E = RowFault} b c (Ok tt) (Records f) → Goes {X = Unit {0}} {E = RowFault} a c (Ok tt) (RecordsAll (take (i + 1) fs))
 came fs i f a b c lt is one two =
@@ -26,7 +26,7 @@ came fs i f a b c lt is one two =
     subst (λ (l : List Fact). Goes {X = Unit {0}} {E = RowFault} a c (Ok tt) (RecordsAll l)) (sym more)
     (going.goes_then a b c tt (Ok tt) (RecordsAll (take i fs)) (Records f) (RecordsAll (take i fs ++ f ∷ [])) one two (λ content mid after all here. one_recorded (take i fs) f content mid after all here))
 
--- the answer is another
+-- The same with another result value.
 pub commit_failed : {X Y D : Type 0} (T : RowFault → Type 0) (a b : State) (e : D) (r : Result Y RowFault) (Makes : Content → Content → Type 0) → Commits {X = X} a b (Err e) Makes → IsErrAnd r T → Commits a b r Makes
 commit_failed T a b e (Ok y) Makes one is = absurd is
 commit_failed T a b e (Err d) Makes one is = record { ok = λ clean content has. tt; err = one.err; survives = one.survives }
@@ -34,13 +34,13 @@ commit_failed T a b e (Err d) Makes one is = record { ok = λ clean content has.
 pub commit_done : {X Y D E : Type 0} (a b : State) (x : X) (y : Y) (Makes : Content → Content → Type 0) → Commits {X = X} {E = D} a b (Ok x) Makes → Commits {X = Y} {E = E} a b (Ok y) Makes
 commit_done a b x y Makes one = record { ok = one.ok; err = λ clean content has. tt; survives = one.survives }
 
--- a transaction that was given up
+-- A transaction that was rolled back.
 pub left_off : {S X Y D : Type 0} (g : Ghosts S) (old : Held S) (mid end : State) (Makes : Content → Content → Type 0) (T : RowFault → Type 0) (e : D) (r : Result Y RowFault)
     → Goes {X = X} (state g (record old { in_transaction = true })) mid (Err e) Makes → (HasCleanDisk end → IsRolledBack mid end) → Survives mid end (λ _. ⊥) → IsErrAnd r T → Commits (state g old) end r Makes
 left_off g old mid end Makes T e (Ok y) done undone crash is = absurd is
 left_off g old mid end Makes T e (Err d) done undone crash is = going.given_up g old mid end Makes e d done undone crash
 
--- a store that did not answer at first
+-- The check that the database is open failed.
 pub not_begun : {S X : Type 0} (T : RowFault → Type 0) (g : Ghosts S) (zone : List ℕ) (old new : Held S) (fs : List Fact) (r : Result X RowFault) → (fs ≢ []) → (HasCleanDisk (state g new) → KeepsCommit (state g old) (state g new))
     → Survives (state g old) (state g new) (λ _. ⊥) → IsErrAnd r T → BooksFacts g zone fs old new r
 not_begun T g zone old new fs (Ok x) some kept quiet is = absurd is

@@ -1,4 +1,4 @@
--- Rows that are entered, and the facts that they record.
+-- Rows that are inserted, and the records that they encode.
 use Rattle.std.proofs.Common.{◌≡◌, ℕ, List, map, subst}
 use Rattle.office_events.specs.declared.answers.CommandKind.{CommandKind}
 use Rattle.office_events.specs.declared.facts.Device.{Device}
@@ -99,7 +99,7 @@ hold_entered law held place meter row meter_is row_is before mid after next adds
     hold_recorded law held place before after next.following
     (subst (λ (h : Held). Edits poll_tree.holds hold_columns (with_row h) before after) is (subst (λ content. AddsHold meter row content after) next.same adds))
 
--- ---- replies
+-- ---- kept requests
 
 abbrev pub AddsReply : (caller : List ℕ) → (number : ℕ) → (request : List ℕ) → CommandKind → (moment : ℕ) → Content → Content → Type 0
 AddsReply caller number request kind moment =

@@ -1,4 +1,4 @@
--- Interval rows of a meter from which shares are taken, and to which others come.
+-- Interval rows of a meter after shares were subtracted and others added.
 use Rattle.std.proofs.Common.{◌≡◌, ℕ, ◌-◌, ◌≤◌, ◌<◌, ◌==◌, ◌&&◌, not, Bool, true, false, cond, inl, inr, List, [], ◌∷◌, ◌++◌, map, filter, bytes_eq, nat_le, nat_lt, refl, sym, ap, subst, ◌∙◌, arith, eqb-true, IsPermutation}
 use Rattle.std.specs.List.{list_any, AllByRecursion}
 use Rattle.std.proofs.lemmas.Bool.{cases_Bool, cond-true, cond-false, and_parts}
@@ -21,7 +21,7 @@ use Rattle.store_facts.proofs.Passing.{map_agree, any_agree, any_map, filter_edi
 use Rattle.store_facts.specs.Voids.Withdrawal.{lowered, without_share, without_shares, HasShare, HaveShares, TakesShares, starts_from, DropsRows}
 use Rattle.office_store.specs.Bookings.Corrections.{gone_from}
 
--- ---- shares that are taken from the rows of a journal
+-- ---- shares that are subtracted from the rows of a journal
 
 less_start : (b : Bool) (share row : Share) → (let made : Share = cond b (record { start = row.start; mwh = row.mwh - share.mwh }) row in made.start) ≡ row.start
 less_start true share row = refl
@@ -65,7 +65,7 @@ pub starts_below_without : (bound : ℕ) (shares rows : List Share) → AllByRec
 starts_below_without bound [] rows h = h
 starts_below_without bound (share ∷ shares) rows h = starts_below_without bound shares (journal.without_share share rows) (starts_below_less bound share rows h)
 
--- the same of shares that come
+-- The same for shares that are added.
 below_with : (bound : ℕ) (share : Share) (rows : List Share) → share.start < bound → AllByRecursion (λ (row : Share). row.start < bound) rows → AllByRecursion (λ (row : Share). row.start < bound) (journal.with_share share rows)
 below_with bound share [] low h = (low, tt)
 below_with bound share (row ∷ rows) low h = elim (cases_Bool (row.start == share.start)) [
@@ -78,7 +78,7 @@ pub starts_below_with : (bound : ℕ) (shares rows : List Share) → AllByRecurs
 starts_below_with bound [] rows low h = h
 starts_below_with bound (share ∷ shares) rows low h = starts_below_with bound shares (journal.with_share share rows) low.1 (below_with bound share rows low.0 h)
 
--- where all rows begin before the last moment none goes
+-- If all rows start before the last entry, no row is deleted.
 pub none_gone : (opened last : ℕ) (rows : List Share) → opened < last → AllByRecursion (λ (row : Share). row.start < last) rows → rows_until opened last rows ≡ rows
 none_gone opened last rows later low = cond-false (last == opened) [] (filter (λ (row : Share). nat_lt row.start last) rows) (grind (arith, nat_tests, later)) ∙ all_stay rows low
   where
@@ -100,7 +100,7 @@ module _ (meter : List ℕ) where
   at_start : (start : ℕ) (share : Share) → is_at meter start (interval_of meter share) ≡ has_start start share
   at_start start share = ap (λ b. b && (share.start == start)) (itself meter)
 
-  -- an edit that keeps the meters, and does to the rows of one what is done to its shares
+  -- An edit that keeps the meters of all rows, and edits the shares of one meter.
   edited : (f : Interval → Interval) (h : Share → Share) (rows : List Interval) (shares : List Share)
       → ((i : Interval) → (f i).meter ≡ i.meter) → ((share : Share) → f (interval_of meter share) ≡ interval_of meter (h share))
       → AreRowsOf meter rows shares → AreRowsOf meter (map f rows) (map h shares)
@@ -132,7 +132,7 @@ module _ (meter : List ℕ) where
   taken [] rows shares are = are
   taken (share ∷ outs) rows shares are = taken outs (without_share meter share rows) (journal.without_share share shares) (taken_one share rows shares are)
 
-  -- each share is in its row
+  -- Each share is in its row.
   each_has : (share : Share) (shares : List Share) → AllByRecursion (λ (row : Share). row.start ≡ share.start → share.mwh ≤ row.mwh) shares → AllByRecursion IsSmall shares
       → AllByRecursion (HasShare meter share) (map (interval_of meter) shares)
   each_has share [] has small = tt
@@ -151,7 +151,7 @@ module _ (meter : List ℕ) where
     have outs (without_share meter share rows) (journal.without_share share shares) (taken_one share rows shares are) therein.1 (small_less share shares small),
   )
 
-  -- ---- rows that go
+  -- ---- deleted rows
 
   module _ (from : ℕ) where
     abbrev early : Interval → Bool
@@ -222,7 +222,7 @@ module _ (meter : List ℕ) where
     others_dropped from [] = refl
     others_dropped from (i ∷ rows) = kept_step (is_of meter i) (nat_le from (start_of i)) (is_of other i) i (without_where (starts_from meter from) rows) rows refl refl (others_dropped from rows)
 
--- ---- all of it
+-- ---- all changes
 
 module _ (meter : List ℕ) (A B C : List Share) (from : ℕ) (rows : List Interval) where
   abbrev pub less_rows : List Interval

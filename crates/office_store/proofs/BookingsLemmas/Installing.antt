@@ -1,4 +1,4 @@
--- A meter that is installed: three rows, and the fact that they record.
+-- A meter that is installed: three rows, and the record that they encode.
 use Rattle.std.proofs.Common.{◌≡◌, ℕ, List, subst}
 use Rattle.office_events.specs.declared.facts.Opening.{Opening}
 use Rattle.office_events.specs.declared.facts.Fact.TheVariants as fact

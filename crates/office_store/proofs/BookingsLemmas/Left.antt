@@ -73,7 +73,7 @@ module _ (f : Fact) (facts : List Fact) (meter : List ℕ) (same_found : (m : Li
     own_entries : (g : List Fact) → opening_of g meter ≡ Some o → entries_of g meter ≡ entered_rows o (rows_of g o)
     own_entries g found = ap (entries_at g) found
 
-    -- no row changes
+    -- No row changes.
     pub entries_kept : (content after : Content) → entered_rows o (rows_of (f ∷ facts) o) ≡ entered_rows o (rows_of facts o) → Edits entry_tree.entries entry_columns (λ rows. rows) content after
         → AreEntries facts content → AreEntries (f ∷ facts) after
     entries_kept content after are e a = record {
@@ -88,7 +88,7 @@ module _ (f : Fact) (facts : List Fact) (meter : List ℕ) (same_found : (m : Li
         own : entries_of facts meter ≡ entries_of (f ∷ facts) meter
         own = own_entries facts there ∙ sym are ∙ sym (own_entries (f ∷ facts) (same_found meter ∙ there))
 
-    -- one does
+    -- One row changes.
     module _ (place rolls : ℕ) where
       abbrev edit : Entered → Entered
       edit e = cond (is_entry meter place e) (with_rollovers rolls e) e
@@ -135,11 +135,11 @@ map_same : {X : Type 0} (xs : List X) → map (λ x. x) xs ≡ xs
 map_same [] = refl
 map_same (x ∷ xs) = ap (λ l. x ∷ l) (map_same xs)
 
--- an entry with the rollovers that it has now, if it is this one
+-- An entry with its new rollovers, if it is this entry.
 abbrev edited : (meter : List ℕ) → (place rolls : ℕ) → Entered → Entered
 edited meter place rolls e = cond (is_entry meter place e) (with_rollovers rolls e) e
 
--- ---- what goes out and comes in
+-- ---- the removed and the added shares
 
 abbrev pub next_out : Option Rejoined → List Share
 next_out None = []
@@ -149,14 +149,14 @@ abbrev pub next_put : Option Rejoined → List Share
 next_put None = []
 next_put (Some joined) = shares_of joined.put
 
--- the next entry that stood, with the rollovers that its new neighbour gives it
+-- The next entry that is not voided, with the rollovers that follow from its new predecessor.
 abbrev pub HasRolls : (opening : Last) → Around → Option Rejoined → Type 0
 HasRolls opening around None = around.next ≡ None
 HasRolls opening around (Some joined) =
     (next : EntryRow) × (around.next ≡ Some next)
     × (joined.rollover ≡ record { place = next.place; rolls = rolls_of (with_rolls (last_before opening around) next.entry) })
 
--- what changes, as the facts have it
+-- The changes, in terms of records.
 pub record IsLeft (facts : List Fact) (o : Opening) (place : ℕ) (made : Correction) : Type 0 where
   pub around : Around
   pub there : row_at place (rows_of facts o) ≡ Some around
@@ -172,7 +172,7 @@ pub record IsLeft (facts : List Fact) (o : Opening) (place : ℕ) (made : Correc
 
 -- ---- the interval rows
 
--- what may be edited so, where shares come
+-- The condition under which shares are added.
 abbrev pub may_put : (meter : List ℕ) → Option Rejoined → List Interval → Type 0
 may_put meter None is = Unit {0}
 may_put meter (Some joined) is = AreSmall (with_shares meter (shares_of joined.put) is)
@@ -202,7 +202,7 @@ within_sum n (row ∷ rows) h =
     let parts = sum_by-cons (λ (row : Share). row.mwh) row rows in
     (omega (arith, h, parts), within_sum n rows (omega (arith, h, parts)))
 
--- the shares of several steps begin before the last ends
+-- The shares of several steps start before the last step ends.
 abbrev IsBefore : ℕ → Step → Type 0
 IsBefore bound step = (step.from < step.till) × (step.till ≤ bound)
 
@@ -270,7 +270,7 @@ module _ (v : VoidedEntry) (facts : List Fact) (lawful : AreLawful (fact.Void v 
   voided_so : IsVoided (installed o) lines v.place around
   voided_so = change (installed o) lines v.place around begun (fits, fitting) left.there
 
-  -- ---- its account
+  -- ---- the account of the meter
 
   stands_by : (next : Option Rejoined) (l : Last) → HasRolls (opened o) around next → cond (is_none next) last l ≡ cond (is_some around.next) l last
   stands_by None l none = sym (ap (λ (n : Option EntryRow). cond (is_some n) l last) none)
@@ -295,7 +295,7 @@ module _ (v : VoidedEntry) (facts : List Fact) (lawful : AreLawful (fact.Void v 
       ap (λ ls. installed_as place (installation_by o ls)) line_is
       ∙ ap (λ (l : LastRow). settled l false (installed_row facts place o)) (sym last_is)
 
-  -- ---- its entries
+  -- ---- the entries of the meter
 
   numbered : AreNumbered rows
   numbered = (stand (installed o) lines begun fitting).places
@@ -343,7 +343,7 @@ module _ (v : VoidedEntry) (facts : List Fact) (lawful : AreLawful (fact.Void v 
       entry_rolled f facts v.meter same_found spares o there joined.rollover.place joined.rollover.rolls content after
       (ap (entered_rows o) rows_are ∙ (ap (λ (n : Option EntryRow). entered_rows o (map (changed_by v.place n last) rows)) next_is ∙ (rolled_rows ∙ same_edit))) e a
 
-  -- ---- its interval rows
+  -- ---- the interval rows of the meter
   module _ (kept : MetersAreKept) (ranges : InstallationsAreInRange) (lying : RowsLieWithin) (law : SharesAddUp) where
     abbrev old : List Share
     old = rows_of_opening facts o
@@ -378,7 +378,7 @@ module _ (v : VoidedEntry) (facts : List Fact) (lawful : AreLawful (fact.Void v 
         ∙ ap₂ (λ (outs puts : List Share). rows_until o.at ended (with_each puts (without_each outs old))) left.out left.put
         ∙ ap (λ (rest : List Share). rows_until o.at ended (with_each C rest)) (several_taken A B old)
 
-    -- where an entry comes next no row goes
+    -- If there is a next entry, no row is deleted.
     all_stay : (next : EntryRow) → around.next ≡ Some next → rows_until o.at ended exchanged ≡ exchanged
     all_stay next is =
         let end : ended ≡ (books.last_in (installed o) lines).at = ap (λ (l : Last). l.at) (voided_so.last ∙ ap (λ (n : Option EntryRow). cond (is_some n) (books.last_in (installed o) lines) last) is) in

@@ -1,4 +1,5 @@
--- One more entry of a meter: what the tables say of it, three edits, and the fact that they record.
+-- One more entry of a meter: the answers of the tables, three edits, and the record that they
+-- encode.
 use Rattle.std.proofs.Common.{◌≡◌, ℕ, ℤ, ◌+◌, Bool, true, false, cond, List, [], ◌∷◌, map, filter, length, Some, Ok, refl, sym, ap, ap₂, subst, ◌∙◌, IsPermutation}
 use Rattle.std.proofs.lemmas.Bool.{cond-true, cond-false}
 use Rattle.sqlite.specs.Order.{Row}
@@ -37,7 +38,7 @@ use Rattle.office_store.specs.declared.bookings.meter_entries.Advance.{Advance}
 use Rattle.office_store.specs.Bookings.Places.{IsSeenIn, StandsThere}
 use Rattle.office_store.specs.Bookings.MeterState.{IsStanding, Advances, EntersEntry, Settles, counter_of, stands_at, settled}
 
--- three questions, one after the other
+-- Three queries, one after another.
 pub stands : (meter : List ℕ) (it : Standing) (a b c d : Content) → IsNext entry_tree.entries entry_columns (is_of meter) entry_place it.place a b
     → IsSeenIn meter_tree.installations installed_columns (is_meter meter) StandsThere it.last b c → IsSeenIn meter_tree.ranges ranged_columns (is_range_of meter) HasRange it.range c d
     → IsStanding meter it a d
@@ -48,7 +49,7 @@ stands meter it a b c d p q r = record {
   range = λ rows has. r.seen rows (subst (HasRows meter_tree.ranges ranged_columns rows) (sym (q.same ∙ p.same)) has);
 }
 
--- ---- where the meter stands then
+-- ---- the new state of the meter
 
 module _ {X : Type 0} (p : X → Bool) (f h : X → X) (keeps : (x : X) → p (f x) ≡ p x) where
   twice_step : (b : Bool) (x : X) → p x ≡ b → cond (p (let y : X = cond b (f x) x in y)) (h (cond b (f x) x)) (cond b (f x) x) ≡ cond b (h (f x)) x
@@ -66,7 +67,7 @@ module _ {X : Type 0} (p : X → Bool) (f h : X → X) (keeps : (x : X) → p (f
     others = λ t off. two.others t off ∙ one.others t off;
   }
 
--- a meter that was closed
+-- A meter that was closed.
 pub settles_closed : (meter : List ℕ) (last : LastRow) (content mid after : Content) → Edits meter_tree.installations installed_columns (changed_where (is_meter meter) (moved last)) content mid
     → Edits meter_tree.installations installed_columns (changed_where (is_meter meter) ended) mid after → Settles meter last true content after
 settles_closed meter last content mid after one two = edited_twice (is_meter meter) (moved last) ended (λ i. refl) meter_tree.installations installed_columns content mid after one two
@@ -128,7 +129,7 @@ entry_entered moves others sums limits traces booked standing advance row advanc
     (subst (λ (s : Step). BooksShares meter (shares_of s) enters.one enters.two) (step_is booked facts o on standing advance advances last_is range_is) enters.energy)
     enters.stands
 
--- the same by what the calls are given
+-- The same in terms of the calls' arguments.
 pub entry_booked : EntriesMoveOn → OtherMetersStay → MetersAreKept → InstallationsAreInRange → VoidsLeaveNoTrace
     → (booked : BookedEntry) (meter : List ℕ) (standing : Standing) (advance : Advance) (row : EntryRow) (closing : Bool) → meter ≡ booked.meter → Advances standing booked.entry advance
     → row ≡ entry_row advance.last.sf (record { place = standing.place; kind = booked.kind; entry = booked.entry; stands = true }) → closing ≡ is_closing booked.kind

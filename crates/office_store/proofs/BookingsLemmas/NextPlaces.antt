@@ -1,4 +1,4 @@
--- The place after the last row, told by what a query shows.
+-- The index after the last row, from the row that a query shows.
 use Rattle.std.proofs.Common.{◌≡◌, ℕ, ◌+◌, pos, Bool, true, false, cond, ◌&&◌, List, [], ◌∷◌, map, take, Option, Some, None, Ok, Err, Result, refl, sym, ap, ◌∙◌}
 use Rattle.std.specs.Prelude.{nat_le}
 use Rattle.sqlite.specs.declared.types.Value.TheVariants.{Int}

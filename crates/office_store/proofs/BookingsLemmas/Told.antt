@@ -1,4 +1,4 @@
--- What a void changes, as the tables told it, is what it changes in the facts.
+-- The changes of a void in the tables are its changes in the records.
 use Rattle.std.proofs.Common.{◌≡◌, ℕ, ℤ, ◌+◌, ◌≤◌, ◌&&◌, true, false, cond, inl, inr, ◌⊎◌, List, [], ◌∷◌, ◌++◌, map, filter, Option, Some, None, option_map, refl, sym, ap, ap₂, subst, ◌∙◌, IsPermutation, arith, append-nil}
 use Rattle.std.specs.Prelude.{is_none}
 use Rattle.std.specs.List.{AllByRecursion}
@@ -68,12 +68,12 @@ read_shape k e is = by_read HasShape (λ at raw rolls. tt) k e is
 read_kind : (k : EntryKind) (e : Entry) → is_read k e ≡ true → is_reading k ≡ true
 read_kind k e is = by_read (λ k e. is_reading k ≡ true) (λ at raw rolls. refl) k e is
 
--- the entry that is read from its row
+-- The entry that is read from its row.
 told_entry : (row : stored.EntryRow) (e : Entry) (sf : ℤ) (is : EntryRow) → IsReadingOf row e → row ≡ entry_row sf is → is_read is.kind is.entry ≡ true → e ≡ is.entry
 told_entry row e sf is reading row_is read =
     reading.step ∙ ap (λ (r : stored.EntryRow). entry.Step r.moment r.raw r.rolls) row_is ∙ read_back is.kind is.entry read
 
--- ---- what goes out and comes in
+-- ---- the removed and the added steps
 
 one_energy : (s : Step) → energy_in (s ∷ []) ≡ s.mwh
 one_energy s = let parts = sum_by-cons (λ (x : Step). x.mwh) s [] in omega (arith, parts)
@@ -87,7 +87,7 @@ one_shares s = append-nil (shares_of s)
 two_shares : (s t : Step) → all_shares (s ∷ t ∷ []) ≡ shares_of s ++ shares_of t
 two_shares s t = ap (λ (l : List Share). shares_of s ++ l) (append-nil (shares_of t))
 
--- the steps by the next entry
+-- The steps of the next entry.
 record NextLeft (o : Opening) (around : Around) (out : Step) (next : Option Rejoined) : Type 0 where
   rolls : HasRolls (opened o) around next
   outs : all_shares (steps_out (installed o) around) ≡ next_out next ++ shares_of out
@@ -134,7 +134,7 @@ module _ (o : Opening) (around : Around) (out : Step) where
         come = ap energy_in put_is ∙ (one_energy come ∙ ap (λ (s : Step). s.mwh) (sym puts));
       }
 
--- ---- all of it
+-- ---- all changes
 
 module _ (v : VoidedEntry) (facts : List Fact) (lawful : AreLawful (fact.Void v ∷ facts)) (o : Opening) (there : opening_of facts v.meter ≡ Some o)
     (stand : RowsStand) (change : VoidsChangeTwoRows) (late : 2 ≤ v.place) (zone : List ℕ) (content after_asking : Content) (a : AreOf zone facts content)
@@ -181,7 +181,7 @@ module _ (v : VoidedEntry) (facts : List Fact) (lawful : AreLawful (fact.Void v 
   abbrev before : Last
   before = last_before (opened o) around
 
-  -- the voids
+  -- The voids.
   named_at : (place : ℕ) → names v.meter place vs ≡ is_voided place lines
   named_at place = names_are facts v.meter place ∙ ap (λ m. is_voided place (journal_of facts m)) (sym name)
 
@@ -217,7 +217,7 @@ module _ (v : VoidedEntry) (facts : List Fact) (lawful : AreLawful (fact.Void v 
   voided_is : counter_after found.near.entry ≡ after before around.row.entry
   voided_is = ap counter_after row.is ∙ stands_after_row o around.row around.before (read_shape around.row.kind around.row.entry read) stands
 
-  -- where the meter stands
+  -- The state of the meter.
   last_is : found.standing.last ≡ last_row (installation_of facts o)
   last_is = let it = stands_found facts lawful.1 v.meter o there StandsThere found.standing.last (at.standing.last (placed (installed_row facts) (openings_in facts)) a.installations) in it.1 ∙ it.2
 

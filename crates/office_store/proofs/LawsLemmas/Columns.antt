@@ -1,4 +1,4 @@
--- A row of a table is told by its columns.
+-- The columns of a row determine the row.
 use Rattle.std.proofs.Common.{◌≡◌, ℕ, Bool, true, false, refl, Option, Some, None, if◌then◌else◌}
 use Rattle.std.specs.Prelude.{◌==◌}
 use Rattle.mb_wire.specs.declared.span.ReadFunction.{ReadFunction}
@@ -77,7 +77,7 @@ outcome_back (Lost lost.Restart) = refl
 one_outcome : (a b : Outcome) → outcome_number a ≡ outcome_number b → outcome_code a ≡ outcome_code b → a ≡ b
 one_outcome a b number code = undone (λ (o : Outcome). (outcome_number o, outcome_code o)) (λ (p : ℕ × ℕ). outcome_of p.0 p.1) outcome_back a b (λ i. (number i, code i))
 
--- the cause of a number
+-- The cause with a number.
 cause_of : ℕ → Option Cause
 cause_of n =
     if n == 1 then Some cause.NotAccumulated else

@@ -1,4 +1,4 @@
--- What holds of lawful facts, kind by kind.
+-- Properties of lawful records, by kind.
 use Rattle.std.proofs.Common.{◌≡◌, ℕ, ◌+◌, ◌≤◌, ◌==◌, ◌&&◌, ◌||◌, Bool, true, false, cond, List, [], ◌∷◌, length, refl, ap, ◌∙◌, Option, Some, None, arith}
 use Rattle.std.specs.List.{AllByRecursion, find, list_any, cons_option}
 use Rattle.std.proofs.lemmas.List.Elements.{recursion_from_All}
@@ -98,7 +98,7 @@ pub all_installed : (facts : List Fact) → AreLawful facts → AllByRecursion (
 all_installed facts h =
     recursion_from_All (IsInstalled facts) (openings_in facts) (each_found (λ (o : Opening). o.meter) (openings_in facts) (openings_apart facts h))
 
--- what is known of the rows of a meter
+-- Properties of the rows of a meter.
 pub record HasRows (facts : List Fact) (o : Opening) : Type 0 where
   pub numbered : AreNumbered (rows_of facts o)
   pub formed : AllByRecursion IsFormed (rows_of facts o)
@@ -113,7 +113,7 @@ has_rows law facts o h there =
       stand = rows_stand_by (installed o) (journal_of facts o.meter) fits;
     }
 
--- the void names the entry of a meter at a place
+-- The void is of the entry of this meter at this index.
 abbrev pub names : (meter : List ℕ) → (place : ℕ) → VoidedEntry → Bool
 names meter place v = same v.meter meter && (place == v.place)
 
@@ -132,7 +132,7 @@ held_no_line : (b : Bool) (place : ℕ) (line : journal.Line) (lines : journal.J
 held_no_line true place line lines h = h
 held_no_line false place line lines h = refl
 
--- the voids of a journal are those of the facts
+-- The voids of a journal are those of the records.
 pub voids_named : (facts : List Fact) (meter : List ℕ) (place : ℕ) → is_voided place (journal_of facts meter) ≡ list_any (names meter place) (voids_in facts)
 voids_named [] meter place = refl
 voids_named (fact.Device d ∷ facts) meter place = voids_named facts meter place

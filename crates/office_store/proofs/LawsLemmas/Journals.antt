@@ -1,4 +1,4 @@
--- What the rows of a journal are told by.
+-- Properties that determine the rows of a journal.
 use Rattle.std.proofs.Common.{◌≡◌, ℕ, ◌==◌, ◌&&◌, Bool, true, false, not, List, [], ◌∷◌, refl, sym, ap, subst, ◌∙◌, inl, inr, Option, Some, None}
 use Rattle.std.specs.List.{AllByRecursion}
 use Rattle.std.proofs.lemmas.Bool.{cases_Bool, cond-true, cond-false}
@@ -16,7 +16,7 @@ use Rattle.meter_journal.specs.Standing.{is_voided}
 use Rattle.meter_journal.proofs.AsEntered.{AreRowsOf, rows_are_entered}
 use Rattle.meter_journal.proofs.Keeping.{all_three, by_read, mapped_some}
 
--- the kinds whose entries set the counter, and the entries that do
+-- The kinds whose entries set the counter.
 abbrev pub sets : EntryKind → Bool
 sets kind.Reading = false
 sets kind.Manual = false
@@ -28,7 +28,7 @@ abbrev pub is_change : Entry → Bool
 is_change (entry.Step at raw rolls) = false
 is_change (entry.Change at before new sf) = true
 
--- The kind of a row says whether it sets the counter, and a row that does stands.
+-- The kind of a row determines whether it sets the counter. A row that does is not voided.
 pub record IsFormed (row : EntryRow) : Type 0 where
   pub kind : sets row.kind ≡ is_change row.entry
   pub stands : is_change row.entry ≡ true → row.stands ≡ true
@@ -59,7 +59,7 @@ rolled_formed last row h =
       | inr e ↦ subst IsFormed (sym (cond-false _ _ _ e)) h
     ]
 
--- a reading that is struck
+-- A reading that is voided.
 struck_formed : (row : EntryRow) → is_read row.kind row.entry ≡ true → IsFormed (record row { stands = false })
 struck_formed row read =
     by_read (λ k e. IsFormed (record { place = row.place; kind = k; entry = e; stands = false }))
@@ -99,7 +99,7 @@ rows_are_formed meter (Voided place ∷ lines) h =
     let may = all_three around.row.stands (is_read around.row.kind around.row.entry) (is_free around.next) h.0.voidable in
     void_formed meter.opening place (rows_of meter.opening lines) around h.0.there may.1 (rows_are_formed meter lines h.1)
 
--- a row stands if no void names its place
+-- A row is not voided if no void has its index.
 abbrev pub StandsBy : Journal → EntryRow → Type 0
 StandsBy whole row = row.stands ≡ not (is_voided row.place whole)
 

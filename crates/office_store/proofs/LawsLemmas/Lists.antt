@@ -1,4 +1,4 @@
--- Lists that their elements tell.
+-- Lists that their elements determine.
 use Rattle.std.proofs.Common.{◌≡◌, ◌⊎◌, Bool, List, [], ◌∷◌, map, filter, inl, inr, refl, sym, ap₂, subst, ◌∙◌, Option, Some, IsPermutation}
 use Rattle.std.specs.List.{AllByRecursion, AllZip, Contains, find}
 use Rattle.std.proofs.lemmas.Bool.{cases_Bool, cond-true, cond-false}
@@ -8,7 +8,7 @@ use Rattle.std.proofs.lemmas.List.Sorted.{IsPermutation-sym, IsPermutation-trans
 use Rattle.sqlite_keyed.proofs.ListLemmas.{all_weaker, all_both, IsPermutation-filter}
 use Rattle.store_tables.proofs.Permuted.{unmapped}
 
--- it is an element
+-- `x` is an element of the list.
 abbrev pub Among : {X : Type 0} → X → List X → Type 0
 Among x [] = ⊥
 Among x (y ∷ ys) = (x ≡ y) ⊎ Among x ys
@@ -30,25 +30,25 @@ among_permuted xs ys h =
     recursion_from_All (λ x. Among x ys) xs
     (All-permutation (λ x. Among x ys) ys xs (IsPermutation-sym xs ys h) (All-from_recursion (λ x. Among x ys) ys (among_itself ys)))
 
--- what gives an element, and holds of all that give one
+-- An element of a mapped list is `f` of an element with the property.
 pub among_map : {X Y : Type 0} (f : X → Y) (P : X → Type 0) (xs : List X) (y : Y) → AllByRecursion P xs → Among y (map f xs) → (x : X) × P x × (y ≡ f x)
 among_map f P [] y h there = absurd there
 among_map f P (x ∷ xs) y h (inl is) = (x, h.0, is)
 among_map f P (x ∷ xs) y h (inr there) = among_map f P xs y h.1 there
 
--- each element stands before all after it
+-- Each element is before all later elements.
 abbrev pub InOrder : {X : Type 0} → (Before : X → X → Type 0) → List X → Type 0
 InOrder Before [] = Unit {0}
 InOrder Before (x ∷ xs) = AllByRecursion (Before x) xs × InOrder Before xs
 
--- Lists in an order in which no element stands on both sides of another.
+-- Lists in an asymmetric order.
 module _ {X : Type 0} (Before : X → X → Type 0) (one_way : (x y : X) → Before x y → Before y x → ⊥) where
   same_head : (x y : X) (xs ys : List X) → InOrder Before (x ∷ xs) → InOrder Before (y ∷ ys) → Among x (y ∷ ys) → Among y (x ∷ xs) → x ≡ y
   same_head x y xs ys h k (inl is) other = is
   same_head x y xs ys h k (inr there) (inl is) = sym is
   same_head x y xs ys h k (inr there) (inr here) = absurd (one_way x y (all_among (Before x) xs y h.0 here) (all_among (Before y) ys x k.0 there))
 
-  -- the first is none of the rest
+  -- The first element is not one of the others.
   not_first : (x y z : X) (ys : List X) → x ≡ y → Before x z → Among z (y ∷ ys) → Among z ys
   not_first x y z ys e before (inl is) = absurd (let b : Before x x = subst (Before x) (is ∙ sym e) before in one_way x x b b)
   not_first x y z ys e before (inr there) = there
@@ -64,7 +64,7 @@ module _ {X : Type 0} (Before : X → X → Type 0) (one_way : (x y : X) → Bef
       (all_both (Before x) (λ z. Among z (y ∷ ys)) (λ z. Among z ys) (λ z before. not_first x y z ys e before) xs h.0 there.1)
       (all_both (Before y) (λ z. Among z (x ∷ xs)) (λ z. Among z xs) (λ z before. not_first y x z xs (sym e) before) ys k.0 here.1))
 
-  -- a permutation that keeps the order moves nothing
+  -- A permutation that keeps the order is the identity.
   pub same_in_order : (xs ys : List X) → InOrder Before xs → InOrder Before ys → IsPermutation xs ys → xs ≡ ys
   same_in_order xs ys h k p = same_elements xs ys h k (among_permuted xs ys p) (among_permuted ys xs (IsPermutation-sym xs ys p))
 
@@ -88,13 +88,14 @@ map_undone f one (x ∷ xs) (y ∷ ys) e =
 pub permuted_back : {X Y : Type 0} (f : X → Y) → IsInjective f → (xs ys : List X) → IsPermutation (map f xs) (map f ys) → IsPermutation xs ys
 permuted_back f one xs ys h = let moved = unmapped f xs (map f ys) h in subst (IsPermutation xs) (sym (map_undone f one ys moved.0 moved.2)) moved.1
 
--- two lists whose rows one table has
+-- Two lists with the rows of one table.
 pub one_table : {X Y : Type 0} (columns : X → Y) → IsInjective columns → (xs ys : List X) (rows : List Y)
     → IsPermutation (map columns xs) rows → IsPermutation (map columns ys) rows → IsPermutation xs ys
 one_table columns one xs ys rows h k =
     permuted_back columns one xs ys (IsPermutation-trans (map columns xs) rows (map columns ys) h (IsPermutation-sym (map columns ys) rows k))
 
--- lists that agree element by element, where what holds of each makes agreement equality
+-- Lists that agree element by element are equal, if the elements' properties make agreement
+-- equality.
 pub same_by_parts : {X : Type 0} (R : X → X → Type 0) (P Q : X → Type 0) → ((x y : X) → R x y → P x → Q y → x ≡ y)
     → (xs ys : List X) → AllZip R xs ys → AllByRecursion P xs → AllByRecursion Q ys → xs ≡ ys
 same_by_parts R P Q same [] [] h p q = refl
@@ -102,7 +103,7 @@ same_by_parts R P Q same [] (y ∷ ys) h p q = absurd h
 same_by_parts R P Q same (x ∷ xs) [] h p q = absurd h
 same_by_parts R P Q same (x ∷ xs) (y ∷ ys) h p q = ap₂ ◌∷◌ (same x y h.0 p.0 q.0) (same_by_parts R P Q same xs ys h.1 p.1 q.1)
 
--- two lists that the rows of two tables are, as far as they pass
+-- Two lists with the passing rows of two tables.
 pub of_passing : {X : Type 0} (p : X → Bool) (rows others xs ys : List X) → IsPermutation rows others
     → IsPermutation (filter p rows) xs → IsPermutation (filter p others) ys → IsPermutation xs ys
 of_passing p rows others xs ys h k l =

@@ -1,4 +1,4 @@
--- The points of a device in the table tell its list.
+-- The points of a device in the table determine its list.
 use Rattle.std.proofs.Common.{◌≡◌, ℕ, Bool, true, false, ◌&&◌, List, IsTrue, refl, sym, ap, ◌∙◌, Option, Some, None, IsPermutation}
 use Rattle.std.specs.List.{AllByRecursion}
 use Rattle.std.specs.Option.{option_and_then}
@@ -33,7 +33,7 @@ second : (a b : Bool) → (a && b) ≡ true → b ≡ true
 second true b h = h
 second false b h = absurd (let e = h in cc)
 
--- a scale point has a name
+-- The point of a scale has a name.
 scale_named : (points : List ListedPoint) (name : List ℕ) (P : ListedPoint → Type 0) (found : Option ListedPoint) → scale_point points name ≡ found
     → IsSomeAnd found P → AllByRecursion (λ p. IsTrue (is_name p.name)) points → is_name name ≡ true
 scale_named points name P None is h named = absurd h
@@ -57,7 +57,7 @@ all_read points l = recursion_from_All IsRead points (λ k d below.
     let size = l.sized k d below in
     record { kind = type-read _ size.0 size.1; scale = scale_read points _ _ l (l.scaled k d below) })
 
--- the columns of two points agree
+-- The columns of two points agree.
 record IsAlike (a b : ListedPoint) : Type 0 where
   name : a.name ≡ b.name
   function : a.function ≡ b.function
@@ -75,7 +75,7 @@ one_alike a b h p q =
     let scale : a.scale ≡ b.scale = read_alike scale_text scale_spelled _ _ p.scale q.scale h.scale in
     λ i. record { name = h.name i; function = h.function i; area = h.area i; address = h.address i; kind = kind i; scale = scale i }
 
--- ---- the list that was put last
+-- ---- the latest list
 
 abbrev pub IsPut : Option DeviceList → Type 0
 IsPut None = Unit {0}
@@ -104,7 +104,7 @@ same_points device a b p q h =
     point_place (λ place x. refl) (λ place x. refl) (points_put a) (points_put b) h)
     (put_read a p) (put_read b q)
 
--- a list is told by its points; one without points counts as none
+-- The points determine the list. A list without points counts as none.
 same_planned : ListsArePlannedOnce → (a b : Option DeviceList) → IsPut a → IsPut b → points_put a ≡ points_put b → list_put a ≡ list_put b
 same_planned once None None p q e = refl
 same_planned once None (Some b) p q e = ap (λ points. if_some points b.list) e

@@ -1,4 +1,4 @@
--- A row of a table tells the fact that it is of.
+-- A row of a table determines the record that it encodes.
 use Rattle.std.proofs.Common.{◌≡◌, ℕ, ◌+◌, ◌≤◌, refl, subst, Option, Some}
 use Rattle.std.proofs.Math.Bridge.{le_prop}
 use Rattle.mb_wire.specs.declared.span.ReadFunction.{ReadFunction}
@@ -43,7 +43,7 @@ one_end a b e = λ i. record { poll = (e i).poll; at = (e i).moment; outcome = (
 pub one_reply : IsInjective kept
 one_reply a b e = λ i. record { caller = (e i).caller; number = (e i).number; request = (e i).request; kind = (e i).kind; at = (e i).moment }
 
--- a span, with what is known of it
+-- A span, with its properties.
 abbrev span : (f : ReadFunction) → (a c : ℕ) → (1 ≤ c) × (c ≤ 125) × (a + c ≤ 65536) → ReadSpan
 span f a c h = record { function = f; address = a; count = c; some = h.0; few = h.1; inside = h.2 }
 

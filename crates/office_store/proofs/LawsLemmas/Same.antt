@@ -1,4 +1,4 @@
--- Facts whose rows one content of the tables has are the same books.
+-- Records with the same tables are equal up to order.
 use Rattle.std.proofs.Common.{◌≡◌, ℕ, List, [], ◌∷◌, map, inl, inr, refl, sym, ap, subst, ◌∙◌, Some, IsPermutation}
 use Rattle.std.specs.List.{AllByRecursion, Contains}
 use Rattle.std.proofs.lemmas.Option.{same_Some}
@@ -42,7 +42,7 @@ module _ (stand : RowsStand) (once : ListsArePlannedOnce) (zone others_zone : Li
       there : AllByRecursion (λ (z : List ℕ). Among z (others_zone ∷ [])) (zone ∷ [])
       there = among_permuted (zone ∷ []) (others_zone ∷ []) (one_table meta_columns one_zone (zone ∷ []) (others_zone ∷ []) (content meta_tree) a.meta b.meta)
 
-  -- ---- tables whose rows are those of one kind of fact
+  -- ---- tables with the rows of one kind of record
 
   same_devices : devices_in facts ≡ devices_in others
   same_devices =
@@ -96,20 +96,20 @@ module _ (stand : RowsStand) (once : ListsArePlannedOnce) (zone others_zone : Li
       (one_table entry_columns columns.one_entry a.entries.rows b.entries.rows (content entry_tree.entries) a.entries.there b.entries.there)
       (a.entries.each meter) (b.entries.each meter)
 
-  -- the entries of a meter that both have
+  -- The entries of a meter that both lists have.
   meter_entries : (o p : Opening) → IsInstalled facts o → opening_of others o.meter ≡ Some p
       → IsPermutation (entered_rows o (rows_of facts o)) (entered_rows p (rows_of others p))
   meter_entries o p here there =
       subst (λ rows. IsPermutation rows (entered_rows p (rows_of others p))) (ap (entries_at facts) here)
       (subst (IsPermutation (entries_of facts o.meter)) (ap (entries_at others) there) (same_entries o.meter))
 
-  -- what the table of installations tells of an opening
+  -- What the table of installations says about an opening.
   record IsAlike (o p : Opening) : Type 0 where
     meter : o.meter ≡ p.meter
     register : o.register ≡ p.register
     ceiling : o.ceiling ≡ p.ceiling
 
-  -- it is installed, and its range is in the other table of ranges
+  -- The opening is installed, and its range is in the other table of ranges.
   record IsKnown (o : Opening) : Type 0 where
     here : IsInstalled facts o
     range : Among (ranged o) (map ranged (openings_in others))

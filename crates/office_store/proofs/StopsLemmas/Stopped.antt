@@ -1,4 +1,4 @@
--- What a stop leaves of the files of a connection has facts.
+-- The files that a crash of a connection leaves have records.
 use Rattle.std.proofs.Common.{◌≡◌, ℕ, Bool, List, IsTrue, sym, subst, arith}
 use Rattle.std.proofs.Math.Logic.{∥∥₁_map}
 use Rattle.sqlite_disk.specs.declared.Disk.{Ghosts}
@@ -39,7 +39,7 @@ module _ {D : Type 0} (g : Ghosts D) where
     holds = finds.holds;
   }
 
-  -- A connection that was ended: what it left before and leaves after.
+  -- A connection that ended: the files that a crash leaves before and after the end.
   module _ (law : StopsLeaveFacts g) (h : Held (FileStore D g)) (last : FileStore D g) (undone : IsRolledBack (view h.store) (view last))
       (quiet : IsQuiet view faults recovers is_shielded h.store last) (numbered : IsClean (view last) → IsTrue (view last).is_numbered)
       (clean : IsClean (view last)) (zone : List ℕ) (left : List (List Fact)) (leaves : LeavesFacts over_files zone h left) where

@@ -1,4 +1,4 @@
--- What the void of an entry changes in the books of its meter, by the entries around it.
+-- The changes that the void of an entry makes to its meter, from the entries around it.
 use Rattle.std.specs.Prelude.{◌≡◌, ℕ, ◌+◌, ◌<◌, ◌≤◌, ◌==◌, Bool, Option, Some, None, IfSome, is_none, if◌then◌else◌}
 use Rattle.energy_core.specs.declared.limits.TheConstants.{MAX_INTERVALS}
 use Rattle.energy_core.specs.declared.entries.Entry.{Entry}
@@ -18,30 +18,32 @@ use Rattle.office_store.specs.declared.bookings.corrections.Rejoined.{Rejoined}
 use Rattle.office_store.specs.declared.bookings.surroundings.Surroundings.{Surroundings}
 use Rattle.office_store.specs.Bookings.MeterState.{counter_of, stands_at}
 
--- the entry is a reading, and this is its step
+-- The entry is a reading with this step.
 pub record IsReadingOf (row : EntryRow) (e : Entry) : Type 0 where
   pub kind : row.kind ≡ kind.Reading
   pub step : e ≡ entry.Step row.moment row.raw row.rolls
 
--- a step whose shares the table can have
+-- A step with shares that the table allows.
 pub record CanBeShared (step : Step) : Type 0 where
   pub forward : step.from < step.till
   pub intervals : intervals_touched step.from step.till ≤ MAX_INTERVALS
   pub energy : step.mwh ≤ greatest_total
   pub till : step.till ≤ latest_moment
 
+-- Steps and an index that the tables allow.
 pub record CanBeRejoined (joined : Rejoined) : Type 0 where
   pub place : joined.rollover.place ≤ greatest_place
   pub out : CanBeShared joined.out
   pub put : CanBeShared joined.put
 
+-- Changes that the tables allow.
 pub record CanBeBooked (made : Correction) : Type 0 where
   pub out : CanBeShared made.out
   pub next : IfSome made.next CanBeRejoined
   pub last : IsSoundLast made.last
   pub from : made.from ≤ latest_moment
 
--- the next entry after where the counter stood before a voided one
+-- The next entry is joined to the counter's state before the voided entry.
 pub record Rejoins (range : ℕ) (before voided : Last) (next : EntryRow) (joined : Rejoined) : Type 0
   where
     pub entry : Entry
@@ -51,32 +53,34 @@ pub record Rejoins (range : ℕ) (before voided : Last) (next : EntryRow) (joine
     pub out : joined.out ≡ step_to range voided entry
     pub put : joined.put ≡ step_to range before (with_rolls before entry)
 
+-- The same, if there is a next entry.
 abbrev pub RejoinsNext : (range : ℕ) → (before voided : Last) → Option EntryRow → Option Rejoined
     → Type 0
 RejoinsNext range before voided None joined = joined ≡ None
 RejoinsNext range before voided (Some next) None = ⊥
 RejoinsNext range before voided (Some next) (Some joined) = Rejoins range before voided next joined
 
--- the energy that goes out, and that comes in
+-- The energy of the removed steps.
 abbrev pub energy_out : Step → Option Rejoined → ℕ
 energy_out out None = out.mwh
 energy_out out (Some joined) = joined.out.mwh + out.mwh
 
+-- The energy of the new step.
 abbrev pub energy_put : Option Rejoined → ℕ
 energy_put None = 0
 energy_put (Some joined) = joined.put.mwh
 
--- where the meter stands then
+-- The meter's new last entry and total energy.
 abbrev pub StandsAt : Surroundings → (before : Last) → (total : ℕ) → (is_last : Bool) → LastRow
     → Type 0
 StandsAt found before total is_last last =
     last ≡ stands_at (if is_last then before else counter_of found.standing.last) total
 
--- the rows that begin so late go; all where the meter stands at its opening
+-- The start from which interval rows are deleted: 0 if the last entry is the opening.
 abbrev pub gone_from : (opened last : ℕ) → ℕ
 gone_from opened last = if last == opened then 0 else last
 
--- What changes when the entry is voided.
+-- The changes that a void makes.
 pub record Corrects (found : Surroundings) (made : Correction) : Type 0 where
   pub entry : Entry
   pub reading : IsReadingOf found.near.entry entry

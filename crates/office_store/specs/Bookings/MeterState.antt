@@ -1,4 +1,4 @@
--- Where a meter stands, and what an entry makes of it.
+-- The state of a meter, and its state after one more entry.
 use Rattle.std.specs.Prelude.{◌≡◌, ℕ, ◌+◌, true, Bool, List, Some, Ok, if◌then◌else◌}
 use Rattle.energy_core.specs.declared.entries.Last.{Last}
 use Rattle.energy_core.specs.declared.entries.Step.{Step}
@@ -20,7 +20,7 @@ use Rattle.office_store.specs.declared.bookings.meter_state.Standing.{Standing}
 use Rattle.office_store.specs.declared.bookings.meter_entries.Advance.{Advance}
 use Rattle.office_store.specs.Bookings.Places.{StandsThere}
 
--- The tables say that the meter stands there, and nothing was changed.
+-- The tables have this state of the meter, and nothing changed.
 pub record IsStanding (meter : List ℕ) (standing : Standing)
     (content after : Content) : Type 0 where
   pub same : after ≡ content
@@ -32,14 +32,15 @@ pub record IsStanding (meter : List ℕ) (standing : Standing)
   pub range : (rows : List Ranged) → HasRows meter_tree.ranges ranged_columns rows content
       → IsFound (is_range_of meter) HasRange rows (Some standing.range)
 
--- the counter, as a row has it, and a row of it, with the whole energy
+-- The counter's state that a row has.
 abbrev pub counter_of : LastRow → Last
 counter_of last = record { at = last.moment; raw = last.raw; sf = last.sf }
 
+-- The row with this state of the counter and this total energy.
 abbrev pub stands_at : Last → (total : ℕ) → LastRow
 stands_at last total = record { moment = last.at; raw = last.raw; sf = last.sf; total = total }
 
--- Where the entry is booked, this is where the meter stands then, and the step up to there.
+-- If the entry may follow, this is the meter's new last entry, with the step to it.
 abbrev pub Advances : Standing → Entry → Advance → Type 0
 Advances standing e advance =
     (last : Last) (step : Step)
@@ -47,7 +48,7 @@ Advances standing e advance =
     ≡ Ok (last, step)
     → (advance.last ≡ stands_at last (standing.last.total + step.mwh)) × (advance.step ≡ step)
 
--- a meter that stands there, closed or as it was
+-- The installation with this last entry, closed if the entry closes it.
 abbrev pub settled : LastRow → (is_closing : Bool) → Installed → Installed
 settled last is_closing i =
     record i {
@@ -55,12 +56,13 @@ settled last is_closing i =
           { last = last; is_ended = if is_closing then true else i.row.is_ended };
     }
 
+-- The installation's row is updated.
 abbrev pub Settles : (meter : List ℕ) → LastRow → (is_closing : Bool) → Content → Content → Type 0
 Settles meter last is_closing =
     Edits meter_tree.installations installed_columns
     (changed_where (is_meter meter) (settled last is_closing))
 
--- One more entry of a meter: its row, the energy of its step, and where the meter stands then.
+-- One more entry of a meter: its row, the energy of its step, and the meter's new state.
 pub record EntersEntry (meter : List ℕ) (row : EntryRow) (advance : Advance) (is_closing : Bool)
     (content after : Content) : Type 0 where
   pub one : Content

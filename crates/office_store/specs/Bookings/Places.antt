@@ -1,4 +1,4 @@
--- What the tables are asked inside a transaction: the place after the last row, and a row of a key.
+-- Queries inside a transaction: the index after the last row, and a row with a key.
 use Rattle.std.specs.Prelude.{◌≡◌, ℕ, ◌+◌, Bool, nat_le, List, Option, Some, None, Result, Ok, Err, ⊤, if◌then◌else◌}
 use Rattle.std.specs.List.{slice_get}
 use Rattle.sqlite.specs.Order.{Row, column}
@@ -11,33 +11,36 @@ use Rattle.store_tables.specs.Limits.{greatest_place}
 use Rattle.store_tables.specs.declared.meters.rows.LastRow.{LastRow}
 use Rattle.store_tables.specs.Meters.Rows.{Installed}
 
--- one place on, unless it is the last that there is
+-- The next index, unless this is the greatest.
 abbrev pub one_on : ℕ → Result ℕ RowFault
 one_on place = if nat_le greatest_place place then Err Damaged else Ok (place + 1)
 
+-- The index after that of a row.
 abbrev pub following_place : Row → Result ℕ RowFault
 following_place row = and_then (or_damaged (whole_in 1 greatest_place (column row 0))) one_on
 
--- the place after the row that is shown, and 1 where none is
+-- The index after that of a row, or 1 without a row.
 abbrev pub place_after : Option Row → Result ℕ RowFault
 place_after None = Ok 1
 place_after (Some row) = following_place row
 
+-- The index after that of the first row, or 1 without rows.
 abbrev pub next_in : List Row → Result ℕ RowFault
 next_in rows = place_after (slice_get rows 0)
 
--- what is made of the tables goes with the answer
+-- At Ok, the relation between the old and the new tables depends on the answer.
 abbrev pub Answered : {X E : Type 0} → Result X E → (X → Content → Content → Type 0) → Content
     → Content → Type 0
 Answered (Ok x) Makes = Makes x
 Answered (Err e) Makes = λ content after. ⊤
 
--- The answer is what is seen of a row that passes, and nothing was changed.
+-- The answer is what the query shows of a row that passes, and nothing changed.
 pub record IsSeenIn {X A : Type 0} (tree : ℕ) (columns : X → Row) (passes : X → Bool)
     (IsSeen : X → A → Type 0) (answer : A) (content after : Content) : Type 0 where
   pub same : after ≡ content
   pub seen : (rows : List X) → HasRows tree columns rows content
       → IsFound passes IsSeen rows (Some answer)
 
+-- The last entry of an installation.
 abbrev pub StandsThere : Installed → LastRow → Type 0
 StandsThere i last = last ≡ i.row.last

@@ -1,4 +1,4 @@
--- What the tables tell of an entry of a meter and of those around it.
+-- What the tables say about an entry of a meter and the entries around it.
 use Rattle.std.specs.Prelude.{◌≡◌, ℕ, List, Option, Some}
 use Rattle.store_tables.specs.Answer.{IsFound}
 use Rattle.store_tables.specs.Content.{Content, HasRows}
@@ -10,30 +10,33 @@ use Rattle.office_store.specs.declared.bookings.surroundings.Neighbours.{Neighbo
 use Rattle.office_store.specs.declared.bookings.surroundings.Surroundings.{Surroundings}
 use Rattle.office_store.specs.Bookings.MeterState.{IsStanding}
 
--- the entry of the meter at a place, if there is one
+-- The entry of the meter at an index, if there is one.
 abbrev pub HasEntry : (meter : List ℕ) → (place : ℕ) → Option EntryRow → Content → Type 0
 HasEntry meter place found content =
     (rows : List Entered) → HasRows entries entry_columns rows content
     → IsFound (is_entry meter place) IsRow rows found
 
--- the places of the entries around one that were not voided
+-- The index of the last entry before `place` that is not voided.
 abbrev pub StandsBefore : (meter : List ℕ) → (place before : ℕ) → Content → Type 0
 StandsBefore meter place before content =
     (rows : List Voided) → HasRows voids voided_columns rows content
     → IsBefore meter place rows before
 
+-- The next index after `place` that has no void.
 abbrev pub StandsAfter : (meter : List ℕ) → (place next : ℕ) → Content → Type 0
 StandsAfter meter place next content =
     (rows : List Voided) → HasRows voids voided_columns rows content
     → IsAfter meter place rows next
 
--- ---- what is found, where nothing was changed
+-- ---- answers of queries that change nothing
 
+-- The entry at an index was found.
 pub record FindsEntry (meter : List ℕ) (place : ℕ) (entry : EntryRow)
     (content after : Content) : Type 0 where
   pub same : after ≡ content
   pub there : HasEntry meter place (Some entry) content
 
+-- The last entry before `place` that is not voided was found.
 pub record FindsBefore (meter : List ℕ) (place : ℕ) (entry : EntryRow)
     (content after : Content) : Type 0 where
   pub same : after ≡ content
@@ -41,6 +44,7 @@ pub record FindsBefore (meter : List ℕ) (place : ℕ) (entry : EntryRow)
   pub stands : StandsBefore meter place at content
   pub there : HasEntry meter at (Some entry) content
 
+-- The next entry after `place` that is not voided was found, or there is none.
 pub record FindsAfter (meter : List ℕ) (place : ℕ) (found : Option EntryRow)
     (content after : Content) : Type 0 where
   pub same : after ≡ content
@@ -48,17 +52,20 @@ pub record FindsAfter (meter : List ℕ) (place : ℕ) (found : Option EntryRow)
   pub stands : StandsAfter meter place at content
   pub there : HasEntry meter at found content
 
+-- An entry and its neighbours were found.
 pub record AreNear (meter : List ℕ) (place : ℕ) (near : Neighbours)
     (content after : Content) : Type 0 where
   pub entry : FindsEntry meter place near.entry content after
   pub before : FindsBefore meter place near.before content after
   pub next : FindsAfter meter place near.next content after
 
+-- The time of the meter's opening was found.
 pub record OpenedAt (meter : List ℕ) (opened : ℕ) (content after : Content) : Type 0 where
   pub opening : EntryRow
   pub moment : opened ≡ opening.moment
   pub finds : FindsEntry meter 1 opening content after
 
+-- An entry with its neighbours and the state of its meter were found.
 pub record IsAround (meter : List ℕ) (place : ℕ) (found : Surroundings)
     (content after : Content) : Type 0 where
   pub standing : IsStanding meter found.standing content after

@@ -1,4 +1,4 @@
--- Which facts a file has that was made or opened.
+-- The records of a file that was created or opened.
 use Rattle.std.specs.Prelude.{◌≡◌, ◌≢◌, ◌↔◌, ◌^◌, ⊤, ℕ, List, [], All}
 use Rattle.sqlite.specs.Effect.{Database, IsDatabase}
 use Rattle.office_events.specs.declared.facts.Opening.{Opening}
@@ -14,24 +14,25 @@ use Rattle.store_files.specs.Upgrade.{IsFile, IsBrought}
 use Rattle.store_facts.specs.Tables.{AreOf}
 use Rattle.store_facts.specs.Holding.{HasFacts}
 
--- New tables are those of no facts.
+-- The tables of a new file have no records.
 abbrev pub NewFilesHaveNone : Type 0
 NewFilesHaveNone = (zone : List ℕ) (content : Content) → IsNew zone content → AreOf zone [] content
 
--- ---- the facts of a file of any version
+-- ---- the records of a file of any version
 
+-- The counter turns over at 2^32.
 abbrev pub HasFullRange : Opening → Type 0
 HasFullRange opening = opening.range ≡ 2 ^ 32
 
--- The facts need no table that the layout lacks: without ranges each counter turns over at 2^32, and without voids no
--- entry is void.
+-- The records need no table that the layout lacks. Without `ranges` each counter turns over at
+-- 2^32. Without `voids` no entry is voided.
 abbrev pub FitIn : Layout → List Fact → Type 0
 FitIn First facts = All HasFullRange (openings_in facts) × (voids_in facts ≡ [])
 FitIn Second facts = voids_in facts ≡ []
 FitIn Third facts = ⊤
 
--- A file of this layout has these facts: each of its tables has the rows that it has for them in the newest version, but
--- for `meta`, which tells the version.
+-- A file of this layout has these records. Each of its tables but `meta` has the rows that version
+-- 3 has for the records.
 pub record HasFactsIn (layout : Layout) (zone : List ℕ) (facts : List Fact)
     (db : Database) : Type 0
   where
@@ -42,18 +43,18 @@ pub record HasFactsIn (layout : Layout) (zone : List ℕ) (facts : List Fact)
     pub same : (t : ℕ) → HasTree (schema_of layout).tables t → t ≢ meta → content t ≡ newest t
     pub fit : FitIn layout facts
 
--- What an opening makes of a file has the facts that the file has.
+-- The tables after an opening have the records of the file.
 abbrev pub OpenedFilesKeepTheirs : Type 0
 OpenedFilesKeepTheirs = (layout : Layout) (zone : List ℕ) (facts : List Fact) (db : Database)
     → (it : HasFactsIn layout zone facts db) (after : Content)
     → IsBrought layout zone it.content after → AreOf zone facts after
 
--- A file of version 3 has facts just where its tables are those of these facts.
+-- A file of version 3 has records if and only if its tables are those of the records.
 abbrev pub NewestFilesHaveTheirs : Type 0
 NewestFilesHaveTheirs = (zone : List ℕ) (facts : List Fact) (db : Database)
     → (HasFactsIn Third zone facts db) ↔ (HasFacts zone facts db)
 
--- A database of the trees of a file, as the next open finds it, has the file's facts, since trees list one schema.
+-- The next open of a file finds its records, since the trees of a database determine the schema.
 abbrev pub FoundFilesKeepTheirs : Type 0
 FoundFilesKeepTheirs = (layout : Layout) (zone : List ℕ) (facts : List Fact) (db found : Database)
     → HasFactsIn layout zone facts db → IsDatabase found → found.trees ≡ db.trees

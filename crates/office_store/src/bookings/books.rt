@@ -1,4 +1,4 @@
-//! Facts that are booked in one transaction.
+//! Records that are stored in one transaction.
 ghost use Rattle.std.specs.Prelude.{◌≡◌, ℕ, List, false};
 ghost use Rattle.sqlite.specs.Held.{state};
 ghost use Rattle.store_tables.specs.Steps.{IsSameBorrow};
@@ -18,7 +18,7 @@ use sqlite::{Alter, Connection, Transaction};
 use std::alloc::Global;
 use store_tables::{RowFault, check_open};
 
-/// Enters a fact.
+/// Writes a record.
 fn enter_fact<S: Alter>(
     alloc: Global,
     tx: &mut Transaction<'_, S>,
@@ -42,7 +42,7 @@ fn enter_fact<S: Alter>(
     }
 }
 
-/// Enters facts, one after the other.
+/// Writes records, one after another.
 fn enter_facts<S: Alter>(
     alloc: Global,
     tx: &mut Transaction<'_, S>,
@@ -58,7 +58,7 @@ fn enter_facts<S: Alter>(
     Ok(())
 }
 
-/// Enters facts, and commits them, all of them or none. The commit is the last call of the database.
+/// Writes records and commits all of them, or none. The commit is the last call of the database.
 fn commit_facts<S: Alter>(
     alloc: Global,
     conn: &mut Connection<S>,
@@ -75,8 +75,8 @@ fn commit_facts<S: Alter>(
     Ok(())
 }
 
-/// Books facts that may follow those that are known, all of them or none, whatever stops the call. The commit is its last
-/// call of the database; to book no facts makes none.
+/// Stores records that may follow the known records: all of them or none, even after a crash. The
+/// commit is the last call of the database. Storing no records makes no call.
 pub fn book_facts<S: Alter>(
     alloc: Global,
     conn: &mut Connection<S>,

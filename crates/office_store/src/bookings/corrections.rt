@@ -1,4 +1,4 @@
-//! What the void of an entry changes in the books of its meter.
+//! The changes that the void of an entry makes to its meter.
 ghost use Rattle.std.specs.Prelude.{◌≡◌, ◌≤◌, ◌+◌, IfOk, IfSome};
 ghost use Rattle.energy_core.specs.Account.{step_to};
 ghost use Rattle.meter_journal.specs.Journal.{with_rolls};
@@ -16,14 +16,15 @@ use energy_core::{Entry, Last, MAX_TOTAL, Ranged, Step, Terms};
 use store_facts::{counter_after, is_scale, last_row};
 use store_tables::{EntryKind, EntryRow, GREATEST_PLACE, LATEST_MOMENT, LastRow, RowFault};
 
-/// How many times the counter went past its range before the entry at a place.
+/// How often the counter rolled over before the entry at index `place`.
 #[derive(Clone, Copy, Debug, PartialEq, Eq)]
 pub struct Rollover {
     pub place: u64,
     pub rolls: u8,
 }
 
-/// The next entry that stands, with its rollovers from now on: the step to it that goes out, and the one that comes in.
+/// The next entry that is not voided, with its new rollovers: the step `out` to remove, and the
+/// step `put` that replaces it.
 #[derive(Clone, Copy, Debug, PartialEq, Eq)]
 pub struct Rejoined {
     pub rollover: Rollover,
@@ -31,8 +32,9 @@ pub struct Rejoined {
     pub put: Step,
 }
 
-/// The step to the voided entry goes out, the next entry that stands is joined to the one before, the meter stands at
-/// `last`, and no interval row begins at `from` or later.
+/// The changes that a void makes. The step `out` to the voided entry is removed, and the next entry
+/// is joined to the entry before. The meter's last entry becomes `last`, and interval rows with
+/// starts of at least `from` are deleted.
 #[derive(Clone, Copy, Debug, PartialEq, Eq)]
 pub struct Correction {
     pub out: Step,
@@ -41,7 +43,8 @@ pub struct Correction {
     pub from: u64,
 }
 
-/// The step of a reading. No other entry is voided, nor comes after one that is.
+/// Returns the step of a reading. Any other kind is damage: both a voided entry and the next entry
+/// after it are readings.
 fn reading(entry: &EntryRow) -> Result<Entry, RowFault>
     ensures { IfOk result (IsReadingOf entry.now) }
 {
@@ -59,7 +62,8 @@ fn reading(entry: &EntryRow) -> Result<Entry, RowFault>
     }
 }
 
-/// The step from where the counter stood to an entry. One that may not be entered there is damage.
+/// Computes the step from a state of the counter to an entry. An entry that may not follow is
+/// damage.
 fn step_from(range: u64, last: &Last, entry: &Entry) -> Result<Step, RowFault>
     ensures step { IfOk result (λ step. step ≡ step_to range last.now entry.now) }
     ensures shared { IfOk result CanBeShared }
@@ -83,7 +87,7 @@ fn step_from(range: u64, last: &Last, entry: &Entry) -> Result<Step, RowFault>
     Ok(step)
 }
 
-/// A reading with the rollovers that it has after where the counter stands.
+/// Returns a reading with the rollovers that follow from the counter's earlier state.
 fn rolled(last: &Last, entry: &Entry) -> Entry
     ensures { result ≡ with_rolls last.now entry.now }
 {
@@ -97,7 +101,7 @@ fn rolled(last: &Last, entry: &Entry) -> Entry
     }
 }
 
-/// How many times the counter went past its range before an entry.
+/// Returns how often the counter rolled over before an entry.
 fn rolls(entry: &Entry) -> u8
     ensures { result ≡ rolls_of entry.now }
 {
@@ -107,7 +111,7 @@ fn rolls(entry: &Entry) -> u8
     }
 }
 
-/// The next entry, joined to where the counter stood before the voided one.
+/// Joins the next entry to the counter's state before the voided entry.
 fn rejoin(range: u64, before: &Last, voided: &Last, next: &EntryRow) -> Result<Rejoined, RowFault>
     ensures joins { IfOk result (Rejoins range before.now voided.now next.now) }
     ensures sound { IfOk result CanBeRejoined }
@@ -126,7 +130,7 @@ fn rejoin(range: u64, before: &Last, voided: &Last, next: &EntryRow) -> Result<R
     Ok(Rejoined { rollover, out, put })
 }
 
-/// The same, if there is a next entry.
+/// Joins the next entry, if there is one.
 fn rejoin_next(
     range: u64,
     before: &Last,
@@ -142,8 +146,8 @@ fn rejoin_next(
     }
 }
 
-/// The energy of a meter without the steps that go out and with the one that comes in. Less than nothing, or more than a
-/// meter can have, is damage.
+/// Computes the energy of a meter without the removed steps and with the step that replaces them. A
+/// negative energy, or more than a meter's greatest total, is damage.
 fn total_after(total: u64, out: &Step, next: &Option<Rejoined>) -> Result<u64, RowFault>
     requires total { total ≤ greatest_total }
     requires out { CanBeShared out.now }
@@ -163,7 +167,8 @@ fn total_after(total: u64, out: &Step, next: &Option<Rejoined>) -> Result<u64, R
     Ok(whole - gone)
 }
 
-/// Where the meter stands then: where it stood if an entry comes next, and else where it stood before.
+/// Returns the new last entry of a meter. If the voided entry was the last, this is the entry
+/// before it. Otherwise the last entry stays.
 fn stands_then(
     found: &Surroundings,
     before: Last,
@@ -190,7 +195,8 @@ fn stands_then(
     Ok(last_row(last, total))
 }
 
-/// From where on no interval row is left: none where the meter stands at its opening.
+/// Returns the start from which interval rows are deleted: 0 if the meter's last entry is its
+/// opening.
 fn end_of_rows(opened: u64, last: &LastRow) -> u64
     requires { last.now.moment ≤ latest_moment }
     ensures end { result ≡ gone_from opened last.now.moment }
@@ -203,7 +209,8 @@ fn end_of_rows(opened: u64, last: &LastRow) -> u64
     }
 }
 
-/// What changes when the entry is voided. One that may not be, or steps that may not follow one another, are damage.
+/// Computes the changes that a void makes. An entry that may not be voided, or steps that may not
+/// follow one another, are damage.
 pub fn correct(found: &Surroundings) -> Result<Correction, RowFault>
     requires { found.now.standing.last.total ≤ greatest_total }
     ensures corrects { IfOk result (Corrects found.now) }

@@ -1,4 +1,4 @@
-//! Point lists of devices.
+//! Writing point lists of devices.
 ghost use Rattle.sqlite.specs.Held.{state};
 ghost use Rattle.store_tables.specs.Steps.{IsSameBorrow};
 ghost use Rattle.office_events.specs.declared.facts.Fact.TheVariants as fact;
@@ -12,7 +12,7 @@ use store_devices::replace_points;
 use store_facts::{points_at, text};
 use store_tables::RowFault;
 
-/// Enters a list in the place of the one that its device has.
+/// Replaces the point list of a device.
 pub fn enter_list<S: Alter>(
     alloc: Global,
     tx: &mut Transaction<'_, S>,

@@ -1,4 +1,4 @@
-//! Entries of meters.
+//! Writing entries of meters.
 ghost use Rattle.std.specs.Prelude.{◌≤◌, ◌<◌, IsTrue, IfOk, OnOk};
 ghost use Rattle.sqlite.specs.Held.{state};
 ghost use Rattle.energy_core.specs.Account.{intervals_touched, moment_of};
@@ -25,14 +25,15 @@ use store_tables::{
     EntryRow, LATEST_MOMENT, LastRow, RowFault, end_installation, insert_entry, update_last,
 };
 
-/// Where a meter stands after one more entry, and the step up to there.
+/// The last entry of a meter after one more entry, with the total energy, and the step to that
+/// entry.
 #[derive(Clone, Copy, Debug, PartialEq, Eq)]
 pub struct Advance {
     pub last: LastRow,
     pub step: Step,
 }
 
-/// Whether the tables can have a counter's moment and scale.
+/// Returns whether the tables allow a counter's timestamp and scale factor.
 pub fn is_sound(last: &Last) -> bool
     ensures moment { IsTrue result → last.now.at ≤ latest_moment }
     ensures scale { IsTrue result → IsTrue (is_within 3 last.now.sf) }
@@ -40,7 +41,7 @@ pub fn is_sound(last: &Last) -> bool
     last.at <= LATEST_MOMENT && is_scale(last.sf)
 }
 
-/// Whether the tables can have the moment of an entry.
+/// Returns whether the tables allow the timestamp of an entry.
 fn is_in_time(entry: &Entry) -> bool
     ensures { IsTrue result → moment_of entry.now ≤ latest_moment }
 {
@@ -49,7 +50,7 @@ fn is_in_time(entry: &Entry) -> bool
     }
 }
 
-/// What an entry makes of a meter. One that may not be booked where the meter stands is damage.
+/// Computes a meter's state after an entry. An entry that may not follow is damage.
 fn go_on(standing: &Standing, entry: &Entry) -> Result<Advance, RowFault>
     requires { IsSoundLast standing.now.last }
     ensures advances { IfOk result (Advances standing.now entry.now) }
@@ -90,7 +91,7 @@ fn go_on(standing: &Standing, entry: &Entry) -> Result<Advance, RowFault>
     })
 }
 
-/// Says where a meter stands now, and whether it was closed.
+/// Updates a meter's last entry and total energy, and whether it was closed.
 pub fn settle<S: Alter>(
     tx: &mut Transaction<'_, S>,
     meter: &str,
@@ -110,7 +111,7 @@ pub fn settle<S: Alter>(
     Ok(())
 }
 
-/// Adds an entry and the energy of its step, and says where its meter stands then.
+/// Writes an entry, the energy of its step, and its meter's new state.
 fn book_entry<S: Alter>(
     tx: &mut Transaction<'_, S>,
     meter: &str,
@@ -134,8 +135,8 @@ fn book_entry<S: Alter>(
     settle(tx, meter, advance.last, is_closing)
 }
 
-/// Enters an entry of a meter after its others: its row, its step's energy interval by interval, and where the meter
-/// stands then.
+/// Writes an entry of a meter after its other entries: the row, the energy of its step by quarter
+/// hours, and the meter's new state.
 pub fn enter_entry<S: Alter>(
     tx: &mut Transaction<'_, S>,
     booked: &BookedEntry,

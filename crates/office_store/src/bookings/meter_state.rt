@@ -1,4 +1,4 @@
-//! Where a meter stands, as the tables have it.
+//! Queries for the state of a meter, inside a transaction.
 ghost use Rattle.std.specs.Prelude.{IfOk};
 ghost use Rattle.sqlite.specs.Held.{state};
 ghost use Rattle.store_tables.specs.Meters.Rows.{installed_columns, ranged_columns, is_meter};
@@ -16,7 +16,8 @@ use store_tables::{
     LastRow, RowFault, installation_rows, range_rows, read_installation, read_range,
 };
 
-/// The place of a meter's next entry, where the meter stands, and how many counts its counter has.
+/// The index of a meter's next entry, its last entry with the total energy, and the range of its
+/// counter.
 #[derive(Clone, Copy, Debug, PartialEq, Eq)]
 pub struct Standing {
     pub place: u64,
@@ -24,7 +25,7 @@ pub struct Standing {
     pub range: u64,
 }
 
-/// Where a meter stands, with its whole energy.
+/// Returns the last entry of a meter, with its total energy.
 fn last_of<S: Alter>(tx: &mut Transaction<'_, S>, meter: &str) -> Result<LastRow, RowFault>
     ensures same_reference { IsSameBorrow tx.old.conn tx.new.conn }
     ensures sound { IfOk result IsSoundLast }
@@ -42,7 +43,7 @@ fn last_of<S: Alter>(tx: &mut Transaction<'_, S>, meter: &str) -> Result<LastRow
     }
 }
 
-/// How many counts the counter of a meter has.
+/// Returns how many values the counter of a meter has.
 pub fn range_of<S: Alter>(tx: &mut Transaction<'_, S>, meter: &str) -> Result<u64, RowFault>
     ensures same_reference { IsSameBorrow tx.old.conn tx.new.conn }
     ensures sound { IfOk result IsRange }
@@ -57,7 +58,7 @@ pub fn range_of<S: Alter>(tx: &mut Transaction<'_, S>, meter: &str) -> Result<u6
     }
 }
 
-/// All of it.
+/// Returns the state of a meter.
 pub fn standing_of<S: Alter>(tx: &mut Transaction<'_, S>, meter: &str) -> Result<Standing, RowFault>
     ensures same_reference { IsSameBorrow tx.old.conn tx.new.conn }
     ensures place { IfOk result (λ standing. IsPlace standing.place) }

@@ -1,4 +1,4 @@
-//! Meters that are installed.
+//! Writing meters that are installed.
 ghost use Rattle.sqlite.specs.Held.{state};
 ghost use Rattle.store_tables.specs.Steps.{IsSameBorrow};
 ghost use Rattle.office_events.specs.declared.facts.Fact.TheVariants as fact;
@@ -12,7 +12,7 @@ use sqlite::{Alter, Transaction};
 use store_facts::{begun_row, is_sound_opening, opening_row, text};
 use store_tables::{RowFault, insert_entry, insert_installation, insert_range};
 
-/// Enters a meter that was installed, at the place after the last.
+/// Writes a meter that was installed, at the index after the last.
 pub fn enter_opening<S: Alter>(
     tx: &mut Transaction<'_, S>,
     opening: &Opening,

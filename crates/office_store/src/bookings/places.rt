@@ -1,4 +1,4 @@
-//! The place after the last row of a table.
+//! The index after the last row of a table.
 ghost use Rattle.std.specs.Prelude.{◌≡◌, IfOk};
 ghost use Rattle.sqlite.specs.Held.{state};
 ghost use Rattle.store_tables.specs.Answer.{every};
@@ -21,7 +21,7 @@ use sqlite::{Alter, Row, Transaction};
 use store_devices::{last_device_rows, last_hold_rows, last_register_rows};
 use store_tables::{GREATEST_PLACE, RowFault, last_entry_rows, last_installation_rows, whole};
 
-/// The place after the one that a row shows.
+/// Returns the index after that of a row. An index past the greatest is damage.
 fn following(row: &Row) -> Result<u64, RowFault>
     ensures next { result ≡ following_place row.now }
     ensures sound { IfOk result IsPlace }
@@ -34,7 +34,7 @@ fn following(row: &Row) -> Result<u64, RowFault>
     }
 }
 
-/// The place after the last one, which the first of these rows shows, and 1 where there is none.
+/// Returns the index after that of the first of these rows, or 1 if there are no rows.
 fn next_place(rows: &[Row]) -> Result<u64, RowFault>
     ensures next { result ≡ next_in rows.now }
     ensures sound { IfOk result IsPlace }
@@ -45,7 +45,7 @@ fn next_place(rows: &[Row]) -> Result<u64, RowFault>
     }
 }
 
-/// The place of the next device.
+/// Returns the index of the next device.
 pub fn next_device<S: Alter>(tx: &mut Transaction<'_, S>) -> Result<u64, RowFault>
     ensures same_reference { IsSameBorrow tx.old.conn tx.new.conn }
     ensures sound { IfOk result IsPlace }
@@ -56,7 +56,7 @@ pub fn next_device<S: Alter>(tx: &mut Transaction<'_, S>) -> Result<u64, RowFaul
     next_place(&rows)
 }
 
-/// The place of the next held reading.
+/// Returns the index of the next rejected reading.
 pub fn next_hold<S: Alter>(tx: &mut Transaction<'_, S>) -> Result<u64, RowFault>
     ensures same_reference { IsSameBorrow tx.old.conn tx.new.conn }
     ensures sound { IfOk result IsPlace }
@@ -67,7 +67,7 @@ pub fn next_hold<S: Alter>(tx: &mut Transaction<'_, S>) -> Result<u64, RowFault>
     next_place(&rows)
 }
 
-/// The place of the next register.
+/// Returns the index of the next register.
 pub fn next_register<S: Alter>(tx: &mut Transaction<'_, S>) -> Result<u64, RowFault>
     ensures same_reference { IsSameBorrow tx.old.conn tx.new.conn }
     ensures sound { IfOk result IsPlace }
@@ -78,7 +78,7 @@ pub fn next_register<S: Alter>(tx: &mut Transaction<'_, S>) -> Result<u64, RowFa
     next_place(&rows)
 }
 
-/// The place of the next installation.
+/// Returns the index of the next installation.
 pub fn next_installation<S: Alter>(tx: &mut Transaction<'_, S>) -> Result<u64, RowFault>
     ensures same_reference { IsSameBorrow tx.old.conn tx.new.conn }
     ensures sound { IfOk result IsPlace }
@@ -90,7 +90,7 @@ pub fn next_installation<S: Alter>(tx: &mut Transaction<'_, S>) -> Result<u64, R
     next_place(&rows)
 }
 
-/// The place of the next entry of a meter.
+/// Returns the index of the next entry of a meter.
 pub fn next_entry<S: Alter>(tx: &mut Transaction<'_, S>, meter: &str) -> Result<u64, RowFault>
     ensures same_reference { IsSameBorrow tx.old.conn tx.new.conn }
     ensures sound { IfOk result IsPlace }

@@ -1,4 +1,4 @@
-//! Polls, their outcomes, readings that were held, and replies.
+//! Writing polls, their outcomes, rejected readings and kept requests.
 ghost use Rattle.sqlite.specs.Held.{state};
 ghost use Rattle.store_tables.specs.Steps.{IsSameBorrow};
 ghost use Rattle.office_events.specs.declared.facts.Fact.TheVariants as fact;
@@ -13,7 +13,7 @@ use store_devices::{insert_hold, insert_outcome, insert_poll, insert_reply};
 use store_facts::{hold_row, outcome_row, poll_row, text};
 use store_tables::{GREATEST_PLACE, LATEST_MOMENT, RowFault};
 
-/// Enters a poll that was started.
+/// Writes a poll that was started.
 pub fn enter_poll<S: Alter>(tx: &mut Transaction<'_, S>, poll: &Poll) -> Result<(), RowFault>
     ensures same_reference { IsSameBorrow tx.old.conn tx.new.conn }
     ensures does { Goes (state S.Store tx.old.conn.now) (state S.Store tx.new.conn.now) result
@@ -27,7 +27,7 @@ pub fn enter_poll<S: Alter>(tx: &mut Transaction<'_, S>, poll: &Poll) -> Result<
     Ok(())
 }
 
-/// Enters how a poll ended.
+/// Writes how a poll ended.
 pub fn enter_outcome<S: Alter>(
     tx: &mut Transaction<'_, S>,
     ended: &EndedPoll,
@@ -43,7 +43,7 @@ pub fn enter_outcome<S: Alter>(
     Ok(())
 }
 
-/// Enters a held reading, at the place after the last.
+/// Writes a rejected reading, at the index after the last.
 pub fn enter_hold<S: Alter>(tx: &mut Transaction<'_, S>, held: &HeldReading) -> Result<(), RowFault>
     ensures same_reference { IsSameBorrow tx.old.conn tx.new.conn }
     ensures does { Goes (state S.Store tx.old.conn.now) (state S.Store tx.new.conn.now) result
@@ -59,7 +59,7 @@ pub fn enter_hold<S: Alter>(tx: &mut Transaction<'_, S>, held: &HeldReading) -> 
     Ok(())
 }
 
-/// Enters a reply that is kept.
+/// Writes a kept request.
 pub fn enter_reply<S: Alter>(tx: &mut Transaction<'_, S>, reply: &Reply) -> Result<(), RowFault>
     ensures same_reference { IsSameBorrow tx.old.conn tx.new.conn }
     ensures does { Goes (state S.Store tx.old.conn.now) (state S.Store tx.new.conn.now) result

@@ -1,4 +1,4 @@
-//! Registers.
+//! Writing registers.
 ghost use Rattle.std.specs.Prelude.{◌≡◌, true};
 ghost use Rattle.sqlite.specs.Held.{state};
 ghost use Rattle.office_events.specs.declared.facts.Fact.TheVariants as fact;
@@ -15,7 +15,7 @@ use store_devices::insert_register;
 use store_facts::{is_scale, register_row, text};
 use store_tables::RowFault;
 
-/// Whether the table can have a register's scale.
+/// Returns whether the table allows a register's scale.
 fn is_sound_scale(source: ScaleSource) -> bool
     ensures { result ≡ true → IsSoundScale (scale_as source) }
 {
@@ -25,7 +25,7 @@ fn is_sound_scale(source: ScaleSource) -> bool
     }
 }
 
-/// Whether one read reaches from a register's counter to its scale.
+/// Returns whether one Modbus read covers a register's counter and its scale.
 fn is_narrow(register: &Register) -> bool
     ensures { result ≡ fits_a_read register.now.address (scale_as register.now.scale) }
 {
@@ -33,7 +33,7 @@ fn is_narrow(register: &Register) -> bool
     store_devices::fits_a_read(row.address, row.scale)
 }
 
-/// Enters a register, at the place after the last.
+/// Writes a register, at the index after the last.
 pub fn enter_register<S: Alter>(
     tx: &mut Transaction<'_, S>,
     register: &Register,

@@ -1,4 +1,4 @@
-//! What the tables have around an entry of a meter.
+//! Queries for an entry of a meter and the entries around it, inside a transaction.
 ghost use Rattle.std.specs.Prelude.{◌≤◌, IfOk};
 ghost use Rattle.sqlite.specs.Held.{state};
 ghost use Rattle.store_tables.specs.Limits.{greatest_place};
@@ -14,7 +14,7 @@ use sqlite::{Alter, Transaction};
 use store_facts::{entry_at, place_after, place_before};
 use store_tables::{EntryRow, RowFault};
 
-/// An entry of a meter, the last that stands before it or else the opening, and the next that stands.
+/// An entry of a meter and its neighbours that are not voided. `before` may be the opening.
 #[derive(Clone, Copy, Debug, PartialEq, Eq)]
 pub struct Neighbours {
     pub entry: EntryRow,
@@ -22,7 +22,7 @@ pub struct Neighbours {
     pub next: Option<EntryRow>,
 }
 
-/// The same, with where the meter stands, and the moment of its opening.
+/// An entry of a meter and its neighbours, with the meter's state and the time of its opening.
 #[derive(Clone, Copy, Debug, PartialEq, Eq)]
 pub struct Surroundings {
     pub standing: Standing,
@@ -30,7 +30,7 @@ pub struct Surroundings {
     pub near: Neighbours,
 }
 
-/// The entry of a meter at a place. Where there is none, it is damage.
+/// Returns the entry of a meter at an index. A missing entry is damage.
 fn entry_there<S: Alter>(
     tx: &mut Transaction<'_, S>,
     meter: &str,
@@ -47,7 +47,7 @@ fn entry_there<S: Alter>(
     }
 }
 
-/// The last entry before a place that stands, or else the opening.
+/// Returns the last entry before an index that is not voided, or else the opening.
 fn entry_before<S: Alter>(
     tx: &mut Transaction<'_, S>,
     meter: &str,
@@ -63,7 +63,7 @@ fn entry_before<S: Alter>(
     entry_there(tx, meter, before)
 }
 
-/// The next entry after a place that stands.
+/// Returns the next entry after an index that is not voided.
 fn entry_after<S: Alter>(
     tx: &mut Transaction<'_, S>,
     meter: &str,
@@ -78,7 +78,7 @@ fn entry_after<S: Alter>(
     entry_at(tx, meter, next)
 }
 
-/// The entry of a meter at a place, and those around it.
+/// Returns the entry of a meter at an index, and its neighbours.
 fn neighbours_of<S: Alter>(
     tx: &mut Transaction<'_, S>,
     meter: &str,
@@ -100,7 +100,7 @@ fn neighbours_of<S: Alter>(
     })
 }
 
-/// The moment of a meter's opening.
+/// Returns the time of a meter's opening.
 fn opened_at<S: Alter>(tx: &mut Transaction<'_, S>, meter: &str) -> Result<u64, RowFault>
     ensures same_reference { IsSameBorrow tx.old.conn tx.new.conn }
     ensures does { Goes (state S.Store tx.old.conn.now) (state S.Store tx.new.conn.now) result
@@ -110,7 +110,8 @@ fn opened_at<S: Alter>(tx: &mut Transaction<'_, S>, meter: &str) -> Result<u64, 
     Ok(opening.moment)
 }
 
-/// All of it. This reads no other entry of the meter, and of its voids those of the entries in between.
+/// Returns an entry with its neighbours, and the state of its meter. Reads no other entry of the
+/// meter, and only the voids of the entries in between.
 pub fn surroundings_of<S: Alter>(
     tx: &mut Transaction<'_, S>,
     meter: &str,

@@ -1,4 +1,4 @@
-//! Entries that are voided.
+//! Writing voids of entries.
 ghost use Rattle.std.specs.Prelude.{◌≤◌, IfSome};
 ghost use Rattle.sqlite.specs.Held.{state};
 ghost use Rattle.office_events.specs.declared.facts.Fact.TheVariants as fact;
@@ -22,7 +22,7 @@ use sqlite::{Alter, Transaction};
 use store_facts::{book_step, drop_rows_from, take_step, text};
 use store_tables::{GREATEST_PLACE, LATEST_MOMENT, RowFault, insert_void, set_rolls};
 
-/// Says how many times the counter went past its range before the next entry.
+/// Sets the rollovers of the next entry.
 fn roll_next<S: Alter>(
     tx: &mut Transaction<'_, S>,
     meter: &str,
@@ -40,7 +40,7 @@ fn roll_next<S: Alter>(
     Ok(())
 }
 
-/// Takes out the step to the next entry.
+/// Removes the energy of the step to the next entry.
 fn take_next<S: Alter>(
     tx: &mut Transaction<'_, S>,
     meter: &str,
@@ -58,7 +58,7 @@ fn take_next<S: Alter>(
     Ok(())
 }
 
-/// Puts in the step that the next entry has from now on.
+/// Adds the energy of the new step to the next entry.
 fn put_next<S: Alter>(
     tx: &mut Transaction<'_, S>,
     meter: &str,
@@ -76,7 +76,7 @@ fn put_next<S: Alter>(
     Ok(())
 }
 
-/// Takes out the steps to the next entry and to the voided one.
+/// Removes the energy of the steps to the next entry and to the voided entry.
 fn take_steps<S: Alter>(
     tx: &mut Transaction<'_, S>,
     meter: &str,
@@ -94,7 +94,7 @@ fn take_steps<S: Alter>(
     Ok(())
 }
 
-/// Takes steps out of the interval rows and puts another in.
+/// Replaces the energy of the removed steps in the interval rows by that of the new step.
 fn exchange_rows<S: Alter>(
     tx: &mut Transaction<'_, S>,
     meter: &str,
@@ -111,7 +111,7 @@ fn exchange_rows<S: Alter>(
     Ok(())
 }
 
-/// Adds a void, and the rollovers that it gives the next entry.
+/// Writes a void, and the new rollovers of the next entry.
 fn mark_void<S: Alter>(
     tx: &mut Transaction<'_, S>,
     meter: &str,
@@ -130,7 +130,7 @@ fn mark_void<S: Alter>(
     roll_next(tx, meter, next)
 }
 
-/// Adds a void, and changes what it changes in the books of its meter.
+/// Writes a void, and the changes that it makes to its meter.
 fn book_void<S: Alter>(
     tx: &mut Transaction<'_, S>,
     meter: &str,
@@ -150,9 +150,10 @@ fn book_void<S: Alter>(
     settle(tx, meter, made.last, false)
 }
 
-/// Enters the void of a meter's entry: the entry stays, with a row that says so; the next that stands has the rollovers that
-/// the entry before gives it, and the meter's energy, in whole and by intervals, is anew that of the entries that stand. This
-/// costs as much as there are quarter hours between the entries around it.
+/// Writes the void of a meter's entry. The entry's row stays, and a row of `voids` marks it. The
+/// next entry that is not voided gets the rollovers that follow from its new predecessor. The
+/// meter's total energy and interval rows become those of the entries that are not voided. The cost
+/// grows with the number of quarter hours between the neighbours of the voided entry.
 pub fn enter_void<S: Alter>(
     tx: &mut Transaction<'_, S>,
     voided: &VoidedEntry,

@@ -1,4 +1,4 @@
-//! Laws of the tables.
+//! Theorems about the tables.
 ghost use Rattle.office_store.specs.Laws.Files.{NewFilesHaveNone, OpenedFilesKeepTheirs};
 ghost use Rattle.office_store.specs.Laws.Files.{NewestFilesHaveTheirs, FoundFilesKeepTheirs};
 ghost use Rattle.office_store.specs.Laws.Laws.{DatabasesTellTheirFacts, LeftFactsAreFound, TablesTellTheirFacts};
@@ -6,8 +6,8 @@ ghost use Rattle.office_store.specs.Laws.Laws.{DatabasesTellTheirFacts, LeftFact
 use meter_journal::rows_stand;
 use read_plan::lists_are_planned_once;
 
-/// Tables tell the facts that they are of: any two lists of facts whose tables they are are the same books, and name the
-/// same zone.
+/// Theorem: tables determine their records. Two lists of records with the same tables are equal up
+/// to order, and have the same time zone.
 pub fn tables_tell_their_facts()
     ensures { TablesTellTheirFacts }
 {
@@ -15,36 +15,36 @@ pub fn tables_tell_their_facts()
     lists_are_planned_once();
 }
 
-/// So does a database: the facts that it has are the same books.
+/// Theorem: a database determines its records in the same way.
 pub fn databases_tell_their_facts()
     ensures { DatabasesTellTheirFacts }
 {
     tables_tell_their_facts();
 }
 
-/// A database of the trees that a stop left, as the next open finds it, has the facts that the stop left.
+/// Theorem: the next open finds the records that a crash left.
 pub fn left_facts_are_found()
     ensures { LeftFactsAreFound }
 {}
 
-/// A new file has no facts.
+/// Theorem: a new file has no records.
 pub fn new_files_have_none()
     ensures { NewFilesHaveNone }
 {}
 
-/// An opening keeps the facts of a file of any version.
+/// Theorem: an opening keeps the records of a file of any version.
 pub fn opened_files_keep_theirs()
     ensures { OpenedFilesKeepTheirs }
 {}
 
-/// A file of the newest version has the facts whose tables it has, and no others.
+/// Theorem: a file of the newest version has exactly the records that its tables encode.
 pub fn newest_files_have_theirs()
     ensures { NewestFilesHaveTheirs }
 {
     opened_files_keep_theirs();
 }
 
-/// A database of the trees of a file of any version, as the next open finds it, has the file's facts.
+/// Theorem: the next open of a file of any version finds the file's records.
 pub fn found_files_keep_theirs()
     ensures { FoundFilesKeepTheirs }
 {}

@@ -11,8 +11,9 @@ use crate::stops::laws::stops_leave_facts;
 use sqlite::{Connection, FileStore};
 use sqlite_disk::Disk;
 
-/// Ends a connection to files and hands back their store. Where a stop of the connection left the facts of one of some
-/// lists, the next open finds them in whatever a stop left of the files, and in whatever it leaves of them from now on.
+/// Ends a connection to files, and returns their store. Suppose that a crash of the connection
+/// leaves the records of one of some lists. Then the next open finds the records of one of those
+/// lists, after a crash before or after this call.
 pub fn end<D: Disk + Drop>(connection: Connection<FileStore<D>>) -> FileStore<D>
     ensures before { IsClean (view result) → (zone : List ℕ) (left : List (List Fact))
         → LeavesFacts over_files zone connection left

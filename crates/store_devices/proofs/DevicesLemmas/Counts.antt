@@ -1,4 +1,4 @@
--- An answer has as many rows as pass.
+-- An answer has as many rows as pass the test.
 use Rattle.std.proofs.Common.{◌≡◌, Bool, List, length, filter, ap, ◌∙◌}
 use Rattle.std.proofs.lemmas.List.{length-map}
 use Rattle.std.proofs.lemmas.List.Sorted.{length_permutation}

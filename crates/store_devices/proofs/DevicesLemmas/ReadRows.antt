@@ -1,4 +1,4 @@
--- What is read of a row that the queries show.
+-- The values that are read from the rows that the queries show.
 use Rattle.std.proofs.Common.{◌≡◌, ◌==◌, inl, inr, ℕ, ℤ, Bool, true, false, if◌then◌else◌, Option, Some, None, Ok, refl, subst}
 use Rattle.std.proofs.lemmas.Bool.{cases_Bool}
 use Rattle.sqlite.specs.declared.types.Value.{Value}
@@ -56,7 +56,7 @@ scale_sound kind v s is = elim (cases_Bool (kind == 0)) [
   | inr told ↦ at_sound (whole_in 0 65535 v) v s refl (rw told at is)
 ]
 
--- a scale that is reached is one that the columns tell
+-- A scale that passes the check is the scale that the columns encode.
 pub record IsReached (address : ℕ) (told : Option RegisterScale) (s : RegisterScale) : Type 0 where
   pub scale : told ≡ Some s
   pub span : fits_a_read address s ≡ true

@@ -1,4 +1,4 @@
--- Points that come one after the other.
+-- Points that are inserted one after another.
 use Rattle.std.proofs.Common.{◌≡◌, ◌<◌, ◌+◌, ℕ, suc, List, [], ◌∷◌, ◌++◌, map, take, length, get_or, Result, Ok, sym, ap, subst, ◌∙◌, arith, IsPermutation}
 use Rattle.std.proofs.lemmas.List.{append_assoc, map-append}
 use Rattle.std.proofs.Math.Seq.{take-suc}
@@ -13,7 +13,7 @@ use Rattle.store_devices.specs.Devices.Rows.{Listed, listed_at, point_columns, i
 use Rattle.store_devices.specs.Devices.Trees.{points}
 
 module _ (device : List ℕ) where
-  -- so many points came
+  -- These points were inserted.
   abbrev pub Came : List Point → Content → Content → Type 0
   Came ps = Edits points point_columns (with_points device ps)
 

@@ -1,4 +1,4 @@
--- What the texts mean.
+-- The meaning of the SQL texts on `devices`, `points` and `registers`.
 use Rattle.std.proofs.Common.{◌≡◌, List, [], ◌∷◌, codes, ℕ, false, refl, pos}
 use Rattle.sqlite.specs.declared.types.Value.TheVariants.{Null, Text}
 use Rattle.sqlite.specs.Term.{Term, lit, col}

@@ -1,4 +1,4 @@
--- What the statements do.
+-- The effect of the statements on `devices`, `points` and `registers`.
 use Rattle.std.proofs.Common.{◌≡◌, ℕ, pos, bytes_eq, List, [], ◌∷◌, drop, Result, OnOk, refl}
 use Rattle.sqlite.specs.declared.types.Value.TheVariants.{Null, Text}
 use Rattle.sqlite.specs.declared.error.Error.{Error}

@@ -1,4 +1,4 @@
--- What is read of a row that the queries show.
+-- The values that are read from the rows that the queries show.
 use Rattle.std.proofs.lemmas.Bool.{cases_Bool}
 use Rattle.std.proofs.Common.{◌≡◌, ◌≢◌, ◌≤◌, ◌+◌, ◌==◌, inl, inr, if◌then◌else◌, ℕ, List, zero-le, Option, Some, None, Ok, Err, Result, Bool, true, false, bytes_eq, IfOk, refl, sym, ap, subst, ◌∙◌, arith}
 use Rattle.sqlite.specs.declared.types.Value.TheVariants.{Text}
@@ -27,7 +27,7 @@ use Rattle.store_devices.specs.Polls.Rows.{number_shown, poll_number, poll_in, H
 pub reads_poll_number : (row : Row) (r : Result ℕ RowFault) → r ≡ or_damaged (whole_in 1 greatest_place (column row 0)) → ReadsRow row number_shown HasNumber IsSoundStarted r
 reads_poll_number = reads_number 1 greatest_place number_shown poll_number IsSoundStarted (λ p. refl) (λ p is. is.row.number)
 
--- ---- moments
+-- ---- timestamps
 
 pub reads_start_moment : (row : Row) (r : Result ℕ RowFault) → r ≡ or_damaged (whole_in 0 latest_moment (column row 0)) → ReadsRow row start_shown HasStart IsSoundStarted r
 reads_start_moment = reads_number 0 latest_moment start_shown start_of IsSoundStarted (λ p. refl) (λ p is. (zero-le, is.row.started))
@@ -118,7 +118,7 @@ without_code : (b : Bool) (o : Outcome) (code : ℕ) → o ≢ Exception code �
 without_code true o code other e = other (let f : Some o ≡ Some (Exception code) = e in cc)
 without_code false o code other e = absurd (let f = e in cc)
 
--- the code of an exception is the one that was read
+-- The code of an exception is the code that was read.
 exception_is : (number code read : ℕ) → outcome_of number read ≡ Some (Exception code) → code ≡ read
 exception_is number code read is = elim (cases_Bool (number == 1)) [
   | inl one ↦ absurd (without_code (read == 0) Answered code (λ e. absurd (let f = e in cc)) (rw one at is))
@@ -172,7 +172,7 @@ sound_outcome row (Ok a) is =
       code = code_bound number.value code.value outcome.value (whole_bounds 0 255 (column row 3) code.value code.is).1 outcome.is;
     })
 
--- ---- replies
+-- ---- kept requests
 
 kind_back : (k : CommandKind) → kind_in (Text (kind_word k)) ≡ Some k
 kind_back kind.Device = refl

@@ -1,4 +1,4 @@
--- What the texts mean.
+-- The meaning of the SQL texts on `polls`, `outcomes`, `holds` and `replies`.
 use Rattle.std.proofs.Common.{◌≡◌, pos, List, [], ◌∷◌, codes, ℕ, false, None, inl, inr, refl}
 use Rattle.sqlite.specs.declared.types.Value.TheVariants.{Null, Int, Text}
 use Rattle.sqlite.specs.Term.{Term, lit, col}
@@ -359,7 +359,7 @@ latest_reply_suits = suits_scan 16 latest_reply_tests latest_reply_project ((col
 abbrev pub pending : List ℕ
 pending = codes "SELECT poll, device, unit, started, tid, function, address, count FROM polls WHERE NOT EXISTS (SELECT 1 FROM outcomes WHERE outcomes.poll = polls.poll) ORDER BY poll"
 
--- an outcome names the poll of the row
+-- The outcome's poll is the poll of the outer row.
 abbrev pub names_poll : List Term
 names_poll = op2 (Compare Eq Binary) (col 2 0) (col 1 0) ∷ []
 

@@ -47,7 +47,7 @@ none_counted p f (x ∷ xs) = elim (cases_Bool (p x)) [
 -- ---- the rows that wait
 
 module _ (db : Trees) where
-  -- the row of an outcome names the row of a poll
+  -- The row of an outcome has the number of the poll's row.
   abbrev names : Row → Row → Bool
   names r o = list_all (holds ([] ∷ r ∷ o ∷ [])) text.names_poll
 

@@ -1,4 +1,4 @@
--- Rows of the tables, their columns, and the ranges of their values.
+-- Rows of `devices`, `points` and `registers`, their columns, and the ranges of their values.
 use Rattle.std.specs.Prelude.{◌≡◌, ℕ, ℤ, pos, ◌≤◌, ◌+◌, ◌-◌, min, max, nat_le, true, List, [], ◌∷◌, ◌++◌, map, length, filter, IsTrue, Bool, bytes_eq, ◌==◌, Option, Some, None, if◌then◌else◌, Result, Ok, IsUtf8, string_bytes}
 use Rattle.sqlite.specs.declared.types.Value.{Value}
 use Rattle.sqlite.specs.declared.types.Value.TheVariants.{Null, Int, Text}
@@ -22,43 +22,49 @@ use Rattle.store_devices.specs.declared.devices.rows.RegisterScale.TheVariants a
 
 -- ---- devices
 
--- a device under its name
+-- A device with its name.
 pub record Added : Type 0 where
   pub name : List ℕ
   pub row : DeviceRow
 
+-- The columns of a device.
 abbrev pub device_columns : Added → Row
 device_columns d =
     Int (pos d.row.place) ∷ Null ∷ Text d.name ∷ Int (pos d.row.unit) ∷ Int (pos d.row.timeout)
     ∷ Int (pos d.row.window) ∷ []
 
--- what the queries show of it
+-- The columns that the queries show of a device.
 abbrev pub device_shown : Added → Row
 device_shown d =
     Int (pos d.row.place) ∷ Text d.name ∷ Int (pos d.row.unit) ∷ Int (pos d.row.timeout)
     ∷ Int (pos d.row.window) ∷ []
 
+-- The index of a device.
 abbrev pub device_place : Added → ℕ
 device_place d = d.row.place
 
+-- The column that the query for the last device shows: its index.
 abbrev pub device_place_shown : Added → Row
 device_place_shown d = Int (pos d.row.place) ∷ []
 
+-- Every number of a device is in its range.
 pub record IsSoundDevice (d : DeviceRow) : Type 0 where
   pub place : IsPlace d.place
   pub unit : d.unit ≤ LAST_UNIT
   pub timeout : (1 ≤ d.timeout) × (d.timeout ≤ MAX_TIMEOUT)
   pub window : (1 ≤ d.window) × (d.window ≤ MAX_WINDOW)
 
+-- Every number of a device is in its range, and its name is UTF-8.
 pub record IsSoundAdded (d : Added) : Type 0 where
   pub row : IsSoundDevice d.row
   pub name : IsUtf8 d.name
 
+-- The value read has the name and the numbers of the device.
 pub record IsDevice (d : Added) (a : Device) : Type 0 where
   pub name : string_bytes a.name ≡ d.name
   pub row : a.row ≡ d.row
 
--- the device that the columns of a row are, or damage
+-- The numbers of the device that a row shows, or damage.
 abbrev pub device_in : Row → Result DeviceRow RowFault
 device_in row =
     and_then (or_damaged (whole_in 1 greatest_place (column row 0))) (λ place.
@@ -69,7 +75,7 @@ device_in row =
 
 -- ---- points
 
--- a point of a device's list
+-- A point of a device's list.
 pub record Listed : Type 0 where
   pub device : List ℕ
   pub name : List ℕ
@@ -81,53 +87,61 @@ abbrev pub listed_as : (device name kind scale : List ℕ) → PointRow → List
 listed_as device name kind scale row =
     record { device = device; name = name; kind = kind; scale = scale; row = row }
 
+-- The columns of a point.
 abbrev pub point_columns : Listed → Row
 point_columns p =
     Text p.device ∷ Int (pos p.row.place) ∷ Text p.name ∷ Int (pos (code_of p.row.function))
     ∷ Int (pos p.row.area)
     ∷ Int (pos p.row.address) ∷ Text p.kind ∷ Text p.scale ∷ []
 
+-- The columns that the queries show of a point.
 abbrev pub point_shown : Listed → Row
 point_shown p =
     Int (pos p.row.place) ∷ Text p.name ∷ Int (pos (code_of p.row.function)) ∷ Int (pos p.row.area)
     ∷ Int (pos p.row.address) ∷ Text p.kind ∷ Text p.scale ∷ []
 
+-- The point is of this device's list.
 abbrev pub is_point_of : (device : List ℕ) → Listed → Bool
 is_point_of device p = bytes_eq p.device device
 
+-- The index of a point in its list.
 abbrev pub point_place : Listed → ℕ
 point_place p = p.row.place
 
+-- Every number of a point is in its range.
 pub record IsSoundPoint (p : PointRow) : Type 0 where
   pub place : IsPlace p.place
   pub area : p.area ≤ 255
   pub address : p.address ≤ LAST_ADDRESS
 
+-- Every number of a point is in its range, and its texts are UTF-8.
 pub record IsSoundListed (p : Listed) : Type 0 where
   pub row : IsSoundPoint p.row
   pub name : IsUtf8 p.name
   pub kind : IsUtf8 p.kind
   pub scale : IsUtf8 p.scale
 
+-- The value read has the texts and the numbers of the point.
 pub record IsPoint (p : Listed) (a : Point) : Type 0 where
   pub name : string_bytes a.name ≡ p.name
   pub kind : string_bytes a.kind ≡ p.kind
   pub scale : string_bytes a.scale ≡ p.scale
   pub row : a.row ≡ p.row
 
--- a point as it stands in the list of a device
+-- A point in the list of a device.
 abbrev pub listed_at : (device : List ℕ) → Point → Listed
 listed_at device p =
     listed_as device (string_bytes p.name) (string_bytes p.kind) (string_bytes p.scale) p.row
 
--- the points of a device come to the others, or stand in the place of those that it had
+-- The rows after points of a device were added.
 abbrev pub with_points : (device : List ℕ) → List Point → List Listed → List Listed
 with_points device ps rows = map (listed_at device) ps ++ rows
 
+-- The rows after the list of a device was replaced.
 abbrev pub with_list : (device : List ℕ) → List Point → List Listed → List Listed
 with_list device ps rows = with_points device ps (without_where (is_point_of device) rows)
 
--- the point that the columns of a row are, or damage
+-- The numbers of the point that a row shows, or damage.
 abbrev pub point_in : Row → Result PointRow RowFault
 point_in row =
     and_then (or_damaged (whole_in 1 greatest_place (column row 0))) (λ place.
@@ -138,29 +152,32 @@ point_in row =
 
 -- ---- registers
 
--- the table has the kind of a scale, 0 or 1, and its number
+-- The number in the table of a scale's kind: 0 for a factor, 1 for an address.
 abbrev pub scale_kind : RegisterScale → ℕ
 scale_kind (scale.Fixed sf) = 0
 scale_kind (scale.At address) = 1
 
+-- The number in the table of a scale: its factor, or its address.
 abbrev pub scale_number : RegisterScale → ℤ
 scale_number (scale.Fixed sf) = sf
 scale_number (scale.At address) = pos address
 
+-- A scale factor from -3 to 3, or an address of a Modbus register.
 abbrev pub IsSoundScale : RegisterScale → Type 0
 IsSoundScale (scale.Fixed sf) = IsTrue (is_within 3 sf)
 IsSoundScale (scale.At address) = address ≤ LAST_ADDRESS
 
--- How many registers lie from the first to the last of a counter, which is two from its address on, and its scale.
+-- How many registers a read needs for a counter and its scale, from the first to the last. The
+-- counter has two registers.
 abbrev pub registers_spanned : (address : ℕ) → RegisterScale → ℕ
 registers_spanned address (scale.Fixed sf) = 2
 registers_spanned address (scale.At at) = max (address + 2) (at + 1) - min address at
 
--- one read, of at most 125 registers, reaches from the counter to its scale
+-- One read of at most 125 registers covers the counter and its scale.
 abbrev pub fits_a_read : (address : ℕ) → RegisterScale → Bool
 fits_a_read address scale = nat_le (registers_spanned address scale) MAX_READ_REGISTERS
 
--- a register of a device under its name
+-- A register of a device, with its name.
 pub record Registered : Type 0 where
   pub name : List ℕ
   pub device : List ℕ
@@ -169,41 +186,50 @@ pub record Registered : Type 0 where
 abbrev pub registered_as : (name device : List ℕ) → RegisterRow → Registered
 registered_as name device row = record { name = name; device = device; row = row }
 
+-- The columns of a register.
 abbrev pub register_columns : Registered → Row
 register_columns r =
     Int (pos r.row.place) ∷ Null ∷ Text r.name ∷ Text r.device ∷ Int (pos (code_of r.row.function))
     ∷ Int (pos r.row.address)
     ∷ Int (pos (scale_kind r.row.scale)) ∷ Int (scale_number r.row.scale) ∷ []
 
+-- The columns that the queries show of a register.
 abbrev pub register_shown : Registered → Row
 register_shown r =
     Int (pos r.row.place) ∷ Text r.name ∷ Text r.device ∷ Int (pos (code_of r.row.function))
     ∷ Int (pos r.row.address)
     ∷ Int (pos (scale_kind r.row.scale)) ∷ Int (scale_number r.row.scale) ∷ []
 
+-- The index of a register.
 abbrev pub register_place : Registered → ℕ
 register_place r = r.row.place
 
+-- The column that the query for the last register shows: its index.
 abbrev pub register_place_shown : Registered → Row
 register_place_shown r = Int (pos r.row.place) ∷ []
 
+-- The register has this name.
 abbrev pub is_register : (name : List ℕ) → Registered → Bool
 is_register name r = bytes_eq r.name name
 
+-- The register is of this device.
 abbrev pub is_register_of : (device : List ℕ) → Registered → Bool
 is_register_of device r = bytes_eq r.device device
 
+-- Every number of a register is in its range, and one read covers its counter and its scale.
 pub record IsSoundRegister (r : RegisterRow) : Type 0 where
   pub place : IsPlace r.place
   pub address : r.address ≤ LAST_COUNTER
   pub scale : IsSoundScale r.scale
   pub span : fits_a_read r.address r.scale ≡ true
 
+-- The row of a register is sound, and its names are UTF-8.
 pub record IsSoundRegistered (r : Registered) : Type 0 where
   pub row : IsSoundRegister r.row
   pub name : IsUtf8 r.name
   pub device : IsUtf8 r.device
 
+-- The value read has the names and the numbers of the register.
 pub record IsRegister (r : Registered) (a : Register) : Type 0 where
   pub name : string_bytes a.name ≡ r.name
   pub device : string_bytes a.device ≡ r.device
@@ -217,16 +243,16 @@ abbrev pub at_by : Option ℕ → Option RegisterScale
 at_by None = None
 at_by (Some address) = Some (scale.At address)
 
--- the scale of a kind and a number, if they are those of one
+-- The scale that a kind and a value encode, if they encode one.
 abbrev pub scale_of : (kind : ℕ) → Value → Option RegisterScale
 scale_of kind v = if kind == 0 then fixed_by (within 3 v) else at_by (whole_in 0 LAST_ADDRESS v)
 
--- the same, if one read reaches it
+-- The scale, if one read covers it with the counter.
 abbrev pub reached_from : (address : ℕ) → Option RegisterScale → Option RegisterScale
 reached_from address None = None
 reached_from address (Some scale) = if fits_a_read address scale then Some scale else None
 
--- the register that the columns of a row are, or damage
+-- The numbers of the register that a row shows, or damage.
 abbrev pub register_in : Row → Result RegisterRow RowFault
 register_in row =
     and_then (or_damaged (whole_in 1 greatest_place (column row 0))) (λ place.
@@ -236,6 +262,6 @@ register_in row =
     and_then (or_damaged (reached_from address (scale_of kind (column row 6)))) (λ scale.
     Ok (record { place = place; function = function; address = address; scale = scale }))))))
 
--- how many registers a device has
+-- The number of registers of a device.
 abbrev pub IsRegisterCount : (device : List ℕ) → List Registered → ℕ → Type 0
 IsRegisterCount device rows count = count ≡ length (filter (is_register_of device) rows)

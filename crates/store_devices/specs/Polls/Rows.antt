@@ -1,4 +1,5 @@
--- Rows of the tables, their columns, and the ranges of their values.
+-- Rows of `polls`, `outcomes`, `holds` and `replies`, their columns, and the ranges of their
+-- values.
 use Rattle.std.specs.Prelude.{◌≡◌, ℕ, pos, ◌≤◌, ◌<◌, ◌+◌, ◌-◌, ◌^◌, min, List, [], ◌∷◌, Bool, bytes_eq, ◌&&◌, ◌==◌, Option, Some, None, if◌then◌else◌, Result, Ok, IsUtf8, string_bytes, codes}
 use Rattle.sqlite.specs.declared.types.Value.{Value}
 use Rattle.sqlite.specs.declared.types.Value.TheVariants.{Null, Int, Real, Text, Blob}
@@ -26,37 +27,42 @@ use Rattle.store_devices.specs.declared.polls.rows.Repeat.TheVariants.{Same, Oth
 
 -- ---- polls
 
--- a poll of a device
+-- A poll of a device.
 pub record Started : Type 0 where
   pub device : List ℕ
   pub row : PollRow
 
+-- The columns of a poll.
 abbrev pub poll_columns : Started → Row
 poll_columns p =
     Int (pos p.row.number) ∷ Null ∷ Text p.device ∷ Int (pos p.row.unit) ∷ Int (pos p.row.started)
     ∷ Int (pos p.row.id)
     ∷ Int (pos (code_of p.row.function)) ∷ Int (pos p.row.address) ∷ Int (pos p.row.count) ∷ []
 
--- what the queries show of it
+-- The columns that the queries show of a poll.
 abbrev pub poll_shown : Started → Row
 poll_shown p =
     Int (pos p.row.number) ∷ Text p.device ∷ Int (pos p.row.unit) ∷ Int (pos p.row.started)
     ∷ Int (pos p.row.id)
     ∷ Int (pos (code_of p.row.function)) ∷ Int (pos p.row.address) ∷ Int (pos p.row.count) ∷ []
 
+-- The column that the query for the last poll shows: its number.
 abbrev pub number_shown : Started → Row
 number_shown p = Int (pos p.row.number) ∷ []
 
+-- The number of a poll.
 abbrev pub poll_number : Started → ℕ
 poll_number p = p.row.number
 
+-- The poll has this number.
 abbrev pub is_poll : (number : ℕ) → Started → Bool
 is_poll number p = p.row.number == number
 
--- so many registers at most from an address on
+-- The greatest count of a read from an address.
 abbrev pub greatest_count : (address : ℕ) → ℕ
 greatest_count address = min 125 (65536 - address)
 
+-- Every number of a poll is in its range, and the read ends at or below address 65535.
 pub record IsSoundPoll (p : PollRow) : Type 0 where
   pub number : IsPlace p.number
   pub unit : p.unit ≤ 255
@@ -66,18 +72,21 @@ pub record IsSoundPoll (p : PollRow) : Type 0 where
   pub count : (1 ≤ p.count) × (p.count ≤ 125)
   pub inside : p.address + p.count ≤ 65536
 
+-- Every number of a poll is in its range, and its device's name is UTF-8.
 pub record IsSoundStarted (p : Started) : Type 0 where
   pub row : IsSoundPoll p.row
   pub device : IsUtf8 p.device
 
+-- The value read has the device and the numbers of the poll.
 pub record IsStarted (p : Started) (a : Poll) : Type 0 where
   pub device : string_bytes a.device ≡ p.device
   pub row : a.row ≡ p.row
 
+-- The value read is the number of the poll.
 abbrev pub HasNumber : Started → ℕ → Type 0
 HasNumber p number = number ≡ p.row.number
 
--- the poll that the columns of a row are, or damage
+-- The numbers of the poll that a row shows, or damage.
 abbrev pub poll_in : Row → Result PollRow RowFault
 poll_in row =
     and_then (or_damaged (whole_in 1 greatest_place (column row 0))) (λ number.
@@ -99,31 +108,37 @@ poll_in row =
 
 -- ---- outcomes
 
+-- The columns of an outcome.
 abbrev pub outcome_columns : OutcomeRow → Row
 outcome_columns o =
     Int (pos o.poll) ∷ Null ∷ Int (pos o.moment) ∷ Int (pos (outcome_number o.outcome))
     ∷ Int (pos (outcome_code o.outcome)) ∷ []
 
+-- The columns that the queries show of an outcome.
 abbrev pub outcome_shown : OutcomeRow → Row
 outcome_shown o =
     Int (pos o.poll) ∷ Int (pos o.moment) ∷ Int (pos (outcome_number o.outcome))
     ∷ Int (pos (outcome_code o.outcome)) ∷ []
 
+-- The outcome is of this poll.
 abbrev pub is_outcome_of : (poll : ℕ) → OutcomeRow → Bool
 is_outcome_of poll o = o.poll == poll
 
+-- The value read is the outcome.
 abbrev pub IsOutcome : OutcomeRow → OutcomeRow → Type 0
 IsOutcome o a = a ≡ o
 
--- an exception code has eight bits
+-- The code of an outcome has eight bits.
 abbrev pub HasCode : Outcome → Type 0
 HasCode outcome = outcome_code outcome ≤ 255
 
+-- Every value of an outcome is in its range.
 pub record IsSoundOutcome (o : OutcomeRow) : Type 0 where
   pub poll : IsPlace o.poll
   pub moment : o.moment ≤ latest_moment
   pub code : HasCode o.outcome
 
+-- The malformation with a number.
 abbrev pub malformation_of : ℕ → Option Malformation
 malformation_of n =
     if n == 1 then Some malformation.WrongFunction else
@@ -132,6 +147,7 @@ malformation_of n =
     if n == 4 then Some malformation.WrongEcho else
     if n == 5 then Some malformation.WrongUnit else None
 
+-- The cause of a lost poll with a number.
 abbrev pub lost_of : ℕ → Option LostCause
 lost_of n =
     if n == 1 then Some lost.Gone else
@@ -147,7 +163,7 @@ abbrev pub lost_by : Option LostCause → Option Outcome
 lost_by None = None
 lost_by (Some why) = Some (Lost why)
 
--- the outcome of a number and a code, if they are those of one
+-- The outcome with a number and a code, if they encode one.
 abbrev pub outcome_of : (number code : ℕ) → Option Outcome
 outcome_of number code =
     if number == 1 then (if code == 0 then Some Answered else None) else
@@ -156,7 +172,7 @@ outcome_of number code =
     if number == 4 then malformed_of (malformation_of code) else
     if number == 5 then lost_by (lost_of code) else None
 
--- the outcome that the columns of a row are, or damage
+-- The outcome that a row shows, or damage.
 abbrev pub outcome_in : Row → Result OutcomeRow RowFault
 outcome_in row =
     and_then (or_damaged (whole_in 1 greatest_place (column row 0))) (λ poll.
@@ -166,42 +182,48 @@ outcome_in row =
     and_then (or_damaged (outcome_of number code)) (λ outcome.
     Ok (record { poll = poll; moment = moment; outcome = outcome }))))))
 
--- ---- readings that were held
+-- ---- rejected readings
 
--- a reading of a meter
+-- A rejected reading of a meter.
 pub record Held : Type 0 where
   pub meter : List ℕ
   pub row : HoldRow
 
+-- The columns of a rejected reading.
 abbrev pub hold_columns : Held → Row
 hold_columns h =
     Int (pos h.row.place) ∷ Null ∷ Text h.meter ∷ Int (pos h.row.poll) ∷ Int (pos h.row.moment)
     ∷ Int (pos h.row.raw)
     ∷ Int h.row.sf ∷ Int (pos (cause_number h.row.cause)) ∷ []
 
--- what INSERT is handed of it
+-- The parameters of the INSERT of a rejected reading.
 abbrev pub hold_shown : Held → Row
 hold_shown h =
     Int (pos h.row.place) ∷ Text h.meter ∷ Int (pos h.row.poll) ∷ Int (pos h.row.moment)
     ∷ Int (pos h.row.raw)
     ∷ Int h.row.sf ∷ Int (pos (cause_number h.row.cause)) ∷ []
 
+-- The index of a rejected reading.
 abbrev pub hold_place : Held → ℕ
 hold_place h = h.row.place
 
+-- The column that the query for the last rejected reading shows: its index.
 abbrev pub hold_place_shown : Held → Row
 hold_place_shown h = Int (pos h.row.place) ∷ []
 
+-- Every value of a rejected reading is in its range.
 pub record IsSoundHold (h : HoldRow) : Type 0 where
   pub place : IsPlace h.place
   pub poll : IsPlace h.poll
   pub moment : h.moment ≤ latest_moment
 
+-- Every value of a rejected reading is in its range.
 abbrev pub IsSoundHeld : Held → Type 0
 IsSoundHeld h = IsSoundHold h.row
 
--- ---- replies
+-- ---- kept requests
 
+-- The word of a command kind in the table.
 abbrev pub kind_word : CommandKind → List ℕ
 kind_word kind.Device = codes "device"
 kind_word kind.List = codes "list"
@@ -215,7 +237,7 @@ kind_word kind.Close = codes "close"
 kind_word kind.Void = codes "void"
 kind_word kind.Start = codes "start"
 
--- the kind of a word, if it is the word of one
+-- The command kind with a word, if there is one.
 abbrev pub kind_of : List ℕ → Option CommandKind
 kind_of word =
     if bytes_eq word (codes "device") then Some kind.Device else
@@ -230,7 +252,8 @@ kind_of word =
     if bytes_eq word (codes "void") then Some kind.Void else
     if bytes_eq word (codes "start") then Some kind.Start else None
 
--- what was answered to a request, kept under the caller's name and number
+-- A kept request under its idempotency key, with the kind of its command and the time of its
+-- response.
 pub record Kept : Type 0 where
   pub caller : List ℕ
   pub number : ℕ
@@ -243,32 +266,38 @@ abbrev pub kept_under : (caller : List ℕ) → (number : ℕ) → (request : Li
 kept_under caller number request kind moment =
     record { caller = caller; number = number; request = request; kind = kind; moment = moment }
 
+-- The columns of a kept request.
 abbrev pub reply_columns : Kept → Row
 reply_columns k =
     Text k.caller ∷ Int (pos k.number) ∷ Blob k.request ∷ Text (kind_word k.kind)
     ∷ Int (pos k.moment)
     ∷ []
 
+-- The columns that the query shows of a kept request: its bytes, and the word of its command.
 abbrev pub reply_shown : Kept → Row
 reply_shown k = Blob k.request ∷ Text (kind_word k.kind) ∷ []
 
+-- The request is kept under this idempotency key.
 abbrev pub is_reply : (caller : List ℕ) → (number : ℕ) → Kept → Bool
 is_reply caller number k = bytes_eq k.caller caller && (k.number == number)
 
--- a number of a caller is below 2 ^ 63
+-- The number of a request is less than 2 ^ 63.
 abbrev pub IsCallNumber : ℕ → Type 0
 IsCallNumber number = number < 2 ^ 63
 
--- a request with the bytes of a kept one repeats it
+-- A request with the same bytes as the kept request is a retry.
 abbrev pub repeat_as : CommandKind → (same : Bool) → Repeat
 repeat_as kind same = if same then Same kind else Other
 
+-- The request compared with the kept request.
 abbrev pub IsRepeat : (request : List ℕ) → Kept → Repeat → Type 0
 IsRepeat request k a = a ≡ repeat_as k.kind (bytes_eq k.request request)
 
+-- The time of a kept request is in the range of the store's timestamps.
 abbrev pub IsSoundKept : Kept → Type 0
 IsSoundKept k = k.moment ≤ latest_moment
 
+-- The kind of command that a value encodes.
 abbrev pub kind_in : Value → Option CommandKind
 kind_in (Text word) = kind_of word
 kind_in (Int n) = None
@@ -276,7 +305,7 @@ kind_in Null = None
 kind_in (Real x) = None
 kind_in (Blob b) = None
 
--- whether a column has these bytes
+-- Whether a column has these bytes.
 abbrev pub same_bytes : List ℕ → Value → Option Bool
 same_bytes bytes (Blob b) = Some (bytes_eq b bytes)
 same_bytes bytes (Text word) = None
@@ -284,47 +313,59 @@ same_bytes bytes (Int n) = None
 same_bytes bytes Null = None
 same_bytes bytes (Real x) = None
 
--- what a request is to the kept one that a row shows, or damage
+-- The request compared with the kept request of a row, or damage.
 abbrev pub repeat_in : (request : List ℕ) → Row → Result Repeat RowFault
 repeat_in request row =
     and_then (or_damaged (same_bytes request (column row 0))) (λ same.
     and_then (or_damaged (kind_in (column row 1))) (λ kind.
     Ok (repeat_as kind same)))
 
--- ---- moments
+-- ---- timestamps
 
+-- The start of a poll.
 abbrev pub start_of : Started → ℕ
 start_of p = p.row.started
 
+-- The column that the query shows of a poll: its start.
 abbrev pub start_shown : Started → Row
 start_shown p = Int (pos p.row.started) ∷ []
 
+-- The value read is the start of the poll.
 abbrev pub HasStart : Started → ℕ → Type 0
 HasStart p moment = moment ≡ p.row.started
 
+-- The time of an outcome.
 abbrev pub outcome_moment : OutcomeRow → ℕ
 outcome_moment o = o.moment
 
+-- The column that the query shows of an outcome: its time.
 abbrev pub outcome_moment_shown : OutcomeRow → Row
 outcome_moment_shown o = Int (pos o.moment) ∷ []
 
+-- The value read is the time of the outcome.
 abbrev pub HasOutcomeMoment : OutcomeRow → ℕ → Type 0
 HasOutcomeMoment o moment = moment ≡ o.moment
 
+-- The timestamp of a rejected reading.
 abbrev pub hold_moment : Held → ℕ
 hold_moment h = h.row.moment
 
+-- The column that the query shows of a rejected reading: its timestamp.
 abbrev pub hold_moment_shown : Held → Row
 hold_moment_shown h = Int (pos h.row.moment) ∷ []
 
+-- The value read is the timestamp of the rejected reading.
 abbrev pub HasHoldMoment : Held → ℕ → Type 0
 HasHoldMoment h moment = moment ≡ h.row.moment
 
+-- The time of a kept request.
 abbrev pub reply_moment : Kept → ℕ
 reply_moment k = k.moment
 
+-- The column that the query shows of a kept request: its time.
 abbrev pub reply_moment_shown : Kept → Row
 reply_moment_shown k = Int (pos k.moment) ∷ []
 
+-- The value read is the time of the kept request.
 abbrev pub HasReplyMoment : Kept → ℕ → Type 0
 HasReplyMoment k moment = moment ≡ k.moment

@@ -1,4 +1,4 @@
-//! Rows as the queries show them, read column by column.
+//! Readers of the rows of `devices`, `points` and `registers`, column by column.
 ghost use Rattle.std.specs.Prelude.{◌≡◌, IfOk};
 ghost use Rattle.sqlite.specs.Order.{column};
 ghost use Rattle.store_tables.specs.Asking.{ReadsRow};
@@ -18,7 +18,7 @@ use poll_core::{MAX_TIMEOUT, MAX_WINDOW};
 use sqlite::Row;
 use store_tables::{GREATEST_PLACE, RowFault, function, scale, text, whole};
 
-/// The numbers of a device.
+/// Reads all columns of a device but its name.
 fn device(row: &Row) -> Result<DeviceRow, RowFault>
     ensures { result ≡ device_in row.now }
 {
@@ -34,7 +34,7 @@ fn device(row: &Row) -> Result<DeviceRow, RowFault>
     })
 }
 
-/// Reads a device of `device_rows`.
+/// Reads a device from a row of `device_rows`.
 pub fn read_device(row: &Row) -> Result<Device, RowFault>
     ensures read { ReadsRow row.now device_shown IsDevice IsSoundAdded result }
     ensures sound { IfOk result (λ a. IsSoundDevice a.row) }
@@ -44,7 +44,7 @@ pub fn read_device(row: &Row) -> Result<Device, RowFault>
     Ok(Device { name, row: numbers })
 }
 
-/// The numbers of a point.
+/// Reads the numeric columns of a point.
 fn point(row: &Row) -> Result<PointRow, RowFault>
     ensures { result ≡ point_in row.now }
 {
@@ -60,7 +60,7 @@ fn point(row: &Row) -> Result<PointRow, RowFault>
     })
 }
 
-/// Reads a point of `point_rows`.
+/// Reads a point from a row of `point_rows`.
 pub fn read_point(row: &Row) -> Result<Point, RowFault>
     ensures read { ReadsRow row.now point_shown IsPoint IsSoundListed result }
     ensures sound { IfOk result (λ a. IsSoundPoint a.row) }
@@ -77,7 +77,7 @@ pub fn read_point(row: &Row) -> Result<Point, RowFault>
     })
 }
 
-/// The scale of a kind, in a column.
+/// Reads a scale of kind `kind` from the column `at`: a scale factor, or the address of the scale.
 fn scale_at(row: &Row, kind: u64, at: usize) -> Result<RegisterScale, RowFault>
     ensures { result ≡ or_damaged (scale_of kind (column row.now at)) }
 {
@@ -88,7 +88,7 @@ fn scale_at(row: &Row, kind: u64, at: usize) -> Result<RegisterScale, RowFault>
     }
 }
 
-/// Whether one read reaches from a counter to its scale.
+/// Returns whether one Modbus read of at most 125 registers covers a counter and its scale.
 pub fn fits_a_read(address: u16, scale: RegisterScale) -> bool
     ensures { result ≡ rows.fits_a_read address scale }
 {
@@ -102,7 +102,8 @@ pub fn fits_a_read(address: u16, scale: RegisterScale) -> bool
     }
 }
 
-/// The scale of a kind, in a column, for a counter that one read reaches with it.
+/// Reads the scale of the counter at `address`. A scale that one read can't cover with the counter
+/// is damage.
 fn reached_scale(row: &Row, address: u16, kind: u64) -> Result<RegisterScale, RowFault>
     ensures { result ≡ or_damaged (reached_from address (scale_of kind (column row.now 6))) }
 {
@@ -114,7 +115,7 @@ fn reached_scale(row: &Row, address: u16, kind: u64) -> Result<RegisterScale, Ro
     }
 }
 
-/// The numbers of a register.
+/// Reads all columns of a register but its names.
 fn register(row: &Row) -> Result<RegisterRow, RowFault>
     ensures { result ≡ register_in row.now }
 {
@@ -131,7 +132,7 @@ fn register(row: &Row) -> Result<RegisterRow, RowFault>
     })
 }
 
-/// Reads a register of `register_rows`.
+/// Reads a register from a row of `register_rows`.
 pub fn read_register(row: &Row) -> Result<Register, RowFault>
     ensures read { ReadsRow row.now register_shown IsRegister IsSoundRegistered result }
     ensures sound { IfOk result (λ a. IsSoundRegister a.row) }

@@ -1,4 +1,4 @@
-//! The table `devices`.
+//! Statements on the table `devices`.
 ghost use Rattle.sqlite.specs.Held.{state};
 ghost use Rattle.store_tables.specs.Content.{Edits, with_row};
 ghost use Rattle.store_tables.specs.Steps.{Steps, IsSameBorrow};
@@ -12,7 +12,7 @@ use crate::devices::rows::DeviceRow;
 use sqlite::{Alter, Connection, Error, Row, Transaction, params};
 use store_tables::number;
 
-/// Adds a device.
+/// Inserts a device.
 pub fn insert_device<S: Alter>(
     tx: &mut Transaction<'_, S>,
     name: &str,
@@ -36,7 +36,7 @@ pub fn insert_device<S: Alter>(
     )
 }
 
-/// The devices in the order in which they were added; `read_device` reads each.
+/// Queries the devices in the order in which they were added. `read_device` reads each row.
 pub fn device_rows<S: Alter>(conn: &mut Connection<S>) -> Result<Vec<Row>, Error>
     ensures asks { Asks S.Store conn.old conn.new }
     ensures shows { TellsRows S.Store conn.old conn.new devices device_columns result
@@ -48,7 +48,7 @@ pub fn device_rows<S: Alter>(conn: &mut Connection<S>) -> Result<Vec<Row>, Error
     )
 }
 
-/// The place of the last device inside a transaction, if there is one, in its first column.
+/// Queries, inside a transaction, the index of the last device. The first column has the index.
 pub fn last_device_rows<S: Alter>(tx: &mut Transaction<'_, S>) -> Result<Vec<Row>, Error>
     ensures same_reference { IsSameBorrow tx.old.conn tx.new.conn }
     ensures asks { AsksInside S.Store tx.old.conn.now tx.new.conn.now result }

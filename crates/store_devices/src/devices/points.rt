@@ -1,4 +1,4 @@
-//! The table `points`.
+//! Statements on the table `points`.
 ghost use Rattle.std.specs.Prelude.{All};
 ghost use Rattle.sqlite.specs.Held.{state};
 ghost use Rattle.store_tables.specs.Content.{Edits, with_row, without_where};
@@ -13,7 +13,7 @@ use crate::devices::rows::{Point, PointRow};
 use sqlite::{Alter, Connection, Error, Row, Transaction, params};
 use store_tables::number;
 
-/// Adds a point to the list of a device. Its type and its scale are texts, as in a list of comma-separated values.
+/// Inserts a point of a device's list. The type and the scale are texts, as in the CSV list.
 fn insert_point<'a, S: Alter>(
     tx: &mut Transaction<'_, S>,
     device: &'a str,
@@ -44,7 +44,7 @@ fn insert_point<'a, S: Alter>(
     )
 }
 
-/// Takes away the points of a device's list.
+/// Deletes the points of a device's list.
 fn drop_points<S: Alter>(tx: &mut Transaction<'_, S>, device: &str) -> Result<usize, Error>
     ensures same_reference { IsSameBorrow tx.old.conn tx.new.conn }
     ensures does { Steps (state S.Store tx.old.conn.now) (state S.Store tx.new.conn.now) result
@@ -53,7 +53,7 @@ fn drop_points<S: Alter>(tx: &mut Transaction<'_, S>, device: &str) -> Result<us
     tx.execute("DELETE FROM points WHERE device = ?1", params![device])
 }
 
-/// Adds points to the list of a device.
+/// Inserts points into a device's list.
 fn insert_points<S: Alter>(
     tx: &mut Transaction<'_, S>,
     device: &str,
@@ -77,7 +77,7 @@ fn insert_points<S: Alter>(
     Ok(())
 }
 
-/// Puts a list of points in the place of the one that a device has.
+/// Replaces the point list of a device.
 pub fn replace_points<S: Alter>(
     tx: &mut Transaction<'_, S>,
     device: &str,
@@ -92,7 +92,7 @@ pub fn replace_points<S: Alter>(
     insert_points(tx, device, points)
 }
 
-/// The points of a device's list in order; `read_point` reads each.
+/// Queries the points of a device's list in order. `read_point` reads each row.
 pub fn point_rows<S: Alter>(conn: &mut Connection<S>, device: &str) -> Result<Vec<Row>, Error>
     ensures asks { Asks S.Store conn.old conn.new }
     ensures shows { TellsRows S.Store conn.old conn.new trees.points point_columns result

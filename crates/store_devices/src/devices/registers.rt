@@ -1,4 +1,4 @@
-//! The table `registers`.
+//! Statements on the table `registers`.
 ghost use Rattle.std.specs.Prelude.{◌≡◌, IfOk, IfSome};
 ghost use Rattle.sqlite.specs.declared.types.Value.TheVariants.{Int};
 ghost use Rattle.sqlite.specs.Held.{state};
@@ -20,7 +20,7 @@ use sqlite::types::Value;
 use sqlite::{Alter, Connection, Error, Row, Transaction, params};
 use store_tables::{RowFault, number, signed};
 
-/// The kind of a scale as the table has it.
+/// Returns the number of a scale's kind in the table.
 fn kind(scale: RegisterScale) -> u32
     ensures { result ≡ scale_kind scale }
 {
@@ -30,7 +30,7 @@ fn kind(scale: RegisterScale) -> u32
     }
 }
 
-/// The number of a scale as the table has it.
+/// Returns the value of a scale in the table: its factor, or its address.
 fn value(scale: RegisterScale) -> Value
     ensures { result ≡ Int (scale_number scale) }
 {
@@ -40,7 +40,7 @@ fn value(scale: RegisterScale) -> Value
     }
 }
 
-/// Adds a register of a device.
+/// Inserts a register of a device.
 pub fn insert_register<S: Alter>(
     tx: &mut Transaction<'_, S>,
     name: &str,
@@ -68,7 +68,7 @@ pub fn insert_register<S: Alter>(
     )
 }
 
-/// The row of a register, if there is one.
+/// Queries the row of a register.
 fn rows_of<S: Alter>(conn: &mut Connection<S>, name: &str) -> Result<Vec<Row>, Error>
     ensures asks { Asks S.Store conn.old conn.new }
     ensures shows { TellsRows S.Store conn.old conn.new registers register_columns result
@@ -80,7 +80,7 @@ fn rows_of<S: Alter>(conn: &mut Connection<S>, name: &str) -> Result<Vec<Row>, E
     )
 }
 
-/// The register of a name.
+/// Returns the register with a name.
 pub fn register_of<S: Alter>(
     conn: &mut Connection<S>,
     name: &str,
@@ -97,7 +97,8 @@ pub fn register_of<S: Alter>(
     }
 }
 
-/// The registers of a device in the order in which they were added; `read_register` reads each.
+/// Queries the registers of a device in the order in which they were added. `read_register` reads
+/// each row.
 pub fn register_rows<S: Alter>(conn: &mut Connection<S>, device: &str) -> Result<Vec<Row>, Error>
     ensures asks { Asks S.Store conn.old conn.new }
     ensures shows { TellsRows S.Store conn.old conn.new registers register_columns result
@@ -109,7 +110,7 @@ pub fn register_rows<S: Alter>(conn: &mut Connection<S>, device: &str) -> Result
     )
 }
 
-/// The places of the registers of a device.
+/// Queries the indices of the registers of a device.
 fn places_of<S: Alter>(conn: &mut Connection<S>, device: &str) -> Result<Vec<Row>, Error>
     ensures asks { Asks S.Store conn.old conn.new }
     ensures shows { TellsRows S.Store conn.old conn.new registers register_columns result
@@ -121,7 +122,7 @@ fn places_of<S: Alter>(conn: &mut Connection<S>, device: &str) -> Result<Vec<Row
     )
 }
 
-/// How many registers a device has.
+/// Returns the number of registers of a device.
 pub fn register_count<S: Alter>(conn: &mut Connection<S>, device: &str) -> Result<usize, Error>
     ensures asks { Asks S.Store conn.old conn.new }
     ensures counts { TellsAnswer S.Store conn.old conn.new registers register_columns result
@@ -131,7 +132,7 @@ pub fn register_count<S: Alter>(conn: &mut Connection<S>, device: &str) -> Resul
     Ok(rows.len())
 }
 
-/// The place of the last register inside a transaction, if there is one, in its first column.
+/// Queries, inside a transaction, the index of the last register. The first column has the index.
 pub fn last_register_rows<S: Alter>(tx: &mut Transaction<'_, S>) -> Result<Vec<Row>, Error>
     ensures same_reference { IsSameBorrow tx.old.conn tx.new.conn }
     ensures asks { AsksInside S.Store tx.old.conn.now tx.new.conn.now result }

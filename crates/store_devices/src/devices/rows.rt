@@ -1,17 +1,17 @@
-//! Rows of the tables.
+//! Devices, points and registers as the tables have them.
 
 use mb_wire::ReadFunction;
 
-/// The numbers of a device.
+/// A device without its name.
 #[derive(Clone, Copy, Debug, PartialEq, Eq)]
 pub struct DeviceRow {
-    /// Places count from 1.
+    /// The index of the device, from 1.
     pub place: u64,
     /// The Modbus unit identifier.
     pub unit: u8,
-    /// How long a poll waits for its reply, 1 to 60 seconds.
+    /// After how many seconds a poll times out, 1 to 60.
     pub timeout: u8,
-    /// How many polls may wait at a time, 1 to 16.
+    /// How many polls may be pending at once, 1 to 16.
     pub window: u8,
 }
 
@@ -22,18 +22,18 @@ pub struct Device {
     pub row: DeviceRow,
 }
 
-/// The numbers of a point.
+/// A point without its texts.
 #[derive(Clone, Copy, Debug, PartialEq, Eq)]
 pub struct PointRow {
-    /// Places in a list count from 1.
+    /// The index of the point in its list, from 1.
     pub place: u64,
     pub function: ReadFunction,
     pub area: u8,
-    /// Its first register.
+    /// The address of its first Modbus register.
     pub address: u16,
 }
 
-/// A point of a list. Its type and its scale are texts, as in a list of comma-separated values.
+/// A point of a list. Its type and its scale are texts, as in the CSV list.
 #[derive(Debug, Drop)]
 pub struct Point {
     pub name: String,
@@ -42,22 +42,22 @@ pub struct Point {
     pub row: PointRow,
 }
 
-/// Where the scale of a register comes from.
+/// Where the scale factor of a register comes from.
 #[derive(Clone, Copy, Debug, PartialEq, Eq)]
 pub enum RegisterScale {
-    /// It is this one, -3 to 3.
+    /// A fixed scale factor, -3 to 3.
     Fixed(i16),
-    /// The device tells it at this address.
+    /// The address of the Modbus register that has the scale factor.
     At(u16),
 }
 
-/// The numbers of a register.
+/// A register without its names.
 #[derive(Clone, Copy, Debug, PartialEq, Eq)]
 pub struct RegisterRow {
-    /// Places count from 1.
+    /// The index of the register, from 1.
     pub place: u64,
     pub function: ReadFunction,
-    /// The address of its high word, 0 to 65534.
+    /// The address of the counter's high word, 0 to 65534.
     pub address: u16,
     pub scale: RegisterScale,
 }

@@ -1,4 +1,4 @@
-//! Rows as the queries show them, read column by column.
+//! Readers of the rows of `polls`, `outcomes` and `replies`, column by column.
 ghost use Rattle.std.specs.Prelude.{◌≡◌, IfOk};
 ghost use Rattle.sqlite.specs.Order.{column};
 ghost use Rattle.store_tables.specs.Asking.{ReadsRow};
@@ -15,7 +15,7 @@ use sqlite::Row;
 use sqlite::types::ValueRef;
 use store_tables::{GREATEST_PLACE, LATEST_MOMENT, RowFault, function, text, whole};
 
-/// How many registers there may be from an address on.
+/// Returns the greatest count of a read from `address`: at most 125 registers, none past 65535.
 fn room(address: u16) -> u64
     ensures { result ≡ greatest_count address }
 {
@@ -23,7 +23,7 @@ fn room(address: u16) -> u64
     if left < 125 { left } else { 125 }
 }
 
-/// The numbers of a poll.
+/// Reads all columns of a poll but its device.
 fn numbers(row: &Row) -> Result<PollRow, RowFault>
     ensures { result ≡ poll_in row.now }
 {
@@ -45,7 +45,7 @@ fn numbers(row: &Row) -> Result<PollRow, RowFault>
     })
 }
 
-/// Reads a poll of `pending_rows`.
+/// Reads a poll from a row of `pending_rows`.
 pub fn read_poll(row: &Row) -> Result<Poll, RowFault>
     ensures read { ReadsRow row.now poll_shown IsStarted IsSoundStarted result }
     ensures sound { IfOk result (λ a. IsSoundPoll a.row) }
@@ -58,7 +58,7 @@ pub fn read_poll(row: &Row) -> Result<Poll, RowFault>
     })
 }
 
-/// The malformation of a number.
+/// Returns the malformation with a number.
 fn malformation(number: u64) -> Option<Malformation>
     ensures { result ≡ malformation_of number }
 {
@@ -72,7 +72,7 @@ fn malformation(number: u64) -> Option<Malformation>
     }
 }
 
-/// The loss of a number.
+/// Returns the cause of a lost poll with a number.
 fn loss(number: u64) -> Option<LostCause>
     ensures { result ≡ lost_of number }
 {
@@ -85,7 +85,7 @@ fn loss(number: u64) -> Option<LostCause>
     }
 }
 
-/// The outcome of a number and a code.
+/// Returns the outcome with a number and a code.
 fn ended(number: u64, code: u8) -> Option<Outcome>
     ensures { result ≡ outcome_of number code }
 {
@@ -117,7 +117,7 @@ fn ended(number: u64, code: u8) -> Option<Outcome>
     }
 }
 
-/// An outcome.
+/// Reads an outcome.
 pub(crate) fn outcome(row: &Row) -> Result<OutcomeRow, RowFault>
     ensures { result ≡ outcome_in row.now }
 {
@@ -135,7 +135,7 @@ pub(crate) fn outcome(row: &Row) -> Result<OutcomeRow, RowFault>
     }
 }
 
-/// The kind of a reply.
+/// Reads the kind of a kept request's command.
 fn kind(row: &Row, at: usize) -> Result<CommandKind, RowFault>
     ensures { result ≡ or_damaged (kind_in (column row.now at)) }
 {
@@ -148,7 +148,7 @@ fn kind(row: &Row, at: usize) -> Result<CommandKind, RowFault>
     }
 }
 
-/// Whether a column has these bytes.
+/// Returns whether a column has these bytes.
 fn has_bytes(row: &Row, at: usize, bytes: &[u8]) -> Result<bool, RowFault>
     ensures { result ≡ or_damaged (same_bytes bytes.now (column row.now at)) }
 {
@@ -158,7 +158,7 @@ fn has_bytes(row: &Row, at: usize, bytes: &[u8]) -> Result<bool, RowFault>
     }
 }
 
-/// What a request is to the kept one.
+/// Compares a request with the kept request of a row.
 pub(crate) fn repeat(row: &Row, request: &[u8]) -> Result<Repeat, RowFault>
     ensures { result ≡ repeat_in request.now row.now }
 {

@@ -1,4 +1,4 @@
-//! The table `holds`.
+//! Statements on the table `holds`, the rejected readings.
 ghost use Rattle.sqlite.specs.Held.{state};
 ghost use Rattle.store_tables.specs.Content.{Edits, with_row};
 ghost use Rattle.store_tables.specs.Steps.{Steps, IsSameBorrow};
@@ -11,7 +11,7 @@ use crate::polls::rows::HoldRow;
 use sqlite::{Alter, Error, Row, Transaction, params};
 use store_tables::{number, signed};
 
-/// Adds a reading of a meter that was not accepted.
+/// Inserts a rejected reading of a meter.
 pub fn insert_hold<S: Alter>(
     tx: &mut Transaction<'_, S>,
     meter: &str,
@@ -40,7 +40,8 @@ pub fn insert_hold<S: Alter>(
     )
 }
 
-/// The place of the last held reading inside a transaction, if there is one, in its first column.
+/// Queries, inside a transaction, the index of the last rejected reading. The first column has the
+/// index.
 pub fn last_hold_rows<S: Alter>(tx: &mut Transaction<'_, S>) -> Result<Vec<Row>, Error>
     ensures same_reference { IsSameBorrow tx.old.conn tx.new.conn }
     ensures asks { AsksInside S.Store tx.old.conn.now tx.new.conn.now result }

@@ -1,10 +1,10 @@
-//! The words of what commands do, as the table of kept requests has them.
+//! The words of command kinds in the table `replies`.
 ghost use Rattle.std.specs.Prelude.{◌≡◌};
 ghost use Rattle.store_devices.specs.Polls.Rows.{kind_word, kind_of};
 
 use office_events::CommandKind;
 
-/// The kind that has this word, where one has.
+/// Returns the kind with a word.
 pub(crate) fn kind_spelled(word: &[u8]) -> Option<CommandKind>
     ensures { result ≡ kind_of word.now }
 {
@@ -35,7 +35,7 @@ pub(crate) fn kind_spelled(word: &[u8]) -> Option<CommandKind>
     }
 }
 
-/// The word that the table has for the kind.
+/// Returns the word of the kind in the table.
 pub(crate) fn word_of(kind: CommandKind) -> &'static str
     ensures { result.now ≡ kind_word kind }
 {

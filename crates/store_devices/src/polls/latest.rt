@@ -1,5 +1,5 @@
-//! The greatest moments of the tables, in seconds since 1970-01-01 UTC. Each looks at the whole of its table, and is for
-//! an opening.
+//! The latest timestamps of `polls`, `outcomes`, `holds` and `replies`, in seconds since 1970-01-01
+//! UTC. Each query scans its complete table. An opening of an office runs them.
 ghost use Rattle.std.specs.Prelude.{◌≤◌, IfOk, IfSome};
 ghost use Rattle.store_tables.specs.Limits.{latest_moment};
 ghost use Rattle.store_tables.specs.Answer.{IsLast, LastFirst, every};
@@ -15,7 +15,7 @@ ghost use Rattle.store_devices.specs.Polls.Trees.{polls, outcomes, holds, replie
 use sqlite::{Alter, Connection, Error, Row};
 use store_tables::{LATEST_MOMENT, RowFault, first_whole};
 
-/// The latest start of a poll, if there is one.
+/// Queries the latest start of a poll.
 fn start_rows<S: Alter>(conn: &mut Connection<S>) -> Result<Vec<Row>, Error>
     ensures asks { Asks S.Store conn.old conn.new }
     ensures shows { TellsRows S.Store conn.old conn.new polls poll_columns result
@@ -27,7 +27,7 @@ fn start_rows<S: Alter>(conn: &mut Connection<S>) -> Result<Vec<Row>, Error>
     )
 }
 
-/// The latest start of a poll.
+/// Returns the latest start of a poll.
 pub fn latest_start<S: Alter>(conn: &mut Connection<S>) -> Result<Option<u64>, RowFault>
     ensures finds { LooksUp S.Store conn.old conn.new polls poll_columns IsSoundStarted result
         (IsLast every HasStart start_of) }
@@ -37,7 +37,7 @@ pub fn latest_start<S: Alter>(conn: &mut Connection<S>) -> Result<Option<u64>, R
     first_whole(&rows, 0, LATEST_MOMENT)
 }
 
-/// The latest moment of an outcome, if there is one.
+/// Queries the latest timestamp of an outcome.
 fn outcome_rows<S: Alter>(conn: &mut Connection<S>) -> Result<Vec<Row>, Error>
     ensures asks { Asks S.Store conn.old conn.new }
     ensures shows { TellsRows S.Store conn.old conn.new outcomes outcome_columns result
@@ -49,7 +49,7 @@ fn outcome_rows<S: Alter>(conn: &mut Connection<S>) -> Result<Vec<Row>, Error>
     )
 }
 
-/// The latest moment of an outcome.
+/// Returns the latest timestamp of an outcome.
 pub fn latest_outcome<S: Alter>(conn: &mut Connection<S>) -> Result<Option<u64>, RowFault>
     ensures finds { LooksUp S.Store conn.old conn.new outcomes outcome_columns IsSoundOutcome result
         (IsLast every HasOutcomeMoment outcome_moment) }
@@ -59,7 +59,7 @@ pub fn latest_outcome<S: Alter>(conn: &mut Connection<S>) -> Result<Option<u64>,
     first_whole(&rows, 0, LATEST_MOMENT)
 }
 
-/// The latest moment of a held reading, if there is one.
+/// Queries the latest timestamp of a rejected reading.
 fn hold_rows<S: Alter>(conn: &mut Connection<S>) -> Result<Vec<Row>, Error>
     ensures asks { Asks S.Store conn.old conn.new }
     ensures shows { TellsRows S.Store conn.old conn.new holds hold_columns result
@@ -68,7 +68,7 @@ fn hold_rows<S: Alter>(conn: &mut Connection<S>) -> Result<Vec<Row>, Error>
     conn.query_all("SELECT moment FROM holds ORDER BY moment DESC LIMIT 1", &[])
 }
 
-/// The latest moment of a held reading.
+/// Returns the latest timestamp of a rejected reading.
 pub fn latest_hold<S: Alter>(conn: &mut Connection<S>) -> Result<Option<u64>, RowFault>
     ensures finds { LooksUp S.Store conn.old conn.new holds hold_columns IsSoundHeld result
         (IsLast every HasHoldMoment hold_moment) }
@@ -78,7 +78,7 @@ pub fn latest_hold<S: Alter>(conn: &mut Connection<S>) -> Result<Option<u64>, Ro
     first_whole(&rows, 0, LATEST_MOMENT)
 }
 
-/// The latest moment of a kept reply, if there is one.
+/// Queries the latest timestamp of a kept request.
 fn reply_rows<S: Alter>(conn: &mut Connection<S>) -> Result<Vec<Row>, Error>
     ensures asks { Asks S.Store conn.old conn.new }
     ensures shows { TellsRows S.Store conn.old conn.new replies reply_columns result
@@ -90,7 +90,7 @@ fn reply_rows<S: Alter>(conn: &mut Connection<S>) -> Result<Vec<Row>, Error>
     )
 }
 
-/// The latest moment of a kept reply.
+/// Returns the latest timestamp of a kept request.
 pub fn latest_reply<S: Alter>(conn: &mut Connection<S>) -> Result<Option<u64>, RowFault>
     ensures finds { LooksUp S.Store conn.old conn.new replies reply_columns IsSoundKept result
         (IsLast every HasReplyMoment reply_moment) }

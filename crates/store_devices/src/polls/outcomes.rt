@@ -1,4 +1,4 @@
-//! The table `outcomes`.
+//! Statements on the table `outcomes`.
 ghost use Rattle.std.specs.Prelude.{◌≤◌, IfOk, IfSome};
 ghost use Rattle.sqlite.specs.Held.{state};
 ghost use Rattle.store_tables.specs.Content.{Edits, with_row};
@@ -15,7 +15,7 @@ use crate::polls::rows::OutcomeRow;
 use sqlite::{Alter, Connection, Error, Row, Transaction, params};
 use store_tables::{RowFault, number};
 
-/// Says how a poll ended.
+/// Records how a poll ended.
 pub fn insert_outcome<S: Alter>(
     tx: &mut Transaction<'_, S>,
     row: OutcomeRow,
@@ -38,7 +38,7 @@ pub fn insert_outcome<S: Alter>(
     )
 }
 
-/// The outcome of a poll, if it has one.
+/// Queries the outcome of a poll.
 fn rows_of<S: Alter>(conn: &mut Connection<S>, poll: u64) -> Result<Vec<Row>, Error>
     requires place { poll ≤ greatest_place }
     ensures asks { Asks S.Store conn.old conn.new }
@@ -52,7 +52,7 @@ fn rows_of<S: Alter>(conn: &mut Connection<S>, poll: u64) -> Result<Vec<Row>, Er
     )
 }
 
-/// How a poll ended, if it has.
+/// Returns the outcome of a poll, or None if the poll has no outcome.
 pub fn outcome_of<S: Alter>(
     conn: &mut Connection<S>,
     poll: u64,

@@ -1,4 +1,4 @@
-//! The table `polls`.
+//! Statements on the table `polls`.
 ghost use Rattle.std.specs.Prelude.{◌≤◌, IfOk, IfSome};
 ghost use Rattle.sqlite.specs.Held.{state};
 ghost use Rattle.store_tables.specs.Content.{Edits, with_row};
@@ -17,7 +17,7 @@ use crate::polls::rows::{Poll, PollRow};
 use sqlite::{Alter, Connection, Error, Row, Transaction, params};
 use store_tables::{GREATEST_PLACE, RowFault, first_whole, number};
 
-/// Adds a poll of a device.
+/// Inserts a poll of a device.
 pub fn insert_poll<S: Alter>(
     tx: &mut Transaction<'_, S>,
     device: &str,
@@ -45,7 +45,7 @@ pub fn insert_poll<S: Alter>(
     )
 }
 
-/// The row of a poll, if there is one.
+/// Queries the row of a poll.
 fn rows_at<S: Alter>(conn: &mut Connection<S>, number: u64) -> Result<Vec<Row>, Error>
     requires place { number ≤ greatest_place }
     ensures asks { Asks S.Store conn.old conn.new }
@@ -59,7 +59,7 @@ fn rows_at<S: Alter>(conn: &mut Connection<S>, number: u64) -> Result<Vec<Row>, 
     )
 }
 
-/// The poll of a number.
+/// Returns the poll with a number.
 pub fn poll_at<S: Alter>(conn: &mut Connection<S>, number: u64) -> Result<Option<Poll>, RowFault>
     requires place { number ≤ greatest_place }
     ensures finds { LooksUp S.Store conn.old conn.new polls poll_columns IsSoundStarted result
@@ -73,7 +73,7 @@ pub fn poll_at<S: Alter>(conn: &mut Connection<S>, number: u64) -> Result<Option
     }
 }
 
-/// The number of the last poll, if there is one.
+/// Queries the number of the last poll.
 fn last_rows<S: Alter>(conn: &mut Connection<S>) -> Result<Vec<Row>, Error>
     ensures asks { Asks S.Store conn.old conn.new }
     ensures shows { TellsRows S.Store conn.old conn.new polls poll_columns result
@@ -82,7 +82,8 @@ fn last_rows<S: Alter>(conn: &mut Connection<S>) -> Result<Vec<Row>, Error>
     conn.query_all("SELECT poll FROM polls ORDER BY poll DESC LIMIT 1", &[])
 }
 
-/// The greatest number of a poll, which counts them.
+/// Returns the greatest number of a poll. The office numbers polls from 1 without gaps, so the
+/// greatest number also counts the polls.
 pub fn last_poll<S: Alter>(conn: &mut Connection<S>) -> Result<Option<u64>, RowFault>
     ensures finds { LooksUp S.Store conn.old conn.new polls poll_columns IsSoundStarted result
         (IsLast every HasNumber poll_number) }
@@ -92,7 +93,7 @@ pub fn last_poll<S: Alter>(conn: &mut Connection<S>) -> Result<Option<u64>, RowF
     first_whole(&rows, 1, GREATEST_PLACE)
 }
 
-/// The polls that have no outcome, in order of their numbers; `read_poll` reads each.
+/// Queries the polls without an outcome, in order of their numbers. `read_poll` reads each row.
 pub fn pending_rows<S: Alter>(conn: &mut Connection<S>) -> Result<Vec<Row>, Error>
     ensures asks { Asks S.Store conn.old conn.new }
     ensures shows { ShowsPending S.Store conn.old conn.new result (λ answer. answer.items) }

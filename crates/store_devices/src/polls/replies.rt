@@ -1,4 +1,4 @@
-//! The table `replies`.
+//! Statements on the table `replies`, the kept requests.
 ghost use Rattle.std.specs.Prelude.{◌≤◌};
 ghost use Rattle.sqlite.specs.Held.{state};
 ghost use Rattle.store_tables.specs.Content.{Edits, with_row};
@@ -17,7 +17,8 @@ use office_events::CommandKind;
 use sqlite::{Alter, Connection, Error, Row, Transaction, params};
 use store_tables::RowFault;
 
-/// Keeps what was answered to a request of a caller.
+/// Stores an accepted request under its idempotency key, `caller` and `number`, with the kind of
+/// its command.
 pub fn insert_reply<S: Alter>(
     tx: &mut Transaction<'_, S>,
     caller: &str,
@@ -41,7 +42,7 @@ pub fn insert_reply<S: Alter>(
     )
 }
 
-/// What is kept under a caller and a number, if something is.
+/// Queries the request that is kept under an idempotency key.
 fn rows_of<S: Alter>(conn: &mut Connection<S>, caller: &str, number: u64) -> Result<Vec<Row>, Error>
     requires number { IsCallNumber number }
     ensures asks { Asks S.Store conn.old conn.new }
@@ -55,7 +56,8 @@ fn rows_of<S: Alter>(conn: &mut Connection<S>, caller: &str, number: u64) -> Res
     )
 }
 
-/// What a request is to the one that is kept under its caller and number, if one is.
+/// Compares a request with the request that is kept under its idempotency key. Returns None if no
+/// request is kept there.
 pub fn repeat_of<S: Alter>(
     conn: &mut Connection<S>,
     caller: &str,

@@ -1,4 +1,4 @@
-//! Rows of the tables.
+//! Polls, outcomes, rejected readings and retries as the tables have them.
 ghost use Rattle.std.specs.Prelude.{◌≡◌};
 
 use energy_core::Cause;
@@ -6,21 +6,21 @@ use mb_wire::ReadFunction;
 use office_events::CommandKind;
 use poll_core::Outcome;
 
-/// The numbers of a poll.
+/// A poll without its device.
 #[derive(Clone, Copy, Debug, PartialEq, Eq)]
 pub struct PollRow {
-    /// Polls are numbered from 1.
+    /// The number of the poll, from 1.
     pub number: u64,
-    /// The Modbus unit identifier that it asks.
+    /// The Modbus unit identifier of the request.
     pub unit: u8,
-    /// Seconds since 1970-01-01 UTC.
+    /// The time of the start, in seconds since 1970-01-01 UTC.
     pub started: u64,
-    /// The transaction identifier of its frame.
+    /// The transaction identifier of the request.
     pub id: u16,
     pub function: ReadFunction,
-    /// The first register that it reads.
+    /// The address of the first register that the poll reads.
     pub address: u16,
-    /// How many registers it reads, 1 to 125, none past 65535.
+    /// How many registers the poll reads, 1 to 125, none past 65535.
     pub count: u16,
 }
 
@@ -36,32 +36,32 @@ pub struct Poll {
 pub struct OutcomeRow {
     /// The number of the poll.
     pub poll: u64,
-    /// Seconds since 1970-01-01 UTC.
+    /// The time of the end, in seconds since 1970-01-01 UTC.
     pub moment: u64,
     pub outcome: Outcome,
 }
 
-/// A reading that was not accepted.
+/// A rejected reading.
 #[derive(Clone, Copy, Debug, PartialEq, Eq)]
 pub struct HoldRow {
-    /// Places count from 1.
+    /// The index of the rejected reading, from 1.
     pub place: u64,
-    /// The number of the poll that read it.
+    /// The number of the poll that read the counter.
     pub poll: u64,
-    /// Seconds since 1970-01-01 UTC.
+    /// The time of the reading, in seconds since 1970-01-01 UTC.
     pub moment: u64,
-    /// What the counter showed.
+    /// The counter's value.
     pub raw: u32,
-    /// The scale factor at which it was read.
+    /// The scale factor of the reading.
     pub sf: i16,
     pub cause: Cause,
 }
 
-/// What a request is to the one that is kept under its caller and number.
+/// How a request compares with the request that is kept under its idempotency key.
 #[derive(Clone, Copy, Debug, PartialEq, Eq)]
 pub enum Repeat {
-    /// It has the same bytes, and was answered that this was done.
+    /// The same bytes: a retry of a request with this kind of command.
     Same(CommandKind),
-    /// It has other bytes.
+    /// Other bytes.
     Other,
 }

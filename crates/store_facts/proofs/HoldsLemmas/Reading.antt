@@ -1,4 +1,4 @@
--- What a row of the table is read as.
+-- The value that a row of `holds` is read as.
 use Rattle.std.proofs.Common.{◌≡◌, ◌≤◌, zero-le, ℕ, ℤ, Bool, true, false, List, Option, Some, None, if◌then◌else◌, Ok, Result, IfOk, IfErr, IsTrue, refl, subst, arith}
 use Rattle.sqlite.specs.declared.types.Value.{Value}
 use Rattle.sqlite.specs.declared.types.Value.TheVariants.{Null, Int, Real, Text, Blob}
@@ -35,7 +35,7 @@ one_of_eight cause.TooFast = (omega arith, omega arith)
 one_of_eight cause.TotalFull = (omega arith, omega arith)
 one_of_eight cause.NotBelowRange = (omega arith, omega arith)
 
--- a number of sixteen bits is read as it is
+-- A 16-bit integer is read back.
 module _ {B : Type 0} (Sound : Type 0) (Is : B → Type 0) (next : ℤ → Result B RowFault) where
   tested : (b : Bool) (n : ℤ) → (Sound → b ≡ true) → IsFair Sound Is (next n) → IsFair Sound Is (and_then (or_damaged (if b then Some n else None)) next)
   tested true n sound rest = rest
@@ -69,7 +69,7 @@ sixteen_bounds (Real x) n e = absurd (let f = e in cc)
 sixteen_bounds (Text t) n e = absurd (let f = e in cc)
 sixteen_bounds (Blob b) n e = absurd (let f = e in cc)
 
--- the reading of five columns
+-- The reading of five columns.
 abbrev of_columns : (meter : List ℕ) → (poll at raw : Option ℕ) → Option ℤ → (number : Option ℕ) → Result HeldReading RowFault
 of_columns meter poll at raw sf number =
     and_then (or_damaged poll) (λ p. and_then (or_damaged at) (λ a. and_then (or_damaged raw) (λ w. and_then (or_damaged sf) (λ s. and_then (or_damaged number) (λ n. and_then (or_damaged (cause_of n)) (λ c.

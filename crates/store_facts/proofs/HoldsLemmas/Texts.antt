@@ -1,4 +1,4 @@
--- What the texts mean.
+-- The meaning of the SQL texts on `holds`.
 use Rattle.std.proofs.Common.{◌≡◌, List, [], ◌∷◌, codes, ℕ, pos, false, refl}
 use Rattle.sqlite.specs.declared.types.Value.TheVariants.{Int, Text}
 use Rattle.sqlite.specs.Term.{Term, col}

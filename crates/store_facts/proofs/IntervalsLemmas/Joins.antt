@@ -1,4 +1,4 @@
--- What the queries find.
+-- The rows that the queries find.
 use Rattle.std.proofs.Common.{◌≡◌, ◌<◌, ◌≤◌, ◌<ℤ◌, ◌⊎◌, ◌&&◌, nat_lt, inl, inr, pos, ℕ, List, [], ◌∷◌, ◌++◌, map, filter, flat_map, Bool, true, false, bytes_eq, if◌then◌else◌, Ordering, Less, Equal, Greater, is_gt, refl, sym, ap, ap₂, subst, ◌∙◌, arith, IsPermutation}
 use Rattle.std.specs.List.{AllByRecursion, list_all}
 use Rattle.std.specs.Ordering.{ordering_then, int_cmp, MatchOrdering}
@@ -37,7 +37,7 @@ use Rattle.store_facts.proofs.IntervalsLemmas.Texts as text
 use Rattle.store_facts.proofs.StreamsLemmas.Compared.{all_found, at_least_is, below_is}
 use Rattle.store_facts.proofs.StreamsLemmas.Shared.{Tells}
 
--- ---- tests one after the other
+-- ---- tests one after another
 
 and_first : (a b c : Bool) → a && (b && c) ≡ (a && b) && c
 and_first true b c = refl
@@ -96,12 +96,12 @@ pairs-permutation xs zs ys ws first second =
     IsPermutation-trans _ _ _ (IsPermutation-flat_map (λ x. map (λ y. (x, y)) ys) xs zs first)
     (IsPermutation-flat_map_each (λ x. map (λ y. (x, y)) ys) (λ x. map (λ y. (x, y)) ws) (λ x. IsPermutation-map (λ y. (x, y)) ys ws second) zs)
 
--- the shares of the pairs that pass, in order
+-- The shares of the pairs that pass, in order.
 abbrev AreShown : (passes : Installed × Interval → Bool) → Lying → List Share → Type 0
 AreShown passes lying all =
     (found : List (Installed × Interval)) × AreFound passes ComesAfter (pairs lying.installed lying.rows) found × (all ≡ map (λ p. p.1.share) found)
 
--- a query of this form, whose tests pass these pairs
+-- A query of this form, with tests that these pairs pass.
 module _ (params : Row) (tests : List Term) (passes : Installed × Interval → Bool)
     (tells : (p : Numbered Installed × Numbered Interval) → list_all (holds (params ∷ lay true installed_columns p.0 ∷ lay false interval_columns p.1 ∷ [])) tests ≡ passes (p.0.1, p.1.1)) where
   abbrev Pair : Type 0

@@ -1,4 +1,4 @@
--- The rows of the table, whatever their last column has, and how they stand for intervals.
+-- The rows of `intervals` with any value in their last column, and the intervals that they encode.
 use Rattle.std.proofs.Common.{◌≡◌, ◌≤◌, ◌<◌, ◌^◌, ◌+◌, ◌==◌, inl, inr, ℕ, pos, List, [], ◌∷◌, map, Bool, ◌&&◌, bytes_eq, Some, refl, sym, ap, ap₂, subst, ◌∙◌, arith, if◌then◌else◌, IsPermutation}
 use Rattle.std.specs.List.{list_any}
 use Rattle.std.proofs.lemmas.Bool.{cases_Bool}
@@ -36,7 +36,7 @@ kept_of i = record { meter = i.meter; start = i.share.start; energy = Int (pos i
 abbrev pub is_kept : (meter : List ℕ) → (start : ℕ) → Kept → Bool
 is_kept meter start k = bytes_eq k.meter meter && (k.start == start)
 
--- the row after an update
+-- The row after an update.
 abbrev pub adds : (mwh : ℕ) → Kept → Kept
 adds mwh k = record { meter = k.meter; start = k.start; energy = cast Integer (binary (Arith Add) k.energy (Int (pos mwh))) }
 

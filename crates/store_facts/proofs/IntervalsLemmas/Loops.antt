@@ -1,4 +1,4 @@
--- Shares booked one after the other.
+-- Shares that are added one after another.
 use Rattle.std.proofs.Common.{◌≡◌, ◌≤◌, ◌<◌, ◌+◌, inl, inr, ℕ, List, [], ◌∷◌, ◌++◌, Ok, Contains, refl, sym, ap, subst, ◌∙◌, arith}
 use Rattle.std.specs.List.{list_any, AllByRecursion}
 use Rattle.std.proofs.lemmas.Bool.{cases_Bool}
@@ -41,7 +41,7 @@ sound_shares law step forward energy till =
     let sums = within_sum (shares_of step) step.mwh (omega (arith, spread.whole)) in
     all_both _ _ _ (λ s start mwh. record { start = omega (arith, start, till); mwh = omega (arith, mwh, energy) }) (shares_of step) starts sums
 
--- ---- one edit after the other
+-- ---- one edit after another
 
 edits_then : (May One Two : List Interval → Type 0) (all one two : List Interval → List Interval)
     → ((is : List Interval) → May is → One is × Two (one is) × (two (one is) ≡ all is)) → (x y z : Content) → EditsIf One one x y → EditsIf Two two y z → EditsIf May all x z

@@ -1,4 +1,4 @@
--- What a row of the table is read as.
+-- The value that a row of `intervals` is read as.
 use Rattle.std.proofs.Common.{◌≡◌, ◌≤◌, zero-le, ℕ, Option, Some, None, Ok, Result, IfOk, IfErr, refl}
 use Rattle.sqlite.specs.Order.{Row, column}
 use Rattle.interval_core.specs.declared.shares.Share.{Share}
@@ -18,7 +18,7 @@ fair_share i =
     (fair_whole S P _ 0 _ i.share.mwh (λ is. (zero-le, is.mwh))
     (record { read = refl; fault = tt }))
 
--- the share of two columns
+-- The share of two columns.
 abbrev share_of : (start mwh : Option ℕ) → Result Share RowFault
 share_of start mwh = and_then (or_damaged start) (λ s. and_then (or_damaged mwh) (λ m. Ok (let x : Share = record { start = s; mwh = m } in x)))
 
@@ -32,7 +32,7 @@ damage_of None mwh = refl
 damage_of (Some s) None = refl
 damage_of (Some s) (Some m) = tt
 
--- what is read is in its ranges, and what can't be read is damage
+-- Every value that is read is in its ranges. A row that can't be read is damaged.
 pub sound_share : (row : Row) → IfOk (share_in row) IsSoundShare
 sound_share row =
     sound_of (whole_in 0 latest_moment (column row 0)) (whole_in 0 greatest_total (column row 1)) (λ n is. (whole_bounds 0 latest_moment (column row 0) n is).1) (λ n is. (whole_bounds 0 greatest_total (column row 1) n is).1)

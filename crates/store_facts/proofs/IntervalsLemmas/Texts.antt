@@ -1,4 +1,4 @@
--- What the texts mean.
+-- The meaning of the SQL texts on `intervals`.
 use Rattle.std.proofs.Common.{◌≡◌, List, [], ◌∷◌, codes, ℕ, pos, negsuc, false, Some, None, inl, inr, refl}
 use Rattle.sqlite.specs.declared.types.Value.TheVariants.{Null, Int, Text}
 use Rattle.sqlite.specs.Order.{Row}
@@ -33,7 +33,7 @@ add_share = codes "INSERT INTO intervals (meter, start, mwh) VALUES (?1, ?2, ?3)
 abbrev pub add_share_terms : List Term
 add_share_terms = lit Null ∷ col 0 0 ∷ col 0 1 ∷ col 0 2 ∷ []
 
--- the row that is there, by its rowid
+-- The existing row, by its rowid.
 abbrev pub add_share_tests : List Term
 add_share_tests = is_param 0 3 ∷ []
 
@@ -158,7 +158,7 @@ register_intervals_project = col 2 2 ∷ col 2 3 ∷ []
 abbrev pub register_intervals_order : List (Term × Key)
 register_intervals_order = (col 1 0, rising) ∷ (col 2 2, rising) ∷ []
 
--- pairs of an installation and a row that pass tests, in the order of their places and starts
+-- Pairs of an installation and an interval row that pass the tests, in order of index and start.
 abbrev pub joined : (tests : List Term) → Query
 joined tests = record {
   from = inner 7 (inner 14 end);

@@ -1,4 +1,4 @@
--- What the upsert does.
+-- The effect of the upsert.
 use Rattle.std.proofs.Common.{◌≡◌, ◌≢◌, inl, inr, ℕ, ◌==◌, ℤ, pos, List, [], ◌∷◌, map, filter, drop, Bool, true, false, not, ◌&&◌, ◌||◌, bytes_eq, Option, Some, None, Ok, Err, Result, OnOk, refl, sym, ap, subst, ◌∙◌, IsPermutation, eqb-true}
 use Rattle.std.specs.List.{list_any, AllByRecursion}
 use Rattle.std.specs.Ordering.{is_eq, is_ne}
@@ -94,7 +94,7 @@ differ_is a b = truth_back _ ∙ (other_than _ ∙ ap (λ o. not (is_eq o)) (val
 
 -- ---- rows by their rowids
 
--- two rows of one rowid are one
+-- Two rows with the same rowid are the same row.
 same_row : (rows : List Row) → AreApart rows → (r s : Row) → Has rows r → Has rows s → same_id (id_of r) (id_of s) ≡ true → r ≡ s
 same_row [] apart r s has_r has_s same = absurd has_r
 same_row (x ∷ rows) apart r s (inl is_r) (inl is_s) same = is_r ∙ sym is_s
@@ -120,7 +120,7 @@ of_one_key meter start k l here there =
     let it = key_of meter start l there in
     subst (λ m. is_kept m l.start k ≡ true) (sym it.0) (subst (λ s. is_kept meter s k ≡ true) (sym it.1) here)
 
--- a row of the table is laid
+-- A stored row of the table encodes an interval.
 laid_row : (all : List (Numbered Kept)) (r : Row) → Has (map (lay false kept_columns) all) r → (z : Numbered Kept) × (r ≡ lay false kept_columns z)
 laid_row [] r has = absurd has
 laid_row (z ∷ all) r (inl is) = (z, is)
@@ -162,7 +162,7 @@ module _ (meter : List ℕ) (start mwh : ℕ) where
   fresh_cast = simp (cast_null, cast_int)
 
   module _ (fresh : ℤ) where
-    -- the row that is to go in
+    -- The row to insert.
     abbrev new : Row
     new = Int fresh ∷ columns
 
@@ -172,7 +172,7 @@ module _ (meter : List ℕ) (start mwh : ℕ) where
     clashing_is : (n : ℤ) (k : Kept) → clashing (laid false n (kept_columns k)) ≡ is_kept meter start k
     clashing_is n k = rw (first_key-plain, text_is k.meter meter, number_is k.start start, and_true, or_false) refl
 
-    -- what the update reads: the parameters, the rowid of the row that is there, and the row that does not go in
+    -- The input of the update: the parameters, the rowid of the existing row, and the excluded row.
     abbrev given : ℤ → Row
     given k = Text meter ∷ Int (pos start) ∷ Int (pos mwh) ∷ Int k ∷ Int fresh ∷ columns
 
@@ -204,7 +204,7 @@ module _ (meter : List ℕ) (start mwh : ℕ) where
       abbrev task : Task
       task = record { limit = limit; keys = Enforced; schema = books_schema; table = intervals_table; params = columns }
 
-      -- what is written
+      -- The tables after the write.
       record Done (w : Written) : Type 0 where
         keeps : AreApart (w.trees intervals)
         others : AllByRecursion (λ t. t.tree ≢ intervals → w.trees t.tree ≡ db t.tree) books_schema.tables
@@ -213,7 +213,7 @@ module _ (meter : List ℕ) (start mwh : ℕ) where
       some_is : (ks : List Kept) → IsLaid false kept_columns (db intervals) ks → list_any (is_kept meter start) ks ≡ list_any clashing (db intervals)
       some_is ks lies = sym (ap (list_any clashing) lies.rows ∙ (any_laid clashing (is_kept meter start) clashing_is lies.all ∙ list_any-IsPermutation (is_kept meter start) _ _ lies.same))
 
-      -- no row is there
+      -- No row conflicts.
       puts : (w : Written) → ((r : Row) → Has (db intervals) r → clashing r ≡ true → ⊥) → Puts task new db (Ok w) → Done w
       puts w none h =
           let wrote = went h in
@@ -232,7 +232,7 @@ module _ (meter : List ℕ) (start mwh : ℕ) where
                 rw off more;
           }
 
-      -- one is
+      -- A row conflicts.
       module _ (there : Row) (is_there : Has (db intervals) there) (clashes_it : clashing there ≡ true) where
         abbrev k : ℤ
         k = id_of there

@@ -1,4 +1,4 @@
--- Rows that a query picks by numbers that are compared.
+-- Rows that a query selects by comparing numbers.
 use Rattle.std.proofs.Common.{◌≡◌, ◌<ℤ◌, nat_le, nat_lt, le-leb, lt-ltb, le-ltb, Some, pos, ℕ, List, filter, Bool, true, false, Ordering, Less, Equal, Greater, refl, sym, ap, ◌∙◌, arith, IsPermutation}
 use Rattle.std.specs.List.{AllByRecursion}
 use Rattle.std.specs.Ordering.{int_cmp, is_ge, is_lt, MatchOrdering}
@@ -17,7 +17,7 @@ use Rattle.sqlite_sql.specs.declared.ops.CompareOp.TheVariants.{Ge, Lt}
 use Rattle.sqlite_value.proofs.OrderLemmas.{value_cmp-Int}
 use Rattle.sqlite_keyed.proofs.ListLemmas.{all-filter}
 
--- a column of a table is at least a parameter, and less than one
+-- A column is at least a parameter.
 abbrev pub is_at_least : (table column param : ℕ) → Term
 is_at_least table column param = op2 (Compare Ge Binary) (col table column) (col 0 param)
 

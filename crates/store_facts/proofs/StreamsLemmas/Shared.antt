@@ -1,4 +1,4 @@
--- From the rows of a query to what a sink took.
+-- From the rows of a query to the rows that a sink took.
 use Rattle.std.proofs.Common.{◌≡◌, inl, inr, List, [], ◌∷◌, ◌++◌, length, take, map, ℕ, false, Ok, Err, Result, IfOk, IfErr, refl, sym, ap, ap₂, subst, ◌∙◌}
 use Rattle.std.specs.List.{AllByRecursion}
 use Rattle.sqlite.specs.declared.types.Value.TheVariants.{Null}
@@ -37,7 +37,7 @@ if_damaged Sound (Err f) h is = subst (IsRowFault Sound) (let e : f ≡ Damaged 
 
 -- ---- many
 
--- what a query shows of each of these, and what it is read as, fairly
+-- The columns that a query shows of each row, and their reader.
 module _ {X T : Type 0} (shown : X → Row) (of : X → T) (Sound : X → Type 0) (reads : Row → Result T RowFault) (fair : (x : X) → IsFair (Sound x) (λ t. t ≡ of x) (reads (shown x))) where
   read_as : (x : X) (row : Row) (t : T) → row ≡ shown x → reads row ≡ Ok t → t ≡ of x
   read_as x row t is read = if_read (reads (shown x)) (λ y. y ≡ of x) t (fair x).read (sym (ap reads is) ∙ read)
@@ -79,7 +79,8 @@ nothing reads takes before after (r ∷ given) rows is zip taken = absurd (let e
 
 -- ---- a query whose answer is known
 
--- what the query shows is told of rows of the tables, in order, each of which is sound where the tables are
+-- The answer of the query follows from rows of the tables, in order, and each row is sound if the
+-- tables are.
 pub record Tells {X T Tables : Type 0} (shown : X → Row) (of : X → T) (Sound : X → Type 0) (Are : Tables → List T → Type 0) (AreSound : Tables → Type 0) (tables : Tables) (rows : List Row) : Type 0 where
   pub found : List X
   pub shows : rows ≡ map shown found

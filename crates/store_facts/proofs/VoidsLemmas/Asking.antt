@@ -1,4 +1,4 @@
--- What the questions are told of the rows of a table.
+-- The answers of the queries from the rows of a table.
 use Rattle.std.proofs.Common.{◌≡◌, ℕ, ◌==◌, ◌||◌, pos, Bool, true, false, cond, List, [], ◌∷◌, map, filter, take, slice_get, Option, Some, None, Ok, Err, Result, IsErrAnd, refl, sym, ap, ◌∙◌, IsPermutation, arith}
 use Rattle.std.specs.List.{list_any}
 use Rattle.std.proofs.lemmas.List.Sorted.{length_permutation}

@@ -1,4 +1,4 @@
--- Shares that are taken out, and rows that go.
+-- Shares that are subtracted, and rows that are deleted.
 use Rattle.std.proofs.Common.{◌≡◌, ◌≤◌, ◌<◌, ◌^◌, ◌-◌, ◌-ℤ◌, ◌==◌, inl, inr, ℕ, pos, List, [], ◌∷◌, ◌++◌, map, nat_le, Some, Result, Ok, OnOk, refl, sym, ap, ap₂, subst, ◌∙◌, arith}
 use Rattle.std.specs.List.{AllByRecursion}
 use Rattle.std.proofs.lemmas.Bool.{cases_Bool}
@@ -32,7 +32,7 @@ use Rattle.store_facts.proofs.VoidsLemmas.Texts as text
 
 -- ---- the statements
 
--- the row after an update
+-- The row after an update.
 abbrev pub takes : (mwh : ℕ) → Kept → Kept
 takes mwh k = record { meter = k.meter; start = k.start; energy = cast Integer (binary (Arith Sub) k.energy (Int (pos mwh))) }
 
@@ -87,7 +87,7 @@ take_share meter share old new r h =
     on_ok r (turns_weaker _ _ old.now new.now (λ content after. of_intervals (HaveShares meter (share ∷ [])) (without_shares meter (share ∷ [])) (taken_from meter share.start share.mwh) content after (λ is has. all_taken meter share is has.0)))
     (takes_kept meter share.start share.mwh old new r h)
 
--- ---- one share after the other
+-- ---- one share after another
 
 edits_then : (May One Two : List Interval → Type 0) (all one two : List Interval → List Interval)
     → ((is : List Interval) → May is → One is × Two (one is) × (two (one is) ≡ all is)) → (x y z : Content) → EditsIf One one x y → EditsIf Two two y z → EditsIf May all x z

@@ -1,4 +1,4 @@
--- Rows of the table `intervals`, their columns, and the ranges of their values.
+-- Rows of `intervals`, their columns, and the ranges of their values.
 use Rattle.std.specs.Prelude.{ℕ, pos, ◌≤◌, List, [], ◌∷◌, Bool, bytes_eq, ◌&&◌, ◌==◌, Result, Ok}
 use Rattle.sqlite.specs.declared.types.Value.TheVariants.{Int, Text}
 use Rattle.sqlite.specs.Order.{Row, column}
@@ -8,37 +8,41 @@ use Rattle.store_tables.specs.Limits.{latest_moment}
 use Rattle.store_tables.specs.Meters.Rows.{greatest_total}
 use Rattle.store_tables.specs.Columns.{whole_in, or_damaged, and_then}
 
--- the energy of a meter in an interval
+-- The energy of a meter in a quarter hour.
 pub record Interval : Type 0 where
   pub meter : List ℕ
   pub share : Share
 
+-- The columns of an interval row.
 abbrev pub interval_columns : Interval → Row
 interval_columns i = Text i.meter ∷ Int (pos i.share.start) ∷ Int (pos i.share.mwh) ∷ []
 
--- what the queries show of it
+-- The columns that the queries show of an interval row.
 abbrev pub share_shown : Interval → Row
 share_shown i = Int (pos i.share.start) ∷ Int (pos i.share.mwh) ∷ []
 
--- a row of a meter, and its row of the interval from a start
+-- The row is of this meter.
 abbrev pub is_of : (meter : List ℕ) → Interval → Bool
 is_of meter i = bytes_eq i.meter meter
 
+-- The row is of this meter and of the quarter hour with this start.
 abbrev pub is_at : (meter : List ℕ) → (start : ℕ) → Interval → Bool
 is_at meter start i = bytes_eq i.meter meter && (i.share.start == start)
 
+-- The start of the quarter hour.
 abbrev pub start_of : Interval → ℕ
 start_of i = i.share.start
 
--- its values are in their ranges
+-- Every value of an interval row is in its range.
 pub record IsSoundShare (share : Share) : Type 0 where
   pub start : share.start ≤ latest_moment
   pub mwh : share.mwh ≤ greatest_total
 
+-- Every value of the row is in its range.
 abbrev pub IsSoundInterval : Interval → Type 0
 IsSoundInterval i = IsSoundShare i.share
 
--- the share that the columns of a row are, or damage
+-- The energy of the quarter hour that a row shows, or damage.
 abbrev pub share_in : Row → Result Share RowFault
 share_in row =
     and_then (or_damaged (whole_in 0 latest_moment (column row 0))) (λ start.

@@ -1,4 +1,4 @@
--- The table that this crate writes and reads, by the number of its tree.
+-- The tree number of the table `intervals`.
 use Rattle.std.specs.Prelude.{ℕ}
 
 abbrev pub intervals : ℕ

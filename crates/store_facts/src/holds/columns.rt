@@ -1,4 +1,4 @@
-//! Rows as the queries show them.
+//! Readers of the rows of `holds`.
 ghost use Rattle.std.specs.Prelude.{◌≡◌};
 ghost use Rattle.sqlite.specs.Order.{column};
 ghost use Rattle.store_tables.specs.Columns.{or_damaged};
@@ -11,7 +11,7 @@ use sqlite::Row;
 use sqlite::types::ValueRef;
 use store_tables::{GREATEST_PLACE, LATEST_MOMENT, RowFault, whole};
 
-/// The cause of a number.
+/// Returns the cause with a number.
 fn cause(number: u64) -> Option<Cause>
     ensures { result ≡ cause_of number }
 {
@@ -28,7 +28,7 @@ fn cause(number: u64) -> Option<Cause>
     }
 }
 
-/// A column that is a number of sixteen bits, one of them its sign: held readings can have any scale factor.
+/// Reads a column as a signed 16-bit integer: a rejected reading can have any scale factor.
 fn sixteen(row: &Row, at: usize) -> Result<i16, RowFault>
     ensures { result ≡ or_damaged (sixteen_in (column row.now at)) }
 {
@@ -44,7 +44,7 @@ fn sixteen(row: &Row, at: usize) -> Result<i16, RowFault>
     }
 }
 
-/// The reading of a row of a meter that the queries show.
+/// Reads a rejected reading of `meter` from a row.
 fn read_reading(row: &Row, meter: &Name) -> Result<HeldReading, RowFault>
     ensures { result ≡ reading_in meter.now row.now }
 {
@@ -66,7 +66,7 @@ fn read_reading(row: &Row, meter: &Name) -> Result<HeldReading, RowFault>
     }
 }
 
-/// Reads the rows of the held readings of a meter.
+/// Reads the rows of a meter's rejected readings.
 #[derive(Drop)]
 pub(crate) struct ReadingsOf {
     pub(crate) meter: Name,

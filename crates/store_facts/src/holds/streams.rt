@@ -1,4 +1,4 @@
-//! Rows of the table `holds`, handed on as they come.
+//! Streams of the rows of `holds`.
 ghost use Rattle.std.specs.Prelude.{◌≡◌, ◌<◌, ◌^◌};
 ghost use Rattle.store_facts.specs.Handing.{HandsOn};
 ghost use Rattle.store_facts.specs.Holds.{HaveHolds, AreReadingsOf, AreReadingsBetween, AreSoundHolds};
@@ -11,7 +11,7 @@ use office_events::{HeldReading, Name};
 use sqlite::{Alter, Connection, params};
 use store_tables::{RowFault, number};
 
-/// Hands on the readings of a meter that were held, in the order in which they were recorded.
+/// Streams the rejected readings of a meter to `sink`, in the order in which they were recorded.
 pub fn meter_holds<S: Alter, K: RowSink<HeldReading>>(
     conn: &mut Connection<S>,
     meter: &Name,
@@ -31,7 +31,8 @@ pub fn meter_holds<S: Alter, K: RowSink<HeldReading>>(
     )
 }
 
-/// Hands on those of them whose moment is `from` or later, and before `till`. No other row is read.
+/// Streams the rejected readings of a meter whose timestamps are at least `from` and less than
+/// `till`. No other row reaches the sink.
 pub fn meter_holds_between<S: Alter, K: RowSink<HeldReading>>(
     conn: &mut Connection<S>,
     meter: &Name,

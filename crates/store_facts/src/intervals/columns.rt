@@ -1,4 +1,4 @@
-//! Rows as the queries show them.
+//! Readers of the rows of `intervals`.
 ghost use Rattle.std.specs.Prelude.{◌≡◌};
 ghost use Rattle.store_facts.specs.Intervals.Rows.{share_in};
 
@@ -8,7 +8,7 @@ use interval_core::Share;
 use sqlite::Row;
 use store_tables::{LATEST_MOMENT, RowFault, whole};
 
-/// The share of a row that the queries show.
+/// Reads the energy of one quarter hour from a row.
 fn read_share(row: &Row) -> Result<Share, RowFault>
     ensures { result ≡ share_in row.now }
 {
@@ -17,7 +17,7 @@ fn read_share(row: &Row) -> Result<Share, RowFault>
     Ok(Share { start, mwh })
 }
 
-/// Reads the rows of intervals.
+/// Reads the rows of `intervals`.
 #[derive(Drop)]
 pub(crate) struct Shares;
 

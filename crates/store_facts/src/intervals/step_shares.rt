@@ -1,4 +1,4 @@
-//! What a step brings to the table `intervals`.
+//! Adding the energy of a step to the table `intervals`.
 ghost use Rattle.std.specs.Prelude.{◌<◌, ◌≤◌, [], ◌∷◌};
 ghost use Rattle.sqlite.specs.Held.{state};
 ghost use Rattle.store_tables.specs.Steps.{Steps, IsSameBorrow};
@@ -14,7 +14,7 @@ use interval_core::{Share, Shares, shares_add_up};
 use sqlite::{Alter, Error, Transaction, params};
 use store_tables::number;
 
-/// Adds a share to the row of its interval.
+/// Adds a share to its meter's row of the quarter hour, or inserts that row.
 fn add_share<S: Alter>(
     tx: &mut Transaction<'_, S>,
     meter: &str,
@@ -33,7 +33,8 @@ fn add_share<S: Alter>(
     )
 }
 
-/// Books a step: its share in each interval that it touches, a share of nothing too.
+/// Adds the energy of a step: one share for each quarter hour that the step touches, also shares of
+/// 0 mWh.
 pub fn book_step<S: Alter>(
     tx: &mut Transaction<'_, S>,
     meter: &str,

@@ -1,4 +1,4 @@
-//! Rows of the table `intervals`, handed on as they come.
+//! Streams of the rows of `intervals`.
 ghost use Rattle.std.specs.Prelude.{◌<◌, ◌^◌};
 ghost use Rattle.store_facts.specs.Handing.{HandsOn};
 ghost use Rattle.store_facts.specs.Intervals.Handing.{HaveIntervals, AreSharesOfMeter, AreSoundIntervals};
@@ -13,7 +13,7 @@ use office_books::RowSink;
 use sqlite::{Alter, Connection, params};
 use store_tables::{RowFault, number};
 
-/// Hands on the energy of a meter by intervals, in order of their starts.
+/// Streams the energy of a meter by quarter hours, in order of their starts.
 pub fn meter_intervals<S: Alter, K: RowSink<Share>>(
     conn: &mut Connection<S>,
     meter: &str,
@@ -31,7 +31,8 @@ pub fn meter_intervals<S: Alter, K: RowSink<Share>>(
     )
 }
 
-/// Hands on the energy of a register by intervals: meter after meter, in the order in which they were installed.
+/// Streams the energy of a register by quarter hours: meter after meter, in the order in which the
+/// meters were installed.
 pub fn register_intervals<S: Alter, K: RowSink<Share>>(
     conn: &mut Connection<S>,
     register: &str,
@@ -49,8 +50,8 @@ pub fn register_intervals<S: Alter, K: RowSink<Share>>(
     )
 }
 
-/// Hands on the energy of a meter by the intervals that start at `from` or later, and before `till`, in order of their starts.
-/// No other row is read.
+/// Streams the energy of a meter by the quarter hours whose starts are at least `from` and less
+/// than `till`, in order of their starts. Reads no other row.
 pub fn meter_intervals_between<S: Alter, K: RowSink<Share>>(
     conn: &mut Connection<S>,
     meter: &str,
@@ -74,7 +75,8 @@ pub fn meter_intervals_between<S: Alter, K: RowSink<Share>>(
     )
 }
 
-/// Hands on the energy of a register by those intervals: meter after meter, in the order in which they were installed.
+/// Streams the energy of a register by the quarter hours whose starts are at least `from` and less
+/// than `till`. The order is meter after meter, as they were installed.
 pub fn register_intervals_between<S: Alter, K: RowSink<Share>>(
     conn: &mut Connection<S>,
     register: &str,

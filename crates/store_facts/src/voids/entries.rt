@@ -1,4 +1,4 @@
-//! An entry of a meter and its void, asked for inside a transaction by their place.
+//! Queries for an entry of a meter and for its void, inside a transaction.
 ghost use Rattle.std.specs.Prelude.{◌≡◌, ◌≤◌, IfOk, IfSome};
 ghost use Rattle.sqlite.specs.Held.{state};
 ghost use Rattle.store_tables.specs.Answer.{IsFound, AnyOrder};
@@ -14,7 +14,7 @@ ghost use Rattle.store_facts.specs.Voids.Places.{TellsOf, is_void, TellsVoided};
 use sqlite::{Alter, Error, Row, Transaction, params};
 use store_tables::{EntryRow, RowFault, number, read_entry};
 
-/// The row of an entry, if there is one.
+/// Queries the row of an entry.
 fn entry_rows_at<S: Alter>(
     tx: &mut Transaction<'_, S>,
     meter: &str,
@@ -33,7 +33,7 @@ fn entry_rows_at<S: Alter>(
     )
 }
 
-/// The row of an entry's void, if there is one.
+/// Queries the void of an entry.
 fn void_rows_at<S: Alter>(
     tx: &mut Transaction<'_, S>,
     meter: &str,
@@ -52,7 +52,7 @@ fn void_rows_at<S: Alter>(
     )
 }
 
-/// The entry of a meter at a place.
+/// Returns the entry of a meter at an index.
 pub fn entry_at<S: Alter>(
     tx: &mut Transaction<'_, S>,
     meter: &str,
@@ -71,7 +71,7 @@ pub fn entry_at<S: Alter>(
     }
 }
 
-/// Whether the entry of a meter at a place was voided.
+/// Returns whether the entry of a meter at an index was voided.
 pub fn is_voided<S: Alter>(
     tx: &mut Transaction<'_, S>,
     meter: &str,

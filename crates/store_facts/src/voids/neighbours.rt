@@ -1,4 +1,4 @@
-//! The places of the entries around one that were not voided.
+//! The nearest entries before and after an entry that are not voided.
 ghost use Rattle.std.specs.Prelude.{◌≤◌, IfOk};
 ghost use Rattle.sqlite.specs.Held.{state};
 ghost use Rattle.store_tables.specs.Entries.Rows.{voided_columns};
@@ -12,7 +12,8 @@ use crate::voids::entries::is_voided;
 use sqlite::{Alter, Transaction};
 use store_tables::{GREATEST_PLACE, RowFault};
 
-/// The place of the last entry before one that was not voided. It asks for each place up to there.
+/// Returns the index of the last entry before `place` that is not voided. Queries each index down
+/// to the result.
 pub fn place_before<S: Alter>(
     tx: &mut Transaction<'_, S>,
     meter: &str,
@@ -34,7 +35,7 @@ pub fn place_before<S: Alter>(
     Ok(1)
 }
 
-/// The next place after one that was not voided. It asks for each place up to there.
+/// Returns the next index after `place` that has no void. Queries each index up to the result.
 pub fn place_after<S: Alter>(
     tx: &mut Transaction<'_, S>,
     meter: &str,

@@ -1,4 +1,4 @@
-//! Shares that go out of the interval rows of a meter.
+//! Removing energy from the interval rows of a meter.
 ghost use Rattle.std.specs.Prelude.{◌<◌, ◌≤◌, ◌^◌, [], ◌∷◌};
 ghost use Rattle.sqlite.specs.Held.{state};
 ghost use Rattle.energy_core.specs.Account.{intervals_touched};
@@ -14,7 +14,7 @@ use interval_core::{Share, Shares, shares_add_up};
 use sqlite::{Alter, Error, Transaction, params};
 use store_tables::number;
 
-/// Takes a share out of the row of its interval.
+/// Subtracts a share from its meter's row of the quarter hour.
 fn take_share<S: Alter>(
     tx: &mut Transaction<'_, S>,
     meter: &str,
@@ -33,7 +33,8 @@ fn take_share<S: Alter>(
     )
 }
 
-/// Takes the energy of a step out: its share in each interval that it touches. Rows that come to nothing stay.
+/// Subtracts the energy of a step: one share for each quarter hour that the step touches. A row
+/// whose energy becomes 0 stays.
 pub fn take_step<S: Alter>(
     tx: &mut Transaction<'_, S>,
     meter: &str,
@@ -55,7 +56,7 @@ pub fn take_step<S: Alter>(
     Ok(())
 }
 
-/// Takes away the rows of a meter that start at `from` or later.
+/// Deletes the rows of a meter whose starts are at least `from`.
 pub fn drop_rows_from<S: Alter>(
     tx: &mut Transaction<'_, S>,
     meter: &str,

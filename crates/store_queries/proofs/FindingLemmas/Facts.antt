@@ -1,4 +1,4 @@
--- What the tables of lawful facts say of them.
+-- What the tables of lawful records say about the records.
 use Rattle.std.proofs.Common.{◌≡◌, ◌≢◌, ℕ, Ok, Err, string_bytes, ◌+◌, ◌≤◌, ◌<◌, ◌==◌, ◌&&◌, Bool, true, false, cond, not, inl, inr, List, [], ◌∷◌, map, filter, reverse, length, find, Option, Some, None, refl, sym, ap, ap₂, subst, ◌∙◌, IsPermutation, arith, eqb}
 use Rattle.std.specs.List.{AllByRecursion, list_any}
 use Rattle.std.specs.Option.{option_map}
@@ -48,7 +48,7 @@ use Rattle.store_queries.proofs.FindingLemmas.ReadRows.{register_found, poll_fou
 use Rattle.store_tables.specs.Failing.{IsRowFault}
 use Rattle.store_tables.proofs.ReadLemmas.{less_sound}
 
--- ---- no two
+-- ---- no duplicates
 
 pub none_left : {X : Type 0} (p : X → Bool) (xs : List X) → find p xs ≡ None → filter p xs ≡ []
 none_left p [] h = refl
@@ -58,7 +58,7 @@ pub few_step : {X : Type 0} (b : Bool) (x : X) (rest : List X) → (b ≡ true �
 few_step true x rest none few = let e = ap length (none refl) in omega (arith, e)
 few_step false x rest none few = few
 
--- registers have names of their own
+-- Registers have distinct names.
 pub few_registers : (facts : List Fact) (name : List ℕ) → AreLawful facts → length (filter (λ (r : Register). same r.name name) (registers_in facts)) ≤ 1
 few_registers [] name h = omega arith
 few_registers (fact.Device d ∷ facts) name h = few_registers facts name h.1
@@ -76,7 +76,7 @@ few_registers (fact.Poll p ∷ facts) name h = few_registers facts name h.1
 few_registers (fact.Outcome e ∷ facts) name h = few_registers facts name h.1
 few_registers (fact.Reply r ∷ facts) name h = few_registers facts name h.1
 
--- a poll ends once
+-- A poll ends once.
 pub few_ends : (facts : List Fact) (number : ℕ) → AreLawful facts → length (ends_of facts number) ≤ 1
 few_ends [] number h = omega arith
 few_ends (fact.Device d ∷ facts) number h = few_ends facts number h.1
@@ -91,7 +91,7 @@ few_ends (fact.Outcome e ∷ facts) number h =
     few_step (e.poll == number) e (ends_of facts number) (λ is. subst (λ (n : ℕ). ends_of facts n ≡ []) (eqb-true e.poll number is) h.0.0.pending) (few_ends facts number h.1)
 few_ends (fact.Reply r ∷ facts) number h = few_ends facts number h.1
 
--- polls are numbered from 1 on
+-- Polls are numbered from 1.
 pub numbered : (facts : List Fact) → AreLawful facts → AreNumbered (polls_in facts)
 numbered [] h = tt
 numbered (fact.Device d ∷ facts) h = numbered facts h.1
@@ -213,7 +213,7 @@ pending_read facts vs h =
     each_equal _ vs
     (each_same (λ (y : Started) (p : Poll). y ≡ started p) IsPollOf (λ a b. b ≡ a) (λ y p v is seen. seen p is) (map started (pending_in facts)) (pending_in facts) vs (each_map started (pending_in facts)) h)
 
--- ---- one of a name or a number
+-- ---- the record with a name or a number
 
 register_only : (facts : List Fact) (name : List ℕ) (found : Option list_register.Register) → AreLawful facts
     → IsFound (is_register name) IsRegister (placed registered (registers_in facts)) found → IsOnly RegisterRowOf IsRegister (is_register name) (λ (r : Register). same r.name name) (registers_in facts) found
@@ -300,7 +300,7 @@ this_end facts number row h =
     let it = end_only facts number (Some row) h.0 h.1 in
     ap (λ (o : OutcomeRow). Some (ended_from o)) (it.3 ∙ it.2) ∙ sym it.4
 
--- a poll with its end
+-- A poll with its outcome.
 pub poll_with_end : (facts : List Fact) (number : ℕ) (p : Poll) (end : Option EndedPoll) → Some p ≡ poll_of facts number → end ≡ end_of facts number
     → Some (let row : PollRow = record { poll = p; ended = end } in row) ≡ poll_row_of facts number
 poll_with_end facts number p end is ends =

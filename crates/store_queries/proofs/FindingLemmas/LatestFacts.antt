@@ -1,4 +1,4 @@
--- The latest moment of the facts is the greatest of those of each kind.
+-- The latest timestamp of the records is the greatest of the latest timestamps of each kind.
 use Rattle.std.proofs.Common.{◌≡◌, ℕ, ◌≤◌, max, List, [], ◌∷◌, Option, Some, None, refl, sym, ap, ◌∙◌, arith}
 use Rattle.std.specs.List.{AllByRecursion, filter_map, cons_option}
 use Rattle.energy_core.specs.Account.{moment_of}
@@ -15,7 +15,7 @@ use Rattle.office_rules.specs.Facts.{as_opening, as_entry, as_hold, as_void, as_
 use Rattle.store_queries.specs.Finding.Latest.{greatest, latest_entered, latest_voided, latest_held, latest_started, latest_ended, latest_replied}
 use Rattle.store_queries.proofs.FindingLemmas.Greatest.{none_past}
 
--- ---- none is later
+-- ---- no record is later
 
 module _ {X : Type 0} (pick : Fact → Option X) (moment : X → ℕ) (own : (f : Fact) (x : X) → pick f ≡ Some x → moment x ≡ moment_in f) where
   step : (f : Fact) (facts : List Fact) (o : Option X) → pick f ≡ o → greatest moment (filter_map pick facts) ≤ latest_in facts → greatest moment (cons_option o (filter_map pick facts)) ≤ max (moment_in f) (latest_in facts)
@@ -54,12 +54,12 @@ reply_at : (f : Fact) (x : Reply) → as_reply f ≡ Some x → x.at ≡ moment_
 reply_at (fact.Reply y) x is = let same_one : x ≡ y = cc in ap (λ (r : Reply). r.at) same_one
 reply_at f x is = absurd (let none = is in cc)
 
--- ---- one is as late
+-- ---- some record has this timestamp
 
 max_least : (a b c : ℕ) → a ≤ c → b ≤ c → max a b ≤ c
 max_least a b c h k = omega arith
 
--- no fact of any kind is later than n
+-- No record of any kind is later than `n`.
 record AreEarly (n : ℕ) (facts : List Fact) : Type 0 where
   openings : AllByRecursion (λ (o : Opening). o.at ≤ n) (openings_in facts)
   entries : AllByRecursion (λ (b : BookedEntry). moment_of b.entry ≤ n) (entries_in facts)
@@ -105,7 +105,7 @@ latest_least n (fact.Reply r ∷ facts) h =
 abbrev pub of_all : (opened entered voided started ended held replied : ℕ) → ℕ
 of_all opened entered voided started ended held replied = max (max (max opened entered) voided) (max (max started ended) (max held replied))
 
--- the greatest of seven is the least that none is past
+-- The greatest of seven numbers is at most `n` if each of them is.
 seven : (o b v s e h r n : ℕ) → o ≤ n → b ≤ n → v ≤ n → s ≤ n → e ≤ n → h ≤ n → r ≤ n → of_all o b v s e h r ≤ n
 seven o b v s e h r n p q t u w x y =
     max_least _ _ n (max_least _ _ n (max_least o b n p q) t) (max_least _ _ n (max_least s e n u w) (max_least h r n x y))

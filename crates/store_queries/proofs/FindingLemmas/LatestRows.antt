@@ -1,4 +1,4 @@
--- What the tables tell of the latest moments.
+-- What the tables say about the latest timestamps.
 use Rattle.std.proofs.Common.{◌≡◌, ℕ, List, map, Option, unwrap_or, refl, ◌∙◌}
 use Rattle.office_events.specs.declared.facts.Fact.{Fact}
 use Rattle.office_events.specs.declared.facts.HeldReading.{HeldReading}
@@ -18,7 +18,7 @@ use Rattle.store_queries.proofs.FindingLemmas.Greatest.{permuted, last_greatest,
 use Rattle.store_queries.proofs.FindingLemmas.Moments.{by_meter, table_latest}
 use Rattle.store_queries.proofs.FindingLemmas.Looking.{IsTold}
 
--- the moment that was found, and 0 where there is none
+-- The timestamp that was found, or 0 if none was.
 abbrev pub IsMoment : (List Fact → ℕ) → List Fact → Option ℕ → Type 0
 IsMoment latest facts found = unwrap_or found 0 ≡ latest facts
 

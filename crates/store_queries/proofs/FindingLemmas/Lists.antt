@@ -42,7 +42,7 @@ use Rattle.store_queries.proofs.FindingLemmas.Each.{each_same, each_equal}
 use Rattle.store_queries.proofs.FindingLemmas.Ordered.{Rises, one_order}
 use Rattle.store_queries.proofs.FindingLemmas.ReadRows.{fair_if, fair_ok}
 
--- ---- places in order
+-- ---- indices in order
 
 module _ {X Y : Type 0} (row : ℕ → X → Y) where
   each_on : (P : X → Type 0) (before : ℕ) (xs : List X) → AllByRecursion P xs → AreEach (λ y x. (place : ℕ) × (y ≡ row place x) × P x) (placed_on row before xs) xs
@@ -58,7 +58,7 @@ module _ {X Y : Type 0} (row : ℕ → X → Y) where
     on_rises before [] = tt
     on_rises before (x ∷ xs) = (on_above (key (row (before + 1) x)) (before + 1) xs (let is = keyed (before + 1) x in omega (arith, is)), on_rises (before + 1) xs)
 
--- ---- points as they are spelled
+-- ---- the texts of points
 
 suits_of : (points : List ListedPoint) (point : ListedPoint) (scale : PointScale) → HasLawfulScale points point scale → Suits point.kind scale
 suits_of points point Unscaled h = tt
@@ -69,7 +69,7 @@ some_there : {X : Type 0} (o : Option X) (P : X → Type 0) → IsSomeAnd o P �
 some_there None P h = absurd h
 some_there (Some x) P h = refl
 
--- the name of a scale point is a name
+-- The name of a scale's point is a name.
 name_step : (a b : Bool) (p : ListedPoint) (name : List ℕ) (rest : Option ListedPoint) → IsTrue (is_name p.name) → bytes_eq p.name name ≡ b → (is_some rest ≡ true → is_name name ≡ true)
     → is_some (cond (a && b) (Some p) rest) ≡ true → is_name name ≡ true
 name_step true true p name rest named is later h = subst (λ (bytes : List ℕ). is_name bytes ≡ true) ((bytes_eq-Decides p.name name).0 is) named
@@ -166,7 +166,7 @@ all_found P p (y ∷ ys) x all is = found_step P (p y) y x (find p ys) all.0 (al
 put_of : List Fact → (device : List ℕ) → Option DeviceList
 put_of facts device = find (λ (put : DeviceList). same put.device device) (lists_in facts)
 
--- the list that a device has, if it has points
+-- The list of a device that has points.
 pub record HasList (facts : List Fact) (device : List ℕ) (points : List ListedPoint) : Type 0 where
   pub list : Planned
   pub is : list_of facts device ≡ Some list
@@ -218,7 +218,7 @@ points_read facts device vs lawful h =
     (each_same (λ (y : Listed) (p : ListedPoint). (place : ℕ) × (y ≡ listed device place p) × IsSpelled p) IsPointOf (λ a b. b ≡ a) (λ y p v is seen. seen device is.0 p is.2 is.1)
     (placed_on (listed device) 0 (points_of facts device)) (points_of facts device) vs (each_on (listed device) IsSpelled 0 (points_of facts device) spelled) h)
 
--- the points that there are make a list
+-- The recorded points make a list.
 pub list_fault : (facts : List Fact) (device : List ℕ) (points : List ListedPoint) → AreLawful facts → points ≡ points_of facts device → points ≢ [] → IsPointList points
 list_fault facts device points lawful are some = let has = has_list facts device points lawful are some in subst IsPointList has.points_are has.planned.points
 

@@ -1,4 +1,4 @@
--- Rows that are read as what they stand for.
+-- Reading rows back as the values that they encode.
 use Rattle.std.proofs.Common.{◌≡◌, ℕ, zero, suc, ◌+◌, ◌≤◌, ◌<◌, nat_le, Bool, true, false, ◌&&◌, if◌then◌else◌, List, [], ◌∷◌, ◌++◌, map, take, length, get_or, Option, Some, None, Ok, Err, Result, IfOk, IfErr, IsErrAnd, string_bytes, refl, sym, ap, ap₂, subst, ◌∙◌, arith, add-one}
 use Rattle.std.specs.List.{AllByRecursion}
 use Rattle.std.proofs.Math.Bridge.{le_prop}
@@ -37,11 +37,11 @@ use Rattle.store_queries.proofs.FindingLemmas.Each.{each_append}
 -- ---- one row
 
 module _ {A B X : Type 0} (row : Row) (shown : X → Row) (Seen : X → A → Type 0) (Is : X → B → Type 0) (S T : X → Type 0) where
-  -- the row was read, and what it has is turned into what it stands for
+  -- The row was read, and its value is converted.
   pub reads_then : (a : A) (r : Result B RowFault) → ReadsRow row shown Seen S (Ok a) → ((x : X) → Seen x a → IsFair (T x) (Is x) r) → ReadsRow row shown Is T r
   reads_then a r one fair = record { read = λ x is. (fair x (one.read x is)).read; fault = λ x is. (fair x (one.read x is)).fault }
 
-  -- it was not read
+  -- The row was not read.
   pub not_read : (e : RowFault) (r : Result B RowFault) → ReadsRow row shown Seen S (Err e) → ((x : X) → T x → S x) → IsErrAnd r (λ d. d ≡ e) → ReadsRow row shown Is T r
   not_read e (Ok b) one sound fails = absurd fails
   not_read e (Err d) one sound fails = record {
@@ -114,7 +114,7 @@ register_found a r is x seen =
 span_of : (f : ReadFunction) (a c : ℕ) → 1 ≤ c → c ≤ 125 → a + c ≤ 65536 → ReadSpan
 span_of f a c s w i = record { function = f; address = a; count = c; some = s; few = w; inside = i }
 
--- a span is its function, its address and its count
+-- A span consists of its function, its address and its count.
 abbrev IsSpan : (x : ReadSpan) (f : ReadFunction) (a c : ℕ) → Type 0
 IsSpan x f a c = (s : 1 ≤ c) (w : c ≤ 125) (i : a + c ≤ 65536) → x ≡ span_of f a c s w i
 
@@ -164,7 +164,7 @@ at_element shown (x ∷ xs) zero row lt is = (x, is, λ S all. all.0)
 at_element shown (x ∷ xs) (suc i) row lt is = let it = at_element shown xs i row (omega arith) is in (it.0, it.1, λ S all. it.2 S all.1)
 
 module _ {X A : Type 0} (rows : List Row) (shown : X → Row) (Seen : X → A → Type 0) where
-  -- so many rows were read
+  -- The first rows were read.
   abbrev pub HasReadSome : ℕ → List A → Type 0
   HasReadSome i done = (xs : List X) → rows ≡ map shown xs → AreEach Seen (take i xs) done
 
@@ -177,7 +177,7 @@ module _ {X A : Type 0} (rows : List Row) (shown : X → Row) (Seen : X → A �
         let it = this_row xs are in
         rw (add-one) (subst (λ l. AreEach Seen l (done ++ a ∷ [])) (sym it.2) (each_append Seen (take i xs) (it.0 ∷ []) done (a ∷ []) (some xs are) (reads.read it.0 it.1, tt)))
 
-    -- the row was not read
+    -- A row was not read.
     pub unreadable : {T : Type 0} (S : X → Type 0) (items : T → List A) (e : RowFault) (r : Result T RowFault) → ReadsRow row shown Seen S (Err e) → IsErrAnd r (λ d. d ≡ e) → ReadsAll rows shown Seen S items r
     unreadable S items e (Ok v) reads fails = absurd fails
     unreadable S items e (Err d) reads fails = record {
@@ -187,7 +187,7 @@ module _ {X A : Type 0} (rows : List Row) (shown : X → Row) (Seen : X → A �
           subst (IsRowFault (AllByRecursion S xs)) (sym fails) (less_sound (AllByRecursion S xs) (S it.0) (it.2 S) e (reads.fault it.0 it.1));
     }
 
-  -- all rows were read
+  -- All rows were read.
   pub read_all : {T : Type 0} (S : X → Type 0) (items : T → List A) (v : T) (i : ℕ) → i ≡ length rows → HasReadSome i (items v) → ReadsAll rows shown Seen S items (Ok v)
   read_all S items v i end some = record {
     read = λ xs are.

@@ -1,4 +1,4 @@
--- The entries around one, as the facts have them.
+-- The entries around an entry, in the records.
 use Rattle.std.proofs.Common.{◌≡◌, ℕ, ℤ, ◌+◌, ◌≤◌, ◌<◌, ◌==◌, ◌&&◌, ◌||◌, not, Bool, true, false, cond, inl, inr, ◌⊎◌, List, [], ◌∷◌, map, filter, length, Option, Some, None, option_map, bytes_eq, refl, sym, ap, ap₂, subst, ◌∙◌, arith, eq-eqb, eqb-true, IsPermutation}
 use Rattle.std.specs.List.{list_any, AllByRecursion}
 use Rattle.std.specs.Option.{option_or}
@@ -34,7 +34,7 @@ use Rattle.store_queries.proofs.MeteringLemmas.Picked.{none_passes}
 use Rattle.store_queries.proofs.MeteringLemmas.Shapes.{HasShape, IsPlain, found_there}
 use Rattle.store_facts.specs.Voids.Places.{names}
 
--- ---- the voids of a meter, by their places
+-- ---- the voids of a meter, by index
 
 turned : (a b : ℕ) → (a == b) ≡ (b == a)
 turned a b = elim (cases_Bool (a == b)) [
@@ -54,13 +54,13 @@ named_of meter place [] = refl
 named_of meter place (v ∷ vs) =
     named_step (bytes_eq v.meter meter) (λ (w : Voided). place == w.place) v (filter (is_void_of meter) vs) (v.place == place) (names meter place vs) (turned place v.place) (named_of meter place vs)
 
--- the table names the entries that the journal has voided
+-- The table has voids of the entries that the journal has voided.
 pub names_are : (facts : List Fact) (meter : List ℕ) (place : ℕ) → names meter place (map voided (voids_in facts)) ≡ is_voided place (journal_of facts meter)
 names_are facts meter place = named_of meter place (map voided (voids_in facts)) ∙ voids_are meter place facts
 
--- ---- the rows of a journal between two places
+-- ---- the rows of a journal between two indices
 
--- each entry between two places was voided
+-- Each entry between two indices is voided.
 abbrev pub AreStruck : Journal → (low high : ℕ) → Type 0
 AreStruck lines low high = (place : ℕ) → low < place → place < high → is_voided place lines ≡ true
 
@@ -77,17 +77,17 @@ module _ (o : Opening) where
   abbrev stood : List EntryRow → Last
   stood rows = last_of (opened o) (entries_in rows)
 
-  -- the places of the rows of the table are those of the journal, and 1
+  -- The indices of the table's rows are those of the journal, and 1.
   few : (rows : List EntryRow) (n : ℕ) → AreNumbered rows → length rows + 1 ≤ n → AllByRecursion (λ (e : Entered). e.entry.place ≤ n) (entered_rows o rows)
   few [] n numbered le = (omega (arith, le), tt)
   few (row ∷ rows) n numbered le = ((let at = numbered.0 in omega (arith, at, le)), few rows n numbered.1 (omega (arith, le)))
 
-  -- at a later place is none of them
+  -- No row has a later index.
   none_later : (Q : Entered → Type 0) (place : ℕ) (rows : List EntryRow) → AreNumbered rows → length rows + 1 < place → AllByRecursion (λ (e : Entered). e.entry.place ≡ place → Q e) (entered_rows o rows)
   none_later Q place rows numbered late =
       all_weaker (λ (e : Entered). e.entry.place ≤ length rows + 1) (λ (e : Entered). e.entry.place ≡ place → Q e) (λ e le same. absurd (omega (arith, le, same, late))) (entered_rows o rows) (few rows (length rows + 1) numbered (omega arith))
 
-  -- every place up to the last has one
+  -- Every index up to the last has a row.
   pub all_places : (place : ℕ) (rows : List EntryRow) → AreNumbered rows → 1 ≤ place → AllByRecursion (λ (e : Entered). e.entry.place ≡ place → ⊥) (entered_rows o rows) → length rows + 1 < place
   all_places place [] numbered some none = omega (arith, some, (λ (is : 1 ≡ place). none.0 is))
   all_places place (row ∷ rows) numbered some none =
@@ -98,7 +98,7 @@ module _ (o : Opening) where
         | inr off ↦ grind (arith, nat_tests, rest, at, off)
       ]
 
-  -- ---- the entry at a place
+  -- ---- the entry at an index
 
   pub record AtRow (place : ℕ) (rows : List EntryRow) (e : stored.EntryRow) : Type 0 where
     pub around : Around
@@ -127,7 +127,7 @@ module _ (o : Opening) where
         (λ e h same. past_row place row rows e.entry numbered (h same)) (entered_rows o rows) (entries_at_rows place rows numbered.1 late),
   )
 
-  -- ---- where the counter stood before it
+  -- ---- the counter before the entry
 
   counter_of_row : (sf : ℤ) (last : Last) (place : ℕ) (k : EntryKind) (e : Entry) (stands : Bool) → HasShape k e → sf ≡ (after last e).sf
       → counter_after (entry_row sf (record { place = place; kind = k; entry = e; stands = stands })) ≡ after last e
@@ -142,7 +142,7 @@ module _ (o : Opening) where
   counter_of_row sf last place kind.Reset (entry.Step at raw rolls) stands h is = absurd h
   counter_of_row sf last place kind.Rescale (entry.Step at raw rolls) stands h is = absurd h
 
-  -- the counter after a row that stands
+  -- The counter after a row that is not voided.
   pub stands_after_row : (row : EntryRow) (rows : List EntryRow) → HasShape row.kind row.entry → row.stands ≡ true → counter_after (entry_row (scale_after o (row ∷ rows)) row) ≡ after (stood rows) row.entry
   stands_after_row row rows shape on =
       counter_of_row (scale_after o (row ∷ rows)) (stood rows) row.place row.kind row.entry row.stands shape (ap (λ es. (last_of (opened o) es).sf) (entries_standing row rows on))
@@ -204,7 +204,7 @@ module _ (o : Opening) where
         found_rest_before place row None around h = absurd (let e = h in cc)
         found_rest_before place row (Some rest) around h = (rest, refl, ap (λ (a : Around). a.before) (sym (same_Some (passed row rest) around h)))
 
-    -- ---- the next that stands
+    -- ---- the next entry that is not voided
 
     found_rest_next : (row : EntryRow) (o : Option Around) (around : Around) → option_map (passed row) o ≡ Some around → (rest : Around) × (o ≡ Some rest) × (around.next ≡ option_or rest.next (if_standing row))
     found_rest_next row None around h = absurd (let e = h in cc)
@@ -274,7 +274,7 @@ module _ (o : Opening) where
   opening_alone [] numbered = (λ is. refl, tt)
   opening_alone (row ∷ rows) numbered = ((λ (is : row.place ≡ 1). absurd (let at = numbered.0 in omega (arith, is, at))), opening_alone rows numbered.1)
 
--- ---- what holds of the rows of a meter, of the row that is found
+-- ---- from all rows of a meter to the row that is found
 
 module _ (meter : List ℕ) (o : Opening) (rows : List EntryRow) (table : List Entered) (are : IsPermutation (filter (is_of meter) table) (entered_rows o rows)) where
   lifted : (Q : Entered → Type 0) (place : ℕ) → AllByRecursion (λ (e : Entered). e.entry.place ≡ place → Q e) (entered_rows o rows) → AllByRecursion (λ e. is_entry meter place e ≡ true → Q e) table

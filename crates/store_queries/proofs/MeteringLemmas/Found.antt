@@ -1,4 +1,4 @@
--- What the rows of the tables of facts say of meters.
+-- What the rows of the records say about meters.
 use Rattle.std.proofs.Common.{◌≡◌, ℕ, ◌+◌, ◌==◌, ◌&&◌, Bool, true, false, List, [], ◌∷◌, map, filter, length, Option, Some, None, option_map, string_bytes, bytes_eq, refl, sym, ap, subst, ◌∙◌, arith, eqb-true, IsPermutation}
 use Rattle.std.specs.List.{AllByRecursion}
 use Rattle.std.proofs.lemmas.Bool.{and_parts}
@@ -32,7 +32,7 @@ use Rattle.store_facts.proofs.Placed.{last_counts}
 use Rattle.store_queries.specs.Metering.Meters.{IsRowOf, FindsRow, FindsRange, FindsFirst, CountsOpenings, opening_from, standing_from, IsStanding}
 use Rattle.store_queries.proofs.MeteringLemmas.Picked.{found_has, none_placed, none_mapped, none_passes, last_placed, all_placed, all_mapped}
 
--- each opening is the only one of its meter
+-- Each meter has only one opening.
 pub alone : (facts : List Fact) → AreLawful facts → AllByRecursion (λ (o : Opening). opening_of facts o.meter ≡ Some o) (openings_in facts)
 alone facts lawful = recursion_from_All _ _ (each_found (λ (o : Opening). o.meter) (openings_in facts) (openings_apart facts lawful))
 
@@ -87,7 +87,7 @@ first_alone : (o : Opening) (rows : List journal.EntryRow) → AreNumbered rows 
 first_alone o [] numbered = (λ is. refl, tt)
 first_alone o (row ∷ rows) numbered = (λ is. absurd (let place = numbered.0 in omega (arith, place, is)), first_alone o rows numbered.1)
 
--- the opening is among the rows
+-- The opening is one of the rows.
 at_opening : (o : Opening) (P : Entered → Type 0) (rows : List journal.EntryRow) → AllByRecursion P (entered_rows o rows) → P (entered o.meter (opening_row o))
 at_opening o P [] all = all.0
 at_opening o P (row ∷ rows) all = at_opening o P rows all.1
@@ -155,24 +155,24 @@ standing_found facts row m x y range first made found named ranged_is first_is m
     let two = subst (λ (t : List ℕ). FindsFirst t facts (Some first)) named (subst (λ (z : Option EntryRow). FindsFirst m facts z) first_is begins) in
     is ∙ standing_is facts o made row of (made_is ∙ opening_is facts o row range first of one two)
 
--- the installation of the opening whose row was found
+-- The installation of the opening whose row was found.
 pub found_is : (facts : List Fact) (o : Option Opening) (x : Option stored.Installation) (row : stored.Installation) (found : Installation) → x ≡ Some row → FindsRow facts o x → IsStanding row facts found
     → Some found ≡ option_map (installation_of facts) o
 found_is facts None x row found is finds stands = absurd (let e = sym finds ∙ is in cc)
 found_is facts (Some o) x row found is finds stands = ap Some (stands o (subst (FindsRow facts (Some o)) is finds))
 
--- ---- what lawful facts have
+-- ---- properties of lawful records
 
 pub in_range : (facts : List Fact) (o : Opening) → IsSound (installation_of facts o) → IsSound (installation_of facts o)
 in_range facts o h = record { range = h.range; ceiling = h.ceiling; raw = h.raw; scale = h.scale; total = h.total }
 
--- the names of an opening whose row was found
+-- The names of an opening whose row was found.
 pub named_row : (facts : List Fact) (o : Opening) (row : stored.Installation) → IsRowOf facts o row → AllByRecursion HasNames (openings_in facts) → IsNamed row
 named_row facts o row is all =
     let names = all_found HasNames (λ (x : Opening). same x.meter o.meter) (openings_in facts) o all is.alone in
     record { meter = ap is_name is.row.meter ∙ names.meter; register = ap is_name is.row.register ∙ names.register }
 
--- there is an opening, so that there are its range and its first entry
+-- The opening exists, so its range and its first entry exist.
 pub no_opening : (facts : List Fact) (o : Opening) (row : stored.Installation) (meter : List ℕ) → meter ≡ string_bytes row.meter → IsRowOf facts o row → opening_of facts meter ≡ None → ⊥
 no_opening facts o row meter named is none =
     let there : opening_of facts meter ≡ Some o = ap (opening_of facts) (named ∙ is.row.meter) ∙ is.alone in
@@ -181,17 +181,17 @@ no_opening facts o row meter named is none =
 pub recorded_row : (facts : List Fact) (o : Opening) (row : stored.Installation) → IsRowOf facts o row → IsRecorded facts o
 recorded_row facts o row is = found_recorded (λ (x : Opening). same x.meter o.meter) (openings_in facts) o is.alone
 
--- an installation of an opening whose row was found is not out of its ranges
+-- The installation of an opening whose row was found is in its ranges.
 pub not_unsound : InstallationsAreInRange → (facts : List Fact) (o : Opening) (row : stored.Installation) (made : Opening) → AreLawful facts → IsRowOf facts o row → made ≡ o → ¬ IsSound (standing_from made row.row) → ⊥
 not_unsound law facts o row made lawful is opening unsound =
     unsound (subst IsSound (sym (standing_is facts o made row is opening)) (in_range facts o ((law facts lawful).recorded o (recorded_row facts o row is))))
 
--- the row of an opening was found, so there is one
+-- A row that was found has an opening.
 pub found_row : (facts : List Fact) (o : Option Opening) (row : stored.Installation) → FindsRow facts o (Some row) → (opening : Opening) × IsRowOf facts opening row
 found_row facts None row finds = absurd (let e = finds in cc)
 found_row facts (Some o) row finds = (o, finds)
 
--- none was found, so there is none
+-- Without a row there is no opening.
 pub none_found : (facts : List Fact) (o : Option Opening) → FindsRow facts o None → None ≡ option_map (installation_of facts) o
 none_found facts None finds = refl
 none_found facts (Some o) finds = absurd finds

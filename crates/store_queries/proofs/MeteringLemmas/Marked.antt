@@ -1,9 +1,9 @@
--- What was gone over so far, and one more.
+-- The elements that a loop has read, and the next one.
 use Rattle.std.proofs.Common.{◌≡◌, ℕ, zero, suc, ◌+◌, ◌<◌, ◌≤◌, ◌||◌, Bool, true, false, List, [], ◌∷◌, ◌++◌, map, take, drop, length, get_or, refl, sym, ap, ◌∙◌, arith, take-append-drop}
 use Rattle.std.specs.List.{list_any}
 use Rattle.std.proofs.lemmas.List.Folds.{list_any-append}
 
--- the element that a row stands for, after those before
+-- The element that a row encodes, after the elements before it.
 pub record IsNext {X Y : Type 0} (f : X → Y) (xs : List X) (n : ℕ) (y : Y) : Type 0 where
   pub at : X
   pub seen : y ≡ f at
@@ -17,7 +17,7 @@ next_of f (x ∷ xs) (suc n) y lt is =
     let e : suc n + 1 ≡ suc (n + 1) = omega arith in
     record { at = rest.at; seen = rest.seen; more = ap (λ k. take k (x ∷ xs)) e ∙ ap (λ l. x ∷ l) rest.more }
 
--- the same of a list that is shown
+-- The same for a list of shown rows.
 pub next_shown : {X Y : Type 0} (f : X → Y) (xs : List X) (ys : List Y) (n : ℕ) (y : Y) → ys ≡ map f xs → n < length ys → y ≡ get_or ys n y → IsNext f xs n y
 next_shown f xs ys n y shown lt is =
     let long = ap length shown in

@@ -1,4 +1,4 @@
--- What a question finds among rows that have their places.
+-- What a query finds among rows with indices.
 use Rattle.std.proofs.Common.{◌≡◌, ◌≤◌, ℕ, ◌+◌, Bool, true, false, cond, inl, inr, ◌⊎◌, List, [], ◌∷◌, map, filter, length, Option, Some, None, refl, sym, ap, subst, ◌∙◌, arith, IsPermutation}
 use Rattle.std.specs.List.{find, AllByRecursion}
 use Rattle.std.proofs.lemmas.Bool.{cases_Bool, cond-true, cond-false}
@@ -14,12 +14,12 @@ passing_step : {Y : Type 0} (p : Y → Bool) (b : Bool) (y : Y) (ys : List Y) �
 passing_step p true y ys is more = (is, more)
 passing_step p false y ys is more = more
 
--- those that pass a filter pass
+-- Elements that a filter keeps pass its test.
 pub all_passing : {Y : Type 0} (p : Y → Bool) (ys : List Y) → AllByRecursion (λ y. p y ≡ true) (filter p ys)
 all_passing p [] = tt
 all_passing p (y ∷ ys) = passing_step p (p y) y (filter p ys) refl (all_passing p ys)
 
--- what all rows have, the found one has, and it passes
+-- The found row passes, and has the properties of all rows.
 pub found_has : {Y : Type 0} (p : Y → Bool) (P : Y → Type 0) (rows : List Y) (y : Y) (others : List Y) → AllByRecursion P rows → IsPermutation (filter p rows) (y ∷ others)
     → P y × (p y ≡ true)
 found_has p P rows y others all are =
@@ -27,7 +27,7 @@ found_has p P rows y others all are =
     let passes = recursion_from_All (λ z. p z ≡ true) (y ∷ others) (All-permutation (λ z. p z ≡ true) _ _ are (All-from_recursion (λ z. p z ≡ true) _ (all_passing p rows))) in
     (here.0, passes.0)
 
--- where none passes, each fails
+-- If the filter keeps nothing, every element fails the test.
 pub none_passes : {Y : Type 0} (p : Y → Bool) (ys : List Y) → filter p ys ≡ [] → AllByRecursion (λ y. p y ≡ false) ys
 none_passes p [] h = tt
 none_passes p (y ∷ ys) h = elim (cases_Bool (p y)) [
@@ -42,10 +42,10 @@ none_mapped row p q agree (x ∷ xs) h = elim (cases_Bool (p x)) [
   | inr off ↦ cond-false _ _ _ off ∙ none_mapped row p q agree xs (sym (cond-false _ _ _ (agree x ∙ off)) ∙ h)
 ]
 
--- ---- rows that have their places
+-- ---- rows with indices
 
 module _ {X Y : Type 0} (row : ℕ → X → Y) (p : X → Bool) (q : Y → Bool) (agree : (n : ℕ) (x : X) → q (row n x) ≡ p x) where
-  -- no row passes
+  -- No row passes.
   pub none_placed : (xs : List X) → filter q (placed row xs) ≡ [] → find p xs ≡ None
   none_placed [] h = refl
   none_placed (x ∷ xs) h = elim (cases_Bool (p x)) [
@@ -54,7 +54,7 @@ module _ {X Y : Type 0} (row : ℕ → X → Y) (p : X → Bool) (q : Y → Bool
   ]
 
   module _ {A : Type 0} (IsSeen : Y → A → Type 0) (key : Y → ℕ) (keyed : (n : ℕ) (x : X) → key (row n x) ≡ n) where
-    -- the row at a place, or one before it
+    -- The row at an index, or at an earlier one.
     abbrev IsUpTo : (n : ℕ) → X → Y → Type 0
     IsUpTo n x y = (y ≡ row (n + 1) x) ⊎ (key y ≤ n)
 
@@ -77,7 +77,7 @@ module _ {X Y : Type 0} (row : ℕ → X → Y) (p : X → Bool) (q : Y → Bool
           | inr small ↦ absurd (omega (arith, low, top, small))
         ]
 
-    -- the row of the greatest place is the first that passes
+    -- The row with the greatest index is the first that passes.
     pub last_placed : (xs : List X) (a : A) → IsLast q IsSeen key (placed row xs) (Some a) → (x : X) × (n : ℕ) × (find p xs ≡ Some x) × IsSeen (row n x) a
     last_placed [] a h = absurd (let long = length_permutation _ _ h.3 in omega (arith, long))
     last_placed (x ∷ xs) a h = elim (cases_Bool (p x)) [
@@ -88,7 +88,7 @@ module _ {X Y : Type 0} (row : ℕ → X → Y) (p : X → Bool) (q : Y → Bool
           (it.0, it.1, cond-false _ _ _ off ∙ it.2, it.3)
     ]
 
--- what all have, all rows stand for
+-- Each row encodes an element, with the properties of all elements.
 pub all_placed : {X Y : Type 0} (row : ℕ → X → Y) (P : X → Type 0) (xs : List X) → AllByRecursion P xs → AllByRecursion (λ y. (x : X) × (n : ℕ) × (y ≡ row n x) × P x) (placed row xs)
 all_placed row P [] h = tt
 all_placed row P (x ∷ xs) h = ((x, length xs + 1, refl, h.0), all_placed row P xs h.1)

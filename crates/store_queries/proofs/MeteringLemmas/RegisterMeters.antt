@@ -1,4 +1,4 @@
--- The installations at a register, one after the other.
+-- The installations at a register, one after another.
 use Rattle.std.proofs.Common.{◌≡◌, ℕ, zero, suc, ◌+◌, ◌<◌, ◌≤◌, List, [], ◌∷◌, ◌++◌, map, filter, take, length, get_or, Some, refl, sym, ap, subst, ◌∙◌, arith, add-one, take_all}
 use Rattle.std.specs.List.{AllByRecursion}
 use Rattle.std.proofs.lemmas.List.{length-map}
@@ -24,7 +24,7 @@ use Rattle.store_queries.proofs.FindingLemmas.Each.{each_filter, each_length, ea
 use Rattle.store_queries.proofs.FindingLemmas.Rows.{all_reverse, each_reverse, in_turn, placed_falls}
 use Rattle.store_queries.proofs.MeteringLemmas.Found.{alone}
 
--- ---- their rows
+-- ---- the rows of the installations
 
 pub meters_shown : (facts : List Fact) (register : List ℕ) (rows : List Row) → Shows (is_at register) (FirstFirst installed_place) installed_shown (placed (installed_row facts) (openings_in facts)) rows
     → rows ≡ map installed_shown (rows_at register facts)
@@ -36,7 +36,7 @@ meters_shown facts register rows h =
 pub rows_sound : (facts : List Fact) (register : List ℕ) → HasReadableMeters facts → AllByRecursion IsSoundInstalled (rows_at register facts)
 rows_sound facts register sound = all_reverse IsSoundInstalled _ (all-filter IsSoundInstalled (is_at register) (placed (installed_row facts) (openings_in facts)) sound.installations)
 
--- the row is that of an opening, which is the only one of its meter
+-- The row is that of an opening, and the meter has no other opening.
 record IsInstalledAs (facts : List Fact) (row : Installed) (opening : Opening) : Type 0 where
   place : ℕ
   is : row ≡ installed_row facts place opening

@@ -1,4 +1,4 @@
--- What the rows of a meter's journal can be.
+-- The possible rows of a meter's journal.
 use Rattle.std.proofs.Common.{◌≡◌, ◌≢◌, ℕ, ◌+◌, ◌≤◌, ◌==◌, ◌&&◌, ◌||◌, not, Bool, true, false, cond, inl, inr, ◌⊎◌, List, [], ◌∷◌, map, length, Option, Some, None, option_map, refl, sym, ap, ap₂, subst, ◌∙◌, arith, eq-eqb, eqb-true}
 use Rattle.std.specs.List.{AllByRecursion}
 use Rattle.std.proofs.lemmas.Bool.{cases_Bool, cond-true, cond-false}
@@ -22,7 +22,7 @@ use Rattle.meter_journal.specs.Laws.{RowsStand}
 use Rattle.meter_journal.specs.Standing.{is_voided}
 use Rattle.meter_journal.specs.Voids.{VoidsChangeTwoRows, changed_by, is_next, last_before}
 
--- an entry of this kind is a step, or a change
+-- An entry of this kind is a step, or a change.
 abbrev pub HasShape : EntryKind → Entry → Type 0
 HasShape kind.Reading (entry.Step at raw rolls) = Unit {0}
 HasShape kind.Manual (entry.Step at raw rolls) = Unit {0}
@@ -47,13 +47,13 @@ has_shape meter es kind.Closing (entry.Change at before after sf) h = absurd h
 has_shape meter es kind.Reset (entry.Step at raw rolls) h = absurd h
 has_shape meter es kind.Rescale (entry.Step at raw rolls) h = absurd h
 
--- A row has the shape of its kind. One that stands no more is a reading, and none stands that a void names.
+-- A row has the shape of its kind. A voided row is a reading. A row with a void is voided.
 pub record IsPlain (lines : Journal) (row : EntryRow) : Type 0 where
   pub shape : HasShape row.kind row.entry
   pub reading : row.stands ≡ false → is_read row.kind row.entry ≡ true
   pub stands : row.stands ≡ not (is_voided row.place lines)
 
--- ---- places
+-- ---- indices
 
 abbrev pub IsBelow : ℕ → EntryRow → Type 0
 IsBelow n row = row.place ≤ n
@@ -62,7 +62,7 @@ pub below : (n : ℕ) (rows : List EntryRow) → AreNumbered rows → length row
 below n [] numbered le = tt
 below n (row ∷ rows) numbered le = ((let at = numbered.0 in omega (arith, at, le)), below n rows numbered.1 (omega (arith, le)))
 
--- the row that is found at a place
+-- The row that is found at an index.
 abbrev pub FoundThere : (place : ℕ) → EntryRow → EntryRow → Type 0
 FoundThere place found row = row.place ≡ place → found ≡ row
 
@@ -107,7 +107,7 @@ module _ (lines : Journal) (place : ℕ) where
   abbrev Later : Journal
   Later = Voided place ∷ lines
 
-  -- another place is voided, or this one
+  -- The void is of another index, or of this one.
   unnamed : (row : EntryRow) → (row.place == place) ≡ false → IsPlain lines row → IsPlain Later row
   unnamed row off h = record { shape = h.shape; reading = h.reading; stands = h.stands ∙ sym (ap (λ b. not (b || is_voided row.place lines)) off) }
 
@@ -143,7 +143,7 @@ not_true true h = absurd (h refl)
 not_true false h = refl
 
 module _ (stand : RowsStand) (change : VoidsChangeTwoRows) (meter : Installed) (well : IsWellInstalled meter) where
-  -- a void names a place that there is
+  -- A void is of an existing index.
   voids_low : (lines : Journal) → AreFitting meter lines → (place : ℕ) → is_voided place lines ≡ true → place ≤ length (rows_of meter.opening lines) + 1
   voids_low [] fits place h = absurd (let e = h in cc)
   voids_low (Entered k e ∷ lines) fits place h = let low = voids_low lines fits.1 place h in omega (arith, low)

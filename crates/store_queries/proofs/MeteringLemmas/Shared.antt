@@ -1,4 +1,4 @@
--- The interval rows of the tables, in their order.
+-- The interval rows of the tables, in order.
 use Rattle.std.proofs.Common.{◌≡◌, ℕ, ◌+◌, ◌<◌, ◌≤◌, ◌==◌, ◌&&◌, ◌||◌, Bool, true, false, cond, inl, inr, ◌⊎◌, List, [], ◌∷◌, ◌++◌, map, filter, reverse, length, Option, Some, None, bytes_eq, refl, sym, ap, ap₂, subst, ◌∙◌, arith, append-nil, eq-eqb, eqb-true, lt-ltb, ltb-true, le-ltb, IsPermutation}
 use Rattle.std.specs.Prelude.{min, nat_le, nat_lt}
 use Rattle.std.specs.List.{AllByRecursion, flat_map}
@@ -57,7 +57,7 @@ each_sound : (rows : List Interval) → ((meter : List ℕ) → AllByRecursion I
 each_sound [] h = tt
 each_sound (i ∷ is) h = (sound_if (is_of i.meter i) i (filter (is_of i.meter) is) (same_itself i.meter) (h i.meter), each_sound is (λ meter. less_rows (is_of meter i) i (filter (is_of meter) is) (h meter)))
 
--- what each meter has can be read, so all rows can
+-- If the rows of each meter can be read, all rows can.
 pub all_sound : (facts : List Fact) (rows : List Interval) → AreEach facts rows → HasReadableIntervals facts → AllByRecursion IsSoundInterval rows
 all_sound facts rows each sound =
     each_sound rows (λ meter. recursion_from_All IsSoundInterval _ (All-permutation IsSoundInterval _ _ (IsPermutation-sym _ _ (each meter)) (All-from_recursion IsSoundInterval _ (sound_rows meter (rows_of_meter facts meter) (sound meter)))))
@@ -130,7 +130,7 @@ module _ (kept : MetersAreKept) (facts : List Fact) (lawful : AreLawful facts) w
     abbrev here : Opening → Bool
     here o = same o.register register
 
-    -- the rows of each installation at the register, in the order of their places
+    -- The rows of each installation at the register, in order of index.
     abbrev wanted : List Opening → List Pair
     wanted [] = []
     wanted (o ∷ os) = wanted os ++ cond (here o) (own (length os + 1) o) []
@@ -143,7 +143,7 @@ module _ (kept : MetersAreKept) (facts : List Fact) (lawful : AreLawful facts) w
     with_false true = refl
     with_false false = refl
 
-    -- those of one installation
+    -- The rows of one installation.
     mine : (b : Bool) (n : ℕ) (o : Opening) → here o ≡ b → IsPermutation (filter (is_of o.meter) rows) (map (interval_of o.meter) (rows_of_opening facts o))
         → IsPermutation (filter (lies_at register) (map (at_place n o) rows)) (cond b (own n o) [])
     mine true n o is each =
@@ -168,7 +168,7 @@ module _ (kept : MetersAreKept) (facts : List Fact) (lawful : AreLawful facts) w
         subst (λ l. IsPermutation l (wanted (o ∷ os))) (sym split)
         (IsPermutation-trans _ _ _ (IsPermutation-append _ _ _ _ (mine (here o) n o refl h.0) (all_lie os h.1)) (IsPermutation-append_comm (cond (here o) (own n o) []) (wanted os)))
 
-    -- ---- their order
+    -- ---- the order of these rows
 
     abbrev comes_before : Pair → Pair → Bool
     comes_before p q = nat_lt (installed_place p.0) (installed_place q.0) || ((installed_place p.0 == installed_place q.0) && starts_before p.1 q.1)
@@ -196,7 +196,7 @@ module _ (kept : MetersAreKept) (facts : List Fact) (lawful : AreLawful facts) w
         let eq : (a == b) ≡ true = eq-eqb a b same_place in
         ap₂ (λ c d. nat_lt a b || (c && d)) eq is ∙ or_true (nat_lt a b)
 
-    -- pairs that come later come after what those before come after
+    -- The order of pairs is transitive.
     pair_still : (p q r : Pair) → comes_before p q ≡ true → ComesAfter q r → comes_before p r ≡ true
     pair_still p q r lt le = elim (less_or (installed_place p.0) (installed_place q.0) (starts_before p.1 q.1) lt) [
       | inl low ↦ elim le [
@@ -241,7 +241,7 @@ module _ (kept : MetersAreKept) (facts : List Fact) (lawful : AreLawful facts) w
         ascending-append (λ (p q : Pair). comes_before p q ≡ true) (wanted os) _ (in_turn os h.1) (rising_here (here o) n o h.0)
         (all_weaker (λ (p : Pair). installed_place p.0 ≤ length os) _ (λ p le. all_after (here o) p n o (omega (arith, le))) (wanted os) (up_to (length os) os (omega arith)))
 
-    -- ---- their shares
+    -- ---- the shares of these rows
 
     abbrev share_of : Pair → Share
     share_of p = p.1.share

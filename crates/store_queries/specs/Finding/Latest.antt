@@ -1,4 +1,4 @@
--- The greatest moments of the facts of each kind.
+-- The latest timestamps of the records of each kind.
 use Rattle.std.specs.Prelude.{ℕ, max, List, [], ◌∷◌, map}
 use Rattle.std.specs.List.{AllByRecursion}
 use Rattle.energy_core.specs.Account.{moment_of}
@@ -9,39 +9,44 @@ use Rattle.store_tables.specs.Entries.Latest.{IsTimelyVoid}
 use Rattle.store_devices.specs.Polls.Rows.{IsSoundStarted, IsSoundOutcome, IsSoundHeld, IsSoundKept}
 use Rattle.store_facts.specs.Rows.{placed, entries_of, voided, held_row, started, outcome_row, kept}
 
--- 0 of none
+-- The greatest timestamp of a list, or 0 for an empty list.
 abbrev pub greatest : {X : Type 0} → (moment : X → ℕ) → List X → ℕ
 greatest moment [] = 0
 greatest moment (x ∷ xs) = max (moment x) (greatest moment xs)
 
--- openings and the entries after them
+-- The latest timestamp of openings and entries.
 abbrev pub latest_entered : List Fact → ℕ
 latest_entered facts =
     max (greatest (λ o. o.at) (openings_in facts))
     (greatest (λ b. moment_of b.entry) (entries_in facts))
 
+-- The latest timestamp of voids.
 abbrev pub latest_voided : List Fact → ℕ
 latest_voided facts = greatest (λ v. v.at) (voids_in facts)
 
+-- The latest timestamp of rejected readings.
 abbrev pub latest_held : List Fact → ℕ
 latest_held facts = greatest (λ h. h.at) (holds_in facts)
 
+-- The latest start of a poll.
 abbrev pub latest_started : List Fact → ℕ
 latest_started facts = greatest (λ p. p.at) (polls_in facts)
 
+-- The latest timestamp of outcomes.
 abbrev pub latest_ended : List Fact → ℕ
 latest_ended facts = greatest (λ e. e.at) (ended_in facts)
 
+-- The latest timestamp of kept requests.
 abbrev pub latest_replied : List Fact → ℕ
 latest_replied facts = greatest (λ r. r.at) (replies_in facts)
 
--- polls, held readings and kept replies
+-- The latest timestamp of polls, rejected readings and kept requests.
 abbrev pub latest_asked : List Fact → ℕ
 latest_asked facts =
     max (max (latest_started facts) (latest_ended facts))
     (max (latest_held facts) (latest_replied facts))
 
--- The rows that the tables have for facts with a moment have values that the tables can have.
+-- Every row with a timestamp has values that its table can have.
 pub record HasReadableMoments (facts : List Fact) : Type 0 where
   pub entries : (meter : List ℕ) → AllByRecursion IsSoundEntered (entries_of facts meter)
   pub voids : AllByRecursion IsTimelyVoid (map voided (voids_in facts))

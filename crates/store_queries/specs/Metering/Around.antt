@@ -1,4 +1,4 @@
--- The rows around an entry of a meter, and what they tell of it.
+-- The rows around an entry of a meter, and what they say about the entry.
 use Rattle.std.specs.Prelude.{◌≡◌, ◌⊎◌, ℕ, ◌<◌, ◌≤◌, Bool, true, false, not, List, map, Option, Some, None, IfSome}
 use Rattle.std.specs.List.{list_any}
 use Rattle.std.specs.List.Sorted.{IsPermutation}
@@ -20,39 +20,39 @@ use Rattle.store_queries.specs.Metering.Entries.{row_from, names}
 use Rattle.store_queries.specs.declared.metering.around.Sides.{Sides}
 use Rattle.store_queries.specs.declared.metering.around.Around.{Around}
 
--- ---- the places around one, by the voids of the meter
+-- ---- the indices around an entry, by the voids of the meter
 
--- each entry between two places was voided
+-- Each entry between two indices is voided.
 abbrev pub AreVoided : List Voided → (low high : ℕ) → Type 0
 AreVoided voids low high =
     (place : ℕ) → low < place → place < high → list_any (names place) voids ≡ true
 
--- The place before one: of the last entry before it that stands, or else of the opening.
+-- The index of the last entry before `place` that is not voided, or 1 for the opening.
 pub record IsBefore (voids : List Voided) (place before : ℕ) : Type 0 where
   pub lower : before < place
   pub between : AreVoided voids before place
   pub stands : (before ≡ 1) ⊎ (list_any (names before) voids ≡ false)
 
--- The place after one: the next that no void names.
+-- The next index after `place` that has no void.
 pub record IsAfter (voids : List Voided) (place after : ℕ) : Type 0 where
   pub higher : place < after
   pub small : after ≤ greatest_place
   pub between : AreVoided voids place after
   pub stands : list_any (names after) voids ≡ false
 
--- both, and whether the entry itself stands
+-- The indices on both sides of an entry, and whether the entry is not voided.
 pub record AreSides (voids : List Voided) (place : ℕ) (sides : Sides) : Type 0 where
   pub before : IsBefore voids place sides.before
   pub after : IsAfter voids place sides.after
   pub stands : sides.stands ≡ not (list_any (names place) voids)
 
--- so it is, by the voids that these rows show
+-- The property applies to the voids that these rows show.
 abbrev pub ByVoids : (List Voided → Type 0) → (rows : List Row) → Type 0
 ByVoids Is rows = (voids : List Voided) → rows ≡ map voided_shown voids → Is voids
 
--- ---- the rows at these places
+-- ---- the rows at these indices
 
--- the row of a meter's entry at a place, as the table has it, if it is there
+-- The row of a meter's entry at an index, as the table has it, if there is one.
 pub record FindsAt (meter : List ℕ) (place : ℕ) (facts : List Fact) (found : Option EntryRow) :
     Type 0 where
   pub lawful : AreLawful facts
@@ -60,37 +60,38 @@ pub record FindsAt (meter : List ℕ) (place : ℕ) (facts : List Fact) (found :
   pub each : (m : List ℕ) → IsPermutation (filter (is_of m) table) (entries_of facts m)
   pub is : IsFound (is_entry meter place) IsRow table found
 
--- those of an entry and of the places around it
+-- The rows of an entry and of the indices around it.
 pub record FindsAround (meter : List ℕ) (place low high : ℕ) (facts : List Fact)
     (around : Around) : Type 0 where
   pub entry : FindsAt meter place facts (Some around.entry)
   pub before : FindsAt meter low facts (Some around.before)
   pub next : FindsAt meter high facts around.next
 
--- ---- what is told by them
+-- ---- the entry that these rows give
 
--- the next row of a journal, which stands
+-- The journal row of the next entry, which is not voided.
 abbrev pub next_from : Option EntryRow → Option journal.EntryRow
 next_from None = None
 next_from (Some next) = row_from next true
 
--- the meter stood where the counter was after the entry before, with the energy that it has in whole
+-- The installation with the counter after the earlier entry, and with its total energy.
 abbrev pub stood : Installation → EntryRow → Installation
 stood whole before = record whole { last = counter_after before }
 
+-- The entry is built from the rows around it.
 pub record IsSeen (whole : Installation) (around : Around) (stands : Bool) (seen : EntryPlace) :
     Type 0 where
   pub before : seen.before ≡ stood whole around.before
   pub row : Some seen.row ≡ row_from around.entry stands
   pub next : seen.next ≡ next_from around.next
 
--- what is told of the entry of this meter is right
+-- The answer about the entry of this meter is right.
 abbrev pub TellsOf : (meter : List ℕ) → (place : ℕ) → Installation → List Fact
     → Option EntryPlace → Type 0
 TellsOf meter place whole facts found =
     Some whole ≡ meter_of facts meter → TellsNear facts meter place found
 
--- it is right if anything is told
+-- If there is an answer, it is right.
 pub record TellsRightly (meter : List ℕ) (place : ℕ) (whole : Installation) (facts : List Fact)
     (found : Option EntryPlace) : Type 0 where
   pub lawful : AreLawful facts

@@ -1,4 +1,4 @@
--- The rows of a meter's journal, as the rows of two tables tell them.
+-- The rows of a meter's journal from the rows of `entries` and `voids`.
 use Rattle.std.specs.Prelude.{◌≡◌, ℕ, ◌==◌, Bool, not, List, map, reverse, Option, Some, None}
 use Rattle.std.specs.List.{list_any, filter_map, AllByRecursion}
 use Rattle.std.specs.List.Sorted.{IsPermutation}
@@ -26,10 +26,12 @@ use Rattle.store_tables.specs.Entries.Rows.{Entered, Voided, entry_shown, voided
 use Rattle.store_facts.specs.Rows.{entered_rows, voided}
 use Rattle.store_queries.specs.Metering.Sound.{HasReadableMeters, HasReadableJournals}
 
+-- The journal row of a step.
 abbrev pub step_row : journal_kind.EntryKind → EntryRow → (stands : Bool) → journal.EntryRow
 step_row k e stands =
     record { place = e.place; kind = k; entry = entry.Step e.moment e.raw e.rolls; stands = stands }
 
+-- The journal row of a change.
 abbrev pub change_row : journal_kind.EntryKind → EntryRow → (stands : Bool) → journal.EntryRow
 change_row k e stands =
     record {
@@ -39,7 +41,7 @@ change_row k e stands =
       stands = stands;
     }
 
--- the row of an entry; an opening has none
+-- The journal row of an entry. An opening has none.
 abbrev pub row_by : EntryKind → EntryRow → (stands : Bool) → Option journal.EntryRow
 row_by kind.Opening e stands = None
 row_by kind.Reading e stands = Some (step_row from.Reading e stands)
@@ -48,23 +50,24 @@ row_by kind.Closing e stands = Some (step_row from.Closing e stands)
 row_by kind.Reset e stands = Some (change_row from.Reset e stands)
 row_by kind.Rescale e stands = Some (change_row from.Rescale e stands)
 
+-- The journal row of an entry, by its own kind.
 abbrev pub row_from : EntryRow → (stands : Bool) → Option journal.EntryRow
 row_from e stands = row_by e.kind e stands
 
--- one of these voids names the place
+-- The void is of the entry at this index.
 abbrev pub names : (place : ℕ) → Voided → Bool
 names place v = place == v.place
 
--- whether one of the voids that these rows show names the place
+-- Whether one of the voids that these rows show is of the entry at this index.
 abbrev pub TellsVoided : (voids : List Row) → (place : ℕ) → Bool → Type 0
 TellsVoided voids place is =
     (vs : List Voided) → voids ≡ map voided_shown vs → is ≡ list_any (names place) vs
 
--- an entry stands where no void names it
+-- The journal row of an entry: not voided if none of these voids is of the entry.
 abbrev pub row_among : List Voided → Entered → Option journal.EntryRow
 row_among vs e = row_from e.entry (not (list_any (names e.entry.place) vs))
 
--- the entries of a meter in their order, as the query shows them, and the voids of its entries
+-- The query shows the entries of a meter in order.
 pub record ShowsEntries (meter : List ℕ) (facts : List Fact) (rows : List Row) : Type 0 where
   pub entries : List Entered
   pub shown : rows ≡ map entry_shown entries
@@ -72,6 +75,7 @@ pub record ShowsEntries (meter : List ℕ) (facts : List Fact) (rows : List Row)
       → entries ≡ reverse (entered_rows opening (rows_of facts opening))
   pub sound : HasReadableMeters facts → AllByRecursion IsSoundEntered entries
 
+-- The query shows the voids of a meter's entries.
 pub record ShowsVoids (meter : List ℕ) (facts : List Fact) (rows : List Row) : Type 0 where
   pub lawful : AreLawful facts
   pub voids : List Voided
@@ -79,31 +83,32 @@ pub record ShowsVoids (meter : List ℕ) (facts : List Fact) (rows : List Row) :
   pub all : IsPermutation (filter (is_void_of meter) (map voided (voids_in facts))) voids
   pub sound : HasReadableJournals facts → AllByRecursion IsSoundVoided voids
 
--- the rows of a journal are those of these entries and voids, in their order
+-- The journal rows are those of these entries and voids, in the order of the entries.
 abbrev pub AreJournal : (entries voids : List Row) → List journal.EntryRow → Type 0
 AreJournal entries voids rows = (es : List Entered) (vs : List Voided)
     → entries ≡ map entry_shown es
     → voids ≡ map voided_shown vs → rows ≡ filter_map (row_among vs) es
 
--- why rows of voids, or of entries and voids, are not read
+-- Why rows of voids can't be read.
 abbrev pub IsFaultOfVoids : (voids : List Row) → RowFault → Type 0
 IsFaultOfVoids voids e = (vs : List Voided) → voids ≡ map voided_shown vs
     → IsRowFault (AllByRecursion IsSoundVoided vs) e
 
+-- Why rows of entries and voids can't be read.
 abbrev pub IsFaultOfJournal : (entries voids : List Row) → RowFault → Type 0
 IsFaultOfJournal entries voids e = (es : List Entered) (vs : List Voided)
     → entries ≡ map entry_shown es
     → voids ≡ map voided_shown vs
     → IsRowFault (AllByRecursion IsSoundEntered es × AllByRecursion IsSoundVoided vs) e
 
--- the rows of a meter, the oldest first
+-- The journal rows of a meter, the oldest first.
 abbrev pub FindsJournal : (meter : List ℕ) → List Fact → List journal.EntryRow → Type 0
 FindsJournal meter facts rows =
     (opening : Opening) → opening_of facts meter ≡ Some opening
     → latest_first rows ≡ rows_of facts opening
 
--- What the rows of a meter are where the entry at a place can be told: the numbers of the opening are in their ranges, each
--- row has its place, and the entries that stand before that one have an account.
+-- When the entry at an index can be found: the opening's numbers are in their ranges, each row has
+-- its index, and the earlier entries that are not voided have an account.
 pub record CanBePlaced (opening : Opening) (rows : List journal.EntryRow) (place : ℕ) : Type 0 where
   pub numbers : HasNumbers opening
   pub places : AreNumbered (latest_first rows)

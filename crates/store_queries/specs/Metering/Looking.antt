@@ -1,4 +1,4 @@
--- What a look-up promises that hands rows on.
+-- A query that streams rows.
 use Rattle.std.specs.Prelude.{◌≡◌, ℕ, false, List, Result, IfErr, OnOk}
 use Rattle.sqlite.specs.Store.{Ghosts}
 use Rattle.sqlite.specs.Held.{Held, state}
@@ -9,9 +9,10 @@ use Rattle.store_tables.specs.declared.faults.RowFault.{RowFault}
 use Rattle.store_facts.specs.Holding.{HoldsFacts, OnlyLooks}
 use Rattle.store_facts.specs.Handing.{TookSome, IsStreamFault}
 
--- What the sink took begins the rows that the facts say, and at Ok is all of them. It took nothing but rows in their ranges,
--- as `IsRow` has them, whatever the connection holds. Damage is told only where the facts have what the tables, or the office, can't, and any other
--- fault is one of the store's own.
+-- The sink took the first rows that the records say, in order, and at Ok all of them. It took only
+-- rows with the property `IsRow`, for any content of the connection. Damage is reported only if the
+-- records have a value that no table, or no office, can have. Any other fault is an error of the
+-- store, or the greatest count of rows.
 pub record HandsOn {S K T : Type 0} (g : Ghosts S) (old new : Held S) (takes : K → T → K → Type 0)
     (before after : K)
     (result : Result (Unit {0}) RowFault) (IsRow : T → Type 0) (rows : List Fact → List T)

@@ -1,4 +1,4 @@
--- Meters whose rows the tables and the office can have.
+-- Meters with rows that the tables and the office can have.
 use Rattle.std.specs.Prelude.{◌≡◌, ℕ, true, List, map, string_bytes}
 use Rattle.std.specs.List.{AllByRecursion}
 use Rattle.office_events.specs.declared.facts.Opening.{Opening}
@@ -14,17 +14,17 @@ use Rattle.store_facts.specs.Intervals.Rows.{IsSoundShare}
 use Rattle.store_facts.specs.Holds.{IsSoundReading}
 use Rattle.store_facts.specs.Rows.{placed, installed_row, ranged, entries_of, voided}
 
--- the texts of an opening are names
+-- The texts of an opening are names.
 pub record HasNames (opening : Opening) : Type 0 where
   pub meter : is_name opening.meter ≡ true
   pub register : is_name opening.register ≡ true
 
--- so are those of a row
+-- The texts of a row are names.
 pub record IsNamed (row : stored.Installation) : Type 0 where
   pub meter : is_name (string_bytes row.meter) ≡ true
   pub register : is_name (string_bytes row.register) ≡ true
 
--- The rows that the tables have for the meters of these lawful facts can be read.
+-- The rows of these lawful records about meters can be read.
 pub record HasReadableMeters (facts : List Fact) : Type 0 where
   pub lawful : AreLawful facts
   pub names : AllByRecursion HasNames (openings_in facts)
@@ -33,7 +33,7 @@ pub record HasReadableMeters (facts : List Fact) : Type 0 where
   pub ranges : AllByRecursion IsSoundRanged (map ranged (openings_in facts))
   pub entries : (meter : List ℕ) → AllByRecursion IsSoundEntered (entries_of facts meter)
 
--- So can those for the voids of their entries.
+-- The rows about meters and the rows of voids can be read.
 pub record HasReadableJournals (facts : List Fact) : Type 0 where
   pub meters : HasReadableMeters facts
   pub voids : AllByRecursion IsSoundVoided (map voided (voids_in facts))
@@ -43,6 +43,6 @@ abbrev pub HasReadableIntervals : List Fact → Type 0
 HasReadableIntervals facts =
     (meter : List ℕ) → AllByRecursion IsSoundShare (rows_of_meter facts meter)
 
--- So can the readings that were held.
+-- The rejected readings can be read.
 abbrev pub HasReadableHolds : List Fact → Type 0
 HasReadableHolds facts = AllByRecursion IsSoundReading (holds_in facts)

@@ -1,4 +1,4 @@
-//! Devices.
+//! Queries for devices.
 ghost use Rattle.std.specs.Prelude.{◌≡◌, ◌&&◌, nat_le, if◌then◌else◌, false, reverse};
 ghost use Rattle.std.specs.Prelude.{string_bytes};
 ghost use Rattle.office_rules.specs.Facts as facts_of;
@@ -38,7 +38,7 @@ fn window(polls: u8) -> Result<Window, RowFault>
     }
 }
 
-/// The device of a row.
+/// Converts a row to a device.
 fn device_from(row: &store_devices::Device) -> Result<Device, RowFault>
     ensures { result ≡ device_with (string_bytes row.now.name) row.now.row }
 {
@@ -53,7 +53,7 @@ fn device_from(row: &store_devices::Device) -> Result<Device, RowFault>
     })
 }
 
-/// Reads a device as the queries show it.
+/// Reads a device from a row of the query.
 fn device_in(row: &Row) -> Result<Device, RowFault>
     ensures { ReadsRow row.now device_shown IsDeviceOf IsReadableDevice result }
 {
@@ -61,7 +61,7 @@ fn device_in(row: &Row) -> Result<Device, RowFault>
     device_from(&found)
 }
 
-/// Reads devices as the queries show them.
+/// Reads devices from the rows of the query.
 fn devices_in(rows: &Vec<Row>) -> Result<Vec<Device>, RowFault>
     ensures { ReadsAll rows.now.items device_shown IsDeviceOf IsReadableDevice
         (λ v. v.items) result }
@@ -74,7 +74,7 @@ fn devices_in(rows: &Vec<Row>) -> Result<Vec<Device>, RowFault>
     Ok(devices)
 }
 
-/// The rows of the devices, in the order in which they were added.
+/// Queries the rows of the devices, in the order in which they were added.
 fn rows<S: Alter>(conn: &mut Connection<S>) -> Result<Vec<Row>, RowFault>
     requires { conn.old.in_transaction ≡ false }
     ensures { Finds S.Store conn.old conn.new result ShowsDevices HasReadableDevices }
@@ -83,7 +83,7 @@ fn rows<S: Alter>(conn: &mut Connection<S>) -> Result<Vec<Row>, RowFault>
     Ok(device_rows(conn)?)
 }
 
-/// The devices, in the order in which they were added.
+/// Returns the devices, in the order in which they were added.
 pub fn devices<S: Alter>(conn: &mut Connection<S>) -> Result<Vec<Device>, RowFault>
     requires { conn.old.in_transaction ≡ false }
     ensures { Finds S.Store conn.old conn.new result

@@ -1,4 +1,4 @@
-//! Replies that are kept.
+//! Queries for kept requests.
 ghost use Rattle.std.specs.Prelude.{◌≡◌, false, IsUtf8};
 ghost use Rattle.office_books.specs.Repeats.{repeat_of};
 ghost use Rattle.store_devices.specs.Polls.Rows.{IsCallNumber};
@@ -22,7 +22,7 @@ fn told(repeat: store_devices::Repeat) -> Repeat
     }
 }
 
-/// What a request is to the kept one, as the table has that.
+/// Compares a request with the kept request of the table.
 fn row_of<S: Alter>(
     conn: &mut Connection<S>,
     caller: &str,
@@ -38,7 +38,8 @@ fn row_of<S: Alter>(
     store_devices::repeat_of(conn, caller, number, request)
 }
 
-/// What a request is to the one that is kept under its caller and number, if one is.
+/// Compares a request with the request that is kept under its idempotency key. Returns None if no
+/// request is kept there.
 pub fn repeat<S: Alter>(
     conn: &mut Connection<S>,
     caller: &Name,

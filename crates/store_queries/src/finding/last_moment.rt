@@ -1,5 +1,6 @@
-//! The latest moment of the facts, in seconds since 1970-01-01 UTC. No table has an index of moments, and only openings are
-//! never earlier than what stood before: each table is looked at as a whole.
+//! The latest timestamp of all records, in seconds since 1970-01-01 UTC. No table has an index on
+//! timestamps, and only openings are recorded in order of time. So each query scans its complete
+//! table.
 ghost use Rattle.std.specs.Prelude.{◌≡◌, false, max};
 ghost use Rattle.office_rules.specs.Facts.{latest_in};
 ghost use Rattle.store_queries.specs.Finding.Finding.{Finds};
@@ -11,7 +12,7 @@ use sqlite::{Alter, Connection};
 use store_devices::{latest_hold, latest_outcome, latest_reply, latest_start};
 use store_tables::{RowFault, check_open, latest_entry, latest_void};
 
-/// The latest of the openings and entries.
+/// Returns the latest timestamp of openings and entries.
 fn entered<S: Alter>(conn: &mut Connection<S>) -> Result<u64, RowFault>
     requires { conn.old.in_transaction ≡ false }
     ensures { Finds S.Store conn.old conn.new result
@@ -21,7 +22,7 @@ fn entered<S: Alter>(conn: &mut Connection<S>) -> Result<u64, RowFault>
     Ok(latest_entry(conn)?.unwrap_or(0))
 }
 
-/// The latest of the voids.
+/// Returns the latest timestamp of voids.
 fn voided<S: Alter>(conn: &mut Connection<S>) -> Result<u64, RowFault>
     requires { conn.old.in_transaction ≡ false }
     ensures { Finds S.Store conn.old conn.new result
@@ -31,7 +32,7 @@ fn voided<S: Alter>(conn: &mut Connection<S>) -> Result<u64, RowFault>
     Ok(latest_void(conn)?.unwrap_or(0))
 }
 
-/// The latest of the held readings.
+/// Returns the latest timestamp of rejected readings.
 fn held<S: Alter>(conn: &mut Connection<S>) -> Result<u64, RowFault>
     requires { conn.old.in_transaction ≡ false }
     ensures { Finds S.Store conn.old conn.new result
@@ -41,7 +42,7 @@ fn held<S: Alter>(conn: &mut Connection<S>) -> Result<u64, RowFault>
     Ok(latest_hold(conn)?.unwrap_or(0))
 }
 
-/// The latest start of a poll.
+/// Returns the latest start of a poll.
 fn started<S: Alter>(conn: &mut Connection<S>) -> Result<u64, RowFault>
     requires { conn.old.in_transaction ≡ false }
     ensures { Finds S.Store conn.old conn.new result
@@ -51,7 +52,7 @@ fn started<S: Alter>(conn: &mut Connection<S>) -> Result<u64, RowFault>
     Ok(latest_start(conn)?.unwrap_or(0))
 }
 
-/// The latest of the outcomes.
+/// Returns the latest timestamp of outcomes.
 fn ended<S: Alter>(conn: &mut Connection<S>) -> Result<u64, RowFault>
     requires { conn.old.in_transaction ≡ false }
     ensures { Finds S.Store conn.old conn.new result
@@ -61,7 +62,7 @@ fn ended<S: Alter>(conn: &mut Connection<S>) -> Result<u64, RowFault>
     Ok(latest_outcome(conn)?.unwrap_or(0))
 }
 
-/// The latest of the kept replies.
+/// Returns the latest timestamp of kept requests.
 fn replied<S: Alter>(conn: &mut Connection<S>) -> Result<u64, RowFault>
     requires { conn.old.in_transaction ≡ false }
     ensures { Finds S.Store conn.old conn.new result
@@ -71,7 +72,7 @@ fn replied<S: Alter>(conn: &mut Connection<S>) -> Result<u64, RowFault>
     Ok(latest_reply(conn)?.unwrap_or(0))
 }
 
-/// The latest of what came to the journals of the meters, but for held readings.
+/// Returns the latest timestamp of openings, entries and voids.
 fn booked<S: Alter>(conn: &mut Connection<S>) -> Result<u64, RowFault>
     requires { conn.old.in_transaction ≡ false }
     ensures { Finds S.Store conn.old conn.new result
@@ -82,7 +83,7 @@ fn booked<S: Alter>(conn: &mut Connection<S>) -> Result<u64, RowFault>
     Ok(entered.max(voided))
 }
 
-/// The latest of the polls' starts and their outcomes.
+/// Returns the latest timestamp of the polls' starts and outcomes.
 fn polled<S: Alter>(conn: &mut Connection<S>) -> Result<u64, RowFault>
     requires { conn.old.in_transaction ≡ false }
     ensures { Finds S.Store conn.old conn.new result
@@ -93,7 +94,7 @@ fn polled<S: Alter>(conn: &mut Connection<S>) -> Result<u64, RowFault>
     Ok(started.max(ended))
 }
 
-/// The latest of the held readings and the kept replies.
+/// Returns the latest timestamp of rejected readings and kept requests.
 fn noted<S: Alter>(conn: &mut Connection<S>) -> Result<u64, RowFault>
     requires { conn.old.in_transaction ≡ false }
     ensures { Finds S.Store conn.old conn.new result
@@ -104,7 +105,7 @@ fn noted<S: Alter>(conn: &mut Connection<S>) -> Result<u64, RowFault>
     Ok(held.max(replied))
 }
 
-/// The latest of polls, held readings and replies.
+/// Returns the latest timestamp of polls, rejected readings and kept requests.
 fn asked<S: Alter>(conn: &mut Connection<S>) -> Result<u64, RowFault>
     requires { conn.old.in_transaction ≡ false }
     ensures { Finds S.Store conn.old conn.new result
@@ -115,7 +116,7 @@ fn asked<S: Alter>(conn: &mut Connection<S>) -> Result<u64, RowFault>
     Ok(polled.max(noted))
 }
 
-/// The greatest moment that is recorded, and 0 where none is.
+/// Returns the latest timestamp of all records, or 0 if there are none.
 pub fn latest<S: Alter>(conn: &mut Connection<S>) -> Result<u64, RowFault>
     requires { conn.old.in_transaction ≡ false }
     ensures { Finds S.Store conn.old conn.new result

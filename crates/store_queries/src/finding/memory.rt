@@ -1,4 +1,4 @@
-//! Want of memory.
+//! Out of memory, as a fault of a query.
 ghost use Rattle.std.specs.Prelude.{◌≡◌, [], ◌∷◌, ◌++◌, IfErr, OnOk};
 ghost use Rattle.sqlite.specs.declared.error.ErrorCode.TheVariants.{OutOfMemory};
 ghost use Rattle.sqlite.specs.declared.error.Error.TheVariants.{SqliteFailure};
@@ -7,14 +7,14 @@ ghost use Rattle.store_tables.specs.declared.faults.RowFault.TheVariants.{Sql};
 use sqlite::{Error, ErrorCode};
 use store_tables::RowFault;
 
-/// The fault that tells want of memory.
+/// Returns the fault that reports out of memory.
 pub(crate) fn want_of_memory() -> RowFault
     ensures { result ≡ Sql (SqliteFailure OutOfMemory) }
 {
     RowFault::Sql(Error::SqliteFailure(ErrorCode::OutOfMemory))
 }
 
-/// Puts an item after the others.
+/// Appends an item.
 pub(crate) fn put<T: Drop>(items: &mut Vec<T>, item: T) -> Result<(), RowFault>
     ensures put { OnOk result (items.new.items ≡ items.old.items ++ item ∷ []) }
     ensures fault { IfErr result (λ e. e ≡ Sql (SqliteFailure OutOfMemory)) }

@@ -1,4 +1,4 @@
-//! Point lists.
+//! Queries for point lists and their plans.
 ghost use Rattle.std.specs.Prelude.{◌≡◌, false, Some, IfOk, IfErr, IsUtf8};
 ghost use Rattle.office_rules.specs.Facts.{list_of};
 ghost use Rattle.read_plan.specs.PlannedLists.{IsPlanned};
@@ -24,7 +24,7 @@ use std::alloc::Global;
 use store_facts::text;
 use store_tables::RowFault;
 
-/// The list of these points, with the reads of its plan. Points that keep not what every list keeps are damage.
+/// Plans the reads of a list. Points that break a rule of point lists are damage.
 fn with_plan(alloc: Global, points: Vec<ListedPoint>) -> Result<PlannedList, RowFault>
     ensures points { IfOk result (λ list. list.points ≡ points.items) }
     ensures planned { IfOk result IsPlanned }
@@ -39,7 +39,7 @@ fn with_plan(alloc: Global, points: Vec<ListedPoint>) -> Result<PlannedList, Row
     }
 }
 
-/// The points of a device's list.
+/// Returns the points of a device's list.
 fn points<S: Alter>(conn: &mut Connection<S>, device: &str) -> Result<Vec<ListedPoint>, RowFault>
     requires { conn.old.in_transaction ≡ false }
     ensures { Finds S.Store conn.old conn.new result
@@ -50,7 +50,7 @@ fn points<S: Alter>(conn: &mut Connection<S>, device: &str) -> Result<Vec<Listed
     points_in(&rows)
 }
 
-/// The point list of a device, with the reads of its plan.
+/// Returns the point list of a device with its planned reads, or None if the device has no list.
 pub fn list<S: Alter>(
     alloc: Global,
     conn: &mut Connection<S>,
@@ -70,7 +70,7 @@ pub fn list<S: Alter>(
     Ok(Some(with_plan(alloc, points)?))
 }
 
-/// How many reads the plan of a device has, where it has a point list.
+/// Returns how many reads the plan of a device has, or None if the device has no list.
 pub fn read_count<S: Alter>(
     alloc: Global,
     conn: &mut Connection<S>,
@@ -87,7 +87,7 @@ pub fn read_count<S: Alter>(
     }
 }
 
-/// The registers of the reads of a list's plan from one on: at most so many.
+/// Returns the registers of a plan's reads from index `from`, at most `most` of them.
 fn spans_of(
     alloc: Global,
     list: &PlannedList,
@@ -103,7 +103,7 @@ fn spans_of(
     }
 }
 
-/// The registers of the reads of the plan of a device from one on: at most so many.
+/// Returns the registers of the reads in a device's plan from index `from`, at most `most` of them.
 pub fn reads<S: Alter>(
     alloc: Global,
     conn: &mut Connection<S>,

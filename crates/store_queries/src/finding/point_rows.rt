@@ -1,4 +1,4 @@
-//! The points of a device's list.
+//! Queries for the points of a device's list.
 ghost use Rattle.std.specs.Prelude.{◌≡◌, false, string_bytes};
 ghost use Rattle.store_tables.specs.Asking.{ReadsRow};
 ghost use Rattle.store_tables.specs.Columns.{or_damaged};
@@ -47,7 +47,7 @@ fn scale(text: String) -> Result<PointScale, RowFault>
     }
 }
 
-/// The point of a row.
+/// Converts a row to a point.
 fn point_from(row: store_devices::Point) -> Result<ListedPoint, RowFault>
     ensures { result ≡ point_with (string_bytes row.name) (string_bytes row.kind)
         (string_bytes row.scale) row.row }
@@ -65,7 +65,7 @@ fn point_from(row: store_devices::Point) -> Result<ListedPoint, RowFault>
     })
 }
 
-/// Reads a point as the queries show it.
+/// Reads a point from a row of the query.
 fn point_in(row: &Row) -> Result<ListedPoint, RowFault>
     ensures { ReadsRow row.now point_shown IsPointOf IsReadablePoint result }
 {
@@ -73,7 +73,7 @@ fn point_in(row: &Row) -> Result<ListedPoint, RowFault>
     point_from(found)
 }
 
-/// Reads points as the queries show them.
+/// Reads points from the rows of the query.
 pub(crate) fn points_in(rows: &Vec<Row>) -> Result<Vec<ListedPoint>, RowFault>
     ensures { ReadsAll rows.now.items point_shown IsPointOf IsReadablePoint
         (λ v. v.items) result }
@@ -86,7 +86,7 @@ pub(crate) fn points_in(rows: &Vec<Row>) -> Result<Vec<ListedPoint>, RowFault>
     Ok(points)
 }
 
-/// The rows of a device's points, in the order of its list.
+/// Queries the rows of a device's points, in the order of its list.
 pub(crate) fn rows_of<S: Alter>(
     conn: &mut Connection<S>,
     device: &str,

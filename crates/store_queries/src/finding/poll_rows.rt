@@ -1,4 +1,4 @@
-//! Polls.
+//! Queries for polls.
 ghost use Rattle.std.specs.Prelude.{◌≡◌, ◌≤◌, false, true, length, string_bytes};
 ghost use Rattle.std.specs.Prelude.{IfOk, IfErr, IfSome};
 ghost use Rattle.office_events.specs.Names.{is_name};
@@ -21,7 +21,7 @@ use store_devices::{OutcomeRow, last_poll, outcome_of, pending_rows, poll_at, re
 use store_facts::name;
 use store_tables::{GREATEST_PLACE, RowFault, check_open};
 
-/// The registers that a poll asks for.
+/// Returns the registers that a poll reads.
 fn span_from(row: store_devices::PollRow) -> ReadSpan
     requires { IsSoundPoll row }
     ensures function { result.function ≡ row.function }
@@ -35,7 +35,7 @@ fn span_from(row: store_devices::PollRow) -> ReadSpan
     }
 }
 
-/// The poll of a row.
+/// Converts a row to a poll.
 fn poll_from(row: &store_devices::Poll) -> Result<Poll, RowFault>
     requires { IsSoundPoll row.now.row }
     ensures numbers { IfOk result (HasNumbers (string_bytes row.now.device) row.now.row) }
@@ -53,7 +53,7 @@ fn poll_from(row: &store_devices::Poll) -> Result<Poll, RowFault>
     })
 }
 
-/// Reads a poll as the queries show it.
+/// Reads a poll from a row of the query.
 fn poll_in(row: &Row) -> Result<Poll, RowFault>
     ensures { ReadsRow row.now poll_shown IsPollOf IsReadablePoll result }
 {
@@ -61,7 +61,7 @@ fn poll_in(row: &Row) -> Result<Poll, RowFault>
     poll_from(&found)
 }
 
-/// Reads polls as the queries show them.
+/// Reads polls from the rows of the query.
 fn polls_in(rows: &Vec<Row>) -> Result<Vec<Poll>, RowFault>
     ensures { ReadsAll rows.now.items poll_shown IsPollOf IsReadablePoll (λ v. v.items) result }
 {
@@ -73,7 +73,7 @@ fn polls_in(rows: &Vec<Row>) -> Result<Vec<Poll>, RowFault>
     Ok(polls)
 }
 
-/// The row of a poll, if there is one.
+/// Queries the row of a poll.
 fn row_at<S: Alter>(
     conn: &mut Connection<S>,
     number: u64,
@@ -88,7 +88,7 @@ fn row_at<S: Alter>(
     poll_at(conn, number)
 }
 
-/// The poll of a number.
+/// Returns the poll with a number.
 fn poll_of<S: Alter>(conn: &mut Connection<S>, number: u64) -> Result<Option<Poll>, RowFault>
     requires idle { conn.old.in_transaction ≡ false }
     requires place { number ≤ greatest_place }
@@ -111,7 +111,7 @@ fn ended(row: OutcomeRow) -> EndedPoll
     }
 }
 
-/// How a poll ended, if it has.
+/// Returns the outcome of a poll, or None if the poll is pending.
 fn end_of<S: Alter>(conn: &mut Connection<S>, number: u64) -> Result<Option<EndedPoll>, RowFault>
     requires idle { conn.old.in_transaction ≡ false }
     requires place { number ≤ greatest_place }
@@ -125,7 +125,7 @@ fn end_of<S: Alter>(conn: &mut Connection<S>, number: u64) -> Result<Option<Ende
     }
 }
 
-/// The poll of a number, and how it ended.
+/// Returns the poll with a number, and its outcome.
 pub fn poll<S: Alter>(conn: &mut Connection<S>, number: u64) -> Result<Option<PollRow>, RowFault>
     requires { conn.old.in_transaction ≡ false }
     ensures { Finds S.Store conn.old conn.new result
@@ -145,7 +145,7 @@ pub fn poll<S: Alter>(conn: &mut Connection<S>, number: u64) -> Result<Option<Po
     }
 }
 
-/// How many polls were started.
+/// Returns how many polls were started.
 pub fn poll_count<S: Alter>(conn: &mut Connection<S>) -> Result<u64, RowFault>
     requires { conn.old.in_transaction ≡ false }
     ensures { Finds S.Store conn.old conn.new result
@@ -158,7 +158,7 @@ pub fn poll_count<S: Alter>(conn: &mut Connection<S>) -> Result<u64, RowFault>
     }
 }
 
-/// The rows of the polls that have no outcome.
+/// Queries the rows of the pending polls.
 fn waiting<S: Alter>(conn: &mut Connection<S>) -> Result<Vec<Row>, RowFault>
     requires { conn.old.in_transaction ≡ false }
     ensures { Finds S.Store conn.old conn.new result ShowsPendingPolls HasReadablePolls }
@@ -167,7 +167,7 @@ fn waiting<S: Alter>(conn: &mut Connection<S>) -> Result<Vec<Row>, RowFault>
     Ok(pending_rows(conn)?)
 }
 
-/// The polls that have no outcome, in the order in which they were started.
+/// Returns the pending polls, in the order in which they were started.
 pub fn pending<S: Alter>(conn: &mut Connection<S>) -> Result<Vec<Poll>, RowFault>
     requires { conn.old.in_transaction ≡ false }
     ensures { Finds S.Store conn.old conn.new result

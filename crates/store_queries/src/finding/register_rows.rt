@@ -1,4 +1,4 @@
-//! Registers.
+//! Queries for registers.
 ghost use Rattle.std.specs.Prelude.{◌≡◌, false, length, string_bytes, IsUtf8};
 ghost use Rattle.std.specs.List.{filter};
 ghost use Rattle.office_rules.specs.Facts as facts_of;
@@ -28,7 +28,7 @@ fn source(scale: RegisterScale) -> ScaleSource
     }
 }
 
-/// The register of a row.
+/// Converts a row to a register.
 fn register_from(row: &store_devices::Register) -> Result<Register, RowFault>
     ensures { result ≡
         register_with (string_bytes row.now.name) (string_bytes row.now.device) row.now.row }
@@ -44,7 +44,7 @@ fn register_from(row: &store_devices::Register) -> Result<Register, RowFault>
     })
 }
 
-/// Reads a register as the queries show it.
+/// Reads a register from a row of the query.
 fn register_in(row: &Row) -> Result<Register, RowFault>
     ensures { ReadsRow row.now register_shown IsRegisterOf IsReadableRegister result }
 {
@@ -52,7 +52,7 @@ fn register_in(row: &Row) -> Result<Register, RowFault>
     register_from(&found)
 }
 
-/// Reads registers as the queries show them.
+/// Reads registers from the rows of the query.
 fn registers_in(rows: &Vec<Row>) -> Result<Vec<Register>, RowFault>
     ensures { ReadsAll rows.now.items register_shown IsRegisterOf IsReadableRegister
         (λ v. v.items) result }
@@ -65,7 +65,7 @@ fn registers_in(rows: &Vec<Row>) -> Result<Vec<Register>, RowFault>
     Ok(registers)
 }
 
-/// The row of a register, if there is one.
+/// Queries the row of a register.
 fn row_of<S: Alter>(
     conn: &mut Connection<S>,
     name: &str,
@@ -78,7 +78,7 @@ fn row_of<S: Alter>(
     register_of(conn, name)
 }
 
-/// The register of a name.
+/// Returns the register with a name.
 pub fn register<S: Alter>(
     conn: &mut Connection<S>,
     name: &Name,
@@ -95,7 +95,7 @@ pub fn register<S: Alter>(
     }
 }
 
-/// The rows of the registers of a device, in the order in which they were added.
+/// Queries the rows of a device's registers, in the order in which they were added.
 fn rows_of<S: Alter>(conn: &mut Connection<S>, device: &str) -> Result<Vec<Row>, RowFault>
     requires { conn.old.in_transaction ≡ false }
     ensures { Finds S.Store conn.old conn.new result
@@ -105,7 +105,7 @@ fn rows_of<S: Alter>(conn: &mut Connection<S>, device: &str) -> Result<Vec<Row>,
     Ok(register_rows(conn, device)?)
 }
 
-/// The registers of a device, in the order in which they were added.
+/// Returns the registers of a device, in the order in which they were added.
 pub fn registers<S: Alter>(
     conn: &mut Connection<S>,
     device: &Name,
@@ -120,7 +120,8 @@ pub fn registers<S: Alter>(
     registers_in(&rows)
 }
 
-/// Those of them of which a read of the span gives a reading. All are read from the table.
+/// Returns the registers of a device for which a read of `span` gives a reading. Reads all
+/// registers of the device from the table.
 pub fn registers_read<S: Alter>(
     conn: &mut Connection<S>,
     device: &Name,
@@ -136,7 +137,7 @@ pub fn registers_read<S: Alter>(
     Ok(found)
 }
 
-/// How many registers a device has.
+/// Returns how many registers a device has.
 pub fn register_count<S: Alter>(conn: &mut Connection<S>, device: &Name) -> Result<usize, RowFault>
     requires { conn.old.in_transaction ≡ false }
     ensures { Finds S.Store conn.old conn.new result

@@ -1,4 +1,4 @@
-//! An entry of a meter, by the rows around it.
+//! An entry of a meter from the rows around it.
 ghost use Rattle.std.specs.Prelude.{◌≡◌, ◌≤◌, false, IfOk, IfSome, IsUtf8};
 ghost use Rattle.office_rules.specs.Lawful.{AreLawful};
 ghost use Rattle.office_rules.specs.Ranges.{IsSound};
@@ -23,7 +23,8 @@ use std::alloc::Global;
 use store_facts::{counter_after, text};
 use store_tables::{EntryRow, GREATEST_PLACE, RowFault, check_open, entry_at};
 
-/// The places of the entries around one that stand, and whether it stands itself.
+/// The indices of the nearest entries before and after an entry that are not voided, and whether
+/// the entry itself is not voided.
 #[derive(Clone, Copy, Debug, PartialEq, Eq)]
 pub(crate) struct Sides {
     pub before: u64,
@@ -31,7 +32,8 @@ pub(crate) struct Sides {
     pub stands: bool,
 }
 
-/// The row of an entry, that of the last before it that stands, or else of the opening, and that of the next that stands.
+/// The row of an entry, and the rows of its neighbours that are not voided. `before` may be the
+/// opening.
 #[derive(Clone, Copy, Debug, PartialEq, Eq)]
 pub(crate) struct Around {
     pub entry: EntryRow,
@@ -39,7 +41,7 @@ pub(crate) struct Around {
     pub next: Option<EntryRow>,
 }
 
-/// Whether one of these voids names a place. None where a void can't be read.
+/// Returns whether one of these voids is of the entry at `place`. None if a void can't be read.
 fn is_named(voids: &[Row], place: u64) -> Option<bool>
     ensures { IfSome result (TellsVoided voids.now place) }
 {
@@ -49,8 +51,8 @@ fn is_named(voids: &[Row], place: u64) -> Option<bool>
     }
 }
 
-/// The place of the last entry before one that none of these voids names, or else of the opening. None where a void can't be
-/// read.
+/// Returns the index of the last entry before `place` that has none of these voids, or 1 for the
+/// opening. None if a void can't be read.
 fn place_before(voids: &[Row], place: u64) -> Option<u64>
     requires following { 2 ≤ place }
     ensures before { IfSome result (λ n. ByVoids (λ vs. IsBefore vs place n) voids.now) }
@@ -65,7 +67,8 @@ fn place_before(voids: &[Row], place: u64) -> Option<u64>
     Some(1)
 }
 
-/// The next place after one that none of these voids names. None where a void can't be read, or all are named.
+/// Returns the next index after `place` that has none of these voids. None if a void can't be read,
+/// or no such index exists.
 fn place_after(voids: &[Row], place: u64) -> Option<u64>
     requires place { place ≤ greatest_place }
     ensures after { IfSome result (λ n. ByVoids (λ vs. IsAfter vs place n) voids.now) }
@@ -79,7 +82,8 @@ fn place_after(voids: &[Row], place: u64) -> Option<u64>
     None
 }
 
-/// Both, and whether the entry stands. None also at a place that no entry has.
+/// Returns the indices on both sides of an entry, and whether the entry is not voided. None if no
+/// entry can have the index.
 fn sides_of(voids: &[Row], place: u64) -> Option<Sides>
     ensures following { IfSome result (λ sides. 2 ≤ place) }
     ensures place { IfSome result (λ sides. place ≤ greatest_place) }
@@ -100,7 +104,7 @@ fn sides_of(voids: &[Row], place: u64) -> Option<Sides>
     })
 }
 
-/// The row of a meter's entry at a place.
+/// Queries the row of a meter's entry at an index.
 fn row_there<S: Alter>(
     conn: &mut Connection<S>,
     meter: &str,
@@ -115,7 +119,8 @@ fn row_there<S: Alter>(
     entry_at(conn, meter, place)
 }
 
-/// The row of a meter's entry at a place, and those at the places around it, if the first two are there.
+/// Queries the rows of an entry and of the indices around it. None if the entry or the earlier row
+/// is missing.
 fn rows_around<S: Alter>(
     conn: &mut Connection<S>,
     meter: &str,
@@ -144,7 +149,7 @@ fn rows_around<S: Alter>(
     }))
 }
 
-/// The next row of the journal.
+/// Converts the row of the next entry.
 fn next_row(next: &Option<EntryRow>) -> Option<meter_journal::EntryRow>
     ensures { result ≡ next_from next.now }
 {
@@ -154,7 +159,7 @@ fn next_row(next: &Option<EntryRow>) -> Option<meter_journal::EntryRow>
     }
 }
 
-/// The installation where it stood after an entry, with its whole energy.
+/// Returns the installation with the counter after an earlier entry, and with its total energy.
 fn stood_after(whole: &Installation, before: &EntryRow) -> Installation
     ensures { result ≡ stood whole.now before.now }
 {
@@ -166,7 +171,7 @@ fn stood_after(whole: &Installation, before: &EntryRow) -> Installation
     }
 }
 
-/// An entry as the rows around it show it. None where these are no rows of an office.
+/// Builds an entry from the rows around it. None if these are not rows of an office.
 fn seen(whole: &Installation, around: &Around, stands: bool) -> Option<EntryPlace>
     ensures seen { IfSome result (IsSeen whole.now around.now stands) }
     ensures sound { IfSome result (λ found. IsSound found.before) }
@@ -180,7 +185,8 @@ fn seen(whole: &Installation, around: &Around, stands: bool) -> Option<EntryPlac
     Some(EntryPlace { before, row, next })
 }
 
-/// The entry of a meter at a place as the rows around it tell it. None where they don't.
+/// Returns the entry of a meter at an index from the rows around it. None if these rows don't
+/// suffice.
 fn told_around<S: Alter>(
     conn: &mut Connection<S>,
     meter: &str,
@@ -207,7 +213,7 @@ fn told_around<S: Alter>(
     Ok(seen(whole, &around, sides.stands))
 }
 
-/// The same, as all rows of the meter tell it.
+/// Returns the entry of a meter at an index from all rows of the meter.
 fn told_by_all<S: Alter>(
     alloc: Global,
     conn: &mut Connection<S>,
@@ -230,8 +236,9 @@ fn told_by_all<S: Alter>(
     }
 }
 
-/// The entry of a meter at a place from 2 on, with the energy of the whole meter in place of that before it. It reads the
-/// meter's voids and the rows around the entry; all entries only where these don't tell it, as where there is none.
+/// Returns the entry of a meter at an index from 2, with the meter's total energy instead of the
+/// energy before the entry. Reads the meter's voids and the rows around the entry. Reads all
+/// entries only if these rows don't suffice, as without such an entry.
 pub fn entry_near<S: Alter>(
     alloc: Global,
     conn: &mut Connection<S>,

@@ -1,4 +1,4 @@
-//! Entries of meters, by their places.
+//! Queries for the entries of meters by index.
 ghost use Rattle.std.specs.Prelude.{◌≡◌, false, IfOk, IfSome, IsUtf8};
 ghost use Rattle.office_rules.specs.Ranges.{IsSound};
 ghost use Rattle.office_rules.specs.Meters.{entry_at};
@@ -17,7 +17,7 @@ use std::alloc::Global;
 use store_facts::text;
 use store_tables::{RowFault, check_open, entry_rows, void_rows};
 
-/// The entries of a meter, in order of place.
+/// Queries the entries of a meter, in order of index.
 fn entries<S: Alter>(conn: &mut Connection<S>, meter: &str) -> Result<Vec<Row>, RowFault>
     requires { conn.old.in_transaction ≡ false }
     ensures { Finds S.Store conn.old conn.new result
@@ -30,7 +30,7 @@ fn entries<S: Alter>(conn: &mut Connection<S>, meter: &str) -> Result<Vec<Row>, 
     Ok(rows)
 }
 
-/// The voids of a meter's entries.
+/// Queries the voids of a meter's entries.
 pub(crate) fn voids<S: Alter>(conn: &mut Connection<S>, meter: &str) -> Result<Vec<Row>, RowFault>
     requires { conn.old.in_transaction ≡ false }
     ensures { Finds S.Store conn.old conn.new result
@@ -41,7 +41,7 @@ pub(crate) fn voids<S: Alter>(conn: &mut Connection<S>, meter: &str) -> Result<V
     Ok(rows)
 }
 
-/// The rows of a meter after its opening, the oldest first.
+/// Returns the journal rows of a meter after its opening, the oldest first.
 pub(crate) fn rows<S: Alter>(
     alloc: Global,
     conn: &mut Connection<S>,
@@ -59,8 +59,8 @@ pub(crate) fn rows<S: Alter>(
     journal_rows(alloc, &entries, &voids)
 }
 
-/// The entry of a meter at a place from 2 on: where the meter stood before it, and the next that stands. It goes over all
-/// entries of the meter.
+/// Returns the entry of a meter at an index from 2: the meter's state before the entry, and the
+/// next entry that is not voided. Reads all entries of the meter.
 pub fn entry<S: Alter>(
     alloc: Global,
     conn: &mut Connection<S>,

@@ -1,4 +1,4 @@
-//! Readings that were held, handed on as they come.
+//! Streams of rejected readings.
 ghost use Rattle.std.specs.Prelude.{◌≡◌, false, IsUtf8};
 ghost use Rattle.office_books.specs.Holds.{holds_of, holds_within};
 ghost use Rattle.store_facts.specs.Holds.{IsSoundReading};
@@ -12,8 +12,8 @@ use sqlite::{Alter, Connection};
 use store_facts::{holds as tables, text};
 use store_tables::{RowFault, check_open};
 
-/// Hands on the readings of a meter that were held and whose moments are asked for, in the order in which they were recorded.
-/// No other row is kept.
+/// Streams the rejected readings of a meter with timestamps in `span`, in the order in which they
+/// were recorded. Keeps no row in memory.
 pub fn holds<S: Alter, K: RowSink<HeldReading>>(
     conn: &mut Connection<S>,
     meter: &Name,

@@ -1,4 +1,4 @@
-//! An installation from its rows.
+//! An installation from the rows of three tables.
 ghost use Rattle.std.specs.Prelude.{◌≡◌, false, IfOk, IfErr};
 ghost use Rattle.office_rules.specs.Ranges.{IsSound};
 ghost use Rattle.store_queries.specs.Finding.Finding.{Finds};
@@ -16,7 +16,7 @@ use sqlite::{Alter, Connection};
 use store_facts::name;
 use store_tables::{EntryRow, InstallationRow, RowFault};
 
-/// The opening of a meter.
+/// Builds the opening of a meter.
 fn opening(
     row: &store_tables::Installation,
     range: u64,
@@ -38,7 +38,7 @@ fn opening(
     })
 }
 
-/// An installation, if its numbers are in their ranges.
+/// Builds an installation. Numbers out of their ranges are damage.
 fn installed(opening: Opening, row: InstallationRow) -> Result<Installation, RowFault>
     ensures stands { IfOk result (λ found. found ≡ standing_from opening row) }
     ensures sound { IfOk result IsSound }
@@ -62,7 +62,7 @@ fn installed(opening: Opening, row: InstallationRow) -> Result<Installation, Row
     }
 }
 
-/// The installation of a row that was found.
+/// Returns the installation of a row.
 pub(crate) fn standing<S: Alter>(
     conn: &mut Connection<S>,
     row: &store_tables::Installation,

@@ -13,7 +13,7 @@ use sqlite::{Error, ErrorCode, Row};
 use std::alloc::Global;
 use store_tables::{EntryKind, RowFault, read_entry, read_void};
 
-/// The row of a step.
+/// Returns the journal row of a step.
 fn step(kind: meter_journal::EntryKind, row: store_tables::EntryRow, stands: bool) -> EntryRow
     ensures { result ≡ step_row kind row stands }
 {
@@ -29,7 +29,7 @@ fn step(kind: meter_journal::EntryKind, row: store_tables::EntryRow, stands: boo
     }
 }
 
-/// The row of a change.
+/// Returns the journal row of a change.
 fn change(kind: meter_journal::EntryKind, row: store_tables::EntryRow, stands: bool) -> EntryRow
     ensures { result ≡ change_row kind row stands }
 {
@@ -46,7 +46,7 @@ fn change(kind: meter_journal::EntryKind, row: store_tables::EntryRow, stands: b
     }
 }
 
-/// The row of an entry. The opening has none.
+/// Returns the journal row of an entry. The opening has none.
 pub(crate) fn entry_row(row: store_tables::EntryRow, stands: bool) -> Option<EntryRow>
     ensures { result ≡ row_from row stands }
 {
@@ -60,7 +60,7 @@ pub(crate) fn entry_row(row: store_tables::EntryRow, stands: bool) -> Option<Ent
     }
 }
 
-/// Whether one of these voids names a place.
+/// Returns whether one of these voids is of the entry at `place`.
 pub(crate) fn is_voided(voids: &[Row], place: u64) -> Result<bool, RowFault>
     ensures told { IfOk result (TellsVoided voids.now place) }
     ensures fault { IfErr result (IsFaultOfVoids voids.now) }
@@ -73,7 +73,6 @@ pub(crate) fn is_voided(voids: &[Row], place: u64) -> Result<bool, RowFault>
     Ok(false)
 }
 
-/// One more row after these.
 fn push(rows: &mut Vec<EntryRow>, row: EntryRow) -> Result<(), RowFault>
     ensures put { OnOk result (rows.new.items ≡ rows.old.items ++ row ∷ []) }
     ensures fault { IfErr result (λ e. e ≡ Sql want_of_memory) }
@@ -84,7 +83,7 @@ fn push(rows: &mut Vec<EntryRow>, row: EntryRow) -> Result<(), RowFault>
     }
 }
 
-/// A row after these, if there is one.
+/// Appends a row, if there is one.
 fn add(rows: &mut Vec<EntryRow>, row: Option<EntryRow>) -> Result<(), RowFault>
     ensures put { OnOk result (rows.new.items ≡ rows.old.items ++ option_to_list row) }
     ensures fault { IfErr result (λ e. e ≡ Sql want_of_memory) }
@@ -95,7 +94,7 @@ fn add(rows: &mut Vec<EntryRow>, row: Option<EntryRow>) -> Result<(), RowFault>
     }
 }
 
-/// The rows after the opening, the oldest first.
+/// Builds the journal rows after the opening, the oldest first.
 pub fn journal_rows(
     alloc: Global,
     entries: &[Row],

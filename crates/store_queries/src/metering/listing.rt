@@ -1,4 +1,4 @@
-//! The entries of a meter, listed from a place on.
+//! Lists of a meter's entries.
 ghost use Rattle.std.specs.Prelude.{◌≡◌, false, reverse, IfOk, IfErr, IsUtf8};
 ghost use Rattle.meter_journal.specs.Lists.{latest_first};
 ghost use Rattle.office_books.specs.Entries.{entries_from, first_from, listed_rows};
@@ -19,7 +19,8 @@ use std::alloc::Global;
 use store_facts::text;
 use store_tables::RowFault;
 
-/// The opening of a meter and its rows, the oldest first, from a place on: so many at most.
+/// Lists the opening and the rows of a meter from index `from`, the oldest first, at most `most` of
+/// them.
 fn listed(
     alloc: Global,
     opening: &Opening,
@@ -37,8 +38,8 @@ fn listed(
     }
 }
 
-/// The entries of a meter from a place on, voided ones too, in their order: at most so many. It goes over all entries of the
-/// meter.
+/// Returns the entries of a meter from index `from` in order, also voided ones, at most `most` of
+/// them. Reads all entries of the meter.
 pub fn meter_entries<S: Alter>(
     alloc: Global,
     conn: &mut Connection<S>,

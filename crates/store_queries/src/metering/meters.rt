@@ -1,4 +1,4 @@
-//! Installations, by meter and by register.
+//! Queries for installations by meter and by register.
 ghost use Rattle.std.specs.Prelude.{◌≡◌, false, length, IfOk, IfSome, IsUtf8};
 ghost use Rattle.office_rules.specs.Ranges.{IsSound};
 ghost use Rattle.office_rules.specs.Facts.{openings_in};
@@ -14,7 +14,7 @@ use sqlite::{Alter, Connection};
 use store_facts::text;
 use store_tables::{RowFault, check_open, last_installation};
 
-/// The installation of a meter, as it stands.
+/// Returns the current installation of a meter.
 pub fn meter<S: Alter>(
     conn: &mut Connection<S>,
     name: &Name,
@@ -32,7 +32,7 @@ pub fn meter<S: Alter>(
     }
 }
 
-/// The latest installation at a register, as it stands.
+/// Returns the latest installation at a register.
 pub fn installation<S: Alter>(
     conn: &mut Connection<S>,
     register: &Name,
@@ -50,7 +50,7 @@ pub fn installation<S: Alter>(
     }
 }
 
-/// The greatest place of an installation, which counts them.
+/// Returns the greatest index of an installation, which is the number of installations.
 fn last_place<S: Alter>(conn: &mut Connection<S>) -> Result<Option<u64>, RowFault>
     requires { conn.old.in_transaction ≡ false }
     ensures { Finds S.Store conn.old conn.new result CountsOpenings HasReadableMeters }
@@ -59,7 +59,7 @@ fn last_place<S: Alter>(conn: &mut Connection<S>) -> Result<Option<u64>, RowFaul
     last_installation(conn)
 }
 
-/// How many meters were installed.
+/// Returns how many meters were installed.
 pub fn installation_count<S: Alter>(conn: &mut Connection<S>) -> Result<usize, RowFault>
     requires { conn.old.in_transaction ≡ false }
     ensures { Finds S.Store conn.old conn.new result

@@ -1,4 +1,4 @@
-//! Where a meter stood before one of its entries.
+//! The state of a meter before one of its entries.
 ghost use Rattle.std.specs.Prelude.{◌≡◌, ◌≤◌, List, take, IfOk, IfErr, IfSome};
 ghost use Rattle.std.specs.Option.{option_map};
 ghost use Rattle.energy_core.specs.Account.{IsAccount};
@@ -20,7 +20,7 @@ use office_books::installation_after;
 use office_events::{EntryPlace, Installation};
 use store_tables::RowFault;
 
-/// The first so many of these rows, or all.
+/// Returns the first `count` rows, or all of them.
 fn first(rows: &[EntryRow], count: usize) -> &[EntryRow]
     ensures { result.now ≡ take count rows.now }
 {
@@ -31,7 +31,8 @@ fn first(rows: &[EntryRow], count: usize) -> &[EntryRow]
     }
 }
 
-/// Where the counter stands after these rows, and the energy; damaged where one does not follow.
+/// Returns the state of the counter and the energy after these rows. Rows without an account are
+/// damage.
 pub fn tally(meter: &Installed, rows: &[EntryRow]) -> Result<Tally, RowFault>
     requires range_low { MIN_RANGE ≤ meter.now.range }
     requires range_high { meter.now.range ≤ MAX_RANGE }
@@ -47,7 +48,7 @@ pub fn tally(meter: &Installed, rows: &[EntryRow]) -> Result<Tally, RowFault>
     }
 }
 
-/// An installation where it stood after these rows; damaged where they have no account.
+/// Returns the installation after these rows. Rows without an account are damage.
 fn stood_after(whole: &Installation, rows: &[EntryRow]) -> Result<Installation, RowFault>
     ensures stands { let es = entries_in (lists.latest_first rows.now) in
         IfOk result (λ row. row ≡ meters.standing whole.now.opening es whole.now.ended) }
@@ -62,8 +63,8 @@ fn stood_after(whole: &Installation, rows: &[EntryRow]) -> Result<Installation, 
     }
 }
 
-/// The entry at a place among all rows of a meter, the oldest first: where the meter stood before it, and the next that
-/// stands.
+/// Finds the entry at an index among all rows of a meter, the oldest first: the meter's state
+/// before the entry, and the next entry that is not voided.
 pub(crate) fn placed(
     whole: &Installation,
     rows: &[EntryRow],

@@ -1,4 +1,4 @@
-//! Rows of single tables, as the facts have them.
+//! Queries for single rows, stated in terms of records.
 ghost use Rattle.std.specs.Prelude.{◌≡◌, false};
 ghost use Rattle.office_rules.specs.Facts.{opening_of, installed_at};
 ghost use Rattle.store_queries.specs.Finding.Finding.{Finds};
@@ -12,7 +12,7 @@ use store_tables::{
     range_of,
 };
 
-/// The row of a meter.
+/// Queries the row of a meter.
 pub(crate) fn row_of<S: Alter>(
     conn: &mut Connection<S>,
     meter: &str,
@@ -25,7 +25,7 @@ pub(crate) fn row_of<S: Alter>(
     installation_of(conn, meter)
 }
 
-/// The row of the latest installation at a register.
+/// Queries the row of the latest installation at a register.
 pub(crate) fn row_at<S: Alter>(
     conn: &mut Connection<S>,
     register: &str,
@@ -38,7 +38,7 @@ pub(crate) fn row_at<S: Alter>(
     installation_at(conn, register)
 }
 
-/// How many counts the counter of a meter has.
+/// Queries how many values the counter of a meter has.
 pub(crate) fn range<S: Alter>(
     conn: &mut Connection<S>,
     meter: &str,
@@ -51,7 +51,7 @@ pub(crate) fn range<S: Alter>(
     range_of(conn, meter)
 }
 
-/// The entry of a meter's opening.
+/// Queries the entry of a meter's opening.
 pub(crate) fn first_entry<S: Alter>(
     conn: &mut Connection<S>,
     meter: &str,

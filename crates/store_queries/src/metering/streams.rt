@@ -1,4 +1,4 @@
-//! Interval rows, handed on as they come.
+//! Streams of interval rows.
 ghost use Rattle.std.specs.Prelude.{◌≡◌, ◌+◌, false, min, IsUtf8};
 ghost use Rattle.office_books.specs.Spans.{rows_within};
 ghost use Rattle.office_rules.specs.Intervals.{rows_of_meter, rows_of_register};
@@ -15,14 +15,15 @@ use sqlite::{Alter, Connection};
 use store_facts::{intervals as tables, text};
 use store_tables::{LATEST_MOMENT, RowFault, check_open};
 
-/// A bound of the moments that are asked for, where none is past the latest moment.
+/// Limits a bound of a span to one second after the latest timestamp.
 pub(super) fn bound(moment: u64) -> u64
     ensures { result ≡ min moment (latest_moment + 1) }
 {
     moment.min(LATEST_MOMENT + 1)
 }
 
-/// Hands on the energy of a meter by the quarter hours that are asked for, in order of their starts. No other row is read.
+/// Streams the energy of a meter by the quarter hours with starts in `span`, in order of their
+/// starts. Reads no other row.
 pub fn intervals<S: Alter, K: RowSink<Share>>(
     conn: &mut Connection<S>,
     meter: &Name,
@@ -46,8 +47,8 @@ pub fn intervals<S: Alter, K: RowSink<Share>>(
     }
 }
 
-/// Hands on the energy of a register by the quarter hours that are asked for: meter after meter, in the order in which they
-/// were installed.
+/// Streams the energy of a register by the quarter hours with starts in `span`: meter after meter,
+/// in the order in which the meters were installed.
 pub fn register_intervals<S: Alter, K: RowSink<Share>>(
     conn: &mut Connection<S>,
     register: &Name,

@@ -1,4 +1,4 @@
--- What the queries show.
+-- What the queries on `entries` and `voids` show.
 use Rattle.std.proofs.Common.{ℕ, ◌==◌, pos, bytes_eq, List, [], ◌∷◌, refl}
 use Rattle.sqlite.specs.declared.types.Value.TheVariants.{Int, Text}
 use Rattle.sqlite.specs.Order.{Row}

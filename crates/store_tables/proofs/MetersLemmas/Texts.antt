@@ -1,4 +1,4 @@
--- What the texts mean.
+-- The meaning of the SQL texts on `installations` and `ranges`.
 use Rattle.std.proofs.Common.{◌≡◌, pos, List, [], ◌∷◌, codes, ℕ, false, refl}
 use Rattle.sqlite.specs.declared.types.Value.TheVariants.{Null, Int, Text}
 use Rattle.sqlite.specs.Term.{Term, lit, col}

@@ -1,28 +1,34 @@
--- What the questions for the latest moments show.
+-- The timestamps that the queries for the latest entry and the latest void show.
 use Rattle.std.specs.Prelude.{◌≡◌, ℕ, pos, ◌≤◌, [], ◌∷◌}
 use Rattle.sqlite.specs.declared.types.Value.TheVariants.{Int}
 use Rattle.sqlite.specs.Order.{Row}
 use Rattle.store_tables.specs.Limits.{latest_moment}
 use Rattle.store_tables.specs.Entries.Rows.{Entered, Voided}
 
+-- The timestamp of an entry.
 abbrev pub entry_moment : Entered → ℕ
 entry_moment e = e.entry.moment
 
+-- The column that the query shows of an entry: its timestamp.
 abbrev pub entry_moment_shown : Entered → Row
 entry_moment_shown e = Int (pos e.entry.moment) ∷ []
 
+-- The value read is the timestamp of the entry.
 abbrev pub HasEntryMoment : Entered → ℕ → Type 0
 HasEntryMoment e moment = moment ≡ e.entry.moment
 
+-- The time of a void.
 abbrev pub void_moment : Voided → ℕ
 void_moment v = v.moment
 
+-- The column that the query shows of a void: its time.
 abbrev pub void_moment_shown : Voided → Row
 void_moment_shown v = Int (pos v.moment) ∷ []
 
+-- The value read is the time of the void.
 abbrev pub HasVoidMoment : Voided → ℕ → Type 0
 HasVoidMoment v moment = moment ≡ v.moment
 
--- its moment is one that the books can have
+-- The time of the void is in the range of the store's timestamps.
 abbrev pub IsTimelyVoid : Voided → Type 0
 IsTimelyVoid v = v.moment ≤ latest_moment

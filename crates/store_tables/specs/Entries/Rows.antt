@@ -1,4 +1,4 @@
--- Rows of the tables, their columns, and the ranges of their values.
+-- Rows of `entries` and `voids`, their columns, and the ranges of their values.
 use Rattle.std.specs.Prelude.{◌≡◌, ℕ, pos, ◌≤◌, List, [], ◌∷◌, IsTrue, Bool, bytes_eq, ◌&&◌, ◌==◌, Option, Some, None, if◌then◌else◌, Result, Ok}
 use Rattle.std.specs.Option.{option_and_then}
 use Rattle.energy_core.specs.declared.limits.TheConstants.{MAX_SHOWN}
@@ -12,6 +12,7 @@ use Rattle.store_tables.specs.declared.entries.rows.EntryKind.{EntryKind}
 use Rattle.store_tables.specs.declared.entries.rows.EntryKind.TheVariants.{Opening, Reading, Manual, Closing, Reset, Rescale}
 use Rattle.store_tables.specs.Limits.{greatest_place, latest_moment, IsPlace}
 
+-- The number of an entry's kind in the table.
 abbrev pub kind_number : EntryKind → ℕ
 kind_number Opening = 1
 kind_number Reading = 2
@@ -20,6 +21,7 @@ kind_number Closing = 4
 kind_number Reset = 5
 kind_number Rescale = 6
 
+-- The kind with a number in the table.
 abbrev pub kind_of : ℕ → Option EntryKind
 kind_of n =
     if n == 1 then Some Opening else
@@ -29,11 +31,12 @@ kind_of n =
     if n == 5 then Some Reset else
     if n == 6 then Some Rescale else None
 
--- an entry of a meter
+-- An entry of a meter.
 pub record Entered : Type 0 where
   pub meter : List ℕ
   pub entry : EntryRow
 
+-- The columns of an entry.
 abbrev pub entry_columns : Entered → Row
 entry_columns e =
     Text e.meter ∷ Int (pos e.entry.place) ∷ Int (pos (kind_number e.entry.kind))
@@ -41,16 +44,19 @@ entry_columns e =
     ∷ Int (pos e.entry.raw) ∷ Int (pos e.entry.rolls) ∷ Int (pos e.entry.after) ∷ Int e.entry.sf
     ∷ []
 
--- the entry of a meter at a place, one of a meter, and one with other rollovers
+-- The entry is the one of this meter at this index.
 abbrev pub is_entry : (meter : List ℕ) → (place : ℕ) → Entered → Bool
 is_entry meter place e = bytes_eq e.meter meter && (e.entry.place == place)
 
+-- The entry is of this meter.
 abbrev pub is_of : (meter : List ℕ) → Entered → Bool
 is_of meter e = bytes_eq e.meter meter
 
+-- The entry with another count of rollovers.
 abbrev pub rolled : (rolls : ℕ) → Entered → Entered
 rolled rolls e = record e { entry = record e.entry { rolls = rolls } }
 
+-- Every value of an entry is in its range.
 pub record IsSoundEntry (e : EntryRow) : Type 0 where
   pub place : (1 ≤ e.place) × (e.place ≤ greatest_place)
   pub moment : e.moment ≤ latest_moment
@@ -59,26 +65,30 @@ pub record IsSoundEntry (e : EntryRow) : Type 0 where
   pub after : e.after ≤ MAX_SHOWN
   pub sf : IsTrue (is_within 3 e.sf)
 
--- what the queries show of an entry
+-- The columns that the queries show of an entry.
 abbrev pub entry_shown : Entered → Row
 entry_shown e =
     Int (pos e.entry.place) ∷ Int (pos (kind_number e.entry.kind)) ∷ Int (pos e.entry.moment)
     ∷ Int (pos e.entry.raw)
     ∷ Int (pos e.entry.rolls) ∷ Int (pos e.entry.after) ∷ Int e.entry.sf ∷ []
 
+-- The value read is the entry.
 abbrev pub IsRow : Entered → EntryRow → Type 0
 IsRow e row = row ≡ e.entry
 
+-- The same for an entry with its meter.
 abbrev pub IsSoundEntered : Entered → Type 0
 IsSoundEntered e = IsSoundEntry e.entry
 
+-- The column that the query for the last entry shows: its index.
 abbrev pub place_shown : Entered → Row
 place_shown e = Int (pos e.entry.place) ∷ []
 
+-- The kind that a value encodes.
 abbrev pub kind_in : Value → Option EntryKind
 kind_in v = option_and_then kind_of (whole_in 1 6 v)
 
--- the entry that the columns of a row are, or damage
+-- The entry that a row shows, or damage.
 abbrev pub entry_in : Row → Result EntryRow RowFault
 entry_in row =
     and_then (or_damaged (whole_in 1 greatest_place (column row 0))) (λ place.
@@ -98,12 +108,13 @@ entry_in row =
       sf = sf;
     }))))))))
 
+-- The index of an entry.
 abbrev pub entry_place : Entered → ℕ
 entry_place e = e.entry.place
 
 -- ---- voids
 
--- the entry of a meter at a place was voided at a moment
+-- A void: the entry of a meter at an index was voided at a time.
 pub record Voided : Type 0 where
   pub meter : List ℕ
   pub place : ℕ
@@ -112,20 +123,26 @@ pub record Voided : Type 0 where
 abbrev pub voided_at : (meter : List ℕ) → (place moment : ℕ) → Voided
 voided_at meter place moment = record { meter = meter; place = place; moment = moment }
 
+-- The columns of a void.
 abbrev pub voided_columns : Voided → Row
 voided_columns v = Text v.meter ∷ Int (pos v.place) ∷ Int (pos v.moment) ∷ []
 
+-- The column that the query shows of a void: the index of its entry.
 abbrev pub voided_shown : Voided → Row
 voided_shown v = Int (pos v.place) ∷ []
 
+-- The void is of an entry of this meter.
 abbrev pub is_void_of : (meter : List ℕ) → Voided → Bool
 is_void_of meter v = bytes_eq v.meter meter
 
+-- The index of the voided entry.
 abbrev pub voided_place : Voided → ℕ
 voided_place v = v.place
 
+-- The index of the voided entry is in its range.
 abbrev pub IsSoundVoided : Voided → Type 0
 IsSoundVoided v = IsPlace v.place
 
+-- The value read is the index of the voided entry.
 abbrev pub HasPlace : Voided → ℕ → Type 0
 HasPlace v place = place ≡ v.place

@@ -1,4 +1,4 @@
--- Rows of the tables, their columns, and the ranges of their values.
+-- Rows of `installations` and `ranges`, their columns, and the ranges of their values.
 use Rattle.std.specs.Prelude.{◌≡◌, ℕ, pos, ◌≤◌, List, [], ◌∷◌, IsTrue, Bool, bytes_eq, ◌==◌, Option, Some, None, if◌then◌else◌, Result, Ok, true, false, IsUtf8, string_bytes}
 use Rattle.std.specs.Option.{option_and_then}
 use Rattle.energy_core.specs.declared.limits.TheConstants.{MAX_CEILING, MAX_RANGE, MAX_SHOWN, MAX_TOTAL, MIN_RANGE}
@@ -12,17 +12,20 @@ use Rattle.store_tables.specs.declared.meters.rows.InstallationRow.{Installation
 use Rattle.store_tables.specs.declared.meters.rows.Installation.{Installation}
 use Rattle.store_tables.specs.Limits.{greatest_place, latest_moment}
 
+-- The greatest ceiling of a meter, in W.
 abbrev pub greatest_ceiling : ℕ
 greatest_ceiling = MAX_CEILING
 
+-- The greatest total energy of a meter, in mWh.
 abbrev pub greatest_total : ℕ
 greatest_total = MAX_TOTAL
 
+-- The number in the table of whether a meter was closed.
 abbrev pub ended_number : Bool → ℕ
 ended_number false = 0
 ended_number true = 1
 
--- a meter at a register
+-- A meter that is installed at a register.
 pub record Installed : Type 0 where
   pub meter : List ℕ
   pub register : List ℕ
@@ -31,6 +34,7 @@ pub record Installed : Type 0 where
 abbrev pub meter_at : (meter register : List ℕ) → InstallationRow → Installed
 meter_at meter register row = record { meter = meter; register = register; row = row }
 
+-- The columns of an installation.
 abbrev pub installed_columns : Installed → Row
 installed_columns i =
     Int (pos i.row.place) ∷ Null ∷ Text i.meter ∷ Text i.register ∷ Int (pos i.row.ceiling)
@@ -38,7 +42,7 @@ installed_columns i =
     ∷ Int (pos i.row.last.raw)
     ∷ Int i.row.last.sf ∷ Int (pos i.row.last.total) ∷ []
 
--- what the queries show of it
+-- The columns that the queries show of an installation.
 abbrev pub installed_shown : Installed → Row
 installed_shown i =
     Int (pos i.row.place) ∷ Text i.meter ∷ Text i.register ∷ Int (pos i.row.ceiling)
@@ -46,50 +50,60 @@ installed_shown i =
     ∷ Int (pos i.row.last.raw)
     ∷ Int i.row.last.sf ∷ Int (pos i.row.last.total) ∷ []
 
+-- The installation is of this meter.
 abbrev pub is_meter : (meter : List ℕ) → Installed → Bool
 is_meter meter i = bytes_eq i.meter meter
 
+-- The installation is at this register.
 abbrev pub is_at : (register : List ℕ) → Installed → Bool
 is_at register i = bytes_eq i.register register
 
+-- The index of an installation.
 abbrev pub installed_place : Installed → ℕ
 installed_place i = i.row.place
 
--- it stands there, and it has ended
+-- The installation with another last entry and total energy.
 abbrev pub moved : LastRow → Installed → Installed
 moved last i = record i { row = record i.row { last = last } }
 
+-- The installation after its meter was closed.
 abbrev pub ended : Installed → Installed
 ended i = record i { row = record i.row { is_ended = true } }
 
+-- Every value of a last entry is in its range.
 pub record IsSoundLast (last : LastRow) : Type 0 where
   pub moment : last.moment ≤ latest_moment
   pub raw : last.raw ≤ MAX_SHOWN
   pub sf : IsTrue (is_within 3 last.sf)
   pub total : last.total ≤ greatest_total
 
+-- Every number of an installation is in its range.
 pub record IsSoundInstallation (row : InstallationRow) : Type 0 where
   pub place : (1 ≤ row.place) × (row.place ≤ greatest_place)
   pub ceiling : (1 ≤ row.ceiling) × (row.ceiling ≤ greatest_ceiling)
   pub last : IsSoundLast row.last
 
+-- Every value of an installation is in its range, and its names are UTF-8.
 pub record IsSoundInstalled (i : Installed) : Type 0 where
   pub row : IsSoundInstallation i.row
   pub meter : IsUtf8 i.meter
   pub register : IsUtf8 i.register
 
+-- The value read has the names and numbers of the installation.
 pub record IsInstalled (i : Installed) (a : Installation) : Type 0 where
   pub meter : string_bytes a.meter ≡ i.meter
   pub register : string_bytes a.register ≡ i.register
   pub row : a.row ≡ i.row
 
--- a flag is 0 or 1
+-- A flag is 0 or 1.
 abbrev pub flag_of : ℕ → Option Bool
 flag_of n = if n == 0 then Some false else if n == 1 then Some true else None
 
+-- The flag that a value encodes.
 abbrev pub flag_in : Value → Option Bool
 flag_in v = option_and_then flag_of (whole_in 0 1 v)
 
+-- The last entry and the total energy that a row shows, or damage.
 abbrev pub last_in : Row → Result LastRow RowFault
 last_in row =
     and_then (or_damaged (whole_in 0 latest_moment (column row 5))) (λ moment.
@@ -98,6 +112,7 @@ last_in row =
     and_then (or_damaged (whole_in 0 greatest_total (column row 8))) (λ total.
     Ok (record { moment = moment; raw = raw; sf = sf; total = total })))))
 
+-- The numbers of an installation that a row shows, or damage.
 abbrev pub installation_in : Row → Result InstallationRow RowFault
 installation_in row =
     and_then (or_damaged (whole_in 1 greatest_place (column row 0))) (λ place.
@@ -106,33 +121,41 @@ installation_in row =
     and_then (last_in row) (λ last.
     Ok (record { place = place; ceiling = ceiling; is_ended = is_ended; last = last })))))
 
+-- The column that the query for the last installation shows: its index.
 abbrev pub installed_place_shown : Installed → Row
 installed_place_shown i = Int (pos i.row.place) ∷ []
 
+-- The value read is the index of the installation.
 abbrev pub HasInstalledPlace : Installed → ℕ → Type 0
 HasInstalledPlace i place = place ≡ i.row.place
 
 -- ---- ranges
 
--- how many counts the counter of a meter has
+-- The range of a meter's counter: how many values it has.
 pub record Ranged : Type 0 where
   pub meter : List ℕ
   pub range : ℕ
 
+-- The columns of a range.
 abbrev pub ranged_columns : Ranged → Row
 ranged_columns r = Text r.meter ∷ Int (pos r.range) ∷ []
 
+-- The column that the query shows: the range.
 abbrev pub range_shown : Ranged → Row
 range_shown r = Int (pos r.range) ∷ []
 
+-- The range is of this meter.
 abbrev pub is_range_of : (meter : List ℕ) → Ranged → Bool
 is_range_of meter r = bytes_eq r.meter meter
 
+-- A range that the store accepts.
 abbrev pub IsRange : ℕ → Type 0
 IsRange range = (MIN_RANGE ≤ range) × (range ≤ MAX_RANGE)
 
+-- The store accepts the range of the row.
 abbrev pub IsSoundRanged : Ranged → Type 0
 IsSoundRanged r = IsRange r.range
 
+-- The value read is the range.
 abbrev pub HasRange : Ranged → ℕ → Type 0
 HasRange r range = range ≡ r.range

@@ -1,4 +1,4 @@
--- The tables that this crate writes and reads, by the numbers of their trees.
+-- The tree numbers of the tables `installations` and `ranges`.
 use Rattle.std.specs.Prelude.{ℕ}
 
 abbrev pub installations : ℕ

@@ -1,4 +1,4 @@
-//! Rows as the queries show them, read column by column.
+//! Readers of the rows of `entries` and `voids`, column by column.
 ghost use Rattle.std.specs.Prelude.{◌≡◌, IfOk};
 ghost use Rattle.sqlite.specs.Order.{column};
 ghost use Rattle.store_tables.specs.Asking.{ReadsRow};
@@ -13,7 +13,6 @@ use crate::{GREATEST_PLACE, LATEST_MOMENT, RowFault, scale, whole};
 use energy_core::MAX_SHOWN;
 use sqlite::Row;
 
-/// The kind of an entry.
 fn kind(row: &Row, at: usize) -> Result<EntryKind, RowFault>
     ensures { result ≡ or_damaged (kind_in (column row.now at)) }
 {
@@ -23,7 +22,7 @@ fn kind(row: &Row, at: usize) -> Result<EntryKind, RowFault>
     }
 }
 
-/// An entry.
+/// Reads an entry from the seven columns that the queries of `entries` select.
 pub(crate) fn entry(row: &Row) -> Result<EntryRow, RowFault>
     ensures { result ≡ entry_in row.now }
 {
@@ -45,7 +44,7 @@ pub(crate) fn entry(row: &Row) -> Result<EntryRow, RowFault>
     })
 }
 
-/// Reads an entry of `entry_rows`.
+/// Reads an entry from a row of `entry_rows`.
 pub fn read_entry(row: &Row) -> Result<EntryRow, RowFault>
     ensures read { ReadsRow row.now entry_shown IsRow IsSoundEntered result }
     ensures sound { IfOk result IsSoundEntry }
@@ -53,7 +52,7 @@ pub fn read_entry(row: &Row) -> Result<EntryRow, RowFault>
     entry(row)
 }
 
-/// Reads the place of a voided entry of `void_rows`.
+/// Reads the index of a voided entry from a row of `void_rows`.
 pub fn read_void(row: &Row) -> Result<u64, RowFault>
     ensures read { ReadsRow row.now voided_shown HasPlace IsSoundVoided result }
     ensures sound { IfOk result IsPlace }

@@ -1,4 +1,4 @@
-//! The table `entries`.
+//! Statements on the table `entries`.
 ghost use Rattle.std.specs.Prelude.{◌≤◌, IfOk, IfSome};
 ghost use Rattle.sqlite.specs.Held.{state};
 ghost use Rattle.store_tables.specs.Content.{Edits, with_row, changed_where};
@@ -17,11 +17,11 @@ use crate::entries::rows::EntryRow;
 use crate::{RowFault, number, signed};
 use sqlite::{Alter, Connection, Error, Row, Transaction, params};
 
-/// The entries of a meter, by their places.
+/// Selects the entries of a meter in ascending order of their indices.
 const OF_METER: &str =
     "SELECT place, kind, moment, raw, rolls, \"after\", sf FROM entries WHERE meter = ?1 ORDER BY place";
 
-/// Adds an entry of a meter.
+/// Inserts an entry of a meter.
 pub fn insert_entry<S: Alter>(
     tx: &mut Transaction<'_, S>,
     meter: &str,
@@ -50,7 +50,7 @@ pub fn insert_entry<S: Alter>(
     )
 }
 
-/// Sets how many times the counter went past its range before an entry.
+/// Sets how often the counter rolled over before an entry.
 pub fn set_rolls<S: Alter>(
     tx: &mut Transaction<'_, S>,
     meter: &str,
@@ -69,7 +69,7 @@ pub fn set_rolls<S: Alter>(
     )
 }
 
-/// The row of an entry, if there is one.
+/// Queries the row of an entry.
 fn rows_at<S: Alter>(conn: &mut Connection<S>, meter: &str, place: u64) -> Result<Vec<Row>, Error>
     requires place { place ≤ greatest_place }
     ensures asks { Asks S.Store conn.old conn.new }
@@ -83,7 +83,7 @@ fn rows_at<S: Alter>(conn: &mut Connection<S>, meter: &str, place: u64) -> Resul
     )
 }
 
-/// The entry of a meter at a place.
+/// Returns the entry of a meter at an index.
 pub fn entry_at<S: Alter>(
     conn: &mut Connection<S>,
     meter: &str,
@@ -101,7 +101,7 @@ pub fn entry_at<S: Alter>(
     }
 }
 
-/// The entries of a meter in order of place; `read_entry` reads each.
+/// Queries the entries of a meter in ascending order of their indices. `read_entry` reads each row.
 pub fn entry_rows<S: Alter>(conn: &mut Connection<S>, meter: &str) -> Result<Vec<Row>, Error>
     ensures asks { Asks S.Store conn.old conn.new }
     ensures shows { TellsRows S.Store conn.old conn.new entries entry_columns result
@@ -110,7 +110,8 @@ pub fn entry_rows<S: Alter>(conn: &mut Connection<S>, meter: &str) -> Result<Vec
     conn.query_all(OF_METER, params![meter])
 }
 
-/// The place of the last entry of a meter inside a transaction, if there is one, in its first column.
+/// Queries, inside a transaction, the index of a meter's last entry. The first column has the
+/// index.
 pub fn last_entry_rows<S: Alter>(
     tx: &mut Transaction<'_, S>,
     meter: &str,

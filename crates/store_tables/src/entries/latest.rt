@@ -1,5 +1,5 @@
-//! The greatest moments of the tables, in seconds since 1970-01-01 UTC. Each looks at the whole of its table, which has no
-//! index of moments, and is for an opening.
+//! The latest timestamps of `entries` and `voids`, in seconds since 1970-01-01 UTC. Each query
+//! scans its complete table, which has no index on timestamps. An opening of an office runs them.
 ghost use Rattle.std.specs.Prelude.{◌≤◌, IfOk, IfSome};
 ghost use Rattle.store_tables.specs.Limits.{latest_moment};
 ghost use Rattle.store_tables.specs.Answer.{IsLast, LastFirst, every};
@@ -13,7 +13,7 @@ ghost use Rattle.store_tables.specs.Entries.Trees.{entries, voids};
 use crate::{LATEST_MOMENT, RowFault, first_whole};
 use sqlite::{Alter, Connection, Error, Row};
 
-/// The latest moment of an entry, if there is one.
+/// Queries the latest timestamp of an entry.
 fn entry_moments<S: Alter>(conn: &mut Connection<S>) -> Result<Vec<Row>, Error>
     ensures asks { Asks S.Store conn.old conn.new }
     ensures shows { TellsRows S.Store conn.old conn.new entries entry_columns result
@@ -25,7 +25,7 @@ fn entry_moments<S: Alter>(conn: &mut Connection<S>) -> Result<Vec<Row>, Error>
     )
 }
 
-/// The latest moment of an entry of any meter; its opening is one.
+/// Returns the latest timestamp of all entries of all meters. A meter's opening is an entry too.
 pub fn latest_entry<S: Alter>(conn: &mut Connection<S>) -> Result<Option<u64>, RowFault>
     ensures finds { LooksUp S.Store conn.old conn.new entries entry_columns IsSoundEntered result
         (IsLast every HasEntryMoment entry_moment) }
@@ -35,7 +35,7 @@ pub fn latest_entry<S: Alter>(conn: &mut Connection<S>) -> Result<Option<u64>, R
     first_whole(&rows, 0, LATEST_MOMENT)
 }
 
-/// The latest moment at which an entry was voided, if one was.
+/// Queries the latest time at which an entry was voided.
 fn void_moments<S: Alter>(conn: &mut Connection<S>) -> Result<Vec<Row>, Error>
     ensures asks { Asks S.Store conn.old conn.new }
     ensures shows { TellsRows S.Store conn.old conn.new voids voided_columns result
@@ -44,7 +44,7 @@ fn void_moments<S: Alter>(conn: &mut Connection<S>) -> Result<Vec<Row>, Error>
     conn.query_all("SELECT moment FROM voids ORDER BY moment DESC LIMIT 1", &[])
 }
 
-/// The latest moment at which an entry was voided.
+/// Returns the latest time at which an entry was voided.
 pub fn latest_void<S: Alter>(conn: &mut Connection<S>) -> Result<Option<u64>, RowFault>
     ensures finds { LooksUp S.Store conn.old conn.new voids voided_columns IsTimelyVoid result
         (IsLast every HasVoidMoment void_moment) }

@@ -1,26 +1,26 @@
-//! Rows of the tables.
+//! An entry as the table `entries` has it.
 ghost use Rattle.std.specs.Prelude.{◌≡◌};
 ghost use Rattle.store_tables.specs.Entries.Rows.{kind_number, kind_of};
 
-/// What an entry of a meter is.
+/// The kind of an entry.
 #[derive(Clone, Copy, Debug, PartialEq, Eq)]
 pub enum EntryKind {
-    /// Where the counter stood when the meter was installed.
+    /// The counter's value when the meter was installed.
     Opening,
     /// An accepted reading.
     Reading,
-    /// A number that someone read and handed in.
+    /// A reading that a person entered.
     Manual,
-    /// The last number of a meter, when it was closed.
+    /// The last value of a meter, when it was closed.
     Closing,
-    /// The counter was set to another number.
+    /// The counter was set to another value.
     Reset,
-    /// The counter was set to another number, at another scale.
+    /// The counter was set to another value, at another scale.
     Rescale,
 }
 
 impl EntryKind {
-    /// The kind that has this number, where one has.
+    /// Returns the kind with a number.
     pub(crate) fn of(number: u64) -> Option<EntryKind>
         ensures { result ≡ kind_of number }
     {
@@ -35,7 +35,7 @@ impl EntryKind {
         }
     }
 
-    /// The number that the table has for the kind, from 1 to 6.
+    /// Returns the number of the kind in the table, from 1 to 6.
     pub fn number(self) -> u8
         ensures { result ≡ kind_number self }
     {
@@ -50,18 +50,18 @@ impl EntryKind {
     }
 }
 
-/// An entry of a meter. Moments are seconds since 1970-01-01 UTC.
+/// An entry of a meter. Timestamps are seconds since 1970-01-01 UTC.
 #[derive(Clone, Copy, Debug, PartialEq, Eq)]
 pub struct EntryRow {
-    /// The opening has the place 1.
+    /// The index of the entry. The opening has index 1.
     pub place: u64,
     pub kind: EntryKind,
     pub moment: u64,
-    /// What the counter showed, and for a reset or rescale what it showed before it was set.
+    /// The counter's value. For a reset or a rescale, the value before the counter was set.
     pub raw: u32,
-    /// How many times the counter went past its range since the entry before.
+    /// How often the counter rolled over since the previous entry.
     pub rolls: u8,
-    /// What the counter was set to, and 0 for all but a reset and a rescale.
+    /// The value that the counter was set to. 0 for all kinds but a reset and a rescale.
     pub after: u32,
     /// The scale factor after the entry.
     pub sf: i16,

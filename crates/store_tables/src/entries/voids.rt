@@ -1,4 +1,4 @@
-//! The table `voids`.
+//! Statements on the table `voids`.
 ghost use Rattle.std.specs.Prelude.{◌≤◌};
 ghost use Rattle.sqlite.specs.Held.{state};
 ghost use Rattle.store_tables.specs.Content.{Edits, with_row};
@@ -13,10 +13,10 @@ ghost use Rattle.store_tables.specs.Entries.Trees.{voids};
 use crate::number;
 use sqlite::{Alter, Connection, Error, Row, Transaction, params};
 
-/// The places of the voided entries of a meter.
+/// Selects the indices of a meter's voided entries in ascending order.
 const OF_METER: &str = "SELECT place FROM voids WHERE meter = ?1 ORDER BY place";
 
-/// Says that the entry of a meter at a place was voided at a moment.
+/// Records that the entry of a meter at index `place` was voided at `moment`.
 pub fn insert_void<S: Alter>(
     tx: &mut Transaction<'_, S>,
     meter: &str,
@@ -37,7 +37,7 @@ pub fn insert_void<S: Alter>(
     )
 }
 
-/// The voided entries of a meter in order of place; `read_void` reads each.
+/// Queries the voided entries of a meter in ascending order of index. `read_void` reads each row.
 pub fn void_rows<S: Alter>(conn: &mut Connection<S>, meter: &str) -> Result<Vec<Row>, Error>
     ensures asks { Asks S.Store conn.old conn.new }
     ensures shows { TellsRows S.Store conn.old conn.new voids voided_columns result

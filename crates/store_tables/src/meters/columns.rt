@@ -1,4 +1,4 @@
-//! Rows as the queries show them, read column by column.
+//! Readers of the rows of `installations` and `ranges`, column by column.
 ghost use Rattle.std.specs.Prelude.{◌≡◌, IfOk};
 ghost use Rattle.sqlite.specs.Order.{column};
 ghost use Rattle.store_tables.specs.Asking.{ReadsRow};
@@ -12,7 +12,6 @@ use crate::{GREATEST_PLACE, LATEST_MOMENT, RowFault, scale, text, whole};
 use energy_core::{MAX_CEILING, MAX_RANGE, MAX_SHOWN, MAX_TOTAL, MIN_RANGE};
 use sqlite::Row;
 
-/// A flag, which is 0 or 1.
 fn flag(row: &Row, at: usize) -> Result<bool, RowFault>
     ensures { result ≡ or_damaged (flag_in (column row.now at)) }
 {
@@ -23,7 +22,7 @@ fn flag(row: &Row, at: usize) -> Result<bool, RowFault>
     }
 }
 
-/// Where a meter stands.
+/// Reads the last entry of a meter, and its total energy.
 fn last(row: &Row) -> Result<LastRow, RowFault>
     ensures { result ≡ last_in row.now }
 {
@@ -39,7 +38,7 @@ fn last(row: &Row) -> Result<LastRow, RowFault>
     })
 }
 
-/// The numbers of an installation.
+/// Reads all columns of an installation but its texts.
 fn numbers(row: &Row) -> Result<InstallationRow, RowFault>
     ensures { result ≡ installation_in row.now }
 {
@@ -55,7 +54,7 @@ fn numbers(row: &Row) -> Result<InstallationRow, RowFault>
     })
 }
 
-/// Reads an installation of `installation_rows`.
+/// Reads an installation from a row of `installation_rows`.
 pub fn read_installation(row: &Row) -> Result<Installation, RowFault>
     ensures read { ReadsRow row.now installed_shown IsInstalled IsSoundInstalled result }
     ensures sound { IfOk result (λ a. IsSoundInstallation a.row) }
@@ -70,7 +69,7 @@ pub fn read_installation(row: &Row) -> Result<Installation, RowFault>
     })
 }
 
-/// Reads how many counts a counter has of `range_rows`.
+/// Reads the range of a counter from a row of `range_rows`.
 pub fn read_range(row: &Row) -> Result<u64, RowFault>
     ensures read { ReadsRow row.now range_shown HasRange IsSoundRanged result }
     ensures sound { IfOk result IsRange }

@@ -1,4 +1,4 @@
-//! The table `installations`.
+//! Statements on the table `installations`.
 ghost use Rattle.std.specs.Prelude.{◌≡◌, IfOk, IfSome};
 ghost use Rattle.sqlite.specs.Held.{state};
 ghost use Rattle.store_tables.specs.Content.{Edits, with_row, changed_where};
@@ -18,21 +18,20 @@ use crate::meters::rows::{Installation, InstallationRow, LastRow};
 use crate::{GREATEST_PLACE, RowFault, first_whole, number, signed};
 use sqlite::{Alter, Connection, Error, Row, Transaction, params};
 
-/// The row of a meter.
+/// Selects the row of a meter.
 const OF_METER: &str =
     "SELECT place, meter, register, ceiling, ended, last_moment, last_raw, last_sf, total FROM installations WHERE meter = ?1 LIMIT 1";
 
-/// The place of the last installation.
+/// Selects the greatest index of an installation.
 const LAST: &str = "SELECT place FROM installations ORDER BY place DESC LIMIT 1";
 
-/// The flag as the table has it.
 fn flag(is: bool) -> u32
     ensures { result ≡ ended_number is }
 {
     if is { 1 } else { 0 }
 }
 
-/// Adds a meter at a register.
+/// Inserts a meter that is installed at a register.
 pub fn insert_installation<S: Alter>(
     tx: &mut Transaction<'_, S>,
     meter: &str,
@@ -66,7 +65,7 @@ pub fn insert_installation<S: Alter>(
     )
 }
 
-/// Says where a meter stands now.
+/// Updates the last entry of a meter, and its total energy.
 pub fn update_last<S: Alter>(
     tx: &mut Transaction<'_, S>,
     meter: &str,
@@ -86,7 +85,7 @@ pub fn update_last<S: Alter>(
     )
 }
 
-/// Says that a meter was closed.
+/// Records that a meter was closed.
 pub fn end_installation<S: Alter>(tx: &mut Transaction<'_, S>, meter: &str) -> Result<usize, Error>
     ensures same_reference { IsSameBorrow tx.old.conn tx.new.conn }
     ensures does { Steps (state S.Store tx.old.conn.now) (state S.Store tx.new.conn.now) result
@@ -98,7 +97,7 @@ pub fn end_installation<S: Alter>(tx: &mut Transaction<'_, S>, meter: &str) -> R
     )
 }
 
-/// The row of a meter, if there is one.
+/// Queries the row of a meter.
 fn rows_of<S: Alter>(conn: &mut Connection<S>, meter: &str) -> Result<Vec<Row>, Error>
     ensures asks { Asks S.Store conn.old conn.new }
     ensures shows { TellsRows S.Store conn.old conn.new installations installed_columns result
@@ -107,7 +106,7 @@ fn rows_of<S: Alter>(conn: &mut Connection<S>, meter: &str) -> Result<Vec<Row>, 
     conn.query_all(OF_METER, params![meter])
 }
 
-/// The installation of a meter.
+/// Returns the installation of a meter.
 pub fn installation_of<S: Alter>(
     conn: &mut Connection<S>,
     meter: &str,
@@ -124,7 +123,7 @@ pub fn installation_of<S: Alter>(
     }
 }
 
-/// The row of the latest installation at a register, if there is one.
+/// Queries the row of the latest installation at a register.
 fn rows_at<S: Alter>(conn: &mut Connection<S>, register: &str) -> Result<Vec<Row>, Error>
     ensures asks { Asks S.Store conn.old conn.new }
     ensures shows { TellsRows S.Store conn.old conn.new installations installed_columns result
@@ -136,7 +135,7 @@ fn rows_at<S: Alter>(conn: &mut Connection<S>, register: &str) -> Result<Vec<Row
     )
 }
 
-/// The latest installation at a register.
+/// Returns the latest installation at a register.
 pub fn installation_at<S: Alter>(
     conn: &mut Connection<S>,
     register: &str,
@@ -153,7 +152,7 @@ pub fn installation_at<S: Alter>(
     }
 }
 
-/// The place of the last installation, if there is one.
+/// Queries the index of the last installation.
 fn last_rows<S: Alter>(conn: &mut Connection<S>) -> Result<Vec<Row>, Error>
     ensures asks { Asks S.Store conn.old conn.new }
     ensures shows { TellsRows S.Store conn.old conn.new installations installed_columns result
@@ -162,7 +161,8 @@ fn last_rows<S: Alter>(conn: &mut Connection<S>) -> Result<Vec<Row>, Error>
     conn.query_all(LAST, &[])
 }
 
-/// The greatest place of an installation, which counts them.
+/// Returns the greatest index of an installation. Indices begin at 1 without gaps, so the greatest
+/// index is their number.
 pub fn last_installation<S: Alter>(conn: &mut Connection<S>) -> Result<Option<u64>, RowFault>
     ensures finds { LooksUp S.Store conn.old conn.new
         installations installed_columns IsSoundInstalled result
@@ -173,7 +173,7 @@ pub fn last_installation<S: Alter>(conn: &mut Connection<S>) -> Result<Option<u6
     first_whole(&rows, 1, GREATEST_PLACE)
 }
 
-/// The row of a meter inside a transaction, if there is one; `read_installation` reads it.
+/// Queries the row of a meter inside a transaction. `read_installation` reads the row.
 pub fn installation_rows<S: Alter>(
     tx: &mut Transaction<'_, S>,
     meter: &str,
@@ -187,7 +187,8 @@ pub fn installation_rows<S: Alter>(
     tx.query_all(OF_METER, params![meter])
 }
 
-/// The place of the last installation inside a transaction, if there is one, in its first column.
+/// Queries, inside a transaction, the index of the last installation. The first column has the
+/// index.
 pub fn last_installation_rows<S: Alter>(tx: &mut Transaction<'_, S>) -> Result<Vec<Row>, Error>
     ensures same_reference { IsSameBorrow tx.old.conn tx.new.conn }
     ensures asks { AsksInside S.Store tx.old.conn.now tx.new.conn.now result }

@@ -1,4 +1,4 @@
-//! The table `ranges`.
+//! Statements on the table `ranges`.
 ghost use Rattle.std.specs.Prelude.{IfOk, IfSome};
 ghost use Rattle.sqlite.specs.Held.{state};
 ghost use Rattle.store_tables.specs.Content.{Edits, with_row};
@@ -13,10 +13,10 @@ use crate::{RowFault, first_whole, number};
 use energy_core::{MAX_RANGE, MIN_RANGE};
 use sqlite::{Alter, Connection, Error, Row, Transaction, params};
 
-/// The row of a meter.
+/// Selects the range of a meter's counter.
 const OF_METER: &str = "SELECT \"range\" FROM ranges WHERE meter = ?1 LIMIT 1";
 
-/// Adds how many counts the counter of a meter has.
+/// Inserts the range of a meter's counter: how many values the counter has.
 pub fn insert_range<S: Alter>(
     tx: &mut Transaction<'_, S>,
     meter: &str,
@@ -34,7 +34,7 @@ pub fn insert_range<S: Alter>(
     )
 }
 
-/// The row of a meter, if there is one.
+/// Queries the row of a meter.
 fn rows_of<S: Alter>(conn: &mut Connection<S>, meter: &str) -> Result<Vec<Row>, Error>
     ensures asks { Asks S.Store conn.old conn.new }
     ensures shows { TellsRows S.Store conn.old conn.new ranges ranged_columns result
@@ -43,7 +43,7 @@ fn rows_of<S: Alter>(conn: &mut Connection<S>, meter: &str) -> Result<Vec<Row>, 
     conn.query_all(OF_METER, params![meter])
 }
 
-/// How many counts the counter of a meter has.
+/// Returns the range of a meter's counter: how many values the counter has.
 pub fn range_of<S: Alter>(conn: &mut Connection<S>, meter: &str) -> Result<Option<u64>, RowFault>
     ensures finds { LooksUp S.Store conn.old conn.new ranges ranged_columns IsSoundRanged result
         (IsFound (is_range_of meter.now) HasRange) }
@@ -53,7 +53,7 @@ pub fn range_of<S: Alter>(conn: &mut Connection<S>, meter: &str) -> Result<Optio
     first_whole(&rows, MIN_RANGE, MAX_RANGE)
 }
 
-/// The row of a meter inside a transaction, if there is one; `read_range` reads it.
+/// Queries the row of a meter inside a transaction. `read_range` reads the row.
 pub fn range_rows<S: Alter>(tx: &mut Transaction<'_, S>, meter: &str) -> Result<Vec<Row>, Error>
     ensures same_reference { IsSameBorrow tx.old.conn tx.new.conn }
     ensures asks { AsksInside S.Store tx.old.conn.now tx.new.conn.now result }

@@ -1,6 +1,6 @@
-//! Rows of the tables.
+//! An installation as the table `installations` has it.
 
-/// Where a meter stands: its last entry, and its energy since its opening, in mWh.
+/// The last entry of a meter, and its total energy since its opening, in milliwatt-hours (mWh).
 #[derive(Clone, Copy, Debug, PartialEq, Eq)]
 pub struct LastRow {
     pub moment: u64,
@@ -9,19 +9,19 @@ pub struct LastRow {
     pub total: u64,
 }
 
-/// The numbers of an installation.
+/// An installation without the names of its meter and register.
 #[derive(Clone, Copy, Debug, PartialEq, Eq)]
 pub struct InstallationRow {
-    /// Places count from 1.
+    /// The index of the installation, from 1.
     pub place: u64,
-    /// The greatest load, in W.
+    /// The greatest power that can flow through the meter, in W.
     pub ceiling: u64,
-    /// The meter was closed.
+    /// Whether the meter was closed.
     pub is_ended: bool,
     pub last: LastRow,
 }
 
-/// A meter at a register.
+/// A meter that is installed at a register.
 #[derive(Debug, Drop)]
 pub struct Installation {
     pub meter: String,

@@ -1,4 +1,4 @@
--- What the parts of a carry come to together.
+-- The parts of a rollover, put together.
 use Rattle.std.proofs.Common.{◌≡◌, ℕ, List, [], ◌∷◌, Result, Ok, Err, IfOk, Option, sym, subst}
 use Rattle.std.specs.Prelude.{String, string_bytes}
 use Rattle.sqlite.specs.Store.{Ghosts}
@@ -22,7 +22,8 @@ use Rattle.carried_books.specs.declared.carrying.faults.CarryFault.{CarryFault}
 use Rattle.stored_files.specs.Carries.GoingOn.{GoesOn, GoesOnFrom, GoesOnIn, IsCarriedInto}
 use Rattle.stored_files.specs.Carries.ToldZone.{TellsZone}
 
--- An office that was opened at moment 0, and into which others were carried, stands after both.
+-- An office that was opened at time 0, and into which others were rolled over, has the history of
+-- both.
 pub goes_on : {O N : Type 0} (of_old : O → Ledger) (of_new : N → Ledger) (old asked : O) (until : Option ℕ) (before after : Office N) (result : Result ℕ CarryFault)
     → StandsIfClean of_new (Opened 0 ∷ []) before → Carries (of_old old) (of_old asked) until of_new before after result
     → OnlyAsked (of_old old) (of_old asked) result → Passes of_new before after → IfOk result (GoesOn of_old of_new old until)
@@ -36,7 +37,7 @@ goes_on of_old of_new old asked until before after (Ok meters) opened carried as
 }
 goes_on of_old of_new old asked until before after (Err why) opened carried asks passes = tt
 
--- So it is of a file that books were found in.
+-- The same for a file with a store.
 pub goes_on_from : {S E : Type 0} (g : Ghosts S) (old : Held S) (facts : List Fact) (its zone : List ℕ) (until : Option ℕ) (new : Held S) (books : SqlBooks S g) (result : Result ℕ E)
     → (HasCleanDisk (state g books.connection) → HasCleanDisk (state g old)) → HoldsAlone g its books.connection facts
     → IfOk result (GoesOnIn g (ledger_beneath g) books zone until new) → IfOk result (GoesOnFrom g old facts zone until new)
@@ -51,9 +52,9 @@ goes_on_from g old facts its zone until new books (Ok meters) clean holds it = r
 }
 goes_on_from g old facts its zone until new books (Err why) clean holds it = tt
 
--- ---- the zone that was told before
+-- ---- the time zone that was read first
 
--- A file whose zone was told has the facts that it had.
+-- A file has the same records after its time zone was read.
 pub still_has : {S Z : Type 0} (g : Ghosts S) (old new : Held S) (zone : List ℕ) (facts : List Fact) (told : String Z) → HasFile g zone old facts
     → (HasCleanDisk (state g new) → HasCleanDisk (state g old))
     → (HasCleanDisk (state g new) → (layout : Layout) (its : List ℕ) (content : Content) → IsFile layout its (state g old).committed content → TellsZone its (state g old) (state g new) told)
@@ -62,7 +63,7 @@ still_has g old new zone facts told has cleans tells = λ clean.
     let file = has (cleans clean) in
     (file.0, subst (λ db. HasFactsIn file.0 zone facts db) (sym (tells clean file.0 zone file.1.content file.1.file).same) file.1)
 
--- It is that of the file.
+-- The time zone that was read is that of the file.
 pub is_told : {S Z : Type 0} (g : Ghosts S) (old new : Held S) (zone : List ℕ) (facts : List Fact) (told : String Z) → HasFile g zone old facts
     → (HasCleanDisk (state g new) → HasCleanDisk (state g old))
     → (HasCleanDisk (state g new) → (layout : Layout) (its : List ℕ) (content : Content) → IsFile layout its (state g old).committed content → TellsZone its (state g old) (state g new) told)

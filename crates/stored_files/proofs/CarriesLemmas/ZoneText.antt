@@ -1,4 +1,4 @@
--- What the question for the zone of a file means, and what it shows.
+-- The meaning of the query for the time zone of a file, and what it shows.
 use Rattle.std.proofs.Common.{◌≡◌, inl, List, ℕ, [], ◌∷◌, map, filter, true, false, codes, refl, sym, ap, subst, ◌∙◌, IsPermutation}
 use Rattle.std.proofs.lemmas.List.Sorted.{IsPermutation-sym, IsPermutation-trans}
 use Rattle.sqlite.specs.declared.types.Value.TheVariants.{Null}
@@ -53,7 +53,7 @@ meta_there First = inl refl
 meta_there Second = inl refl
 meta_there Third = inl refl
 
--- the table has one row
+-- The table has one row.
 one_row : (rows all : List Row) (m : Meta) → IsPermutation (map (told true) rows) all → IsPermutation (meta_columns m ∷ []) all → rows ≡ meta_columns m ∷ []
 one_row rows all m is marked = sym (told_same rows) ∙ one_permutation (meta_columns m) (map (told true) rows) (IsPermutation-trans _ _ _ marked (IsPermutation-sym _ _ is))
 

@@ -1,4 +1,4 @@
--- Why there is no backup.
+-- Why a file is not copied.
 use Rattle.sqlite.specs.declared.error.ErrorCode.TheVariants as code
 use Rattle.sqlite.specs.declared.error.Error.{Error}
 use Rattle.sqlite.specs.declared.error.Error.TheVariants.{SqliteFailure}
@@ -7,14 +7,14 @@ use Rattle.stored_files.specs.declared.files.faults.FileFault.TheVariants as fil
 use Rattle.stored_files.specs.declared.backups.faults.CopyFault.{CopyFault}
 use Rattle.stored_files.specs.declared.backups.faults.CopyFault.TheVariants.{Changing, Torn, Unwritable, Memory}
 
--- what the fault of the opening of a copy means
+-- The fault of a copy's opening, as a fault of the copy.
 abbrev pub copy_fault_of : FileFault → CopyFault
 copy_fault_of file.NoDatabase = Torn
 copy_fault_of file.Memory = Memory
 copy_fault_of (file.Log fault) = Changing
 copy_fault_of _ = Unwritable
 
--- what an error of the moving of its log means
+-- An error of moving the copy's log, as a fault of the copy.
 abbrev pub close_fault_of : Error → CopyFault
 close_fault_of (SqliteFailure code.DatabaseCorrupt) = Torn
 close_fault_of (SqliteFailure code.OutOfMemory) = Memory

@@ -13,20 +13,21 @@ use Rattle.office_rules.specs.Lawfulness.{IsPast}
 use Rattle.store_files.specs.declared.layouts.Layout.{Layout}
 use Rattle.office_store.specs.Laws.Files.{HasFactsIn}
 
--- Each database of these trees, as the next open finds it, has the facts of what was accepted before.
+-- The next open of a database with these trees finds the records of a history of accepted events.
 pub record TreesHavePast (trees : Trees) (past : History) : Type 0 where
   pub zone : List ℕ
   pub is_past : IsPast past
   pub has : (found : Database) → IsDatabase found → found.trees ≡ trees
       → (layout : Layout) × HasFactsIn layout zone (facts_of past) found
 
--- The bytes of a file and its log hold the facts of what was accepted before.
+-- The bytes of a file and its log hold the records of a history of accepted events.
 pub record HasPastIn (image : Image) (past : History) : Type 0 where
   pub trees : Trees
   pub holds : HoldsDatabase image trees
   pub has : TreesHavePast trees past
 
--- The database file holds them alone, and also with its log, as both read now and after a crash.
+-- The database file holds the records of the history alone. It also holds them with its log, as
+-- both read now and after a crash.
 pub record HasPastAlone {D : Type 0} (g : Ghosts D) (files : Files D) (past : History) :
     Type 0 where
   pub trees : Trees

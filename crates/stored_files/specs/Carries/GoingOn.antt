@@ -1,4 +1,4 @@
--- What is carried of an office in a database into a new one.
+-- The rollover of an office from a database into a new one.
 use Rattle.std.specs.Prelude.{◌≡◌, ℕ, List, [], ◌∷◌, Option}
 use Rattle.sqlite.specs.Store.{Ghosts}
 use Rattle.sqlite.specs.Held.{Held, state}
@@ -16,12 +16,12 @@ use Rattle.carried_books.specs.Carrying.Feeding.{history_with}
 use Rattle.carried_books.specs.Carrying.Plans.{AreCarried}
 use Rattle.carried_books.specs.declared.carrying.commands.TimedCommand.{TimedCommand}
 
--- all that a new office accepted that was opened at moment 0 and given these commands
+-- The history of a new office that was opened at time 0 and got these commands.
 abbrev pub set_up_by : List TimedCommand → History
 set_up_by commands = history_with (Opened 0 ∷ []) commands
 
--- Old books were asked, and by what they hold an office is carried by these commands, which install so many meters. A new
--- office stands after them.
+-- The old store was queried. By its records, these commands roll the office over, and install this
+-- number of meters. The new office has the history of the commands.
 pub record GoesOn {O N : Type 0} (of_old : O → Ledger) (of_new : N → Ledger) (old : O)
     (until : Option ℕ) (meters : ℕ) : Type 0 where
   pub asked : O
@@ -32,13 +32,13 @@ pub record GoesOn {O N : Type 0} (of_old : O → Ledger) (of_new : N → Ledger)
   pub stands : StandsIfClean of_new (set_up_by commands) office
 
 module _ {S : Type 0} (g : Ghosts S) where
-  -- The new office is in a database, whose tables were made for the days of this zone.
+  -- The new office is in a database, with tables that were created for the days of this time zone.
   pub record GoesOnIn {O : Type 0} (of_old : O → Ledger) (old : O) (zone : List ℕ)
       (until : Option ℕ) (new : Held S) (meters : ℕ) : Type 0 where
     pub made : IsMade g zone new
     pub goes_on : GoesOn of_old (ledger_beneath g) old until meters
 
-  -- So is the old one, whose file had these facts.
+  -- The old office is in a database too, with a file that had these records.
   pub record GoesOnFrom (old : Held S) (facts : List Fact) (zone : List ℕ) (until : Option ℕ)
       (new : Held S) (meters : ℕ) : Type 0 where
     pub asked : SqlBooks S g
@@ -49,9 +49,9 @@ module _ {S : Type 0} (g : Ghosts S) where
     pub office : Office (SqlBooks S g)
     pub stands : StandsIfClean (ledger_beneath g) (set_up_by commands) office
 
-  -- By these commands an office with these facts is carried, and they install so many meters; the old books were left so. The
-  -- tables of a new office were made for the days of its zone, and it stands after an opening and them, if the stores gave back
-  -- what was written.
+  -- These commands roll over an office with these records, and install this number of meters. The
+  -- new office has the same time zone, and the history of its opening and the commands. All this
+  -- holds if both databases gave back what was written to them.
   pub record IsCarriedInto (facts : List Fact) (zone : List ℕ) (until : Option ℕ)
       (new : Held S) (meters : ℕ) : Type 0 where
     pub asked : SqlBooks S g

@@ -7,7 +7,7 @@ use Rattle.stored_files.specs.declared.ends.ending.Ending.TheVariants.{Fine, Ref
 use Rattle.stored_files.specs.declared.ends.failure.Failure.{Failure}
 use Rattle.stored_files.specs.declared.ends.failure.Failure.TheVariants.{Streams}
 
--- 0 fine, 1 refused, 2 wrong words, 3 a fault of a file, stream or socket, or want of memory
+-- 0 fine, 1 refused, 2 wrong arguments, 3 a fault of a file, stream or socket, or out of memory.
 abbrev pub ending_number : Ending → ℕ
 ending_number Fine = 0
 ending_number Refused = 1
@@ -20,11 +20,11 @@ ending_number (NoSeal file) = 2
 ending_number (Twice file) = 2
 ending_number (Failed failure) = 3
 
--- What is told on standard error: what is neither fine nor refused.
+-- The endings that standard error reports: all but fine and refused.
 abbrev pub IsTold : Ending → Type 0
 IsTold ending = 1 < ending_number ending
 
--- the ending of a command that reads standard input and prints
+-- The ending of a command that reads standard input and prints.
 abbrev pub ending_of : ExitStatus → Ending
 ending_of status.Fine = Fine
 ending_of status.Refused = Refused

@@ -9,7 +9,8 @@ use Rattle.sqlite.specs.Held.{Held}
 use Rattle.sqlite.specs.Files.{file_state, IsBlankAs}
 
 module _ {D : Type 0} {g : Ghosts D} where
-  -- Pages of a file that was blank have no sums, if it gave back what was written to it.
+  -- The pages of a file that was blank have no checksums, if the file gave back what was written to
+  -- it.
   abbrev pub HasNoSumsIfBlank : Image → Held (FileStore D g) → Type 0
   HasNoSumsIfBlank image c =
       HasCleanDisk (file_state c) → IsBlankAs false image → (view c.store).has_sums ≡ false

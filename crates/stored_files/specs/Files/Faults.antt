@@ -1,4 +1,4 @@
--- Why there is no connection to a file.
+-- Why a file is not opened.
 use Rattle.std.specs.Prelude.{ℕ}
 use Rattle.sqlite.specs.declared.error.ErrorCode.TheVariants.{DatabaseBusy, NotADatabase, DatabaseCorrupt, OutOfMemory}
 use Rattle.sqlite.specs.declared.error.Error.{Error}
@@ -6,6 +6,7 @@ use Rattle.sqlite.specs.declared.error.Error.TheVariants.{SqliteFailure}
 use Rattle.stored_files.specs.declared.files.faults.FileFault.{FileFault}
 use Rattle.stored_files.specs.declared.files.faults.FileFault.TheVariants.{Missing, Busy, NoDatabase, Unreadable, Irregular, Log, Memory}
 
+-- The number of a fault.
 abbrev pub file_fault_number : FileFault → ℕ
 file_fault_number Missing = 1
 file_fault_number Busy = 2
@@ -15,7 +16,7 @@ file_fault_number Memory = 5
 file_fault_number Irregular = 6
 file_fault_number (Log fault) = 7
 
--- what an error of the opening of a database means
+-- The fault that an error of opening a database means.
 abbrev pub fault_of : Error → FileFault
 fault_of (SqliteFailure DatabaseBusy) = Busy
 fault_of (SqliteFailure NotADatabase) = NoDatabase

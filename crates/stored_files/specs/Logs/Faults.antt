@@ -8,7 +8,7 @@ use Rattle.stored_files.specs.declared.logs.check.LogFault.{LogFault}
 use Rattle.stored_files.specs.declared.logs.check.LogFault.TheVariants.{Header, Count, Commits, Memory}
 use Rattle.stored_files.specs.Logs.Damage.{HasRoom, LosesFrom}
 
--- What a fault says of the log of a database with this page size.
+-- What a fault says about the log of a database with this page size.
 abbrev pub IsCause : ℕ → List ℕ → LogFault → Type 0
 IsCause page_size log Header = HasRoom log × (¬ IsHeader page_size (header log))
 IsCause page_size log Count = (k : ℕ) → ¬ Replays page_size log k
@@ -22,7 +22,7 @@ IsUnread page_size log Memory = ⊤
 IsUnread page_size log Header = ⊥
 IsUnread page_size log (Commits at) = ⊥
 
--- What an error of recovery's reading of a log means.
+-- The fault that an error of recovery means.
 abbrev pub fault_of : Error → LogFault
 fault_of Corrupt = Count
 fault_of _ = Memory

@@ -1,4 +1,4 @@
-//! Why there is no backup.
+//! Why a file is not copied.
 ghost use Rattle.std.specs.Prelude.{◌≡◌};
 ghost use Rattle.stored_files.specs.Backups.Faults.{close_fault_of, copy_fault_of};
 
@@ -7,27 +7,27 @@ use sqlite::{Error, ErrorCode};
 use std::fmt;
 use std::fmt::{Display, Formatter};
 
-/// Why there is no backup.
+/// Why a file is not copied.
 #[derive(Clone, Copy, Debug, PartialEq, Eq)]
 pub enum CopyFault {
-    /// There is a file of the copy's name already, or of its log's.
+    /// A file with the name of the copy, or of its log, exists already.
     Exists,
-    /// There is a copy that is under way, or was cut off.
+    /// A backup to this name is running, or was interrupted.
     Unfinished,
-    /// The name belongs to another file.
+    /// The name has a reserved suffix: -wal, -journal, -shm or .part.
     Reserved,
     /// The copy can't be written.
     Unwritable,
-    /// The log was moved into the file while it was copied, at each try.
+    /// At each try, the log was moved into the file while it was copied.
     Changing,
-    /// The copy is no database, or a damaged one.
+    /// The copy is not a database, or a damaged one.
     Torn,
-    /// The copy has not the tables of an office.
+    /// The copy does not have the tables of an office.
     NotOurs,
     Memory,
 }
 
-// What was wrong and what to do, after the name of the file that it is about.
+// What was wrong and what to do, after the name of the file.
 impl Display for CopyFault {
     fn fmt<W: fmt::Write>(&self, f: &mut Formatter<W>) -> fmt::Result {
         f.write_str(match self {
@@ -48,8 +48,8 @@ impl Display for CopyFault {
     }
 }
 
-/// What the fault of the opening of a copy means. The log of the file that was copied was checked before, so a commit came meanwhile
-/// where that of the copy is damaged.
+/// Maps a fault of the copy's opening. The log of the original was checked first. So if the log of
+/// the copy is damaged, a commit was written meanwhile.
 pub(crate) fn copy_fault_of(fault: FileFault) -> CopyFault
     ensures { result ≡ copy_fault_of fault }
 {
@@ -63,7 +63,7 @@ pub(crate) fn copy_fault_of(fault: FileFault) -> CopyFault
     }
 }
 
-/// What an error of the moving of its log means.
+/// Maps an error of moving the copy's log.
 pub(crate) fn close_fault_of(error: Error) -> CopyFault
     ensures { result ≡ close_fault_of error }
 {

@@ -1,4 +1,4 @@
-//! A file that holds an office alone.
+//! Files that hold an office alone.
 ghost use Rattle.std.specs.Prelude.{◌≡◌, Err, IfOk};
 ghost use Rattle.sqlite_wal.specs.Files.{image_at};
 ghost use Rattle.sqlite_wal.specs.Reads.{AreClean};
@@ -15,7 +15,7 @@ use sqlite::{Connection, FileFrom, FileStore, Files, Start};
 use sqlite_disk::Disk;
 use store_files::layout_of;
 
-// Moves the log of a database into its file, which then holds its office alone, and gives both back.
+// Moves the log of a database into its file, and returns both files.
 fn close_alone<D: Disk + Drop>(connection: Connection<FileStore<D>>) -> Result<Files<D>, CopyFault>
     ensures { (past : History) → HasPast over_files connection past
         → IfOk result (λ files. AreClean D.Disk files.log files.db
@@ -30,8 +30,9 @@ fn close_alone<D: Disk + Drop>(connection: Connection<FileStore<D>>) -> Result<F
     }
 }
 
-/// Moves the log of an office's database into its file, and gives both back: the file then holds the office alone, of
-/// whichever version. Faults: `NotOurs` where the tables aren't those of an office, by their names and order.
+/// Moves the log of an office's database into its file, and returns both files. The file then holds
+/// the office alone, of any version. Faults: `NotOurs` if the tables don't have the names of an
+/// office's tables, in their order.
 pub fn whole_files<D: Disk + Drop>(
     connection: Connection<FileStore<D>>,
 ) -> Result<Files<D>, CopyFault>
@@ -47,8 +48,9 @@ pub fn whole_files<D: Disk + Drop>(
     }
 }
 
-/// The same of the files at a path, which held what `S` says, also where their log has lost commits: what is found is what recovery takes
-/// of them. They must be no other program's, since its writes would not be seen.
+/// Does the same with the files at a path, even if their log has lost commits: the result has what
+/// recovery finds. No other program may have the files open, since its writes would be missed. `S`
+/// has what the files held.
 pub fn recovered_file<S: Start>(
     rt: &HostRuntime,
     path: &str,
@@ -64,7 +66,7 @@ pub fn recovered_file<S: Start>(
     }
 }
 
-/// The same where the log has lost nothing.
+/// Does the same if the log has lost no commits.
 pub fn whole_file<S: Start>(
     rt: &HostRuntime,
     path: &str,

@@ -1,4 +1,4 @@
-//! An office in a database, carried into a new one in another.
+//! The rollover of an office from one database into another.
 ghost use Rattle.std.specs.Prelude.{◌≡◌, ℕ, List, [], Err, IfOk};
 ghost use Rattle.office_events.specs.declared.facts.Fact.{Fact};
 ghost use Rattle.office_rules.specs.History.{History, facts_of};
@@ -17,18 +17,18 @@ use office_store::{OpenFault, SqlBooks};
 use sqlite::{Alter, Connection};
 use std::alloc::Global;
 
-/// Why an office in a database was not carried into a new one.
+/// Why an office was not rolled over.
 #[derive(Clone, Copy, Debug, PartialEq, Eq)]
 pub enum CarryEnd {
-    /// The old database holds no office that could be opened.
+    /// The old database has no office that could be opened.
     Unopened(OpenFault),
-    /// The tables of the new one were not made.
+    /// The tables of the new office were not created.
     Unmade(OpenFault),
-    /// Not all was carried.
+    /// The rollover was not completed.
     Ended(CarryFault),
 }
 
-// Opens a new office over books, and carries others into it.
+// Opens a new office over a store, and rolls the old store over into it.
 fn carry_into<O: Books, N: Books>(
     alloc: Global,
     old: O,
@@ -47,7 +47,7 @@ fn carry_into<O: Books, N: Books>(
     }
 }
 
-// Makes the tables of a new office, and carries books into it.
+// Creates the tables of a new office, and rolls the old store over into it.
 fn carry_anew<O: Books, S: Alter + Drop>(
     alloc: Global,
     old: O,
@@ -66,7 +66,7 @@ fn carry_anew<O: Books, S: Alter + Drop>(
     }
 }
 
-// Opens an office of that zone, and carries it into a new one.
+// Opens the old office, and rolls it over into a new one.
 fn carry_opened<S: Alter + Drop>(
     alloc: Global,
     old: Connection<S>,
@@ -83,8 +83,9 @@ fn carry_opened<S: Alter + Drop>(
     }
 }
 
-/// Makes a new office in a database that has no tables, for the days of the zone of an office in another, and carries that
-/// into it, as `carry_books` does. The new one is opened at moment 0, so that no moment is before it.
+/// Creates a new office in a database without tables, with the time zone of an old office. Rolls
+/// the old office over into it, as `carry_books` does. The new office is opened at time 0, so that
+/// no timestamp is earlier.
 pub fn carry_stored<S: Alter + Drop>(
     alloc: Global,
     old: Connection<S>,

@@ -1,4 +1,4 @@
-//! The zone of an office's file, as it is told there.
+//! The time zone of an office's file, as its table `meta` has it.
 ghost use Rattle.std.specs.Prelude.{◌≡◌, ◌∷◌, [], ℕ, List, false, Err, IfOk, string_bytes};
 ghost use Rattle.sqlite.specs.Held.{state};
 ghost use Rattle.sqlite.specs.State.{HasCleanDisk, IsUnchanged};
@@ -13,7 +13,7 @@ use sqlite::{Alter, Connection, Error, ErrorCode, Row};
 use store_files::{OpenFault, layout_of};
 use store_tables::{RowFault, check_open, text};
 
-// What an error of the store means to whom asks for the zone.
+// Maps an error of the query to a fault.
 fn fault_of(error: Error) -> OpenFault {
     match error {
         Error::SqliteFailure(ErrorCode::OutOfMemory) => OpenFault::Memory,
@@ -21,7 +21,7 @@ fn fault_of(error: Error) -> OpenFault {
     }
 }
 
-// The zones of the rows of `meta`.
+// Queries the zone in `meta`.
 fn zone_rows<S: Alter>(connection: &mut Connection<S>) -> Result<Vec<Row>, Error>
     ensures clean { HasCleanDisk (state S.Store connection.new)
         → HasCleanDisk (state S.Store connection.old) }
@@ -34,7 +34,7 @@ fn zone_rows<S: Alter>(connection: &mut Connection<S>) -> Result<Vec<Row>, Error
     connection.query_all("SELECT zone FROM meta", &[])
 }
 
-// The text of a row.
+// Reads the text of a row.
 fn zone_of(row: &Row) -> Result<String, OpenFault>
     ensures { (m : Meta) → row.now ≡ zone_shown m
         → IfOk result (λ zone. string_bytes zone ≡ m.zone) }
@@ -46,7 +46,7 @@ fn zone_of(row: &Row) -> Result<String, OpenFault>
     }
 }
 
-// That of the only one.
+// Reads the text of the only row.
 fn zone_in(rows: &[Row]) -> Result<String, OpenFault>
     ensures { (m : Meta) → rows.now ≡ zone_shown m ∷ []
         → IfOk result (λ zone. string_bytes zone ≡ m.zone) }
@@ -57,7 +57,7 @@ fn zone_in(rows: &[Row]) -> Result<String, OpenFault>
     }
 }
 
-// The zone that an open file tells.
+// Reads the zone of an open file.
 fn zone_of_open<S: Alter>(connection: &mut Connection<S>) -> Result<String, OpenFault>
     ensures clean { HasCleanDisk (state S.Store connection.new)
         → HasCleanDisk (state S.Store connection.old) }
@@ -74,7 +74,7 @@ fn zone_of_open<S: Alter>(connection: &mut Connection<S>) -> Result<String, Open
     }
 }
 
-// The same of a file that may be shut.
+// Reads the zone of a file, after the check that the database is open.
 fn zone_of_file<S: Alter>(connection: &mut Connection<S>) -> Result<String, OpenFault>
     requires { connection.old.in_transaction ≡ false }
     ensures clean { HasCleanDisk (state S.Store connection.new)
@@ -91,7 +91,8 @@ fn zone_of_file<S: Alter>(connection: &mut Connection<S>) -> Result<String, Open
     }
 }
 
-/// The zone that an office's file tells, of whichever version. Nothing is written to it.
+/// Returns the text of the time zone that an office's file has, for any version. Writes nothing to
+/// the file.
 pub fn told_zone<S: Alter>(connection: &mut Connection<S>) -> Result<String, OpenFault>
     ensures foreign { ((layout : TheLayout) → ¬ IsNamedAs connection.old.schema layout)
         → result ≡ Err OpenFault.NotOurs }

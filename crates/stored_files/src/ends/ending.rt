@@ -1,4 +1,4 @@
-//! How a command ended, its exit status, and what is said of it.
+//! How a command ended, its exit status, and its message.
 ghost use Rattle.std.specs.Prelude.{◌≡◌, ◌⊎◌};
 ghost use Rattle.stored_files.specs.Ends.Endings.{IsTold, ending_number, ending_of};
 
@@ -11,27 +11,27 @@ use std::io::Write;
 #[derive(Drop)]
 pub enum Ending<'a> {
     Fine,
-    /// The input is wrong, or was refused, as the output says.
+    /// The input is wrong, or was refused. The output says which.
     Refused,
-    /// The words are wrong, as the text says.
+    /// The arguments are wrong, as the text says.
     Wrong(String),
-    /// The words are no texts in UTF-8.
+    /// The arguments are not in UTF-8.
     NoText,
-    /// The text for the option is no time zone.
+    /// The text for the option is not a time zone.
     NoZone(&'a str),
-    /// The text for the option is no day.
+    /// The text for the option is not a day.
     NoDay { option: &'a str, word: &'a str },
     /// The range of days ends before it begins.
     Backward,
     /// The file for the option has no seal.
     NoSeal(&'a str),
-    /// The file for the option stands twice.
+    /// The file for the option was given twice.
     Twice(&'a str),
     Failed(Failure<'a>),
 }
 
 impl<'a> Ending<'a> {
-    /// The exit status of the process.
+    /// Returns the exit status of the process.
     pub fn number(&self) -> u8
         ensures { result ≡ ending_number self.now }
     {
@@ -46,7 +46,7 @@ impl<'a> Ending<'a> {
     }
 }
 
-/// The ending of a command that reads standard input and prints.
+/// Returns the ending of a command that reads standard input and prints.
 pub fn ending_of(status: ExitStatus) -> Ending<'static>
     ensures { result ≡ ending_of status }
 {
@@ -57,8 +57,8 @@ pub fn ending_of(status: ExitStatus) -> Ending<'static>
     }
 }
 
-/// Says on standard error how a command ended. Of one that is fine, or was refused, it says nothing: standard output
-/// does. Where this can't be written, nothing more can be said.
+/// Writes how a command ended to standard error. Writes nothing for a command that was fine or
+/// refused: standard output has its result. Errors while writing to standard error are ignored.
 pub fn say<W: Write>(ending: &Ending<'_>, errors: &mut W)
     ensures { IsTold ending.now ⊎ (errors.new ≡ errors.old) }
 {

@@ -13,64 +13,64 @@ use std::fmt::{Display, Formatter};
 #[derive(Clone, Copy, Debug, Drop)]
 pub enum Failure<'a> {
     Memory,
-    /// Standard input, standard output, or memory while a command ran.
+    /// Standard input or standard output failed, or memory ran out while a command ran.
     Streams,
-    /// A port can't be listened on.
+    /// The program can't listen on a port.
     Port {
         host: &'a str,
         port: u16,
     },
-    /// The loopback network can't be listened on.
+    /// The program can't listen on the loopback network.
     Loopback,
-    /// No connection was accepted.
+    /// No further connection could be accepted.
     Listening,
-    /// There is no connection to the database in a file.
+    /// The database in a file could not be opened.
     File {
         path: &'a str,
         fault: FileFault,
     },
-    /// The tables of a new office were not made.
+    /// The tables of a new office were not created.
     Unmade {
         path: &'a str,
         fault: OpenFault,
     },
-    /// A new office is made in an empty file alone, and this one isn't, though it has no tables.
+    /// A file has no tables, but is not empty. A new office is created in an empty file only.
     Occupied {
         path: &'a str,
     },
-    /// A file holds no office that could be opened.
+    /// A file has no office that could be opened.
     Unopened {
         path: &'a str,
         fault: OpenFault,
     },
-    /// A file holds no tables, so that those of an office may stand in its log.
+    /// A file has no tables, so those of an office may be in its log.
     Bare {
         path: &'a str,
     },
-    /// A file is missing or empty, and its log isn't.
+    /// A file is missing or empty, but its log is not.
     LogAlone {
         path: &'a str,
     },
-    /// The log of a file has lost nothing, so there is nothing to recover.
+    /// The log of a file has lost no commits, so there is nothing to recover.
     Undamaged {
         path: &'a str,
     },
-    /// There is no backup.
+    /// A file was not copied.
     Uncopied {
         path: &'a str,
         fault: CopyFault,
     },
-    /// There is no audit.
+    /// A file was not audited.
     Unaudited {
         path: &'a str,
         fault: AuditFault,
     },
-    /// A device was not connected.
+    /// The program could not connect to a device.
     Unconnected {
         host: &'a str,
         port: u16,
     },
-    /// A device was not scanned to the end.
+    /// The scan of a device was not completed.
     Unscanned {
         host: &'a str,
         port: u16,
@@ -81,18 +81,18 @@ pub enum Failure<'a> {
         host: &'a str,
         port: u16,
     },
-    /// A round had all the takes that it may have.
+    /// A round had the greatest number of turns.
     Endless {
         host: &'a str,
         port: u16,
     },
-    /// A device's host has no address.
+    /// The host of a device has no address.
     Host {
         host: &'a str,
     },
-    /// The system can't tell which sockets are ready.
+    /// The system can't report which sockets are ready.
     Sockets,
-    /// The office has stopped while devices were polled.
+    /// The office stopped while it polled devices.
     Stopped,
 }
 
@@ -199,7 +199,7 @@ impl<'a> Display for Failure<'a> {
 
 impl<'a> Error for Failure<'a> {}
 
-// Why the tables of an office were not made, and what to do.
+// Why the tables of an office were not created, and what to do.
 fn why_unmade(fault: OpenFault) -> &'static str {
     match fault {
         OpenFault::NotOurs => "already has tables: skip create, or choose another file",

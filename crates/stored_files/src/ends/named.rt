@@ -2,7 +2,7 @@
 use std::fmt;
 use std::fmt::{Display, Formatter};
 
-/// A name that is written in one line, whatever it has: a line feed is written as `\x0a`.
+/// A name that is written on one line: a line feed in it is written as `\x0a`.
 #[derive(Clone, Copy, Debug)]
 pub struct Named<'a>(pub &'a str);
 

@@ -1,4 +1,4 @@
-//! The log beside a database file, looked at before anything opens the two. Nothing is written.
+//! The check of the log beside a database file, before the two are opened. It writes nothing.
 ghost use Rattle.std.specs.Prelude.{◌≢◌, IfErr};
 ghost use Rattle.sqlite_wal.specs.PageSize.{Names, size_in_file};
 
@@ -9,16 +9,17 @@ use sqlite_wal::PageSize;
 use std::fs::{self, File};
 use std::io::{self, ErrorKind, Read};
 
-/// The most bytes of a log that are read: many times as long as the writer lets a log grow.
+/// The most bytes of a log that are read: 1 GiB, many times the size to which the writer lets a log
+/// grow.
 const MOST_LOG: u64 = 1_073_741_824;
 
 /// The length of a database file's header.
 const HEADER: u64 = 100;
 
-/// Where it has the size of its pages (SQLite's file format, section 1.3.2).
+/// The offset of the page size in the header (SQLite's file format, section 1.3.2).
 const PAGE_SIZE: usize = 16;
 
-// Why a file can't be read.
+// Maps an error of reading a file to a fault.
 fn read_fault(error: io::Error) -> FileFault
     ensures { result ≢ FileFault.Missing }
 {
@@ -28,7 +29,7 @@ fn read_fault(error: io::Error) -> FileFault
     }
 }
 
-/// Refuses what is there and is no regular file: a reading of it might wait, or never end.
+/// Refuses a path that exists and is not a regular file: reading it might wait, or never end.
 pub fn check_regular(rt: &HostRuntime, path: &str) -> Result<(), FileFault>
     ensures { IfErr result (λ fault. fault ≢ FileFault.Missing) }
 {
@@ -40,7 +41,7 @@ pub fn check_regular(rt: &HostRuntime, path: &str) -> Result<(), FileFault>
     }
 }
 
-// The first bytes of a file, up to so many; none where it is missing.
+// Reads the first bytes of a file, at most `most`. A missing file has no bytes.
 fn read_up_to(rt: &HostRuntime, path: &str, most: u64) -> Result<Vec<u8>, FileFault>
     ensures { IfErr result (λ fault. fault ≢ FileFault.Missing) }
 {
@@ -56,21 +57,21 @@ fn read_up_to(rt: &HostRuntime, path: &str, most: u64) -> Result<Vec<u8>, FileFa
     }
 }
 
-/// The bytes of a log; none where it is missing.
+/// Reads the bytes of a log. A missing log has no bytes.
 pub(crate) fn read_log(rt: &HostRuntime, path: &str) -> Result<Vec<u8>, FileFault>
     ensures { IfErr result (λ fault. fault ≢ FileFault.Missing) }
 {
     read_up_to(rt, path, MOST_LOG)
 }
 
-/// The header of a database file, as far as the file has it.
+/// Reads the header of a database file, or the part of it that the file has.
 pub(crate) fn read_front(rt: &HostRuntime, path: &str) -> Result<Vec<u8>, FileFault>
     ensures { IfErr result (λ fault. fault ≢ FileFault.Missing) }
 {
     read_up_to(rt, path, HEADER)
 }
 
-/// The page size that the header of a database file names.
+/// Returns the page size in the header of a database file.
 pub(crate) fn page_size_in(db: &[u8]) -> Option<PageSize>
     ensures { Names result (size_in_file db.now) }
 {
@@ -98,7 +99,8 @@ fn check_log_for(rt: &HostRuntime, path: &str, log: &[u8], size: PageSize) -> Re
     }
 }
 
-// Checks the log of the file at a path. A file without a page size is no database, which its opening tells.
+// Checks the log of the file at a path. A file without a page size is not a database, which its
+// opening reports.
 fn check_once(rt: &HostRuntime, path: &str) -> Result<(), FileFault>
     ensures { IfErr result (λ fault. fault ≢ FileFault.Missing) }
 {
@@ -113,8 +115,10 @@ fn check_once(rt: &HostRuntime, path: &str) -> Result<(), FileFault>
     }
 }
 
-/// Checks that no commit would be lost by an opening of the file at a path with the log beside it. Another process may write to
-/// both meanwhile: so a log is damaged only where a second look finds the same damage, since what was written before is there then.
+/// Checks that opening the file at a path loses no commit of the log beside it. Another process may
+/// write to both files meanwhile. So a log counts as damaged only if a second look finds the same
+/// damage. By then, everything written before the first look is there. Other damage is reported as
+/// `Busy`.
 pub fn check_beside(rt: &HostRuntime, path: &str) -> Result<(), FileFault>
     ensures { IfErr result (λ fault. fault ≢ FileFault.Missing) }
 {

@@ -1,4 +1,4 @@
-//! Why there is no connection to a file.
+//! Why a file is not opened.
 ghost use Rattle.std.specs.Prelude.{◌≡◌};
 ghost use Rattle.stored_files.specs.Files.Faults.{file_fault_number, fault_of};
 
@@ -7,26 +7,26 @@ use sqlite::{Error, ErrorCode};
 use std::fmt;
 use std::fmt::{Display, Formatter};
 
-/// Why there is no connection to a file.
+/// Why a file is not opened.
 #[derive(Clone, Copy, Debug, PartialEq, Eq)]
 pub enum FileFault {
-    /// There is no such file.
+    /// The file does not exist.
     Missing,
-    /// Another process has it open.
+    /// Another process has the file open.
     Busy,
-    /// It is no database, or a damaged one.
+    /// The file is not a database, or a damaged one.
     NoDatabase,
-    /// The system refuses to open it, or to read or write it.
+    /// The system refuses to open, read or write the file.
     Unreadable,
-    /// It is a folder, a pipe or a device.
+    /// The path is a folder, a pipe or a device.
     Irregular,
-    /// The log beside it has lost commits.
+    /// The log beside the file has lost commits.
     Log(LogFault),
     Memory,
 }
 
 impl FileFault {
-    /// The number of the fault, from 1. No text of the program shows it.
+    /// Returns the number of the fault, from 1. No text of the program shows this number.
     pub fn number(self) -> u8
         ensures { result ≡ file_fault_number self }
     {
@@ -59,7 +59,7 @@ impl Display for FileFault {
     }
 }
 
-/// What an error of the opening of a database means to whom gave the file.
+/// Maps an error of opening a database to a fault.
 pub(crate) fn fault_of(error: Error) -> FileFault
     ensures { result ≡ fault_of error }
 {

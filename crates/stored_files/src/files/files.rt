@@ -1,4 +1,4 @@
-//! The opening of a file.
+//! Opening a file.
 ghost use Rattle.std.specs.Prelude.{◌≡◌, ◌≢◌, codes, Err, IfOk, IfErr};
 ghost use Rattle.sqlite_wal.specs.Files.{image_at};
 ghost use Rattle.sqlite.specs.State.{HasCleanDisk};
@@ -12,23 +12,23 @@ use crate::files::faults::{FileFault, fault_of};
 use sqlite::{Alter, Connection, FileFrom, FileStore, Start};
 use std::fs;
 
-/// A connection to a file, which held what `S` says.
+/// A connection to a file. `S` has what the file held.
 pub type FileConnection<S> = Connection<FileStore<FileFrom<S>>>;
 
-/// Where databases come from. What holds a connection is proved over any of these, since over a connection to a file it would cost
-/// minutes.
+/// A source of databases. Functions that hold a connection are proved over any such source: over a
+/// connection to a file, each proof would take minutes.
 pub trait Databases {
     type Store: Alter + Drop;
 
-    /// A connection to the database at a path, which is made where there is none.
+    /// Opens the database at a path, and creates it if it does not exist.
     fn make(&self, path: &str) -> Result<Connection<Self::Store>, FileFault>;
 
-    /// A connection to a database that is there.
+    /// Opens a database that exists.
     fn open(&self, path: &str) -> Result<Connection<Self::Store>, FileFault>;
 }
 
-/// Connects to the database in a file, or makes an empty one where there is no such file. Whatever its log has lost is lost:
-/// [`make_file`] checks the log before.
+/// Opens the database in a file, or creates an empty one if the file does not exist. Commits that
+/// the log has lost stay lost: [`make_file`] checks the log first.
 pub fn connect<S: Start>(
     rt: &HostRuntime,
     path: &str,
@@ -48,8 +48,8 @@ pub fn connect<S: Start>(
     }
 }
 
-/// Opens the database in a file, or makes an empty one where there is no such file. A file whose log has lost commits is refused, and
-/// neither is changed.
+/// Opens the database in a file, or creates an empty one if the file does not exist. Refuses a file
+/// whose log has lost commits, and then changes neither file.
 pub fn make_file<S: Start>(
     rt: &HostRuntime,
     path: &str,
@@ -72,7 +72,7 @@ pub fn make_file<S: Start>(
     }
 }
 
-/// Opens the database in a file that is there.
+/// Opens the database in a file that exists.
 pub fn open_file<S: Start>(
     rt: &HostRuntime,
     path: &str,

@@ -1,4 +1,4 @@
-//! The mending of a log's header in a copy.
+//! Mending the header of a log in a copy.
 use crate::files::beside::{page_size_in, read_front, read_log};
 use crate::files::faults::FileFault;
 use crate::files::paths::log_of;
@@ -6,18 +6,18 @@ use crate::logs::{FRAME_HEADER_LEN, HEADER_LEN, is_header, mended_header};
 use std::fs::OpenOptions;
 use std::io::{self, Write};
 
-/// The header of a log after its mending.
+/// The header of a log after it was mended.
 #[derive(Clone, Copy, Debug, PartialEq, Eq)]
 pub enum LogHeader {
-    /// It was no other.
+    /// The header was not damaged.
     Sound,
-    /// One byte of it was changed, and is as it was again.
+    /// One byte of the header was changed, and is restored.
     Mended,
-    /// More of it was changed, so nothing of the log can be read.
+    /// More of the header was changed, so the log can't be read.
     Lost,
 }
 
-// The header of a log that has room for frames.
+// The header of a log that is long enough for frames.
 fn header_of(log: &[u8]) -> Option<[u8; 32]> {
     if log.len() < HEADER_LEN + FRAME_HEADER_LEN {
         return None;
@@ -29,14 +29,15 @@ fn header_of(log: &[u8]) -> Option<[u8; 32]> {
     Some(head)
 }
 
-// Writes a header over that of a log.
+// Overwrites the header of a log.
 fn write_header(rt: &HostRuntime, path: &str, header: &[u8; 32]) -> io::Result<()> {
     let mut log = OpenOptions::new().write(true).open(rt, path)?;
     log.write_all(header)?;
     log.sync_all()
 }
 
-/// Mends the header of the log beside the file at a path, where one byte of it was changed. Both must be copies.
+/// Mends the header of the log beside the file at a path, if one byte of it was changed. Both files
+/// must be copies.
 pub fn mend_beside(rt: &HostRuntime, path: &str) -> Result<LogHeader, FileFault> {
     let Ok(log_path) = log_of(rt, path) else {
         return Err(FileFault::Memory);

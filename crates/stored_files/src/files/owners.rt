@@ -6,7 +6,7 @@ ghost use Rattle.store_files.specs.Layouts.{no_schema, IsNamedAs};
 use sqlite::{Alter, Connection};
 use store_files::layout_of;
 
-/// Whether a database has neither tables nor views.
+/// Returns whether a database has no table, index or view.
 pub fn is_bare<S: Alter>(connection: &Connection<S>) -> bool
     ensures { IsTrue result ↔ (connection.now.schema ≡ no_schema) }
 {
@@ -16,7 +16,8 @@ pub fn is_bare<S: Alter>(connection: &Connection<S>) -> bool
         && schema.views.as_slice().is_empty()
 }
 
-/// Whether the tables of a database are those of an office of some version, by their names and order.
+/// Returns whether the tables of a database are those of an office of any version, by their names
+/// and order.
 pub fn is_office<S: Alter>(connection: &Connection<S>) -> bool
     ensures named { IsTrue result → (layout : TheLayout) × IsNamedAs connection.now.schema layout }
     ensures foreign { result ≡ false → (layout : TheLayout)

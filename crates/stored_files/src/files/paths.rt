@@ -1,9 +1,10 @@
-//! Where a file and its log lie, and how long they are.
+//! The paths of a file and its log, and the lengths of files.
 use crate::ends::Failure;
 use std::fs;
 use std::io::ErrorKind;
 
-/// Where a file lies to which links may lead; the path as it is where there is none.
+/// Returns the path of a file without symbolic links. Returns the path itself if it can't be
+/// resolved.
 pub fn real_path<'a>(rt: &HostRuntime, path: &str) -> Result<String, Failure<'a>> {
     let text = match fs::canonicalize(rt, path) {
         Ok(real) => String::from_str(rt.alloc(), real.as_str()),
@@ -15,7 +16,7 @@ pub fn real_path<'a>(rt: &HostRuntime, path: &str) -> Result<String, Failure<'a>
     }
 }
 
-/// The name of the log of a file, which lies beside it.
+/// Returns the path of a file's log, which is beside the file.
 pub fn log_of<'a>(rt: &HostRuntime, path: &str) -> Result<String, Failure<'a>> {
     let real = real_path(rt, path)?;
     match format!(in rt.alloc(); "{}-wal", real.as_str()) {
@@ -24,7 +25,8 @@ pub fn log_of<'a>(rt: &HostRuntime, path: &str) -> Result<String, Failure<'a>> {
     }
 }
 
-/// How many bytes a file has. None: there is none.
+/// Returns the length of a file in bytes. None if the file does not exist, and 0 if its length
+/// can't be read.
 pub fn length_of(rt: &HostRuntime, path: &str) -> Option<u64> {
     match fs::metadata(rt, path) {
         Ok(found) => Some(found.len()),
@@ -33,7 +35,7 @@ pub fn length_of(rt: &HostRuntime, path: &str) -> Option<u64> {
     }
 }
 
-/// Whether a file is missing or empty.
+/// Returns whether a file with this length is missing or empty.
 pub fn is_blank(length: Option<u64>) -> bool {
     length.unwrap_or(0) == 0
 }

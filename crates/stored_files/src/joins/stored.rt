@@ -1,4 +1,4 @@
-//! Offices in databases, of which one is open at a time, joined one after the other.
+//! The merged report of offices in databases, one of them open at a time.
 ghost use Rattle.std.specs.Prelude.{◌≡◌, ◌≢◌, ◌↔◌, ℕ, List, Err, IfErr, IfOk, IsTrue, string_bytes};
 ghost use Rattle.office_events.specs.declared.facts.Fact.{Fact};
 ghost use Rattle.office_rules.specs.History.{History, facts_of};
@@ -19,27 +19,27 @@ use office_store::{OpenFault, SqlBooks};
 use sqlite::{Alter, Connection};
 use std::alloc::Global;
 
-/// Why an office in a database was not joined to those before it.
+/// Why an office in a database was not joined to the earlier offices.
 #[derive(Clone, Copy, Debug, PartialEq, Eq)]
 pub enum JoinFault {
-    /// The database holds no office that could be opened.
+    /// The database has no office that could be opened.
     Unopened(OpenFault),
-    /// Its days are those of another zone.
+    /// The office has another time zone.
     OtherZone,
-    /// The register or a meter at it doesn't go on there.
+    /// The register or a meter at it does not continue in the office.
     Unjoined(Unjoined),
-    /// Its books failed, or memory ran out.
+    /// The office's store failed, or memory ran out.
     Books(Refusal),
 }
 
-/// What was kept of offices in databases that join, and the text of their zone.
+/// What was kept of the offices that join, and the text of their time zone.
 #[derive(Drop)]
 pub struct JoinedOffice<K> {
     pub zone: String,
     pub kept: K,
 }
 
-// Whether an office of this zone may come next.
+// Whether an office with this time zone may be next.
 fn is_of_zone<K>(zone: &str, before: &Option<JoinedOffice<K>>) -> bool
     ensures { IsTrue result ↔ IsOfZone zone.now before.now }
 {
@@ -71,7 +71,7 @@ fn kept_before<K: Keeping>(
     }
 }
 
-// Adds what books tell to what was kept.
+// Adds what a store reports to what was kept.
 fn join_books<B: Books, K: Keeping>(
     books: B,
     kept: K,
@@ -95,7 +95,7 @@ fn join_books<B: Books, K: Keeping>(
     }
 }
 
-// Opens an office, and adds what it tells.
+// Opens an office, and adds what it reports.
 fn join_opened<S: Alter + Drop, K: Keeping>(
     alloc: Global,
     connection: Connection<S>,
@@ -116,7 +116,7 @@ fn join_opened<S: Alter + Drop, K: Keeping>(
     }
 }
 
-// The same after those before it, whose days are of this zone.
+// Adds an office to the earlier offices, which have the same time zone.
 fn join_in_zone<S: Alter + Drop, K: Keeping>(
     alloc: Global,
     connection: Connection<S>,
@@ -142,7 +142,7 @@ fn join_in_zone<S: Alter + Drop, K: Keeping>(
     }
 }
 
-// Why an office isn't joined; what was kept goes.
+// Drops what was kept, and returns the fault.
 fn refused<K: Keeping>(
     before: Option<JoinedOffice<K>>,
     why: JoinFault,
@@ -153,8 +153,8 @@ fn refused<K: Keeping>(
     Err(why)
 }
 
-/// Adds what an office in a database tells of a register, on the days of a range, to what was kept of those before it. Nothing is
-/// written to it.
+/// Adds what an office in a database reports of a register on a range of days to what was kept of
+/// the earlier offices. Writes nothing to the database.
 pub fn join_stored<S: Alter + Drop, K: Keeping>(
     alloc: Global,
     connection: Connection<S>,

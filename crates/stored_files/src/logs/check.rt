@@ -16,9 +16,10 @@ use std::alloc::Global;
 use std::fmt::{self, Display, Formatter};
 use std::io;
 
-/// Where a log's header has its salt, and where a frame has the first byte of its own: its gate.
+/// The offset of the first salt byte in a log's header.
 const SALT: usize = 16;
 
+/// The offset of the first salt byte in a frame: the frame's gate.
 const GATE: usize = 8;
 
 /// The page number of a frame that counts what the frames up to the commit lack.
@@ -27,9 +28,9 @@ const COUNT_PAGE: u32 = 0xff00_0000;
 /// Why a log is refused.
 #[derive(Clone, Copy, Debug, PartialEq, Eq)]
 pub enum LogFault {
-    /// Its header is damaged, or another page size's.
+    /// The header is damaged, or is for another page size.
     Header,
-    /// A commit lacks bytes that its count names, and more was written behind it.
+    /// A commit lacks bytes that its count lists, and more was written after the commit.
     Count,
     /// Recovery would end at this offset, before a transaction that was complete.
     Commits { at: u64 },
@@ -48,7 +49,8 @@ impl Display for LogFault {
     }
 }
 
-// Whether the transaction behind the frames that recovery takes was complete when the one at frame `i` began.
+// Whether the transaction after the frames that recovery takes was complete when the transaction at
+// frame `i` began.
 fn was_complete(log: &[u8], page_size: usize, taken: usize, i: usize) -> bool
     requires behind { taken < i }
     requires size { page_size ≤ 65536 }
@@ -69,7 +71,7 @@ fn is_cut_off(log: &[u8], page_size: usize, taken: usize, i: usize) -> bool
     begins(log, page_size, i) && was_complete(log, page_size, taken, i)
 }
 
-// The first transaction that recovery would drop although the one before it was complete.
+// Finds the first transaction that recovery would drop although the one before it was complete.
 fn find_cut_off(log: &[u8], page_size: usize, taken: usize) -> Option<usize>
     requires room { 32 ≤ length log.now }
     requires size { page_size ≤ 65536 }
@@ -96,7 +98,7 @@ fn file_of(alloc: Global, bytes: &[u8]) -> io::Result<Memory>
     Ok(file)
 }
 
-// What it means that the frames of a log can't be told.
+// Maps an error of reading the frames to a fault.
 fn fault_of(error: Error) -> LogFault
     ensures { result ≡ fault_of error }
 {
@@ -106,7 +108,7 @@ fn fault_of(error: Error) -> LogFault
     }
 }
 
-/// The page of each frame that recovery takes of a log.
+/// Returns the page number of each frame that recovery takes from a log.
 pub(crate) fn taken_frames(alloc: Global, log: &[u8], size: PageSize) -> Result<Vec<u32>, LogFault>
     ensures taken { IfOk result (λ pages. AreFramesOf (bytes_of size) log.now pages.items) }
     ensures cause { IfErr result (IsUnread (bytes_of size) log.now) }
@@ -120,8 +122,9 @@ pub(crate) fn taken_frames(alloc: Global, log: &[u8], size: PageSize) -> Result<
     }
 }
 
-/// Checks that recovery takes all transactions of a log that were complete, as a crash leaves it.
-/// It can't tell a damaged transaction from a torn one where no later one shows that it was complete.
+/// Checks that recovery takes all complete transactions of a log, as a crash leaves it. A damaged
+/// transaction can't be distinguished from a torn one, unless a later transaction shows that it was
+/// complete.
 pub(crate) fn check_log(alloc: Global, log: &[u8], size: PageSize) -> Result<(), LogFault>
     ensures sound { OnOk result (IsSound (bytes_of size) log.now) }
     ensures cause { IfErr result (IsCause (bytes_of size) log.now) }

@@ -1,4 +1,5 @@
-//! Logs that a checkpoint was emptying: their first byte is shut, and the database file has their pages.
+//! Logs that a checkpoint was emptying: their first byte is shut, and the database file has their
+//! pages.
 ghost use Rattle.std.specs.Prelude.{◌≡◌, ◌⊎◌, ◌+◌, ◌-◌, ◌*◌, ◌<◌, ◌≤◌, ◌↔◌, length, IfOk, IfErr, OnOk, IsTrue};
 ghost use Rattle.sqlite_wal.specs.PageSize.{bytes_of};
 ghost use Rattle.sqlite_wal.specs.Recovery.{AreFramesOf, file_page, page_after};
@@ -12,7 +13,7 @@ use std::alloc::{AllocError, Global};
 /// The first byte of a log that is in use.
 const OPEN: u8 = 0x37;
 
-/// Whether a log that has room for frames is shut.
+/// Returns whether a log is shut. A log that is too short for frames is not.
 pub(crate) fn is_shut(log: &[u8]) -> bool
     ensures { IsTrue result ↔ (HasRoom log.now × IsShut log.now) }
 {
@@ -30,7 +31,7 @@ fn page_in(db: &[u8], page_size: usize, number: usize) -> &[u8]
     &db[at..at + page_size]
 }
 
-// Whether the file has a page as the frames leave it.
+// Whether the file has a page with the content that the frames leave.
 fn has_page(log: &[u8], db: &[u8], page_size: usize, pages: &[u32], number: usize) -> bool
     requires first { 0 < number }
     requires size { page_size ≤ 65536 }
@@ -49,7 +50,7 @@ fn has_page(log: &[u8], db: &[u8], page_size: usize, pages: &[u32], number: usiz
     page == page_in(db, page_size, number)
 }
 
-/// Whether the file has each page as the frames leave it.
+/// Returns whether the file has each page with the content that the frames leave.
 fn has_all_pages(log: &[u8], db: &[u8], page_size: usize, pages: &[u32]) -> bool
     requires some { 0 < page_size }
     requires size { page_size ≤ 65536 }
@@ -72,7 +73,7 @@ fn has_all_pages(log: &[u8], db: &[u8], page_size: usize, pages: &[u32]) -> bool
     true
 }
 
-// A log as it was before its first byte was shut.
+// The log with the first byte that it had before it was shut.
 fn opened_log(alloc: Global, log: &[u8]) -> Result<Vec<u8>, AllocError>
     requires { 0 < length log.now }
     ensures { IfOk result (λ it. it.items ≡ opened log.now) }
@@ -103,7 +104,7 @@ fn check_kept(alloc: Global, log: &[u8], db: &[u8], size: PageSize) -> Result<()
     }
 }
 
-/// Checks that nothing is lost where a log that is shut is passed over.
+/// Checks that ignoring a log that is shut loses nothing.
 pub(crate) fn check_emptied(
     alloc: Global,
     log: &[u8],

@@ -1,4 +1,4 @@
-//! The bytes of a log: SQLite's file format, section 4.
+//! The bytes of a log (SQLite's file format, section 4).
 ghost use Rattle.std.specs.Prelude.{◌≡◌, ◌≢◌, ◌+◌, ◌*◌, ◌-◌, ◌^◌, ◌<◌, ◌≤◌, ◌↔◌, length, IsTrue};
 ghost use Rattle.sqlite_wal.specs.Format.{be32, commit_size, content, stored_sum, IsSigned, IsHeader, IsFrame};
 ghost use Rattle.sqlite_wal.specs.Recovery.{frame, frame_at, header};
@@ -12,10 +12,10 @@ pub(crate) const HEADER_LEN: usize = 32;
 /// The length of a frame's header.
 pub(crate) const FRAME_HEADER_LEN: usize = 24;
 
-/// The format's only version.
+/// The only version of the format.
 const VERSION: u32 = 3007000;
 
-/// A four-byte number, highest byte first.
+/// Reads a four-byte number, highest byte first.
 pub(crate) fn get_be32(bytes: &[u8], at: usize) -> u32
     requires { at + 4 ≤ length bytes.now }
     ensures { result ≡ be32 bytes.now at }
@@ -33,7 +33,7 @@ fn get_sum(bytes: &[u8], at: usize) -> (u32, u32)
     (get_be32(bytes, at), get_be32(bytes, at + 4))
 }
 
-/// Whether a log's first 32 bytes have the magic number and their checksum.
+/// Returns whether a log's first 32 bytes have the magic number and their checksum.
 pub(crate) fn is_signed(head: &[u8]) -> bool
     requires { length head.now ≡ 32 }
     ensures { IsTrue result ↔ IsSigned head.now }
@@ -47,7 +47,7 @@ pub(crate) fn is_signed(head: &[u8]) -> bool
     checksum_of(head[3] == 0x83, (0, 0), &head[..24]) == get_sum(head, 24)
 }
 
-/// Whether they are the header of a log for pages of this size.
+/// Returns whether the bytes are the header of a log with pages of this size.
 pub(crate) fn is_header(head: &[u8], page_size: usize) -> bool
     requires { length head.now ≡ 32 }
     ensures { IsTrue result ↔ IsHeader page_size head.now }
@@ -55,7 +55,7 @@ pub(crate) fn is_header(head: &[u8], page_size: usize) -> bool
     is_signed(head) && get_be32(head, 4) == VERSION && get_be32(head, 8) as usize == page_size
 }
 
-/// The first 32 bytes.
+/// Returns the first 32 bytes of a log.
 pub(crate) fn header_in(log: &[u8]) -> &[u8]
     requires { 32 ≤ length log.now }
     ensures header { result.now ≡ header log.now }
@@ -64,7 +64,7 @@ pub(crate) fn header_in(log: &[u8]) -> &[u8]
     &log[..HEADER_LEN]
 }
 
-/// The offset of frame `i`, from 0.
+/// Returns the offset of frame `i`, from 0.
 pub(crate) fn frame_offset(page_size: usize, i: usize) -> usize
     requires size { page_size ≤ 65536 }
     requires fits { frame_at page_size i < 2 ^ 64 }
@@ -73,7 +73,7 @@ pub(crate) fn frame_offset(page_size: usize, i: usize) -> usize
     HEADER_LEN + i * (FRAME_HEADER_LEN + page_size)
 }
 
-/// Whether a frame passes SQLite's test, under this header and after this checksum.
+/// Returns whether a frame passes SQLite's test, with this header and after this checksum.
 fn is_frame(head: &[u8], before: (u32, u32), frame: &[u8]) -> bool
     requires head { length head.now ≡ 32 }
     requires frame { 24 ≤ length frame.now }
@@ -87,7 +87,7 @@ fn is_frame(head: &[u8], before: (u32, u32), frame: &[u8]) -> bool
     checksum_of(big, front, &frame[24..]) == get_sum(frame, 16)
 }
 
-/// Frame `i`, from 0, with its header.
+/// Returns frame `i`, from 0, with its header.
 pub(crate) fn frame_in(log: &[u8], page_size: usize, i: usize) -> &[u8]
     requires size { page_size ≤ 65536 }
     requires within { frame_at page_size (i + 1) ≤ length log.now }
@@ -98,7 +98,7 @@ pub(crate) fn frame_in(log: &[u8], page_size: usize, i: usize) -> &[u8]
     &log[at..at + FRAME_HEADER_LEN + page_size]
 }
 
-/// Whether frame `i` begins a transaction behind another.
+/// Returns whether frame `i` begins a transaction after another.
 pub(crate) fn begins(log: &[u8], page_size: usize, i: usize) -> bool
     requires first { 0 < i }
     requires size { page_size ≤ 65536 }
@@ -113,7 +113,7 @@ pub(crate) fn begins(log: &[u8], page_size: usize, i: usize) -> bool
     is_frame(header_in(log), get_sum(before, 16), now)
 }
 
-/// The page that frame `i` has.
+/// Returns the page content of frame `i`.
 pub(crate) fn content_in(log: &[u8], page_size: usize, i: usize) -> &[u8]
     requires size { page_size ≤ 65536 }
     requires within { frame_at page_size (i + 1) ≤ length log.now }
@@ -122,7 +122,7 @@ pub(crate) fn content_in(log: &[u8], page_size: usize, i: usize) -> &[u8]
     &frame_in(log, page_size, i)[FRAME_HEADER_LEN..]
 }
 
-/// How many pages the database has behind frame `i`, or 0 where the frame doesn't commit.
+/// Returns how many pages the database has after frame `i`, or 0 if the frame does not commit.
 pub(crate) fn commit_size_in(log: &[u8], page_size: usize, i: usize) -> usize
     requires size { page_size ≤ 65536 }
     requires within { frame_at page_size (i + 1) ≤ length log.now }

@@ -1,4 +1,4 @@
-//! Headers in which one byte was changed.
+//! Headers with one changed byte.
 ghost use Rattle.std.specs.Prelude.{◌≡◌, ◌≢◌, ◌+◌, ◌*◌, ◌<◌, ◌≤◌, ℕ, length, slice_set, IsNone, IfSome};
 ghost use Rattle.sqlite_wal.specs.Format.{IsHeader};
 ghost use Rattle.sqlite_wal.specs.PageSize.{bytes_of};
@@ -7,7 +7,7 @@ ghost use Rattle.stored_files.specs.Logs.Damage.{IsMended};
 use crate::logs::format::{HEADER_LEN, is_header};
 use sqlite_wal::PageSize;
 
-// A header with another byte.
+// The header with another byte.
 fn with_byte(head: &[u8; 32], at: usize, byte: u8) -> [u8; 32]
     requires { at < 32 }
     ensures { result ≡ slice_set head.now at byte }
@@ -17,7 +17,7 @@ fn with_byte(head: &[u8; 32], at: usize, byte: u8) -> [u8; 32]
     other
 }
 
-// The header with another byte at this offset.
+// The valid header that differs at this offset alone, if there is one.
 fn mended_at(head: &[u8; 32], at: usize, page_size: usize) -> Option<[u8; 32]>
     requires { at < 32 }
     ensures found { IfSome result (IsMended page_size head.now) }
@@ -32,7 +32,7 @@ fn mended_at(head: &[u8; 32], at: usize, page_size: usize) -> Option<[u8; 32]>
     None
 }
 
-/// The header of which this one differs in one byte.
+/// Returns a valid header that differs from this one in at most one byte, if there is one.
 pub(crate) fn mended_header(head: &[u8; 32], size: PageSize) -> Option<[u8; 32]>
     ensures found { IfSome result (IsMended (bytes_of size) head.now) }
     ensures none { IsNone result → (at byte : ℕ) → at < 32 → byte < 256

@@ -11,22 +11,26 @@ use Rattle.office_rounds.specs.declared.fault.RoundFault.TheVariants.{Refused}
 use Rattle.stored_office.specs.declared.tasks.tasks.Done.{Done}
 use Rattle.stored_office.specs.declared.tasks.tasks.Done.TheVariants as task
 
+-- The round was completed or refused.
 abbrev pub is_finished : Result (Unit {0}) RoundFault → Bool
 is_finished (Ok x) = true
 is_finished (Err (Refused why)) = true
 is_finished (Err _) = false
 
+-- The office refused.
 abbrev pub is_refusal : ExitStatus → Bool
 is_refusal status.Refused = true
 is_refusal _ = false
 
--- It came to its end, or was refused; what failed says itself, and that first.
+-- The round was completed, or the office refused it. After a failure, only the failure itself is
+-- reported.
 abbrev pub is_told : PollEnd → Bool
 is_told (Polled done) = is_finished done
 is_told (Unopened why) = is_refusal why
 is_told Unconnected = false
 
--- A task that serves, enters lines or polls a device first opens the office, which may refuse that.
+-- A task that serves, enters lines or polls a device first opens the office, which may refuse to
+-- open.
 abbrev pub is_refused_serving : ServeEnd → Bool
 is_refused_serving serving.Served = false
 is_refused_serving (serving.Unopened why) = is_refusal why
@@ -38,6 +42,7 @@ is_refused_polling (Polled done) = false
 is_refused_polling (Unopened why) = is_refusal why
 is_refused_polling Unconnected = false
 
+-- The office may have refused to open because its latest record is later than the clock.
 abbrev pub may_be_ahead : Done → Bool
 may_be_ahead (task.Reported status) = false
 may_be_ahead (task.Served end) = is_refused_serving end

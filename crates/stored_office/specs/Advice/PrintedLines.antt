@@ -1,4 +1,4 @@
--- What is said of the lines that a round printed.
+-- The explanations of a round's printed lines.
 use Rattle.std.specs.Prelude.{◌≡◌, ℕ, ◌==◌, Bool, true, false, not, List, [], ◌∷◌, Option, Some, None}
 use Rattle.command_io.specs.Lines.{Line}
 use Rattle.script_lines.specs.LineWords.Words.{words_of}
@@ -6,11 +6,12 @@ use Rattle.stored_office.specs.Advice.Remarks.{Says, remark_of}
 use Rattle.stored_office.specs.declared.advice.remarks.Remark.{Remark}
 use Rattle.stored_office.specs.declared.advice.remarks.Remark.TheVariants.{Refused, Held}
 
--- That the device or its list isn't there, for which a round is refused as 1, is said as what lacks.
+-- Refusal 1, for an unknown device or list, is reported as a lack instead.
 abbrev pub is_left : Remark → Bool
 is_left (Refused number) = not (number == 1)
 is_left (Held meter number) = true
 
+-- The explanation of a remark is appended, unless it is reported as a lack.
 abbrev pub SaysIf : (left : Bool) → (device : Option (List ℕ)) → Remark → (old new : List ℕ)
     → Type 0
 SaysIf true device remark old new = Says device remark old new
@@ -20,11 +21,12 @@ abbrev pub SaysLeft : (device : Option (List ℕ)) → Option Remark → (old ne
 SaysLeft device None old new = new ≡ old
 SaysLeft device (Some remark) old new = SaysIf (is_left remark) device remark old new
 
+-- The explanation of a printed line is appended, if it has one.
 abbrev pub ExplainsLine : (device : Option (List ℕ)) → (line old new : List ℕ) → Type 0
 ExplainsLine device line old new =
     SaysLeft device (remark_of (words_of line)) old new
 
--- one line after the other
+-- The explanations of several lines, one after another.
 abbrev pub Explains : (device : Option (List ℕ)) → List Line → (old new : List ℕ) → Type 0
 Explains device [] old new = new ≡ old
 Explains device (line ∷ lines) old new =

@@ -1,4 +1,4 @@
--- What a line that a round printed asks to be explained, and how it is.
+-- Printed lines of a round that need an explanation, and their explanations.
 use Rattle.std.specs.Prelude.{◌≡◌, ℕ, nat_lt, Bool, true, false, List, [], ◌∷◌, Option, Some, None, codes, if◌then◌else◌}
 use Rattle.std.specs.Str.{bytes_eq}
 use Rattle.printed_numbers.specs.Numbers.{has_number}
@@ -9,16 +9,16 @@ use Rattle.script_lines.specs.LineWords.Fields.{AnyName, Number, first_value, no
 use Rattle.stored_office.specs.declared.advice.remarks.Remark.{Remark}
 use Rattle.stored_office.specs.declared.advice.remarks.Remark.TheVariants.{Refused, Held}
 
--- a number of 32 bits
+-- A 32-bit number.
 abbrev pub small : ℕ → Option ℕ
 small number = if nat_lt number 4294967296 then Some number else None
 
--- the words after this one
+-- The words after this word.
 abbrev pub exactly : (wanted : List ℕ) → List (List ℕ) → Option (List (List ℕ))
 exactly wanted [] = None
 exactly wanted (word ∷ words) = if bytes_eq word wanted then Some words else None
 
--- `refused N`
+-- The words `refused N`.
 abbrev pub refusal_of : (words : List (List ℕ)) → Option Remark
 refusal_of words =
     exactly (codes "refused") words >>= λ rest.
@@ -27,7 +27,7 @@ refusal_of words =
     small number.0 >>= λ n.
     Some (Refused n)
 
--- `held METER RAW cause N`
+-- The words `held METER RAW cause N`.
 abbrev pub hold_of : (words : List (List ℕ)) → Option Remark
 hold_of words =
     exactly (codes "held") words >>= λ rest.
@@ -44,22 +44,25 @@ abbrev pub or_hold : Option Remark → Option Remark → Option Remark
 or_hold (Some remark) held = Some remark
 or_hold None held = held
 
+-- The refusal or the rejected reading of a printed line.
 abbrev pub remark_of : (words : List (List ℕ)) → Option Remark
 remark_of words = or_hold (refusal_of words) (hold_of words)
 
--- A line says what the number means, and what to do; where the kind has no such number, nothing is said.
+-- A line says what the number means, and what to do. Nothing is appended if the kind does not have
+-- the number.
 abbrev pub MeansIf : (known : Bool) → (subject : Option (List ℕ)) → Kind → (before : List ℕ)
     → (number : ℕ) → (old new : List ℕ) → Type 0
 MeansIf true subject k before number old new =
     MeansAfter k number before (with_subject subject old) new
 MeansIf false subject k before number old new = new ≡ old
 
+-- The explanation of a number is appended, if its kind has the number.
 abbrev pub MayMean : (subject : Option (List ℕ)) → Kind → (before : List ℕ) → (number : ℕ)
     → (old new : List ℕ) → Type 0
 MayMean subject k before number old new =
     MeansIf (has_number k number) subject k before number old new
 
--- A refusal is said of the device, and a held reading of its meter.
+-- The explanation of a refusal has the device as its subject, that of a rejected reading its meter.
 abbrev pub Says : (device : Option (List ℕ)) → Remark → (old new : List ℕ) → Type 0
 Says device (Refused number) old new = MayMean device kind.Refused (codes ": ") number old new
 Says device (Held meter number) old new =

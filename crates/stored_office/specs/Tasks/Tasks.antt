@@ -1,4 +1,4 @@
--- What a task does over books, and over those that a database is found to hold; and how it ends.
+-- The effect of a task over a store, or over the store of a database, and how the task ends.
 use Rattle.std.specs.Prelude.{ℕ, List, Option}
 use Rattle.sqlite.specs.Store.{Ghosts}
 use Rattle.office_rules.specs.History.{History}
@@ -21,7 +21,7 @@ use Rattle.stored_office.specs.declared.tasks.tasks.Task.TheVariants as task
 use Rattle.stored_office.specs.declared.tasks.tasks.Done.{Done}
 use Rattle.stored_office.specs.declared.tasks.tasks.Done.TheVariants.{Reported, Served, Entered, Checked, Polled, Ran}
 
--- A task ends as its kind does.
+-- The end of a task is of the task's kind.
 abbrev pub IsOf : Task → Done → Type 0
 IsOf (task.Report register) (Reported end) = Unit {0}
 IsOf (task.ReportRange register form) (Reported end) = Unit {0}
@@ -34,7 +34,7 @@ IsOf (task.Run settings sites) (Ran end) = Unit {0}
 IsOf _ _ = ⊥
 
 module _ {B : Type 0} (ledger : B → Ledger) where
-  -- A round was made over books, and then it may have been looked up what the device lacks.
+  -- A round ran over a store. Then a look-up may have found what the device lacks.
   abbrev pub PollsAndLooks : (past : History) → (device : List ℕ)
       → (moments later : Option (List ℕ)) → (found left : B) → (had holds : Option (List ℕ))
       → PollEnd → Type 0
@@ -43,8 +43,8 @@ module _ {B : Type 0} (ledger : B → Ledger) where
       × LooksUp (ledger polled) (ledger left)
 
 module _ {B : Type 0} (ledger : B → Ledger) (tells : Telling) (past : History) where
-  -- The task that was asked for was done over books that were found, and others are left; and so it ended. Files and counters
-  -- that a text names tell this.
+  -- The requested task ran over the store that was found, left another store, and ended so. `tells`
+  -- has the files and counters that a text names.
   unfoldable pub Does : (moments later had holds : Option (List ℕ))
       → (found left : B) → Task → Done → Type 0
   Does moments later had holds found left (task.Report register) (Reported end) =
@@ -66,7 +66,7 @@ module _ {B : Type 0} (ledger : B → Ledger) (tells : Telling) (past : History)
       BooksRun (texts settings.now.host_names.now) moments later (ledger left) past
   Does moments later had holds found left _ _ = ⊥
 
--- It was done over the books that a database was found to hold.
+-- The task ran over the store that the database was found to have.
 abbrev pub DoesOver : {S : Type 0} → Ghosts S → Telling → (past : History)
     → (moments later had holds : Option (List ℕ)) → Task → Done → Type 0
 DoesOver g tells past moments later had holds asked end = OverBooks g past (λ found left.

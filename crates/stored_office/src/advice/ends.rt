@@ -7,7 +7,8 @@ use command_io::ExitStatus;
 use office_program::{PollEnd, ServeEnd};
 use office_rounds::RoundFault;
 
-/// Whether more is said after a round: it came to its end, or was refused. After a failure what failed is said, and that first.
+/// Returns whether messages follow a round: if it was completed or refused. After a failure, only
+/// the failure itself is reported.
 pub(crate) fn is_told(end: PollEnd) -> bool
     ensures { result ≡ ends.is_told end }
 {
@@ -34,7 +35,7 @@ fn is_refusal(status: ExitStatus) -> bool
     }
 }
 
-// Whether the opening of an office that was to answer HTTP was refused.
+// Whether the office of a serving task refused to open.
 fn is_refused_serving(end: ServeEnd) -> bool
     ensures { result ≡ ends.is_refused_serving end }
 {
@@ -46,7 +47,7 @@ fn is_refused_serving(end: ServeEnd) -> bool
     }
 }
 
-// Whether the opening of an office that was to poll a device was refused.
+// Whether the office of a polling task refused to open.
 fn is_refused_polling(end: PollEnd) -> bool
     ensures { result ≡ ends.is_refused_polling end }
 {
@@ -57,8 +58,9 @@ fn is_refused_polling(end: PollEnd) -> bool
     }
 }
 
-/// Whether the opening of the office may have been refused since its latest record is later than the clock. Such a task prints only the
-/// number of the refusal; a run itself reports what the number means.
+/// Returns whether the office may have refused to open because its latest record is later than the
+/// clock. These tasks print only the number of the refusal. A run itself reports what the number
+/// means.
 pub fn may_be_ahead(done: Done) -> bool
     ensures { result ≡ ends.may_be_ahead done }
 {

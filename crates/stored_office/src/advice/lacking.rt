@@ -12,7 +12,7 @@ use run_status::{DeviceLack, add_lacks, put_lack};
 use std::alloc::{AllocError, Global};
 use std::io::Write;
 
-// Puts a line for each lack.
+// Appends a line for each lack.
 fn put_lacks(text: &mut Vec<u8>, lacks: &[DeviceLack]) -> Result<(), AllocError>
     ensures { OnOk result (text.new.items ≡ with_lacks lacks.now text.old.items) }
 {
@@ -22,7 +22,7 @@ fn put_lacks(text: &mut Vec<u8>, lacks: &[DeviceLack]) -> Result<(), AllocError>
     Ok(())
 }
 
-// Puts a line for each thing that a device lacks by what the books hold.
+// Appends a line for each thing that a device lacks in the store.
 fn put_lacks_of<B: Books>(
     alloc: Global,
     text: &mut Vec<u8>,
@@ -39,9 +39,9 @@ fn put_lacks_of<B: Books>(
     Ok(())
 }
 
-/// Says after the round of a device what it lacks by what the books hold, a line each, as a run says it; nothing after a round
-/// that failed. A text that is no name is a device that isn't there. Where the books, memory or the writing fail, a part of that is
-/// said.
+/// Writes a line for each thing that the device of a round lacks in the store, as a run does.
+/// Writes nothing after a round that failed. A text that is not a name is an unknown device. If the
+/// store, memory or the writing fails, a part of the lines is written.
 pub fn say_lacks<B: Books, E: Write>(
     alloc: Global,
     books: &mut B,

@@ -1,4 +1,4 @@
-//! What a round printed, line by line.
+//! The printed lines of a round.
 ghost use Rattle.std.specs.Prelude.{◌≡◌, OnOk, false};
 ghost use Rattle.command_io.specs.Lines.{speaking_lines};
 ghost use Rattle.stored_office.specs.Advice.Ends.{is_told};
@@ -13,7 +13,7 @@ use office_program::PollEnd;
 use std::alloc::{AllocError, Global};
 use std::io::Write;
 
-// Whether a remark is left to be explained: that the device or its list isn't there is said as what lacks.
+// Refusal 1, for an unknown device or list, has a line of `say_lacks` already.
 fn is_left(remark: &Remark) -> bool
     ensures { result ≡ printing.is_left remark.now }
 {
@@ -23,7 +23,7 @@ fn is_left(remark: &Remark) -> bool
     }
 }
 
-// Puts what a line asks to be said.
+// Appends the explanation of a line, if it has one.
 fn put_line(text: &mut Vec<u8>, device: &Option<Name>, line: &[u8]) -> Result<(), AllocError>
     ensures { OnOk result (ExplainsLine device.now line.now text.old.items text.new.items) }
 {
@@ -37,7 +37,7 @@ fn put_line(text: &mut Vec<u8>, device: &Option<Name>, line: &[u8]) -> Result<()
     }
 }
 
-// Puts what the lines of a text ask to be said.
+// Appends the explanations of all lines of a text.
 fn put_remarks(text: &mut Vec<u8>, device: &Option<Name>, printed: &[u8]) -> Result<(), AllocError>
     ensures { OnOk result (Explains device.now (speaking_lines printed.now)
         text.old.items text.new.items) }
@@ -49,8 +49,9 @@ fn put_remarks(text: &mut Vec<u8>, device: &Option<Name>, printed: &[u8]) -> Res
     Ok(())
 }
 
-/// Says after the round of a device what the refusals and the held readings mean that it printed, a line each, and what to do;
-/// nothing after a round that failed. Where memory or the writing fails, a part of that is said.
+/// Writes a line for each refusal and each rejected reading that a round printed: what it means,
+/// and what to do. Writes nothing after a round that failed. If memory or the writing fails, a part
+/// of the lines is written.
 pub fn say_remarks<E: Write>(
     alloc: Global,
     device: &str,

@@ -1,4 +1,4 @@
-//! What a line that a round printed asks to be explained.
+//! Printed lines of a round that need an explanation.
 ghost use Rattle.std.specs.Prelude.{◌≡◌, OnOk, option_map};
 ghost use Rattle.script_lines.specs.LineWords.Words.{words_of};
 ghost use Rattle.run_status.specs.Advice.Sentences.{with_meaning, with_subject};
@@ -11,7 +11,7 @@ use run_status::put;
 use script_lines::{Words, next_name, next_number, nothing_more};
 use std::alloc::AllocError;
 
-/// What a line that a round printed asks to be explained.
+/// A printed line of a round that needs an explanation.
 #[derive(Clone, Copy, Debug, PartialEq, Eq)]
 pub(crate) enum Remark {
     /// `refused N`.
@@ -20,7 +20,6 @@ pub(crate) enum Remark {
     Held(Name, u32),
 }
 
-// A number of 32 bits.
 fn small(number: u64) -> Option<u32>
     ensures { result ≡ remarks.small number }
 {
@@ -31,7 +30,7 @@ fn small(number: u64) -> Option<u32>
     }
 }
 
-// The next word is this one.
+// Reads the next word, which must be this word.
 fn next_exactly(words: &mut Words<'_>, wanted: &[u8]) -> Option<()>
     ensures { option_map (λ none. words.new) result ≡ remarks.exactly wanted.now words.old }
 {
@@ -70,7 +69,7 @@ fn hold_in(line: &[u8]) -> Option<Remark>
     Some(Remark::Held(meter, number))
 }
 
-/// What a line that a round printed asks to be explained: a refusal, or a reading that was held; nothing of any other.
+/// Returns the refusal or the rejected reading of a printed line. None for any other line.
 pub(crate) fn remark_in(line: &[u8]) -> Option<Remark>
     ensures { result ≡ remarks.remark_of (words_of line.now) }
 {
@@ -80,7 +79,7 @@ pub(crate) fn remark_in(line: &[u8]) -> Option<Remark>
     }
 }
 
-// Puts of what a line speaks.
+// Appends the subject of a line.
 fn put_subject(text: &mut Vec<u8>, name: &Option<Name>) -> Result<(), AllocError>
     ensures { OnOk result (text.new.items ≡ with_subject name.now text.old.items) }
 {
@@ -91,7 +90,7 @@ fn put_subject(text: &mut Vec<u8>, name: &Option<Name>) -> Result<(), AllocError
     }
 }
 
-// Puts what a number means, and what to do.
+// Appends what a number means, and what to do.
 fn put_meaning(text: &mut Vec<u8>, before: &[u8], meaning: &Meaning) -> Result<(), AllocError>
     ensures { OnOk result (text.new.items ≡ with_meaning before.now meaning.now text.old.items) }
 {
@@ -102,7 +101,7 @@ fn put_meaning(text: &mut Vec<u8>, before: &[u8], meaning: &Meaning) -> Result<(
     put(text, b"\n")
 }
 
-// Puts what a number means of which a kind may have no such; then nothing.
+// Appends what a number means. Appends nothing if the kind does not have the number.
 fn put_number_of(
     text: &mut Vec<u8>,
     subject: &Option<Name>,
@@ -122,8 +121,8 @@ fn put_number_of(
     }
 }
 
-/// Puts a line that says what a remark of the round of a device means, and what to do; nothing where there is no such number. Want
-/// of memory leaves a part of it.
+/// Appends a line on what a number means, and what to do. Appends nothing if there is no such
+/// number. Out of memory leaves a part of the line.
 pub(crate) fn put_remark(
     text: &mut Vec<u8>,
     device: &Option<Name>,

@@ -1,4 +1,4 @@
-//! Runs over books in a database.
+//! Runs over stores in a database.
 ghost use Rattle.std.specs.Prelude.{ℕ, List, [], IfErr, IfOk, IfSome};
 ghost use Rattle.office_core.specs.EventRun.{HandsBack, IsCleanOnlyIfWas, RecordsIfClean};
 ghost use Rattle.office_rules.specs.Lawfulness.{IsPast};
@@ -12,8 +12,9 @@ use office_store::SqlBooks;
 use sqlite::{Alter, Connection};
 use std::alloc::Global;
 
-/// Where books in a database hold the facts of what was accepted before, and a stop leaves nothing else, the headline holds
-/// of every run over them, if the store gave back what was written to it.
+/// Runs events over a store in a database. The headline holds for the run on two premises. The
+/// store has the records of a history of accepted events, and a crash leaves nothing else. The
+/// database gave back what was written to it.
 pub fn run_stored<S: Alter + Drop>(
     alloc: Global,
     books: SqlBooks<S>,
@@ -31,8 +32,8 @@ pub fn run_stored<S: Alter + Drop>(
     run(alloc, books, opened, events)
 }
 
-/// The same over new books, for the days of a zone: no premise is left but that of the store. None: the books were not
-/// made, or the office was not opened.
+/// Runs events over a new store, for the days of a time zone. The only premise is that the database
+/// gave back what was written to it. None if the store was not created, or the office not opened.
 pub fn run_anew<S: Alter + Drop>(
     alloc: Global,
     connection: Connection<S>,

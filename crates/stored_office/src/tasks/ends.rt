@@ -1,4 +1,4 @@
-//! How a command ends whose task was carried out.
+//! The ending of a command after its task.
 ghost use Rattle.std.specs.Prelude.{◌≡◌};
 ghost use Rattle.command_io.specs.Statuses.{status_number};
 ghost use Rattle.office_program.specs.Texts.Rounds.{round_status};
@@ -24,7 +24,7 @@ fn ending_of_round<'a>(done: Result<(), RoundFault>, host: &'a str, port: u16) -
     }
 }
 
-// The ending of serving at a port of a host.
+// The ending of serving HTTP on a port of a host.
 fn ending_of_serving<'a>(end: ServeEnd, host: &'a str, port: u16) -> Ending<'a>
     ensures { ending_number result ≡ serving_number end }
 {
@@ -47,7 +47,7 @@ fn ending_of_polling<'a>(end: PollEnd, host: &'a str, port: u16) -> Ending<'a>
     }
 }
 
-// The ending of a run that answers at a port of a host.
+// The ending of a run that serves HTTP on a port of a host.
 fn ending_of_run<'a>(end: Result<(), RunFault>, host: &'a str, port: u16) -> Ending<'a>
     ensures { ending_number result ≡ run_number end }
 {
@@ -62,7 +62,7 @@ fn ending_of_run<'a>(end: Result<(), RunFault>, host: &'a str, port: u16) -> End
     }
 }
 
-/// The ending of a task, whose sockets were at a port of a host.
+/// Returns the ending of a task with sockets at a port of a host.
 pub fn ending_of_done<'a>(done: Result<Done, Failure<'a>>, host: &'a str, port: u16) -> Ending<'a>
     ensures { ending_number result ≡ done_number done.entry }
 {

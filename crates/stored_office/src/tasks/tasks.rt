@@ -1,4 +1,4 @@
-//! The tasks, one of which is carried out.
+//! The program's tasks over an office, and their execution.
 ghost use Rattle.std.specs.Prelude.{◌≡◌, Err, IfOk, IfErr};
 ghost use Rattle.office_rules.specs.History.{History};
 ghost use Rattle.office_core.specs.Leaving.{BooksStand};
@@ -26,47 +26,50 @@ use std::io::Write;
 use std::net::Net;
 use std::rt::Files;
 
-/// What is done over the books of an office.
+/// A task over the store of an office.
 #[derive(Clone, Copy)]
 pub enum Task<'a> {
-    /// A register is reported, as `report_books` does.
+    /// Reports a register, as `report_books` does.
     Report {
         register: &'a str,
     },
-    /// A register is reported on the days of a range, in a form, as `report_range_books` does.
+    /// Reports a register on a range of days, in a form, as `report_range_books` does.
     ReportRange {
         register: &'a str,
         form: &'a ReportForm,
     },
-    /// The meters at a register are stated on the days of a range, as `statement_books` does.
+    /// Prints the statements of the meters at a register on a range of days, as `statement_books`
+    /// does.
     Statement {
         register: &'a str,
         form: &'a StatementForm,
     },
-    /// HTTP is answered on so many connections at a port of a host, by these names too, as `serve_books` does.
+    /// Serves HTTP for `connections` connections on a port of a host, under these host names too,
+    /// as `serve_books` does.
     Serve {
         host: &'a str,
         port: u16,
         names: &'a [&'a str],
         connections: u32,
     },
-    /// What the lines of a text ask is asked under a caller, as `enter_books` does.
+    /// Requests what the lines of a text say, under a caller, as `enter_books` does.
     Enter {
         caller: &'a str,
         text: &'a [u8],
     },
-    /// They are only looked at, as `check_books` does.
+    /// Only checks the lines of a text, as `check_books` does.
     Check {
         caller: &'a str,
         text: &'a [u8],
     },
-    /// A device at a port of a host is polled, as `poll_books` does, and after it what it lacks is said, as `say_lacks` does.
+    /// Polls a device at a port of a host, as `poll_books` does. Then reports what the device
+    /// lacks, as `say_lacks` does.
     Round {
         device: &'a str,
         host: &'a str,
         port: u16,
     },
-    /// Devices are polled on a schedule and HTTP is answered, as `run_office` does.
+    /// Polls devices on a schedule and serves HTTP, as `run_office` does.
     Run {
         settings: &'a Settings<'a>,
         sites: &'a [Site],
@@ -84,7 +87,7 @@ pub enum Done {
     Ran(Result<(), RunFault>),
 }
 
-/// Carries a task out over books. Files that a text names are read by `files`, and so are counters.
+/// Executes a task over a store. `files` reads the files that a text names, and counters.
 fn carry_out<
     R: Net + std::rt::Clock + Files,
     B: Books,
@@ -177,8 +180,8 @@ fn carry_out<
     }
 }
 
-/// Finds the books of a database, and carries a task out over them. Where there are no books, nothing is printed. Files that
-/// a text names are read by `files`, and so are counters.
+/// Opens the store of a database, and executes a task over it. Prints nothing if the store is not
+/// opened. `files` reads the files that a text names, and counters.
 pub fn carry_out_stored<
     R: Net + std::rt::Clock + Files,
     S: Alter + Drop,
