@@ -43,7 +43,7 @@ run() {
 
 # begins WITHIN: what it says first
 begins() {
-    echo "sunreg: not built yet, so its sources are run unproved, which takes $1 to begin; ./sunreg-build proves and builds it"
+    echo "sunreg: not built yet; running the unproved sources takes $1 to start. ./sunreg-build proves and builds sunreg"
 }
 
 # leaves_none WHAT: holds the temporary folder and the checkout to what they were
@@ -128,11 +128,11 @@ done
 for words in '' replay plan; do
     run /dev/null env PATH="$room/without" "$checkout/sunreg" $words
     same "no kit: '$words'" "$status $(cat "$room/out" "$room/err")" \
-        '3 sunreg: it is not built yet, and the Rattle kit, which builds it, is not here: no command rt'
+        '3 sunreg: not built yet, and the Rattle kit that builds it is missing (no command rt)'
 done
 run /dev/null env TMPDIR="$room/none" "$checkout/sunreg"
 same 'no temporary folder' "$status $(cat "$room/out") $(tail -n 1 "$room/err")" \
-    "3  sunreg: the sources can't be copied: look at the rights and the room of $room/none"
+    "3  sunreg: can't copy the sources: check the permissions and the free space of $room/none"
 
 run "$checkout/crates/sunreg/stdin" "$room/link"
 replays 'the example, by a link' 0 "$checkout/crates/sunreg/stdout"
