@@ -32,17 +32,14 @@ impl Display for RunFault {
     fn fmt<W: fmt::Write>(&self, f: &mut Formatter<W>) -> fmt::Result {
         match self {
             RunFault::Unopened(_) => write!(f, "the office was not opened"),
-            RunFault::Port => write!(
-                f,
-                "can't listen on the port: in use, or not an address of this machine"
-            ),
-            RunFault::Sockets => write!(f, "waiting for sockets failed"),
-            RunFault::Output => write!(f, "can't write standard output"),
+            RunFault::Port => write!(f, "can't listen on the port: is it in use?"),
+            RunFault::Sockets => write!(f, "can't wait for sockets"),
+            RunFault::Output => write!(f, "can't write to standard output"),
             RunFault::Stopped => write!(
                 f,
-                "the office stopped because its file failed or memory ran out: check the disk, then restart"
+                "the office has stopped, because its file failed or memory ran out; check the disk, and start again"
             ),
-            RunFault::Memory => write!(f, "out of memory"),
+            RunFault::Memory => write!(f, "memory ran out"),
         }
     }
 }
