@@ -70,8 +70,8 @@ question_reply office route.Intervals taken =
 question_reply office route.Days taken = lines_reply days_text (office.days (name_asked taken))
 question_reply office _ taken = fault NotThere
 
--- The response to a body that gives no command. It refuses a negative number, or a command for which
--- memory ran out, without asking the office.
+-- The response to a body that gives no command. It refuses a negative number, or a command for
+-- which memory ran out, without asking the office.
 abbrev pub fault_said : CommandFault → Reply
 fault_said Malformed = fault BadRequest
 fault_said Negative = refused refusal.Limit

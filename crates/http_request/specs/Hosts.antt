@@ -43,8 +43,8 @@ may_ask_with given Repeated = false
 abbrev pub may_ask : (given : List (List ℕ)) → Start → Bool
 may_ask given start = may_ask_with given (times (values_of (codes "host") start.headers))
 
--- The same for the bytes that were read. Bytes without a head have no Host; a later test rejects
--- them.
+-- The same for the bytes that were read. Bytes without a complete head have no Host, so they may
+-- ask. A later test rejects a bad head.
 abbrev pub may_ask_in : (given : List (List ℕ)) → List ℕ → HeadState → Bool
 may_ask_in given bytes Open = true
 may_ask_in given bytes TooLarge = true

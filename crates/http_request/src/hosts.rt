@@ -86,9 +86,9 @@ fn names_known(given: &[&str], bytes: &[u8], head: &Head) -> bool
 /// Returns whether a request may be served, by its `Host` header (RFC 9110, section 7.2).
 ///
 /// The header may be missing. Otherwise it must be given once, and name `127.0.0.1`, `localhost`,
-/// `[::1]` or a name in `given`, in any case, with or without a port. The test rejects
-/// pages of another host name that was made to resolve to this machine (DNS rebinding). Bytes
-/// without a head pass this test, and fail a later one.
+/// `[::1]` or a name in `given`, in any case, with or without a port. The test rejects pages of
+/// another host name that was made to resolve to this machine (DNS rebinding). Bytes without a
+/// complete head pass this test.
 pub fn may_ask(given: &[&str], bytes: &[u8], head_state: &HeadState) -> bool
     requires { Looks bytes.now head_state.now }
     ensures { result ≡ hosts.may_ask_in (texts given.now) bytes.now head_state.now }

@@ -83,8 +83,8 @@ passage remaining later_remaining given later_given last = record {
   last = last;
 }
 
--- Reading stopped in time: before the last read, the bytes held no complete request and no bad
--- head.
+-- Nothing was read, or reading stopped in time: before the last read, the bytes held no complete
+-- request and no bad head.
 abbrev pub StopsReading : (read : List ℕ) → Option LastTake → Type 0
 StopsReading read last = (read ≡ []) ⊎ TakesWhatLacks (IsUnfinished routes) [] read last
 

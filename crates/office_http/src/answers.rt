@@ -109,7 +109,6 @@ fn put_days<'l, L: Link, B: Books>(
     lines.end(answer)
 }
 
-// Executes a query.
 fn put_question<'l, L: Link, B: Books>(
     bytes: &[u8],
     found: &Found<'_>,

@@ -19,7 +19,8 @@ pub record Serves {B : Type 0} (ledger : B → Ledger) (at : ℕ) (old new : Off
       (passage (Some request) (Some left) (Some []) (Some reply) last) ending
 
 -- Open bytes hold no complete request. Other bytes have a complete response, or a response that was
--- cut off when the store failed. Otherwise memory ran out, or there were too many reads.
+-- cut off when the store failed. Failed bytes have none: memory ran out, or there were too many
+-- reads.
 abbrev pub Asks : {B : Type 0} → (B → Ledger) → (at : ℕ) → (old new : Office B)
     → (request : List ℕ) → PeerReply → Type 0
 Asks ledger at old new request Open =

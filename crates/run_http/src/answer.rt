@@ -13,7 +13,7 @@ use std::alloc::Global;
 pub enum PeerReply {
     /// The bytes hold no complete request. The office was not asked.
     Open,
-    /// The response. It is cut off if the store failed.
+    /// The response. It is cut off if the store failed while its rows were written.
     Replied(Vec<u8>),
     /// There was no memory for the response, or the request took too many reads.
     Failed,

@@ -14,7 +14,6 @@ static OF_PAGE: &[u8] =
 static OF_OTHERS: &[u8] =
     b"X-Content-Type-Options: nosniff\r\nCross-Origin-Resource-Policy: same-origin\r\nCache-Control: no-store\r\n";
 
-// Returns whether a route is that of a part of the page.
 fn is_page(route: &Option<RunRoute>) -> bool
     ensures { result ≡ browsers.is_page route.now }
 {

@@ -21,7 +21,6 @@ pub(crate) fn slash_in(text: &[u8]) -> Option<usize>
     text.iter().position(|byte| *byte == b'/')
 }
 
-// Parses the span between two timestamps.
 fn span_of(from: &[u8], till: &[u8]) -> Option<Span>
     ensures { result ≡ targets.span_of from.now till.now }
 {
@@ -84,7 +83,6 @@ fn entries_at(name: &[u8], place: &[u8]) -> Option<RunRoute>
     Some(entries_asked(name, digits(place)))
 }
 
-// Parses what follows the name of a meter.
 fn rows_in(name: &[u8], text: &[u8]) -> Option<RunRoute>
     ensures { result ≡ targets.rows_in name.now text.now }
 {
@@ -102,7 +100,6 @@ fn rows_in(name: &[u8], text: &[u8]) -> Option<RunRoute>
     }
 }
 
-// Parses what follows the segment `meters`.
 fn meter_in(text: &[u8]) -> Option<RunRoute>
     ensures { result ≡ targets.meter_in text.now }
 {

@@ -46,7 +46,6 @@ pub fn all_rows_asked(router: &Router<Route>, request: &[u8]) -> Option<Option<N
     }
 }
 
-// Returns whether a request with this method and target may void an entry.
 fn may_void_by(method: &[u8], target: &[u8]) -> bool
     ensures { result ≡ requests.may_void_by method.now target.now }
 {

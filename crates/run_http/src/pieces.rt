@@ -35,7 +35,6 @@ pub struct RowsLeft {
     told: usize,
 }
 
-// Returns the start of the quarter hour of a timestamp.
 fn quarter_of(moment: u64) -> u64
     ensures { result ≡ copies.quarter_of moment }
 {

@@ -69,8 +69,8 @@ pub fn put_energy_reply(
 
 /// Queries the days of a register, and appends the response with the report on them.
 ///
-/// If the range of the form has both ends, the office reads only the quarter hours from two days
-/// before it until two days after it. If memory runs out, a part of the response remains.
+/// If the form's range has both ends, only the quarter hours of its days and of two days on each
+/// side are read. If memory runs out, a part of the response remains.
 pub fn reply_energy<B: Books>(
     alloc: Global,
     text: &mut Vec<u8>,

@@ -22,7 +22,6 @@ fn day_of(text: &[u8]) -> Option<Day>
     }
 }
 
-// Parses the range from one day until another.
 fn range_of(from: &[u8], till: &[u8]) -> Option<DayRange>
     ensures { targets.IsRangeOf from.now till.now result }
 {
@@ -110,7 +109,6 @@ fn energy_in(name: &[u8], text: &[u8]) -> Option<RunRoute>
     }
 }
 
-// Parses what follows the name of a register.
 fn rows_in(name: &[u8], text: &[u8]) -> Option<RunRoute>
     ensures { targets.IsRowsIn name.now text.now result }
 {
@@ -122,7 +120,6 @@ fn rows_in(name: &[u8], text: &[u8]) -> Option<RunRoute>
     energy_in(name, text)
 }
 
-// Parses what follows the segment `registers`.
 fn register_in(text: &[u8]) -> Option<RunRoute>
     ensures { targets.IsRegisterIn text.now result }
 {

@@ -63,7 +63,6 @@ pub enum RunRoute {
     },
 }
 
-// Finds the route of a fixed path.
 fn path_named(target: &[u8]) -> Option<RunRoute>
     ensures { result ≡ texts.path_named target.now }
 {
@@ -135,14 +134,12 @@ fn route_in(request: &[u8], head_state: &HeadState) -> Option<RunRoute>
     }
 }
 
-// Returns whether a method and a target are those of a link to the page.
 fn is_link_to_page(method: &[u8], target: &[u8]) -> bool
     ensures { result ≡ texts.is_link_to_page method.now target.now }
 {
     method == b"GET".as_slice() && target == b"/".as_slice()
 }
 
-// Returns whether a head asks for the page itself.
 fn asks_for_page(request: &[u8], head_state: &HeadState) -> bool
     requires { Looks request.now head_state.now }
     ensures { result ≡ texts.asks_for_page request.now head_state.now }
@@ -216,7 +213,6 @@ pub(crate) fn put_start_of(
     put(text, b"\r\nConnection: close")
 }
 
-// Appends the status line and the headers for a body.
 fn put_start(text: &mut Vec<u8>, status: Status, kind: &[u8], body: &[u8]) -> Result<(), AllocError>
     ensures { OnOk result (text.new.items
         ≡ texts.with_start status kind.now body.now text.old.items) }
@@ -249,7 +245,6 @@ fn put_page_headers(text: &mut Vec<u8>) -> Result<(), AllocError>
     put(text, b"\r\nCache-Control: no-cache")
 }
 
-// Appends the response with a part of the page.
 fn put_page(text: &mut Vec<u8>, part: PagePart) -> Result<(), AllocError>
     ensures { OnOk result (text.new.items ≡ texts.with_page_reply part text.old.items) }
 {
@@ -258,7 +253,6 @@ fn put_page(text: &mut Vec<u8>, part: PagePart) -> Result<(), AllocError>
     put_word(text, b"\r\n\r\n", part.body())
 }
 
-// Formats the body for a fault.
 fn fault_body(alloc: Global, status: Status) -> Result<Vec<u8>, AllocError>
     ensures { IfOk result (λ body. body.items ≡ fault_text status) }
 {

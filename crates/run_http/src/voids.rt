@@ -29,7 +29,6 @@ fn is_voided(entry: &MeterEntry) -> bool
     }
 }
 
-// Keeps an entry if it is voided.
 fn keep_if_voided(kept: &mut Vec<MeterEntry>, entry: &MeterEntry) -> Result<(), AllocError>
     ensures { OnOk result (kept.new.items
         ≡ kept.old.items ++ voids.voided_in (entry.now ∷ [])) }

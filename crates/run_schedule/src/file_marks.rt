@@ -24,7 +24,6 @@ pub enum FileLoss {
     Shortened,
 }
 
-// Returns whether two marks are those of the same file.
 fn is_same_file(known: FileMark, found: FileMark) -> bool
     ensures { result ≡ marks.is_same_file known found }
 {

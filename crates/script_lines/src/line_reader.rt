@@ -58,14 +58,12 @@ fn line_from(
     }
 }
 
-// Parses a query.
 fn question(first: &[u8], words: &mut Words<'_>) -> Option<ScriptLine>
     ensures { result ≡ said_from None first.now words.old }
 {
     asked(question_of(first)?, words)
 }
 
-// Parses what follows the timestamp.
 fn timed_line(
     alloc: Global,
     at: u64,
@@ -83,7 +81,6 @@ fn timed_line(
     }
 }
 
-// Parses what follows the verb.
 fn line_by(
     alloc: Global,
     verb: Verb,

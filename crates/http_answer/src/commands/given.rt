@@ -33,7 +33,6 @@ fn command_of(route: Route, name: Option<Name>, body: &Body) -> Result<Command, 
     }
 }
 
-// Parses a JSON body into a command.
 fn json_command(
     alloc: Global,
     route: Route,

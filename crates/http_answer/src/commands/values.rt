@@ -15,7 +15,6 @@ pub(crate) fn name(text: &str) -> Option<Name>
     Name::new(text.as_bytes())
 }
 
-// Returns the given range, or the full one.
 pub(crate) fn or_full_range(range: Option<u64>) -> u64
     ensures { result ≡ or_full_range range }
 {

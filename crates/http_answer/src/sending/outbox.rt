@@ -33,7 +33,6 @@ impl Outbox {
         }
     }
 
-    // Returns whether a write failed.
     pub(crate) fn has_failed(&self) -> bool
         ensures { result ≡ self.now.failed }
     {

@@ -8,7 +8,6 @@ use http_request::Status;
 use itoa::Buffer;
 use mb_wire::Link;
 
-// Writes a number in decimal digits.
 fn put_number<L: Link>(number: u64, writer: &mut ReplyWriter<'_, L>)
     ensures { Puts writer.old writer.new (decimal number) }
 {
@@ -16,7 +15,6 @@ fn put_number<L: Link>(number: u64, writer: &mut ReplyWriter<'_, L>)
     writer.put(buffer.format(number).as_bytes());
 }
 
-// Writes the status line.
 fn put_status<L: Link>(status: Status, writer: &mut ReplyWriter<'_, L>)
     ensures { Puts writer.old writer.new (status_line status) }
 {

@@ -13,7 +13,6 @@ fn is_empty_line(line: &[u8]) -> bool
     }
 }
 
-// What a scan for the end of a head found.
 #[derive(Clone, Copy)]
 struct LineScan {
     // The number of lines of the head before the empty line that ends it.

@@ -16,7 +16,6 @@ pub struct Found<'v> {
     pub name: Option<&'v str>,
 }
 
-// Returns the value of the first parameter.
 fn first_value<'v>(params: &Params<'_, 'v>) -> Option<&'v str>
     requires { IsAscii params.now.path.now }
     ensures { let p = params.now in option_map (λ s. s.now) result
@@ -29,7 +28,6 @@ fn first_value<'v>(params: &Params<'_, 'v>) -> Option<&'v str>
     }
 }
 
-// Finds the route of a target of ASCII bytes.
 fn found_at<'v>(router: &Router<Route>, target: &'v str) -> Option<Found<'v>>
     requires { IsAscii target.now }
     ensures route { option_map (λ f. f.route) result ≡ first_route router.now target.now }

@@ -76,7 +76,6 @@ fn put_thousandth(text: &mut Vec<u8>, before: &[u8], number: u64) -> Result<(), 
     put(text, &last_digits(number))
 }
 
-// Appends the energy of a meter.
 fn put_energy(text: &mut Vec<u8>, row: &SiteRow, meter: &Installation) -> Result<(), AllocError>
     ensures { OnOk result (text.new.items
         ≡ energy.with_energy text.old.items row.now meter.now) }
@@ -90,7 +89,6 @@ fn put_energy(text: &mut Vec<u8>, row: &SiteRow, meter: &Installation) -> Result
     put_thousandth(text, b"\"} ", meter.total)
 }
 
-// Appends the time of the last entry of a meter.
 fn put_entry(text: &mut Vec<u8>, row: &SiteRow, meter: &Installation) -> Result<(), AllocError>
     ensures { OnOk result (text.new.items ≡ energy.with_entry text.old.items row.now meter.now) }
 {

@@ -47,7 +47,6 @@ pub fn put_shares(text: &mut Vec<u8>, rows: &[Share]) -> Result<(), AllocError>
     put_end(text, rows.len())
 }
 
-// Appends the kind of an entry.
 fn put_kind(text: &mut Vec<u8>, kind: EntryKind) -> Result<(), AllocError>
     ensures { OnOk result (text.new.items ≡ text.old.items ++ lines.kind_word kind) }
 {
@@ -60,7 +59,6 @@ fn put_kind(text: &mut Vec<u8>, kind: EntryKind) -> Result<(), AllocError>
     }
 }
 
-// Appends the numbers of an entry.
 fn put_numbers(text: &mut Vec<u8>, entry: &Entry) -> Result<(), AllocError>
     ensures { OnOk result (text.new.items ≡ text.old.items ++ lines.numbers_text entry.now) }
 {
@@ -95,7 +93,6 @@ fn put_standing(text: &mut Vec<u8>, stands: bool) -> Result<(), AllocError>
     }
 }
 
-// Appends the line of the opening.
 fn put_opening(text: &mut Vec<u8>, last: &Last) -> Result<(), AllocError>
     ensures { OnOk result (text.new.items ≡ text.old.items ++ lines.opening_line last.now) }
 {
@@ -105,7 +102,6 @@ fn put_opening(text: &mut Vec<u8>, last: &Last) -> Result<(), AllocError>
     put(text, b" stands\n")
 }
 
-// Appends the line of an entry after the opening.
 fn put_later(text: &mut Vec<u8>, row: &EntryRow, sf: i16) -> Result<(), AllocError>
     ensures { OnOk result (text.new.items ≡ text.old.items ++ lines.later_line row.now sf) }
 {
@@ -116,7 +112,6 @@ fn put_later(text: &mut Vec<u8>, row: &EntryRow, sf: i16) -> Result<(), AllocErr
     put_standing(text, row.stands)
 }
 
-// Appends the line of an entry.
 fn put_entry(text: &mut Vec<u8>, entry: &MeterEntry) -> Result<(), AllocError>
     ensures { OnOk result (text.new.items ≡ text.old.items ++ lines.entry_line entry.now) }
 {
@@ -126,7 +121,6 @@ fn put_entry(text: &mut Vec<u8>, entry: &MeterEntry) -> Result<(), AllocError>
     }
 }
 
-// Appends a line for each entry.
 fn put_entry_lines(text: &mut Vec<u8>, entries: &[MeterEntry]) -> Result<(), AllocError>
     ensures { OnOk result (text.new.items
         ≡ text.old.items ++ flat_map lines.entry_line entries.now) }
@@ -167,7 +161,6 @@ fn put_voided_row(text: &mut Vec<u8>, row: &EntryRow) -> Result<(), AllocError>
     put(text, b"\n")
 }
 
-// Appends the line of a voided entry.
 fn put_void(text: &mut Vec<u8>, entry: &MeterEntry) -> Result<(), AllocError>
     ensures { OnOk result (text.new.items ≡ text.old.items ++ lines.void_line entry.now) }
 {
@@ -180,7 +173,6 @@ fn put_void(text: &mut Vec<u8>, entry: &MeterEntry) -> Result<(), AllocError>
     }
 }
 
-// Appends a line for each voided entry.
 fn put_void_lines(text: &mut Vec<u8>, entries: &[MeterEntry]) -> Result<(), AllocError>
     ensures { OnOk result (text.new.items
         ≡ text.old.items ++ flat_map lines.void_line entries.now) }

@@ -16,7 +16,6 @@ pub struct SiteLine {
     pub earlier: Option<u64>,
 }
 
-// Appends `before` and a JSON Boolean.
 fn put_bool(text: &mut Vec<u8>, before: &[u8], value: bool) -> Result<(), AllocError>
     ensures { OnOk result (text.new.items ≡ text.old.items ++ before.now ++ bool_text value) }
 {
@@ -27,7 +26,6 @@ fn put_bool(text: &mut Vec<u8>, before: &[u8], value: bool) -> Result<(), AllocE
     }
 }
 
-// Appends the last entry of a meter.
 fn put_last(text: &mut Vec<u8>, row: &Installation) -> Result<(), AllocError>
     ensures { OnOk result (text.new.items ≡ json.with_last text.old.items row.now) }
 {
@@ -73,7 +71,6 @@ fn put_meter(
     }
 }
 
-// Appends `before`, the device of a register, and the register's name.
 fn put_register(text: &mut Vec<u8>, before: &[u8], row: &SiteRow) -> Result<(), AllocError>
     ensures { OnOk result (text.new.items ≡ json.with_register before.now text.old.items row.now) }
 {
@@ -81,7 +78,6 @@ fn put_register(text: &mut Vec<u8>, before: &[u8], row: &SiteRow) -> Result<(), 
     put_word(text, b"\",\"register\":\"", row.register.name.as_bytes())
 }
 
-// Appends a register and its meter.
 fn put_line(text: &mut Vec<u8>, before: &[u8], line: &SiteLine) -> Result<(), AllocError>
     ensures { OnOk result (text.new.items ≡ json.with_line before.now text.old.items line.now) }
 {

@@ -23,7 +23,6 @@ fn parts_of(file: &[u8]) -> (&[u8], &[u8])
     }
 }
 
-// Joins the parts of a name.
 fn joined(alloc: Global, stem: &[u8], text: &[u8], suffix: &[u8]) -> Result<Vec<u8>, AllocError>
     ensures { IfOk result
         (λ name. name.items ≡ stem.now ++ codes "-" ++ text.now ++ suffix.now) }

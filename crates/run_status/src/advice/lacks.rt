@@ -59,7 +59,6 @@ fn is_open(row: &Option<Installation>) -> bool
     }
 }
 
-// Returns whether a meter is open at a register.
 fn has_meter<B: Books>(books: &mut B, register: &Register) -> Result<bool, BooksFault>
     ensures found { Finds (B.ledger books.old) (B.ledger books.new) result
         (λ known b. b ≡ specs.has_meter known register.now) }
@@ -74,7 +73,6 @@ fn has_name(devices: &[Device], name: &Name) -> bool
     devices.iter().any(|device| device.name.is(name))
 }
 
-// Returns whether the store has a device of this name.
 fn has_device<B: Books>(books: &mut B, name: &Name) -> Result<bool, BooksFault>
     ensures found { Finds (B.ledger books.old) (B.ledger books.new) result
         (λ known b. b ≡ specs.has_device known name.now) }
@@ -101,7 +99,6 @@ fn add(
     Ok(())
 }
 
-// Adds what a register lacks.
 fn add_of_register<B: Books>(
     lacks: &mut Vec<DeviceLack>,
     books: &mut B,
@@ -121,7 +118,6 @@ fn add_of_register<B: Books>(
     Ok(())
 }
 
-// Adds what each register lacks.
 fn add_of_registers<B: Books>(
     lacks: &mut Vec<DeviceLack>,
     books: &mut B,

@@ -72,7 +72,6 @@ fn put_unread(
     put(text, b")\n")
 }
 
-// Appends that no meter is open at a register.
 fn put_unmetered(text: &mut Vec<u8>, register: &Register) -> Result<(), AllocError>
     ensures { OnOk result (text.new.items ≡ sentences.with_unmetered register.now text.old.items) }
 {
@@ -85,7 +84,6 @@ fn put_unmetered(text: &mut Vec<u8>, register: &Register) -> Result<(), AllocErr
     put(text, b"/install\n")
 }
 
-// Appends that a device has no list yet.
 fn put_unlisted(text: &mut Vec<u8>, device: &Option<Name>) -> Result<(), AllocError>
     ensures { OnOk result (text.new.items ≡ sentences.with_unlisted device.now text.old.items) }
 {

@@ -33,7 +33,6 @@ fn has_reading(notes: &[Note]) -> bool
     notes.iter().any(|note| is_reading(note))
 }
 
-// Returns whether a device is connected after an event that was accepted or refused.
 fn is_connected(before: bool, event: &Event, answer: Result<Answer, Refusal>) -> bool
     ensures { result ≡ watching.is_connected before event.now answer }
 {

@@ -57,7 +57,6 @@ impl LineQueue {
     ghost use Rattle.run_status.specs.Monitor.Queues as queues;
     ghost use Rattle.run_status.specs.Monitor.Queues.{queue_of};
 
-    // Returns whether all bytes were written.
     fn is_written(&self) -> bool
         ensures { result ≡ queues.is_written (queue_of self.now) }
     {
@@ -74,7 +73,6 @@ impl LineQueue {
         }
     }
 
-    // Counts lines as dropped.
     fn leave_out(&mut self, lines: &[u8])
         ensures { queue_of self.new ≡ queues.left_out lines.now (queue_of self.old) }
     {

@@ -4,7 +4,6 @@ ghost use Rattle.run_status.specs.Monitor.Output as sending;
 
 use office_events::Event;
 
-// Returns whether a connection has ended.
 fn is_end(event: &Event) -> bool
     ensures { result ≡ sending.is_end event.now }
 {

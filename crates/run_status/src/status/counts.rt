@@ -61,7 +61,6 @@ impl Counts {
         self.held[place] = self.held[place].saturating_add(1);
     }
 
-    // Counts a notification of the office.
     fn note(&mut self, note: &Note)
         ensures { self.new ≡ counting.noted note.now self.old }
     {

@@ -7,7 +7,6 @@ use crate::status::pieces::{put, put_word};
 use office_events::Register;
 use std::alloc::AllocError;
 
-// Appends the device after `before`.
 fn put_device(text: &mut Vec<u8>, before: &[u8], lack: &DeviceLack) -> Result<(), AllocError>
     ensures { OnOk result (text.new.items ≡ json.with_device before.now text.old.items lack.now) }
 {
@@ -17,7 +16,6 @@ fn put_device(text: &mut Vec<u8>, before: &[u8], lack: &DeviceLack) -> Result<()
     }
 }
 
-// Appends the register after `before`.
 fn put_register(text: &mut Vec<u8>, before: &[u8], register: &Register) -> Result<(), AllocError>
     ensures { OnOk result (text.new.items
         ≡ json.with_register before.now text.old.items register.now) }
@@ -26,7 +24,6 @@ fn put_register(text: &mut Vec<u8>, before: &[u8], register: &Register) -> Resul
     put(text, b"\"}")
 }
 
-// Appends what the device lacks.
 fn put_what(text: &mut Vec<u8>, lack: &Lack) -> Result<(), AllocError>
     ensures { OnOk result (text.new.items ≡ json.with_what text.old.items lack.now) }
 {
@@ -47,7 +44,6 @@ fn put_what(text: &mut Vec<u8>, lack: &Lack) -> Result<(), AllocError>
     }
 }
 
-// Appends a lack after `before`.
 fn put_lack(text: &mut Vec<u8>, before: &[u8], lack: &DeviceLack) -> Result<(), AllocError>
     ensures { OnOk result (text.new.items ≡ json.with_lack before.now text.old.items lack.now) }
 {

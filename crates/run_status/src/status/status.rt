@@ -37,7 +37,6 @@ fn put_latest(text: &mut Vec<u8>, device: &DeviceState) -> Result<(), AllocError
     }
 }
 
-// Appends a device after `before`.
 fn put_device(text: &mut Vec<u8>, before: &[u8], device: &DeviceState) -> Result<(), AllocError>
     ensures { OnOk result (text.new.items ≡ json.with_device before.now text.old.items device.now) }
 {

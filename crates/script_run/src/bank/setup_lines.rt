@@ -43,7 +43,6 @@ fn run_line<W: Write>(
     }
 }
 
-// Executes the lines of a text.
 fn run_text<W: Write>(setup: &mut Setup, text: &[u8], output: &mut W) -> Result<(), ExitStatus>
     ensures { running.TextRuns setup.old text.now result setup.new
         (W.contents output.old) (W.contents output.new) }

@@ -34,7 +34,6 @@ impl Came {
         }
     }
 
-    // Returns the event to feed to the office.
     fn into_event(self, device: &Option<Name>) -> Event
         ensures { result ≡ fed device.now self }
     {

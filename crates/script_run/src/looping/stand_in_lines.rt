@@ -43,7 +43,6 @@ pub(crate) fn start<L: Link + Drop, W: Write>(
     }
 }
 
-// Returns how many reads were started.
 fn count_of(answer: &Answer) -> u64 {
     match *answer {
         Answer::Started { count, .. } => count,

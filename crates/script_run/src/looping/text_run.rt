@@ -63,7 +63,6 @@ fn tricks_in(alloc: Global, text: &[u8]) -> Result<Vec<(u64, Trick)>, AllocError
     Ok(tricks)
 }
 
-// Returns whether a line connects a device.
 fn connects_device(alloc: Global, line: &[u8]) -> Result<bool, AllocError> {
     match ScriptLine::read(alloc, line) {
         Ok(ScriptLine::Event { event, .. }) => Ok(matches!(&event, Event::Connected(_))),
@@ -128,7 +127,6 @@ fn tell_refused<W: Write>(why: Refusal, output: &mut W) -> ExitStatus
     }
 }
 
-// Prints the number of a bad line.
 fn tell_bad<W: Write>(number: u64, output: &mut W) -> ExitStatus
     ensures { TellsText (bad_line number) result (W.contents output.old) (W.contents output.new) }
 {
@@ -138,7 +136,6 @@ fn tell_bad<W: Write>(number: u64, output: &mut W) -> ExitStatus
     }
 }
 
-// Runs lines in order.
 fn run_lines<C: Connects, W: Write>(
     alloc: Global,
     run: &mut Run<'_, C::End>,

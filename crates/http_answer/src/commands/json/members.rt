@@ -15,7 +15,6 @@ pub(crate) fn has_member(body: &Value, name: &str) -> bool
     body.get(name).is_some()
 }
 
-// Returns the text of a member.
 pub(crate) fn text<'b>(body: &'b Value, name: &str) -> Result<&'b str, BodyFault>
     ensures found { IfOk result (λ s. text name.now (view body.now) ≡ Some s.now) }
     ensures none { IfErr result (λ e. text name.now (view body.now) ≡ None) }
