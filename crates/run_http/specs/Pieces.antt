@@ -244,9 +244,9 @@ ArePieces facts meter opening left text (piece ∷ earlier) =
     IsPiece facts meter opening (left_after left earlier) (text_after text earlier) piece
     × ArePieces facts meter opening left text earlier
 
--- Let a response begin at these records, and be written in chunks, with any other records between
--- the chunks. Then the written text, with the rest by the records of the beginning, is the response
--- of that time.
+-- Let a response begin at these records, and be written in chunks. Records may be added between the
+-- chunks, if they void no entry that the meter had at the beginning. Then the written text, with
+-- the rest by the records of the beginning, is the response of that time.
 abbrev pub PiecesAreWhole : Type 0
 PiecesAreWhole = (facts : List Fact) (meter : List ℕ) (opening : Opening) (left : RowsLeft)
     (text : List ℕ) (pieces : List Piece) → opening_of facts meter ≡ Some opening

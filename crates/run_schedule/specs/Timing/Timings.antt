@@ -46,6 +46,6 @@ abbrev pub begun : (now : ℕ) → Timing → Timing
 begun now timing =
     record { phase = Connecting; at = min (now + 5) (2 ^ 64 - 1); pause = timing.pause }
 
--- A round lasts until the next one, at least a minute.
+-- A round may last for `every` seconds, at least a minute.
 abbrev pub stands : (every now : ℕ) → Timing
 stands every now = record { phase = Polling; at = min (now + max every 60) (2 ^ 64 - 1); pause = 0 }

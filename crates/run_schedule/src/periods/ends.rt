@@ -26,7 +26,7 @@ fn earliest_after(last: Day) -> i64
     (day + 1) * DAY - MOST_OFFSET
 }
 
-// Returns a time after `moment`. Between the two, no day after `last` begins in any zone.
+// Returns a time after `moment`. Between the two, no day after `last` has begun in any zone.
 fn search_from(last: Day, moment: u64) -> u64
     requires { moment ≤ LAST_MOMENT }
     ensures later { moment < result }

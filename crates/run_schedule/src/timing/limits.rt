@@ -20,7 +20,7 @@ pub fn until(now: u64, seconds: u64) -> u64
     now.saturating_add(seconds)
 }
 
-/// Returns the deadline of a round that begins now: the time of the next round, at least a minute.
+/// Returns the deadline of a round that begins now: `every` seconds later, at least a minute.
 pub fn round_until(every: u64, now: u64) -> u64
     ensures { result ≡ min (now + max every 60) (2 ^ 64 - 1) }
 {
