@@ -1,4 +1,4 @@
--- Worked examples: replies byte for byte.
+-- Worked examples: responses byte for byte.
 use Rattle.std.proofs.Common.{◌≡◌, ℕ, List, [], ◌∷◌, Some, None, Ok, Err, pos, true, false, refl}
 use Rattle.std.specs.Prelude.{codes}
 use Rattle.std.specs.Fmt.{digits}
@@ -17,7 +17,7 @@ use Rattle.http_answer.specs.Replies.{fault_said, refused, reply_bytes, reply_of
 use Rattle.http_answer.specs.Requests.{kept_request, number_asked}
 use Rattle.http_answer.specs.Rows.{meter_text}
 
--- an office that knows no meter but rows, and has exchanged one
+-- An office that knows no meter but has interval rows, and that executes an exchange.
 abbrev office : Office
 office = record {
   meter = λ name. Err refusal.NotFound;

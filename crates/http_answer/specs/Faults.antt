@@ -1,22 +1,23 @@
--- The JSON of a list whose rows have faults.
+-- The JSON of a list with faulty rows.
 use Rattle.std.specs.Prelude.{ℕ, List, [], ◌∷◌, ◌++◌, codes, decimal}
 use Rattle.point_list.specs.declared.fault.FaultyRow.{FaultyRow}
 use Rattle.point_list.specs.Faults.{fault_number}
 
--- a row and the number of its fault
+-- A row and the number of its fault.
 abbrev pub row_text : FaultyRow → List ℕ
 row_text faulty =
     codes "[" ++ decimal faulty.row ++ codes "," ++ decimal (fault_number faulty.fault) ++ codes "]"
 
--- rows after others: a comma before each
+-- Rows after other rows, each after a comma.
 abbrev pub more_rows : List FaultyRow → List ℕ
 more_rows [] = []
 more_rows (faulty ∷ rows) = codes "," ++ row_text faulty ++ more_rows rows
 
--- rows with commas between
+-- Rows with commas between them.
 abbrev pub rows_text : List FaultyRow → List ℕ
 rows_text [] = []
 rows_text (faulty ∷ rows) = row_text faulty ++ more_rows rows
 
+-- The body of the response to a list with faulty rows.
 abbrev pub faults_text : List FaultyRow → List ℕ
 faults_text rows = codes "{\"faults\":[" ++ rows_text rows ++ codes "]}"

@@ -1,11 +1,11 @@
--- What a reply tells of a command that was carried out.
+-- What a response reports of an executed command.
 use Rattle.std.specs.Prelude.{List, ℕ, ◌++◌, codes, Option, Some, None}
 use Rattle.office_events.specs.declared.answers.Answer.{Answer}
 use Rattle.office_events.specs.declared.answers.Answer.TheVariants.{Noted, Done, Again, Started}
 use Rattle.office_events.specs.declared.answers.CommandKind.{CommandKind}
 use Rattle.office_events.specs.declared.answers.CommandKind.TheVariants as kind
 
--- the name of a kind of command
+-- The name of a kind of command.
 abbrev pub kind_name : CommandKind → List ℕ
 kind_name kind.Device = codes "device"
 kind_name kind.List = codes "list"
@@ -19,10 +19,12 @@ kind_name kind.Close = codes "close"
 kind_name kind.Void = codes "void"
 kind_name kind.Start = codes "start"
 
+-- The body of the response to an executed command.
 abbrev pub done_text : CommandKind → List ℕ
 done_text k = codes "{\"done\":\"" ++ kind_name k ++ codes "\"}"
 
--- the kind of the command that an answer says was carried out, now or when it was asked before
+-- The kind of the command that was executed, now or for an earlier request with the same
+-- idempotency key.
 abbrev pub kind_answered : Answer → Option CommandKind
 kind_answered Noted = None
 kind_answered (Done k) = Some k

@@ -1,4 +1,4 @@
--- What replies want of an office.
+-- What responses need of an office.
 use Rattle.std.specs.Prelude.{ℕ, List, Option, Result}
 use Rattle.interval_core.specs.declared.shares.Share.{Share}
 use Rattle.interval_core.specs.declared.totals.DayTotal.{DayTotal}
@@ -8,8 +8,9 @@ use Rattle.office_events.specs.declared.questions.Installation.{Installation}
 use Rattle.office_events.specs.declared.questions.PollRow.{PollRow}
 use Rattle.office_events.specs.declared.refusals.Refusal.{Refusal}
 
--- What an office answers at a moment: to each question, and to a command that is asked, where it tells the kind of the
--- command that was carried out, now or when it was asked before. A name is none where what was asked for is no name.
+-- The answers of an office at one time: to each query, and to a command. Of a command it reports
+-- the kind that was executed, now or for an earlier request with the same idempotency key. A name
+-- is None if the text in the request is no name.
 pub record Office : Type 0 where
   pub meter : Option (List ℕ) → Result Installation Refusal
   pub poll : (number : ℕ) → Result PollRow Refusal

@@ -1,4 +1,5 @@
--- The reply to a request: the tests of its head in their order, then what its body gives, then what the office answers.
+-- The response to a request: the tests of its head in order, then its body, then the office's
+-- answer.
 use Rattle.std.specs.Prelude.{ℕ, List, ◌++◌, if◌then◌else◌, Option, Some, None, Result, Ok, Err}
 use Rattle.http_answer.specs.declared.commands.fault.CommandFault.{CommandFault}
 use Rattle.http_answer.specs.declared.commands.fault.CommandFault.TheVariants.{Malformed, Negative, Faulty, Memory}
@@ -26,39 +27,41 @@ use Rattle.http_answer.specs.Requests.{kept_request, name_asked, number_asked}
 use Rattle.http_answer.specs.Rows.{meter_text, poll_text}
 use Rattle.http_answer.specs.Statuses.{status_of}
 
--- A status and a body of JSON; or lines of text.
+-- A response: a status with a JSON body, or lines of text.
 pub data Reply : Type 0 where
   Json : Status → List ℕ → Reply
   Lines : List ℕ → Reply
 
--- its bytes
+-- The bytes of a response.
 abbrev pub reply_bytes : Reply → List ℕ
 reply_bytes (Json status body) = json_reply status body
 reply_bytes (Lines lines) = text_head ++ lines
 
--- a fault that the office isn't asked of
+-- The response to a request that fails before the office is asked.
 abbrev pub fault : Status → Reply
 fault status = Json status (fault_text status)
 
+-- The response that reports a refusal.
 abbrev pub refused : Refusal → Reply
 refused why = Json (status_of why) (refused_text (refusal_number why))
 
--- an answer of the office, with the text of a row
+-- The response with an answer of the office, by the text of its row.
 abbrev pub row_reply : {X : Type 0} → (X → List ℕ) → Result X Refusal → Reply
 row_reply text (Ok row) = Json Fine (text row)
 row_reply text (Err why) = refused why
 
--- the same with lines of text
+-- The response with an answer of the office, by its lines of text.
 abbrev pub lines_reply : {X : Type 0} → (X → List ℕ) → Result X Refusal → Reply
 lines_reply text (Ok rows) = Lines (text rows)
 lines_reply text (Err why) = refused why
 
--- the poll of a number; where it is none, there is no such poll
+-- The response for the poll of a number. A parameter that is no number has no poll.
 abbrev pub poll_reply : Office → Option ℕ → Reply
 poll_reply office None = refused refusal.NotFound
 poll_reply office (Some number) = row_reply poll_text (office.poll number)
 
--- the reply to a question, by its route and what the route's parameter took; the other routes are commands'
+-- The response to a query, by its route and the route's parameter. The other routes are those of
+-- commands.
 abbrev pub question_reply : Office → Route → Option (List ℕ) → Reply
 question_reply office route.Meter taken = row_reply meter_text (office.meter (name_asked taken))
 question_reply office route.Poll taken = poll_reply office (number_asked taken)
@@ -67,25 +70,26 @@ question_reply office route.Intervals taken =
 question_reply office route.Days taken = lines_reply days_text (office.days (name_asked taken))
 question_reply office _ taken = fault NotThere
 
--- The reply to a body that gives no command. A number that must not be negative is refused before the office is asked,
--- and so is a command for which memory is wanting.
+-- The response to a body that gives no command. It refuses a negative number, or a command for
+-- which memory ran out, without asking the office.
 abbrev pub fault_said : CommandFault → Reply
 fault_said Malformed = fault BadRequest
 fault_said Negative = refused refusal.Limit
 fault_said (Faulty rows) = Json Unprocessable (faults_text rows)
 fault_said Memory = refused refusal.Memory
 
--- the reply to a command by what its body gives
+-- The response to a command, by what its body gives.
 abbrev pub command_reply : (Command → Result CommandKind Refusal) → Result Command CommandFault
     → Reply
 command_reply ask (Ok command) = row_reply done_text (ask command)
 command_reply ask (Err why) = fault_said why
 
--- the command as it is asked of the office
+-- The caller's number of the request, or 0 if there is none.
 abbrev pub number_or_zero : Option ℕ → ℕ
 number_or_zero None = 0
 number_or_zero (Some number) = number
 
+-- A command with its idempotency key, and the bytes that are stored of its request.
 abbrev pub asked_with : PostHeaders → (request : List ℕ) → Command → Asked
 asked_with headers request command = record {
   caller = caller_in headers;
@@ -94,14 +98,16 @@ asked_with headers request command = record {
   command = command;
 }
 
+-- The command of a request, as the office gets it.
 abbrev pub asked_of : Start → (body : List ℕ) → Command → Asked
 asked_of start body command =
     asked_with (post_headers_of start.headers) (kept_request start.method start.target body) command
 
+-- The office's answer to the command of a request.
 abbrev pub ask : Office → Start → (body : List ℕ) → Command → Result CommandKind Refusal
 ask office start body command = office.asked (asked_of start body command)
 
--- what the office replies to a request of this route, all tests of whose head pass
+-- The response to a request of this route that passes all tests of its head.
 abbrev pub route_reply : Office → Start → (body : List ℕ) → Result Command CommandFault → Route
     → Option (List ℕ) → Reply
 route_reply office start body given route.Meter taken = question_reply office route.Meter taken
@@ -111,18 +117,20 @@ route_reply office start body given route.Intervals taken =
 route_reply office start body given route.Days taken = question_reply office route.Days taken
 route_reply office start body given _ taken = command_reply (ask office start body) given
 
+-- The response by the route that was found. Without a route it is 404.
 abbrev pub found_reply : Office → Start → (body : List ℕ) → Result Command CommandFault
     → Option Route → Option (List ℕ) → Reply
 found_reply office start body given None taken = fault NotThere
 found_reply office start body given (Some route) taken =
     route_reply office start body given route taken
 
--- the first test that fails answers
+-- The fault of the first failed test, otherwise the response.
 abbrev pub unless_failed : Option Status → Reply → Reply
 unless_failed None reply = reply
 unless_failed (Some status) reply = fault status
 
--- The reply to a request: its head begins so, this is its body, and the body gives this.
+-- The response to a request with this head and this body, where the body gives this command or
+-- fault.
 abbrev pub reply_of : Office → Table → Start → (body : List ℕ) → Result Command CommandFault → Reply
 reply_of office table start body given =
     unless_failed (head_fault table start)

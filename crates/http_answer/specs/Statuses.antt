@@ -4,6 +4,7 @@ use Rattle.http_request.specs.declared.status.Status.TheVariants.{NotFound as No
 use Rattle.office_events.specs.declared.refusals.Refusal.{Refusal}
 use Rattle.office_events.specs.declared.refusals.Refusal.TheVariants as refusal
 
+-- The status of the response that reports a refusal.
 abbrev pub status_of : Refusal → Status
 status_of refusal.NotFound = NotThere
 status_of refusal.Exists = Conflict

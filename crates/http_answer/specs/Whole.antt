@@ -1,4 +1,5 @@
--- The reply to the bytes that were read, if these hold a whole request or a bad head; else nothing is.
+-- The response to the bytes that were read, if they hold a complete request or a bad head. Other
+-- bytes have no response.
 use Rattle.std.specs.Prelude.{◌≡◌, ◌≢◌, ◌⊎◌, ℕ, false, List, Some, None, Result, Err, if◌then◌else◌}
 use Rattle.http_answer.specs.Commands.Given.{Gives}
 use Rattle.http_answer.specs.declared.commands.fault.CommandFault.{CommandFault}
@@ -17,19 +18,19 @@ use Rattle.http_answer.specs.Offices.{Office}
 use Rattle.http_answer.specs.Replies.{ask, command_reply, fault, reply_bytes, reply_of}
 use Rattle.http_answer.specs.Requests.{name_asked}
 
--- the request is a command's, of this route, all tests of whose head pass
+-- A command of this route whose head passes all tests.
 pub record IsCommand (table : Table) (start : Start) (route : Route) : Type 0 where
   pub passes : head_fault table start ≡ None
   pub leads : route_in table start.target ≡ Some route
   pub changes : is_question route ≡ false
 
--- what the body of a command's request gives; want of memory is no property of it
+-- What the body of a command's request gives. Running out of memory is no property of the body.
 abbrev pub BodyGives : Table → Start → (body : List ℕ) → Result Command CommandFault → Type 0
 BodyGives table start body given =
     (route : Route) → IsCommand table start route
     → Gives route (name_asked (name_in table start.target)) body given × (given ≢ Err Memory)
 
--- a whole request was read, and this is its reply
+-- The bytes hold a complete request, and this is its response.
 pub record RepliesToRequest (office : Office) (table : Table) (bytes reply : List ℕ) : Type 0 where
   pub start : Start
   pub body : List ℕ
@@ -38,22 +39,23 @@ pub record RepliesToRequest (office : Office) (table : Table) (bytes reply : Lis
   pub gives : BodyGives table start body given
   pub is : reply ≡ reply_bytes (reply_of office table start body given)
 
--- how a bad head is answered: 431 where it is past the limits, else 400
+-- The status for a bad head: 431 past the limits, otherwise 400.
 abbrev pub bad_head_status : List ℕ → Status
 bad_head_status bytes = if is_past_limits bytes then FieldsTooLarge else BadRequest
 
--- a bad head was read, and this is its reply
+-- The bytes begin with a bad head, and this is its response.
 pub record RepliesToBadHead (bytes reply : List ℕ) : Type 0 where
   pub bad : IsBadHead bytes
   pub is : reply ≡ reply_bytes (fault (bad_head_status bytes))
 
--- the reply to a command whose request stands here, by what its body gives
+-- The response to the command of a request, by what its body gives.
 abbrev pub reply_to_command : Office → Table → (bytes : List ℕ) → Head
     → Result Command CommandFault → List ℕ
 reply_to_command office table bytes at given =
     reply_bytes
     (command_reply (ask office (start_at bytes at) (body_of table bytes at)) given)
 
+-- The response to the bytes that were read.
 abbrev pub IsReply : Office → Table → (bytes reply : List ℕ) → Type 0
 IsReply office table bytes reply =
     RepliesToBadHead bytes reply ⊎ RepliesToRequest office table bytes reply

@@ -1,4 +1,4 @@
-//! The command that the body of a request asks for, by its route.
+//! The command that the body of a request gives, by its route.
 
 mod fault;
 mod given;

@@ -1,4 +1,4 @@
-//! The body of the reply to a list whose rows have faults.
+//! The body of the response to a list with faulty rows.
 ghost use Rattle.std.specs.Prelude.{◌≡◌, ◌≤◌, ◌+◌, ◌*◌, ◌++◌, length, codes, decimal, All};
 ghost use Rattle.point_list.specs.Faults.{fault_number};
 ghost use Rattle.http_answer.specs.Commands.Few.{AreFew};
@@ -7,7 +7,7 @@ ghost use Rattle.http_answer.specs.Faults.{faults_text, more_rows};
 use crate::sending::Text;
 use point_list::FaultyRow;
 
-// Puts a row after what introduces it.
+// Appends a row after `key`.
 fn push_row(text: &mut Text, key: &[u8], faulty: FaultyRow)
     requires room { length text.old + length key.now + 60 ≤ 8192 }
     requires low { faulty.row ≤ 514 }
@@ -20,7 +20,7 @@ fn push_row(text: &mut Text, key: &[u8], faulty: FaultyRow)
     text.push(b"]");
 }
 
-// Puts rows after others.
+// Appends rows, each after a comma.
 fn push_rows(text: &mut Text, rows: &[FaultyRow])
     requires room { length text.old + 12 * length rows.now ≤ 8000 }
     requires low { All (λ faulty. faulty.row ≤ 514) rows.now }
@@ -32,7 +32,8 @@ fn push_rows(text: &mut Text, rows: &[FaultyRow])
     }
 }
 
-/// The body for a list whose rows have faults: each row with the number of its least fault.
+/// Formats the body of the response to a list with faulty rows: each row with the least number of
+/// its faults.
 pub fn faults_body(rows: &[FaultyRow]) -> Text
     requires { AreFew rows.now }
     ensures { result ≡ faults_text rows.now }

@@ -1,10 +1,10 @@
-//! What replies tell of commands that were carried out.
+//! What responses report of executed commands.
 ghost use Rattle.std.specs.Prelude.{◌≡◌};
 ghost use Rattle.http_answer.specs.Kinds.{done_text, kind_answered};
 
 use office_events::{Answer, CommandKind};
 
-/// The body for a command that was carried out.
+/// Returns the body of the response to an executed command.
 pub fn done_body(kind: CommandKind) -> &'static [u8]
     ensures { result.now ≡ done_text kind }
 {
@@ -23,8 +23,8 @@ pub fn done_body(kind: CommandKind) -> &'static [u8]
     }
 }
 
-/// The kind of the command that an answer says was carried out, now or when it was asked before. An event that is no
-/// command has none.
+/// Returns the kind of the command that was executed, now or for an earlier request with the same
+/// idempotency key. An event that is no command has none.
 pub fn kind_answered(answer: Answer) -> Option<CommandKind>
     ensures { result ≡ kind_answered answer }
 {

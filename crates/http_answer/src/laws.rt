@@ -1,4 +1,4 @@
-//! Laws: which reply answers what was read.
+//! Theorems: which response belongs to the bytes that were read.
 ghost use Rattle.std.specs.Prelude.{◌≡◌, ◌≢◌, Ok, Err};
 ghost use Rattle.http_answer.specs.Commands.Given.{Gives};
 ghost use Rattle.http_answer.specs.declared.commands.fault.CommandFault.TheVariants.{Memory};
@@ -17,7 +17,8 @@ use http_request::{Found, Head, HeadState, Posted, Route, Status};
 use matchit::Router;
 use office_events::Command;
 
-/// A law: the status of the first test that fails answers, and 400 or 431 a bad head.
+/// Theorem: the response to a request with a failed test has the status of the first failed test.
+/// For a bad head that status is 400 or 431.
 pub fn faults_are_replied_to(
     router: &Router<Route>,
     bytes: &[u8],
@@ -29,7 +30,7 @@ pub fn faults_are_replied_to(
     ensures { (office : Office) → IsReply office router.now bytes.now (reply_bytes (fault status)) }
 {}
 
-/// A law: what an office answers to a question is the reply to it.
+/// Theorem: the response to a query is the office's answer.
 pub fn questions_are_replied_to(
     router: &Router<Route>,
     bytes: &[u8],
@@ -42,8 +43,8 @@ pub fn questions_are_replied_to(
         (reply_bytes (question_reply office found.now.route (name_of found.now))) }
 {}
 
-/// A law: what an office answers to the command that a body asks for is the reply to it, and so is the fault of a body that
-/// asks for none.
+/// Theorem: the response to a command is the office's answer to it, or reports the fault of its
+/// body.
 pub fn commands_are_replied_to(
     router: &Router<Route>,
     bytes: &[u8],

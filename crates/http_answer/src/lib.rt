@@ -1,5 +1,4 @@
-//! What the body of a request asks for, and the replies to requests: what they tell of an office's answers, and when
-//! each is the reply.
+//! Parses the commands of request bodies, and writes an office's answers as HTTP responses.
 #![tactic(auto)]
 
 mod commands;

@@ -1,4 +1,4 @@
-//! The lines of reports, put to an outlet. None takes memory.
+//! Writes the lines of reports. No function here allocates.
 ghost use Rattle.interval_core.specs.Report.{day_line};
 ghost use Rattle.interval_core.specs.Lines.{end_line, share_line};
 ghost use Rattle.http_answer.specs.Sending.Sending.{Puts};
@@ -8,23 +8,23 @@ use interval_core::{DayTotal, Share};
 use mb_wire::Link;
 use script_text::{day_line, end_line, interval_line};
 
-/// Puts the line of an interval row: the start of the interval, in seconds since 1970-01-01 UTC, and its energy in
-/// mWh.
+/// Writes the line of an interval row: the start of the interval, in seconds since 1970-01-01 UTC,
+/// and its energy in mWh.
 pub fn put_share<L: Link>(row: &Share, writer: &mut ReplyWriter<'_, L>)
     ensures { Puts writer.old writer.new (share_line row.now) }
 {
     writer.put(interval_line(*row).bytes());
 }
 
-/// Puts the line of a day: the day as `YYYY-MM-DD`, the count of its intervals right in 3 places, and its energy in
-/// mWh right in 24 places, with a space between.
+/// Writes the line of a day, with spaces between its fields: the day as `YYYY-MM-DD`, the number of
+/// its intervals in 3 columns, and its energy in mWh in 24 columns. Both numbers are right-aligned.
 pub fn put_day<L: Link>(total: &DayTotal, writer: &mut ReplyWriter<'_, L>)
     ensures { Puts writer.old writer.new (day_line total.now) }
 {
     writer.put(day_line(total).bytes());
 }
 
-/// Puts the line that ends a report: how many rows it has.
+/// Writes the last line of a report: the number of its rows.
 pub fn put_end<L: Link>(count: u64, writer: &mut ReplyWriter<'_, L>)
     ensures { Puts writer.old writer.new (end_line count) }
 {

@@ -1,4 +1,4 @@
-//! Replies that are put to an outlet. None takes memory.
+//! Writes responses. No function here allocates.
 ghost use Rattle.std.specs.Prelude.{Err};
 ghost use Rattle.http_answer.specs.Commands.Few.{HasFewRows};
 ghost use Rattle.http_answer.specs.Sending.Sending.{Puts};
@@ -16,7 +16,7 @@ use http_request::Status;
 use mb_wire::Link;
 use office_events::{CommandKind, Installation, PollRow, Refusal};
 
-/// Puts the reply for a fault that the office isn't asked of.
+/// Writes the response to a request that fails before the office is asked.
 pub fn put_fault<L: Link>(status: Status, writer: &mut ReplyWriter<'_, L>)
     ensures { Puts writer.old writer.new (reply_bytes (fault status)) }
 {
@@ -24,7 +24,7 @@ pub fn put_fault<L: Link>(status: Status, writer: &mut ReplyWriter<'_, L>)
     put_json(status, body.bytes(), writer);
 }
 
-/// Puts the reply for a refusal.
+/// Writes the response to a refusal.
 pub fn put_refusal<L: Link>(refusal: Refusal, writer: &mut ReplyWriter<'_, L>)
     ensures { Puts writer.old writer.new (reply_bytes (refused refusal)) }
 {
@@ -32,7 +32,7 @@ pub fn put_refusal<L: Link>(refusal: Refusal, writer: &mut ReplyWriter<'_, L>)
     put_json(status_of(refusal), body.bytes(), writer);
 }
 
-/// Puts the reply to a command for which the office was asked: the kind of the one that was carried out.
+/// Writes the response to a command: the kind of the executed command, or the refusal.
 pub fn put_done<L: Link>(answer: Result<CommandKind, Refusal>, writer: &mut ReplyWriter<'_, L>)
     ensures { Puts writer.old writer.new (reply_bytes (row_reply done_text answer)) }
 {
@@ -42,7 +42,8 @@ pub fn put_done<L: Link>(answer: Result<CommandKind, Refusal>, writer: &mut Repl
     }
 }
 
-/// Puts the reply to a command whose body asks for nothing that the office could do.
+/// Writes the response to a body that gives no command. `Malformed` gets 400, `Negative` and
+/// `Faulty` get 422, and `Memory` gets 503.
 pub fn put_command_fault<L: Link>(fault: &CommandFault, writer: &mut ReplyWriter<'_, L>)
     requires { HasFewRows (Err fault.now) }
     ensures { Puts writer.old writer.new (reply_bytes (fault_said fault.now)) }
@@ -58,7 +59,7 @@ pub fn put_command_fault<L: Link>(fault: &CommandFault, writer: &mut ReplyWriter
     }
 }
 
-/// Puts the reply to the question for a meter.
+/// Writes the response to the query for a meter.
 pub fn put_meter<L: Link>(answer: &Result<Installation, Refusal>, writer: &mut ReplyWriter<'_, L>)
     ensures { Puts writer.old writer.new (reply_bytes (row_reply meter_text answer.now)) }
 {
@@ -71,7 +72,7 @@ pub fn put_meter<L: Link>(answer: &Result<Installation, Refusal>, writer: &mut R
     }
 }
 
-/// Puts the reply to the question for a poll.
+/// Writes the response to the query for a poll.
 pub fn put_poll<L: Link>(answer: &Result<PollRow, Refusal>, writer: &mut ReplyWriter<'_, L>)
     ensures { Puts writer.old writer.new (reply_bytes (row_reply poll_text answer.now)) }
 {

@@ -9,7 +9,8 @@ use http_request::{Posted, number};
 use office_events::{Asked, Command, Name, Piece};
 use std::alloc::{AllocError, Global};
 
-/// The bytes that are kept of a command's request: the method, a space, the target, a line feed and the body.
+/// Returns the bytes that are stored of a command's request: the method, a space, the target, a
+/// line feed and the body.
 pub fn kept_request(
     alloc: Global,
     method: &[u8],
@@ -26,7 +27,7 @@ pub fn kept_request(
     Ok(Piece::new(bytes))
 }
 
-/// The name that a route's parameter took, if it is one.
+/// Returns the name that a route's parameter spells, if it is a name.
 pub fn name_asked(taken: Option<&str>) -> Option<Name>
     ensures { result ≡ name_asked (option_map (λ s. s.now) taken.entry) }
 {
@@ -36,7 +37,8 @@ pub fn name_asked(taken: Option<&str>) -> Option<Name>
     }
 }
 
-/// The number of a poll that a route's parameter took: one to nineteen digits, up to 2^63 - 1.
+/// Returns the number of a poll that a route's parameter spells: one to nineteen digits, up to 2^63
+/// - 1.
 pub fn number_asked(taken: Option<&str>) -> Option<u64>
     ensures { result ≡ number_asked (option_map (λ s. s.now) taken.entry) }
 {
@@ -46,7 +48,7 @@ pub fn number_asked(taken: Option<&str>) -> Option<u64>
     }
 }
 
-/// A command as it is asked of the office, with the bytes that are kept of its request.
+/// Joins a command with its idempotency key and the bytes that are stored of its request.
 pub fn asked(posted: &Posted, request: Piece, command: Command) -> Asked
     ensures { (headers : PostHeaders) → Says headers posted.now
         → result ≡ asked_with headers request command }

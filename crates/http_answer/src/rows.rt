@@ -1,4 +1,4 @@
-//! The bodies of replies to questions.
+//! The bodies of the responses to queries.
 ghost use Rattle.std.specs.Prelude.{◌≡◌, ◌≤◌, ◌+◌, ◌++◌, length, codes};
 ghost use Rattle.std.specs.Fmt.{signed_decimal};
 ghost use Rattle.http_answer.specs.Rows.{bool_text, ending_of, meter_text, poll_text};
@@ -6,7 +6,6 @@ ghost use Rattle.http_answer.specs.Rows.{bool_text, ending_of, meter_text, poll_
 use crate::sending::Text;
 use office_events::{EndedPoll, Installation, PollRow};
 
-// The word of JSON.
 fn bool_bytes(value: bool) -> &'static [u8]
     ensures word { result.now ≡ bool_text value }
     ensures few { length result.now ≤ 5 }
@@ -14,7 +13,6 @@ fn bool_bytes(value: bool) -> &'static [u8]
     if value { b"true" } else { b"false" }
 }
 
-// Puts a scale at the end of a text.
 fn push_scale(text: &mut Text, sf: i16)
     requires { length text.old ≤ 8000 }
     ensures bytes { text.new ≡ text.old ++ codes "\",\"sf\":" ++ signed_decimal sf }
@@ -23,7 +21,8 @@ fn push_scale(text: &mut Text, sf: i16)
     text.push_number(b"\",\"sf\":", i64::from(sf));
 }
 
-/// The body for a meter: where it stands, its range, and its whole energy in mWh, as a string of digits.
+/// Formats the body for a meter: its last entry, its range, and its total energy in mWh. The energy
+/// is a string of digits, since it may exceed the numbers that many JSON readers keep exactly.
 pub fn meter_body(row: &Installation) -> Text
     ensures { result ≡ meter_text row.now }
 {
@@ -43,7 +42,7 @@ pub fn meter_body(row: &Installation) -> Text
     text
 }
 
-// How a poll ended.
+// How a poll ended. All fields are 0 while the poll is pending.
 #[derive(Clone, Copy)]
 struct Ending {
     moment: u64,
@@ -70,7 +69,8 @@ fn ending_of(ended: &Option<EndedPoll>) -> Ending
     }
 }
 
-/// The body for a poll: numbers for its outcome, 0 while it is pending, and for that one's code.
+/// Formats the body for a poll. The numbers of its outcome and of the outcome's code are 0 while
+/// the poll is pending.
 pub fn poll_body(row: &PollRow) -> Text
     ensures { result ≡ poll_text row.now }
 {

@@ -1,4 +1,4 @@
-//! The text of a reply, and what brings it to a link. No call takes memory.
+//! The text of a response, and its way to a link. No function here allocates.
 
 mod bodies;
 mod outbox;

@@ -5,7 +5,7 @@ ghost use Rattle.http_answer.specs.Statuses.{status_of};
 use http_request::Status;
 use office_events::Refusal;
 
-/// The status of the reply that tells a refusal.
+/// Returns the status of the response that reports a refusal.
 pub fn status_of(refusal: Refusal) -> Status
     ensures { result ≡ status_of refusal }
 {

@@ -1,8 +1,8 @@
-//! Folders.
+//! Folders of cases.
 use std::alloc::Global;
 use std::{fs, io};
 
-/// The names in a folder, in the order of their letters.
+/// Returns the names in a folder, sorted.
 pub(crate) fn names_in(rt: &HostRuntime, folder: &str) -> io::Result<Vec<String>> {
     let mut names = Vec::new(rt.alloc());
     for entry in fs::read_dir(rt, folder)? {
@@ -12,7 +12,7 @@ pub(crate) fn names_in(rt: &HostRuntime, folder: &str) -> io::Result<Vec<String>
     Ok(names)
 }
 
-/// The paths of the folders in a folder, in the order of their letters.
+/// Returns the paths of the folders in a folder, sorted.
 pub(crate) fn folders_in(rt: &HostRuntime, folder: &str) -> io::Result<Vec<String>> {
     let mut paths = Vec::new(rt.alloc());
     for entry in fs::read_dir(rt, folder)? {

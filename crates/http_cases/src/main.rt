@@ -1,5 +1,6 @@
-//! Plays the cases below a folder, the working directory where no argument names another: each case is a text with requests, and the
-//! replies that these must get. It reports each case that differs, and at the end how many agree.
+//! Runs the golden tests below a folder, which the first argument names, or below the working
+//! directory. Each case is a text with requests and the responses that they must get. The program
+//! reports each case that differs, and at the end how many agree.
 #![tactic(auto)]
 
 mod case_text;
@@ -44,7 +45,7 @@ fn play_all(rt: &HostRuntime) -> io::Result<Tally> {
     Ok(tally)
 }
 
-// Plays the cases of a folder, in the order of their names.
+// Runs the cases of a folder, in the order of their names.
 fn play_subject(rt: &HostRuntime, subject: &str, tally: &mut Tally) -> io::Result<()> {
     for name in &names_in(rt, subject)? {
         let Some(stem) = name.as_str().strip_suffix(".http") else {
@@ -61,7 +62,8 @@ fn play_subject(rt: &HostRuntime, subject: &str, tally: &mut Tally) -> io::Resul
     Ok(())
 }
 
-// Plays the case in a file, with requests that come whole, and byte by byte. It reports where the replies differ, if they do.
+// Runs the case in a file twice, with requests that arrive complete and byte by byte. Reports where
+// the responses differ, if they do.
 fn agrees(rt: &HostRuntime, input: &str, wanted: &str) -> io::Result<bool> {
     let text = fs::read_to_string(rt, input)?;
     let wanted = fs::read(rt, wanted)?;

@@ -1,4 +1,4 @@
-//! A case, played over an office in memory.
+//! Runs a case over an office in memory.
 use crate::case_text::decode;
 use crate::replies::{run, serve};
 use interval_core::Zone;
@@ -11,7 +11,8 @@ use std::alloc::{AllocError, Global};
 
 type MemoryOffice = Office<ListBooks>;
 
-/// The replies to the requests of a case, each with a line feed after it. A served request is read so many bytes at a time.
+/// Returns the responses to the requests of a case, each with a line feed after it. `serve` reads a
+/// request `piece` bytes at a time.
 pub(crate) fn play(alloc: Global, text: &str, piece: usize) -> Result<Vec<u8>, AllocError> {
     match open_office(alloc) {
         Some(mut office) => play_blocks(alloc, &mut office, text, piece),
@@ -38,7 +39,8 @@ fn play_blocks(
     Ok(printed)
 }
 
-// Plays a block: `serve MOMENT` or `run MOMENT` and the request below, or lines of a script below any other line.
+// Runs a block: `serve MOMENT` or `run MOMENT` and the request below it, or lines of a script below
+// any other line.
 fn play_block(
     alloc: Global,
     office: &mut MemoryOffice,
@@ -64,7 +66,7 @@ fn play_block(
     Ok(())
 }
 
-// Carries out the lines of a script. Each must be accepted.
+// Executes the lines of a script. Each must be accepted.
 fn set_up(
     alloc: Global,
     office: &mut MemoryOffice,

@@ -1,4 +1,4 @@
-//! The replies of `serve` and of `run`.
+//! The responses of `serve` and of `run`.
 use http_peers::reply_site_over;
 use mb_wire::MemoryLink;
 use memory_books::ListBooks;
@@ -14,10 +14,10 @@ use std::alloc::{AllocError, Global};
 // The name that `--host-name` gives.
 static NAMES: [&str; 1] = ["office.example"];
 
-// The text in place of a reply where none is given.
+// The text that is printed if there is no response.
 static NO_REPLY: &[u8] = b"no reply";
 
-/// Appends the reply of `serve` to a request, which is read so many bytes at a time.
+/// Appends the response of `serve` to a request, which it reads `piece` bytes at a time.
 pub(crate) fn serve(
     alloc: Global,
     office: &mut Office<ListBooks>,
@@ -36,7 +36,8 @@ pub(crate) fn serve(
     }
 }
 
-/// Appends the reply of `run` to the bytes that a client has sent, as browsers get it: its own reply, or that of its office.
+/// Appends the response of `run` to the bytes of a client, with the headers for browsers. The
+/// response is that of the run itself, or that of its office.
 pub(crate) fn run(
     alloc: Global,
     office: &mut Office<ListBooks>,
@@ -56,7 +57,7 @@ pub(crate) fn run(
     printed.extend_from_slice(&told)
 }
 
-// Appends the reply of a run's own route, of a run that has counted nothing and has no earlier files.
+// Appends the response of a run's own route. The run has counted nothing, and has no earlier files.
 fn reply_of_run(
     alloc: Global,
     office: &mut Office<ListBooks>,

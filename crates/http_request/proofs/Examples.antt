@@ -5,7 +5,8 @@ use Rattle.http_request.specs.HeadTests.{Start}
 use Rattle.http_request.specs.Hosts.{is_known, may_ask}
 use Rattle.http_request.specs.Sites.{is_cross_site}
 
--- ---- Which hosts may ask (RFC 9110, section 7.2). This machine's own, by name or by number, in any case:
+-- ---- Which hosts may ask (RFC 9110, section 7.2): the names of this machine, as names or
+-- addresses, in any case.
 
 by_number : is_known [] (codes "127.0.0.1") ≡ true
 by_number = refl
@@ -13,7 +14,7 @@ by_number = refl
 with_a_port : is_known [] (codes "127.0.0.1:8080") ≡ true
 with_a_port = refl
 
--- which port is all the same, since a port may be passed on
+-- Any port is accepted, since a port may be forwarded.
 with_another_port : is_known [] (codes "127.0.0.1:8081") ≡ true
 with_another_port = refl
 
@@ -26,7 +27,7 @@ in_capitals = refl
 in_brackets : is_known [] (codes "[::1]:8080") ≡ true
 in_brackets = refl
 
--- no other
+-- Another name is rejected.
 
 another_name : is_known [] (codes "evil.example:8080") ≡ false
 another_name = refl
@@ -49,7 +50,7 @@ nothing = refl
 a_port_alone : is_known [] (codes ":8080") ≡ false
 a_port_alone = refl
 
--- unless it was given
+-- A name that was given is accepted.
 
 a_given_name : is_known (codes "Office.example" ∷ []) (codes "office.Example:443") ≡ true
 a_given_name = refl
@@ -57,7 +58,7 @@ a_given_name = refl
 another_than_given : is_known (codes "office.example" ∷ []) (codes "evil.example:443") ≡ false
 another_than_given = refl
 
--- ---- What a head says of it.
+-- ---- The Host headers of a head.
 
 abbrev head_with : List (List ℕ) → Start
 head_with values = record {
@@ -78,11 +79,12 @@ with_a_foreign_one = refl
 with_an_empty_one : may_ask [] (head_with ([] ∷ [])) ≡ false
 with_an_empty_one = refl
 
--- two are one too many, whatever they name (RFC 9112, section 3.2)
+-- Two Host headers are rejected, also for the same name (RFC 9112, section 3.2).
 with_two : may_ask [] (head_with (codes "localhost" ∷ codes "localhost" ∷ [])) ≡ false
 with_two = refl
 
--- ---- Which requests a page of another site has sent (W3C, Fetch Metadata Request Headers, section 2.3)
+-- ---- Which requests a page of another site sent (W3C, Fetch Metadata Request Headers, section
+-- 2.3).
 
 abbrev from_site : List (List ℕ) → Start
 from_site values = record {

@@ -1,4 +1,4 @@
--- Headers that were found, as the tests see them.
+-- The headers that the program found, in the words of the tests.
 use Rattle.std.proofs.Common.{◌≡◌, ◌≤◌, ℕ, List, [], ◌∷◌, length, refl, sym, ap, arith}
 use Rattle.std.specs.Prelude.{codes}
 use Rattle.http_request.specs.Head.Headers.{Gives, values_of}

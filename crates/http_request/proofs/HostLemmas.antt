@@ -1,9 +1,9 @@
--- Hosts that are known.
+-- Known hosts.
 use Rattle.std.proofs.Common.{◌≡◌, ℕ, Bool, ◌||◌, List, [], ◌∷◌, map, refl, ap}
 use Rattle.std.specs.Borrow.{Bor}
 use Rattle.std.specs.List.{list_any}
 
--- a test of what stands after each
+-- A test of the borrowed names.
 pub any_after : (test : List ℕ → Bool) (names : List (Bor (List ℕ))) → list_any (λ name. test name.now) names ≡ list_any test (map (λ name. name.now) names)
 any_after test [] = refl
 any_after test (name ∷ names) = ap (λ rest. test name.now || rest) (any_after test names)

@@ -1,4 +1,4 @@
--- What a head asks for.
+-- The request of a head: a query or a command.
 use Rattle.std.specs.Prelude.{◌≡◌, true, false, Some, None, Result, Ok, Err}
 use Rattle.http_request.specs.Routing.Routes.{Table}
 use Rattle.http_request.specs.Routing.Targets.{is_question, name_in, name_of, route_in}
@@ -10,30 +10,30 @@ use Rattle.http_request.specs.declared.ask.Ask.TheVariants.{Question, Command}
 use Rattle.http_request.specs.declared.post.Posted.{Posted}
 use Rattle.http_request.specs.declared.status.Status.{Status}
 
--- the route of the target, and what its parameter took
+-- The route of the target, with the value of its parameter.
 pub record LeadsTo (table : Table) (start : Start) (found : Found) : Type 0 where
   pub route : route_in table start.target ≡ Some found.route
   pub name : name_of found ≡ name_in table start.target
 
--- what the headers say
+-- The size, caller and number that the headers give.
 pub record Says (headers : PostHeaders) (posted : Posted) : Type 0 where
   pub size : size_in headers ≡ Some posted.size
   pub caller : caller_in headers ≡ Some posted.caller
   pub number : request_in headers ≡ Some posted.number
 
--- all tests pass, and this is what the headers say; or the status is that of the first that fails
+-- The parsed headers if all tests pass, otherwise the status of the first failed test.
 abbrev pub TestsPost : PostHeaders → Result Posted Status → Type 0
 TestsPost headers (Ok posted) = (post_fault headers ≡ None) × Says headers posted
 TestsPost headers (Err status) = post_fault headers ≡ Some status
 
--- what a head asks for: a question or a command, by its route
+-- The request of a head: a query or a command, by its route.
 abbrev pub AsksFor : Table → Start → Ask → Type 0
 AsksFor table start (Question found) = LeadsTo table start found × (is_question found.route ≡ true)
 AsksFor table start (Command found posted) =
     LeadsTo table start found × (is_question found.route ≡ false)
     × Says (post_headers_of start.headers) posted
 
--- all tests pass, and this is what the head asks for; or the status is that of the first that fails
+-- The request of a head if all tests pass, otherwise the status of the first failed test.
 abbrev pub TestsHead : Table → Start → Result Ask Status → Type 0
 TestsHead table start (Ok ask) = (head_fault table start ≡ None) × AsksFor table start ask
 TestsHead table start (Err status) = head_fault table start ≡ Some status

@@ -1,4 +1,4 @@
--- The tests of a head, in their order.
+-- The tests of a head, in order.
 use Rattle.std.specs.Prelude.{ℕ, Bool, false, not, if◌then◌else◌, List, [], ◌∷◌, map, take, is_none, Option, Some, None}
 use Rattle.std.specs.Str.{bytes_eq}
 use Rattle.httparse.specs.Grammar.{RequestHead}
@@ -11,16 +11,18 @@ use Rattle.http_request.specs.Tests.{first_failed, post_headers_of, post_tests}
 use Rattle.http_request.specs.declared.status.Status.{Status}
 use Rattle.http_request.specs.declared.status.Status.TheVariants.{NotFound, MethodNotAllowed}
 
--- what the tests read of a head: the method, the target, and each header's name and value
+-- The parts of a head that the tests read: its method, its target, and the name and value of each
+-- header.
 pub record Start : Type 0 where
   pub method : List ℕ
   pub target : List ℕ
   pub headers : List (List ℕ × List ℕ)
 
+-- The parts of a parsed head.
 abbrev pub start_of : RequestHead → Start
 start_of h = record { method = h.method; target = h.target; headers = map name_and_value h.fields }
 
--- the same at the places that a look found
+-- The parts of a head, from its spans.
 abbrev pub start_at : List ℕ → Head → Start
 start_at bytes at = record {
   method = span_bytes bytes at.method;
@@ -28,19 +30,21 @@ start_at bytes at = record {
   headers = map (header_bytes bytes) (take at.count at.headers);
 }
 
--- the method is the route's, in its case
+-- The method is that of the route. Its case matters.
 abbrev pub has_method : Route → List ℕ → Bool
 has_method route method = bytes_eq method (method_of route)
 
+-- The target has a route, and the method is not that of the route.
 abbrev pub has_other_method : Option Route → List ℕ → Bool
 has_other_method None method = false
 has_other_method (Some route) method = not (has_method route method)
 
+-- The target has the route of a query.
 abbrev pub asks : Option Route → Bool
 asks None = false
 asks (Some route) = is_question route
 
--- A row for each test and the status that it answers. A question has no more tests than these two.
+-- Each test with the status of its failure. A query has only these first two tests.
 abbrev pub head_tests : Table → Start → List (Bool × Status)
 head_tests table start =
     (is_none (route_in table start.target), NotFound)
@@ -48,6 +52,6 @@ head_tests table start =
     ∷ (if asks (route_in table start.target) then []
     else post_tests (post_headers_of start.headers))
 
--- the status of the first test of a head that fails
+-- The status of the first failed test of a head.
 abbrev pub head_fault : Table → Start → Option Status
 head_fault table start = first_failed (head_tests table start)

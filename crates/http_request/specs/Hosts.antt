@@ -10,43 +10,47 @@ use Rattle.http_request.specs.declared.head.head.Head.{Head}
 use Rattle.http_request.specs.declared.head.head.HeadState.{HeadState}
 use Rattle.http_request.specs.declared.head.head.HeadState.TheVariants.{Open, TooLarge, NoHead, Whole}
 
--- the names of this machine alone
+-- The names of this machine.
 abbrev pub own_names : List (List ℕ)
 own_names = codes "127.0.0.1" ∷ codes "localhost" ∷ codes "[::1]" ∷ []
 
--- nothing, or a colon and digits: a port, whichever it is
+-- A port or nothing: no bytes, or a colon and digits. Any port is accepted.
 abbrev pub is_port : List ℕ → Bool
 is_port [] = true
 is_port (byte ∷ digits) = byte == 58 && list_all is_ascii_digit digits
 
--- the name in whatever case, alone or with a port
+-- The name in any case, with or without a port.
 abbrev pub is_host : (name value : List ℕ) → Bool
 is_host name value =
     same_name (take (length name) value) name && is_port (drop (length name) value)
 
+-- The value is one of the names, with or without a port.
 abbrev pub is_among : (names : List (List ℕ)) → (value : List ℕ) → Bool
 is_among names value = list_any (λ name. is_host name value) names
 
--- it is a name of this machine, or one that was given
+-- A name of this machine, or a given name.
 abbrev pub is_known : (given : List (List ℕ)) → (value : List ℕ) → Bool
 is_known given value = is_among own_names value || is_among given value
 
--- Who has no Host may ask, and who has one that is known. Who has two may not (RFC 9112, section 3.2).
+-- A request without Host may ask, and one whose only Host is known. With two Host headers it may
+-- not (RFC 9112, section 3.2).
 abbrev pub may_ask_with : (given : List (List ℕ)) → Times → Bool
 may_ask_with given Missing = true
 may_ask_with given (Alone value) = is_known given value
 may_ask_with given Repeated = false
 
+-- The Host header of the head lets it ask.
 abbrev pub may_ask : (given : List (List ℕ)) → Start → Bool
 may_ask given start = may_ask_with given (times (values_of (codes "host") start.headers))
 
--- So it is with what was read. What is no head has no Host: it is rejected for what it is.
+-- The same for the bytes that were read. Bytes without a complete head have no Host, so they may
+-- ask. A later test rejects a bad head.
 abbrev pub may_ask_in : (given : List (List ℕ)) → List ℕ → HeadState → Bool
 may_ask_in given bytes Open = true
 may_ask_in given bytes TooLarge = true
 may_ask_in given bytes NoHead = true
 may_ask_in given bytes (Whole at) = may_ask given (start_at bytes at)
 
--- the names as texts
+-- The names as lists of bytes.
 abbrev pub texts : List (Bor (List ℕ)) → List (List ℕ)
 texts names = map (λ name. name.now) names

@@ -1,5 +1,5 @@
--- Whether a page of another site has a browser ask: what the header Sec-Fetch-Site says (W3C, Fetch Metadata Request Headers,
--- section 2.3). Browsers set it, and no page can.
+-- Whether a page of another site sent a request, by the header Sec-Fetch-Site (W3C, Fetch Metadata
+-- Request Headers, section 2.3). Browsers set this header, and no page can.
 use Rattle.std.specs.Prelude.{ℕ, Bool, true, false, List, codes}
 use Rattle.std.specs.Str.{bytes_eq}
 use Rattle.http_request.specs.Head.Headers.{values_of}
@@ -9,16 +9,17 @@ use Rattle.http_request.specs.declared.head.head.Head.{Head}
 use Rattle.http_request.specs.declared.head.head.HeadState.{HeadState}
 use Rattle.http_request.specs.declared.head.head.HeadState.TheVariants.{Open, TooLarge, NoHead, Whole}
 
--- What has no such header comes of no browser, or of an old one. No browser sends two.
+-- A request without the header came from no browser, or from an old one. No browser sends two.
 abbrev pub says_cross_site : Times → Bool
 says_cross_site Missing = false
 says_cross_site (Alone value) = bytes_eq value (codes "cross-site")
 says_cross_site Repeated = true
 
+-- The head says that a page of another site sent it.
 abbrev pub is_cross_site : Start → Bool
 is_cross_site start = says_cross_site (times (values_of (codes "sec-fetch-site") start.headers))
 
--- So it is with what was read. What is no head has no such header.
+-- The same for the bytes that were read. Bytes without a head have no such header.
 abbrev pub is_cross_site_in : List ℕ → HeadState → Bool
 is_cross_site_in bytes Open = false
 is_cross_site_in bytes TooLarge = false

@@ -1,4 +1,4 @@
-//! What a head asks for.
+//! The request of a head: a query or a command.
 ghost use Rattle.std.specs.Prelude.{◌≡◌, IsUtf8};
 ghost use Rattle.httparse.specs.Spans.{span_bytes};
 ghost use Rattle.http_request.specs.Head.Heads.{IsPlaced};
@@ -11,12 +11,12 @@ use crate::routing::{Found, Route, route_of};
 use crate::status::Status;
 use matchit::Router;
 
-/// What a head asks for.
+/// A tested request, by its head.
 #[derive(Clone, Copy)]
 pub enum Ask<'b> {
-    /// A question, whose body is not read.
+    /// A query. Its body is not read.
     Question(Found<'b>),
-    /// A command, whose body is still to be read.
+    /// A command, with what its headers say. Its body follows the head.
     Command(Found<'b>, Posted),
 }
 
@@ -26,7 +26,10 @@ fn has_method(route: Route, method: &[u8]) -> bool
     method == route.method()
 }
 
-/// What a head asks for, or the status of the first test that fails.
+/// Tests a head in a fixed order, and returns its request or the status of the first failed test.
+///
+/// The order is the route (404), the method (405), and for a command the headers of
+/// [`post_headers`].
 pub fn ask_of<'b>(router: &Router<Route>, bytes: &'b [u8], head: &Head) -> Result<Ask<'b>, Status>
     requires text { IsUtf8 (span_bytes bytes.now head.now.target) }
     requires placed { IsPlaced bytes.now head.now }

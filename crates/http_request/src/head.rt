@@ -1,4 +1,4 @@
-//! The head of a request: when one has come, and what its headers say.
+//! The head of a request: how it is found in bytes, and how its headers are read.
 
 mod head;
 mod headers;

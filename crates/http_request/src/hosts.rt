@@ -1,4 +1,4 @@
-//! Which hosts may ask.
+//! Which hosts a request may name in its `Host` header.
 ghost use Rattle.std.specs.Prelude.{◌≡◌, length, take, drop};
 ghost use Rattle.std.specs.Char.{is_ascii_digit};
 ghost use Rattle.std.specs.List.{list_all, list_any};
@@ -9,7 +9,7 @@ ghost use Rattle.http_request.specs.Hosts.{texts};
 
 use crate::head::{Given, Head, HeadState, header_value, same_name};
 
-// The first so many bytes, and those after them.
+// Returns at most the first `count` bytes. Unlike a slice, it accepts a count past the end.
 fn front_of(bytes: &[u8], count: usize) -> &[u8]
     ensures { result.now ≡ take count bytes.now }
 {
@@ -36,7 +36,6 @@ fn are_digits(bytes: &[u8]) -> bool
     bytes.iter().all(|byte| byte.is_ascii_digit())
 }
 
-// Whether a text is nothing, or a colon and digits.
 fn is_port(text: &[u8]) -> bool
     ensures { result ≡ hosts.is_port text.now }
 {
@@ -46,7 +45,7 @@ fn is_port(text: &[u8]) -> bool
     }
 }
 
-// Whether a value is a name in whatever case, alone or with a port.
+// Returns whether a value is the name in any case, with or without a port.
 fn is_host(name: &str, value: &[u8]) -> bool
     ensures { result ≡ hosts.is_host name.now value.now }
 {
@@ -72,7 +71,7 @@ fn is_given(given: &[&str], value: &[u8]) -> bool
     is_one_of(given, value)
 }
 
-// Whether a head names a host that is known, or none.
+// Returns whether a head names a known host, or no host.
 fn names_known(given: &[&str], bytes: &[u8], head: &Head) -> bool
     requires placed { IsPlaced bytes.now head.now }
     ensures { result ≡ hosts.may_ask (texts given.now) (start_at bytes.now head.now) }
@@ -84,9 +83,12 @@ fn names_known(given: &[&str], bytes: &[u8], head: &Head) -> bool
     }
 }
 
-/// Whether what was read may ask here: a head that names this machine alone, by `127.0.0.1`, `localhost` or `[::1]`, or one
-/// of the names given, each with a port or without; or one without `Host`. A page of another name that was made to lead
-/// here may not.
+/// Returns whether a request may be served, by its `Host` header (RFC 9110, section 7.2).
+///
+/// The header may be missing. Otherwise it must be given once, and name `127.0.0.1`, `localhost`,
+/// `[::1]` or a name in `given`, in any case, with or without a port. The test rejects pages of
+/// another host name that was made to resolve to this machine (DNS rebinding). Bytes without a
+/// complete head pass this test.
 pub fn may_ask(given: &[&str], bytes: &[u8], head_state: &HeadState) -> bool
     requires { Looks bytes.now head_state.now }
     ensures { result ≡ hosts.may_ask_in (texts given.now) bytes.now head_state.now }

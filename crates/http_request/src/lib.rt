@@ -1,4 +1,4 @@
-//! The tests of a request's head, in their order.
+//! Reads HTTP requests from a link, and tests their heads in a fixed order.
 #![tactic(auto)]
 
 mod ask;

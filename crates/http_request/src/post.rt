@@ -11,17 +11,18 @@ use crate::status::Status;
 use httparse::spans::HeaderSpan;
 use office_events::Name;
 
-/// The most bytes of a body.
+/// The most bytes that a body may have.
 pub const MOST_BODY: usize = 65_536;
 
 /// What the headers of a command say.
 #[derive(Clone, Copy)]
 pub struct Posted {
-    /// How many bytes the body has.
+    /// The size of the body in bytes, from `Content-Length`.
     pub size: u64,
-    /// Who asks.
+    /// The caller, from `Office-Caller`.
     pub caller: Name,
-    /// The number that the caller gave the request.
+    /// The caller's number of this request, from `Office-Request`. With the caller it is the
+    /// idempotency key.
     pub number: u64,
 }
 
@@ -37,7 +38,6 @@ fn is_repeated(given: &Given<'_>) -> bool
     matches!(given, Given::Often)
 }
 
-// Takes the tests in turn.
 fn test_headers(
     transfer: Given<'_>,
     size: Given<'_>,
@@ -82,7 +82,16 @@ fn test_headers(
     })
 }
 
-/// What the headers of a command say, or the status of the first test that fails.
+/// Parses the headers of a command, or returns the status of the first failed test.
+///
+/// The tests, in order:
+///
+/// - 400 for `Transfer-Encoding`, or for a repeated `Content-Length`, `Office-Caller` or
+///   `Office-Request`;
+/// - 411 without `Content-Length`;
+/// - 400 for a `Content-Length` that is no number of at most 19 digits;
+/// - 413 above 65,536 bytes;
+/// - 400 for a missing or malformed `Office-Caller` or `Office-Request`.
 pub fn post_headers(bytes: &[u8], headers: &[HeaderSpan]) -> Result<Posted, Status>
     requires within { All (IsHeaderWithin (length bytes.now)) headers.now }
     ensures { TestsPost (post_headers_of (map (header_bytes bytes.now) headers.now)) result }

@@ -1,4 +1,4 @@
-//! Reads from a link until a head has come, or a bad one, and then a body.
+//! Reads from a link until the head has arrived, and then the body.
 
 mod head_and_body;
 mod inbox;

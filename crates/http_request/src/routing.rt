@@ -1,4 +1,4 @@
-//! Where the target of a request leads: the table of routes, sought by `matchit`.
+//! The table of routes, and the route of a target in it, by `matchit`.
 
 mod routes;
 mod targets;

@@ -1,4 +1,4 @@
-//! Whether a page of another site asks.
+//! Whether a page of another site sent a request.
 ghost use Rattle.std.specs.Prelude.{◌≡◌};
 ghost use Rattle.http_request.specs.Head.Heads.{IsPlaced, Looks};
 ghost use Rattle.http_request.specs.HeadTests.{start_at};
@@ -6,7 +6,7 @@ ghost use Rattle.http_request.specs.Sites as sites;
 
 use crate::head::{Given, Head, HeadState, header_value};
 
-// Whether a head says that it comes of a page of another site.
+// Returns whether a head says that a page of another site sent it.
 fn says_cross_site(bytes: &[u8], head: &Head) -> bool
     requires placed { IsPlaced bytes.now head.now }
     ensures { result ≡ sites.is_cross_site (start_at bytes.now head.now) }
@@ -18,8 +18,11 @@ fn says_cross_site(bytes: &[u8], head: &Head) -> bool
     }
 }
 
-/// Whether a page of another site had a browser send what was read, by `Sec-Fetch-Site` (W3C, Fetch Metadata Request Headers,
-/// section 2.3).
+/// Returns whether a page of another site made a browser send the request, by `Sec-Fetch-Site`
+/// (W3C, Fetch Metadata Request Headers, section 2.3).
+///
+/// A repeated header counts as a page of another site, since no browser repeats it. Bytes without a
+/// head do not.
 pub fn is_cross_site(bytes: &[u8], head_state: &HeadState) -> bool
     requires { Looks bytes.now head_state.now }
     ensures { result ≡ sites.is_cross_site_in bytes.now head_state.now }

@@ -1,9 +1,9 @@
-//! The statuses of replies.
+//! The statuses of responses.
 
 ghost use Rattle.std.specs.Prelude.{◌≡◌};
 ghost use Rattle.http_request.specs.Status.Statuses.{number_of_status, reason_of_status};
 
-/// The status of a reply.
+/// The status of a response.
 #[derive(Clone, Copy, Debug, PartialEq, Eq)]
 pub enum Status {
     Fine,
@@ -21,7 +21,7 @@ pub enum Status {
 }
 
 impl Status {
-    /// The number that a reply gives.
+    /// Returns the status code (RFC 9110, section 15; RFC 6585, section 5).
     pub fn number(self) -> u16
         ensures { result ≡ number_of_status self }
     {
@@ -41,7 +41,7 @@ impl Status {
         }
     }
 
-    /// The words after the number.
+    /// Returns the reason phrase that follows the code.
     pub fn reason(self) -> &'static [u8]
         ensures { result.now ≡ reason_of_status self }
     {

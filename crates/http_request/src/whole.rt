@@ -1,4 +1,4 @@
-//! A whole request, read from a link: its head, and the body that belongs to it.
+//! A complete request, read from a link: its head, and the body that belongs to it.
 
 ghost use Rattle.std.specs.Prelude.{◌≡◌, ◌≤◌, ◌+◌, IsUtf8, MatchBool, OnOk, Ok, drop, length, take};
 ghost use Rattle.std.specs.Io.KnownBytes.{Keeps};
@@ -20,10 +20,10 @@ use crate::{Ask, Found, MOST_BODY, Posted, ask_of};
 use matchit::Router;
 use mb_wire::Link;
 
-/// How many bytes of room a request needs at most.
+/// The room in bytes that suffices for any request.
 pub const MOST_ROOM: usize = MOST_BYTES + MOST_BODY;
 
-// How many bytes of a body a head wants.
+// Returns the size in bytes of the body that belongs to a head: 0 for a query or a failed test.
 fn body_size(router: &Router<Route>, bytes: &[u8], head: &Head) -> usize
     requires text { IsUtf8 (span_bytes bytes.now head.now.target) }
     requires placed { IsPlaced bytes.now head.now }
@@ -36,7 +36,10 @@ fn body_size(router: &Router<Route>, bytes: &[u8], head: &Head) -> usize
     }
 }
 
-/// Takes until what was taken holds a whole request, or a bad head. The look that it answers is not Open.
+/// Reads until the inbox holds a complete request or a bad head. The returned state is never
+/// `Open`.
+///
+/// Fails with the cause if a read fails, the input ends, or 100,000 reads were made.
 pub fn read_request<L: Link>(
     router: &Router<Route>,
     inbox: &mut Inbox<'_>,
@@ -60,7 +63,7 @@ pub fn read_request<L: Link>(
     Ok(head_state)
 }
 
-/// Whether bytes hold a whole request, or a bad head, so that nothing more is to be read.
+/// Returns whether bytes hold a complete request or a bad head, so that nothing remains to be read.
 pub fn is_whole(router: &Router<Route>, bytes: &[u8]) -> bool
     ensures { MatchBool result (IsReadWhole router.now bytes.now)
         (IsUnfinished router.now bytes.now) }
@@ -72,7 +75,9 @@ pub fn is_whole(router: &Router<Route>, bytes: &[u8]) -> bool
     }
 }
 
-/// What a whole request asks for, or the status that answers it.
+/// Returns the query or command of a complete request, or the status that rejects it.
+///
+/// A head past the limits gets 431, and a malformed head 400. [`ask_of`] tests any other head.
 pub fn ask_in<'b>(
     router: &Router<Route>,
     bytes: &'b [u8],
@@ -89,7 +94,7 @@ pub fn ask_in<'b>(
     }
 }
 
-/// The body of a whole request that asks for a command.
+/// Returns the body of a complete request that asks for a command.
 pub fn body_in<'b>(bytes: &'b [u8], head: &Head, posted: &Posted) -> &'b [u8]
     requires whole { head.now.len + posted.now.size ≤ length bytes.now }
     ensures { result.now ≡ take posted.now.size (drop head.now.len bytes.now) }
@@ -98,7 +103,7 @@ pub fn body_in<'b>(bytes: &'b [u8], head: &Head, posted: &Posted) -> &'b [u8]
     &bytes[head.len..head.len + size]
 }
 
-/// A law: the body of a whole request that asks for a command has as many bytes as its head says.
+/// Theorem: the body of a complete command has as many bytes as its head says.
 pub fn a_command_tells_its_size(
     router: &Router<Route>,
     bytes: &[u8],
@@ -111,7 +116,7 @@ pub fn a_command_tells_its_size(
     ensures { body_size router.now (start_at bytes.now head.now) ≡ posted.now.size }
 {}
 
-/// A law: the heads that two looks at the same bytes find say the same.
+/// Theorem: two parses of the same bytes find the same head.
 pub fn one_head(bytes: &[u8], one: &Head, other: &Head)
     requires one { IsHeadAt bytes.now one.now }
     requires other { IsHeadAt bytes.now other.now }
@@ -119,20 +124,20 @@ pub fn one_head(bytes: &[u8], one: &Head, other: &Head)
     ensures len { one.now.len ≡ other.now.len }
 {}
 
-/// A law: bytes that go on, or lack a part of the body, hold no whole request.
+/// Theorem: bytes without a complete head or body hold no complete request.
 pub fn no_request(router: &Router<Route>, bytes: &[u8], head: &Head)
     requires { IsUnfinished router.now bytes.now }
     ensures { IsWhole router.now bytes.now head.now → ⊥ }
 {}
 
-/// A law: a look at a whole request finds the request that the bytes hold.
+/// Theorem: the head that parses a complete request gives the request that the bytes hold.
 pub fn a_look_finds_the_request(router: &Router<Route>, bytes: &[u8], head: &Head)
     requires { IsWhole router.now bytes.now head.now }
     ensures { HoldsRequest router.now bytes.now (start_at bytes.now head.now)
         (body_of router.now bytes.now head.now) }
 {}
 
-/// A law: bytes hold one request at most.
+/// Theorem: bytes begin with at most one request.
 pub fn requests_are_one()
     ensures { RequestsAreOne }
 {}

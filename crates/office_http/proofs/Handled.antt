@@ -1,4 +1,4 @@
--- What one call reads and gives.
+-- The bytes that one call reads and writes.
 use Rattle.std.proofs.Common.{◌≡◌, ◌∙◌, ◌≤◌, ◌+◌, ◌-◌, ◌^◌, min, arith, ℕ, Bool, true, false, not, ◌&&◌, List, [], ◌++◌, Option, Some, None, Result, Ok, Err, inl, inr, refl, sym, ap, subst}
 use Rattle.std.specs.Io.KnownBytes.{Appends, Keeps}
 use Rattle.std.specs.Prelude.{is_err}
@@ -36,12 +36,12 @@ keeps_append None b h = tt
 keeps_append (Some x) None h = absurd h
 keeps_append (Some x) (Some y) h = h ∙ sym (append-nil x)
 
--- what was given since an earlier moment, at which nothing less was given
+-- The bytes that were written since an earlier time, if nothing was written in between.
 pub gives_since : (sent : Result (Unit {0}) LinkFailed) (a b c : Option (List ℕ)) (bytes : List ℕ) → Keeps a b → Gives sent b c bytes → Gives sent a c bytes
 gives_since (Ok x) a b c bytes h gives = Appends-trans a b c [] bytes (keeps_append a b h) gives
 gives_since (Err e) a b c bytes h gives = (gives.0, gives.1, gives.2, Appends-trans a b c [] gives.0 (keeps_append a b h) gives.3)
 
--- all that was read is what came
+-- The bytes that were read are all that arrived.
 pub came_is : (old new : List ℕ) (r s : Option (List ℕ)) → old ≡ [] → (came : Came old new r s) → new ≡ came.chunk
 came_is old new r s empty came = came.bytes ∙ ap (λ o. o ++ came.chunk) empty
 
@@ -56,14 +56,14 @@ stopped P goes old new was now read empty is (inr some) = inr record {
   size = some.size;
 }
 
--- a whole request has a head
+-- A complete request has a head.
 pub head_of : (table : Table) (head_state : HeadState) (bytes : List ℕ) → Holds table bytes head_state → HasHead bytes
 head_of table Open bytes h = absurd h
 head_of table TooLarge bytes h = record { head_state = TooLarge; finds = h; come = refl }
 head_of table NoHead bytes h = record { head_state = NoHead; finds = h; come = refl }
 head_of table (Whole at) bytes h = record { head_state = Whole at; finds = h.head; come = refl }
 
--- ---- taking failed
+-- ---- A read failed.
 
 pub read_failed : {B : Type 0} (ledger : B → Ledger) (at : ℕ) (office : Office B) (fault : TakeFault) (old new : List ℕ) (remaining later given later_given : Option (List ℕ))
     (last : Option LastTake) → old ≡ [] → ReadsRequest routes (Err fault) old new remaining later → Keeps given later_given
@@ -103,7 +103,7 @@ head_failed take.TurnsUsed old new remaining later given later_given last empty 
   does = record { goes_on = inl (subst IsOpenHead (came_is old new remaining later empty reads.0) reads.1); nothing = keeps };
 }
 
--- ---- a reply was given
+-- ---- A response was written.
 
 pub does_reply : {B : Type 0} (ledger : B → Ledger) (at : ℕ) (old new : Office B) (link : Passage) (read : List ℕ) (result : Result (Unit {0}) HandleFault)
     → IsEnd result → Replies ledger at old new link read result → Does ledger at old new link read result
@@ -142,7 +142,7 @@ replied ledger at old new inbox full seen result remaining mid later given given
       });
     }
 
--- ---- an outlet that was finished
+-- ---- A writer that was finished.
 
 pub put_first : (base given : Option (List ℕ)) (out : Outgoing) → out.given ≡ given → out.buffered ≡ [] → Keeps base given → HasPut base out []
 put_first base given out is none keeps = record {
@@ -161,7 +161,7 @@ is_end (Ok x) (Some why) = tt
 pub ends_well : (sent : Result (Unit {0}) LinkFailed) (cut : Option Refusal) (result : Result (Unit {0}) HandleFault) → result ≡ ended sent cut → IsEnd result
 ends_well sent cut result is = subst IsEnd (sym is) (is_end sent cut)
 
--- a failure of two steps in turn is one of both
+-- A failure of one of two steps in turn is a failure of both together.
 risen_twice : (a b c : Bool) (count : ℕ) → (a ≡ true → b ≡ true) → (b ≡ true → c ≡ true) → risen (c && not b) (risen (b && not a) count) ≡ risen (c && not a) count
 risen_twice true true true count ab bc = refl
 risen_twice true true false count ab bc = refl
@@ -179,7 +179,7 @@ fault_sent (Err e) cut = refl
 fault_sent (Ok x) None = refl
 fault_sent (Ok x) (Some why) = refl
 
--- an outlet to a link of such counts, to which bytes were put, and which was finished
+-- A writer over a link with these counts, to which bytes were written, and which was finished.
 pub record IsFinished (first put last : Outgoing) (sent : Result (Unit {0}) LinkFailed) : Type 0 where
   pub works : first.failed ≡ false
   pub puts : OnlyGives first put
@@ -209,9 +209,9 @@ pub finished_takes : (first put last : Outgoing) (sent : Result (Unit {0}) LinkF
     → IsFinished first put last sent → first.takes ≡ before → after ≡ last.takes → after ≡ before
 finished_takes first put last sent before after done from to = to ∙ done.finish.takes ∙ done.puts.takes ∙ from
 
--- ---- how often something was taken
+-- ---- The number of reads.
 
--- since an inbox was made that has taken nothing
+-- The reads since a new inbox was made.
 pub few_takes : {X : Type 0} (result : Result X TakeFault) (old new : Inbox) (taken later : ℕ) → old.takes ≡ 0 → CountsTakes result old new taken later
     → (count : ℕ) → taken ≡ min count (2 ^ 64 - 1) → later ≤ min (count + MOST_TAKES) (2 ^ 64 - 1)
 few_takes result old new taken later none takes count is =
@@ -221,7 +221,7 @@ few_takes result old new taken later none takes count is =
     let few = new.few in
     omega (arith, ended, few)
 
--- ---- there was no memory
+-- ---- There was no memory.
 
 bare_on : {B : Type 0} (office : Office B) (link : Passage) (read : List ℕ) → ReadsOnBare link read → ReadsOn office office link read
 bare_on office link read h = record { goes_on = h.goes_on; nothing = h.nothing; unchanged = refl }
@@ -254,7 +254,7 @@ bare_does : (link : Passage) (read : List ℕ) (sent : Result (Unit {0}) LinkFai
 bare_does link read (Ok x) h = h
 bare_does link read (Err e) h = h
 
--- what was given where a head was read
+-- The response after a head was read.
 pub bare_replied : (inbox full : Inbox) (head_state : HeadState) (sent : Result (Unit {0}) LinkFailed) (result : Result (Unit {0}) HandleFault)
     (remaining mid later given given_mid later_given : Option (List ℕ)) (was between last : Option LastTake)
     → bytes_in inbox ≡ [] → ReadsHead (Ok head_state) (bytes_in inbox) (bytes_in full) remaining mid → StopsAtOnce IsOpenHead inbox full was between → Keeps given given_mid

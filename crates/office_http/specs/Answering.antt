@@ -1,4 +1,4 @@
--- What an office answers that stands after what it accepted, where neither its books nor memory fail.
+-- The answers of an office that matches what it accepted, if its store and memory do not fail.
 use Rattle.std.specs.Prelude.{◌≡◌, ℕ, List, map, Option, Some, None, Result, Ok, Err}
 use Rattle.std.specs.Option.{option_and_then}
 use Rattle.interval_core.specs.Days.{account_of}
@@ -21,21 +21,23 @@ use Rattle.office_core.specs.Asking.{AreDaysNamed, intervals_of, or_not_found}
 use Rattle.http_answer.specs.Kinds.{kind_answered}
 use Rattle.http_answer.specs.Offices.{Office}
 
--- What a command is told of its answer: the kind that was carried out, now or when it was asked before. No command is
--- answered that it is noted, unless a wrong answer of the store was taken as true.
+-- The result of a command: the kind that was executed, now or for an earlier request with the same
+-- idempotency key. A command is answered with Noted only if a wrong answer of the store was taken
+-- as true.
 abbrev pub or_damaged : Option CommandKind → Result CommandKind Refusal
 or_damaged None = Err (refusal.Store store.Damaged)
 or_damaged (Some kind) = Ok kind
 
+-- The result of a command, by the office's answer.
 abbrev pub told : Result Answer Refusal → Result CommandKind Refusal
 told (Ok answer) = or_damaged (kind_answered answer)
 told (Err why) = Err why
 
--- the register of a name, which may be none
+-- The name is that of a register. A missing name is not.
 abbrev pub IsRegister : List Fact → (name : Option (List ℕ)) → Type 0
 IsRegister facts name = option_and_then (register_of facts) name ≡ None → ⊥
 
--- Days are those of a register, by the clocks of the zone; of a name that is no register there are none.
+-- The days are those of a register, in the office's zone. A name that is no register has no days.
 pub record AnswersDays (zone : Zone) (facts : List Fact)
     (answer : Option (List ℕ) → Result (List DayTotal) Refusal) : Type 0 where
   pub known : (name : Option (List ℕ)) (days : List DayTotal) → IsRegister facts name
@@ -43,7 +45,8 @@ pub record AnswersDays (zone : Zone) (facts : List Fact)
   pub unknown : (name : Option (List ℕ)) → option_and_then (register_of facts) name ≡ None
       → answer name ≡ Err refusal.NotFound
 
--- Each question is answered by the facts of what was accepted, and a command as its definition says.
+-- The records of what was accepted answer each query, and the definition of decisions answers each
+-- command.
 pub record AnswersAt (zone : Zone) (past : History) (at : ℕ) (office : Office) : Type 0 where
   pub meter : (name : Option (List ℕ))
       → office.meter name ≡ or_not_found (option_and_then (meter_of (facts_of past)) name)

@@ -1,4 +1,4 @@
--- What one call of `handle` does.
+-- The effect of one call of `handle`.
 use Rattle.std.specs.Prelude.{◌≡◌, ◌≤◌, ◌⊎◌, ◌+◌, ◌-◌, ◌^◌, ℕ, min, Bool, true, false, List, [], Option, Some, None, Result, Ok, Err}
 use Rattle.std.specs.Io.KnownBytes.{Consumes, IsAtEnd, Keeps}
 use Rattle.mb_wire.specs.Links.{risen}
@@ -24,7 +24,7 @@ use Rattle.office_http.specs.Serving.{Serves}
 use Rattle.office_http.specs.declared.fault.HandleFault.{HandleFault}
 use Rattle.office_http.specs.declared.fault.HandleFault.TheVariants.{Read, Write, Short, TurnsUsed, Cut}
 
--- the number under which a fault is told
+-- The number of a fault.
 abbrev pub fault_number : HandleFault → ℕ
 fault_number Read = 1
 fault_number Write = 2
@@ -32,13 +32,13 @@ fault_number Short = 3
 fault_number TurnsUsed = 4
 fault_number Cut = 5
 
--- the fault of a call that could take no more
+-- The fault of a call that could read no more.
 abbrev pub as_fault : TakeFault → HandleFault
 as_fault take.Read = Read
 as_fault take.Short = Short
 as_fault take.TurnsUsed = TurnsUsed
 
--- a take or a give of the link failed
+-- A read or a write of the link failed.
 abbrev pub is_link_fault : Result (Unit {0}) HandleFault → Bool
 is_link_fault (Ok x) = false
 is_link_fault (Err Read) = true
@@ -47,14 +47,14 @@ is_link_fault (Err Short) = false
 is_link_fault (Err TurnsUsed) = false
 is_link_fault (Err Cut) = false
 
--- How a request ends to which a reply was put: a give failed, or it was cut off, or all is well.
+-- The result of a request with a response: a write failed, the response was cut off, or neither.
 abbrev pub ended : (sent : Result (Unit {0}) LinkFailed) → (cut : Option Refusal)
     → Result (Unit {0}) HandleFault
 ended (Err failed) cut = Err Write
 ended (Ok x) None = Ok x
 ended (Ok x) (Some why) = Err Cut
 
--- it ends so only where a reply was put
+-- The result is that of a request with a response.
 abbrev pub IsEnd : Result (Unit {0}) HandleFault → Type 0
 IsEnd (Ok x) = Unit {0}
 IsEnd (Err Write) = Unit {0}
@@ -63,7 +63,7 @@ IsEnd (Err Read) = ⊥
 IsEnd (Err Short) = ⊥
 IsEnd (Err TurnsUsed) = ⊥
 
--- What a contract sees of a link before and after a call.
+-- The model of a link before and after a call.
 pub record Passage : Type 0 where
   pub remaining : Option (List ℕ)
   pub later_remaining : Option (List ℕ)
@@ -71,6 +71,7 @@ pub record Passage : Type 0 where
   pub later_given : Option (List ℕ)
   pub last : Option LastTake
 
+-- The model of a link before and after a call, from its parts.
 abbrev pub passage : (remaining later_remaining given later_given : Option (List ℕ))
     → Option LastTake
     → Passage
@@ -82,17 +83,18 @@ passage remaining later_remaining given later_given last = record {
   last = last;
 }
 
--- Nothing more was taken once what was read contained a request, or a bad head: before the last take it went on.
+-- Nothing was read, or reading stopped in time: before the last read, the bytes held no complete
+-- request and no bad head.
 abbrev pub StopsReading : (read : List ℕ) → Option LastTake → Type 0
 StopsReading read last = (read ≡ []) ⊎ TakesWhatLacks (IsUnfinished routes) [] read last
 
--- What was read holds a head, or a bad one.
+-- The bytes hold a head or a bad one.
 pub record HasHead (read : List ℕ) : Type 0 where
   pub head_state : HeadState
   pub finds : Looks read head_state
   pub come : is_open head_state ≡ false
 
--- A reply is answered to what was read. Of what was put of it all was given, or at Write a beginning.
+-- The call wrote the response to the bytes. If a write failed, the link got a beginning of it.
 pub record GivesReply {B : Type 0} (ledger : B → Ledger) (past : History) (at : ℕ)
     (old new : Office B)
     (given later_given : Option (List ℕ)) (read : List ℕ) (result : Result (Unit {0}) HandleFault)
@@ -104,15 +106,15 @@ pub record GivesReply {B : Type 0} (ledger : B → Ledger) (past : History) (at 
   pub serves : Serves ledger past at read old new cut put
   pub gives : Gives sent given later_given put
 
--- So it is of a reply to these bytes, after what was accepted.
+-- The same, as a property of what the office accepted before.
 abbrev pub GivesReplyTo : {B : Type 0} → (read : List ℕ) → (B → Ledger) → (at : ℕ)
     → (old new : Office B) → (given later_given : Option (List ℕ)) → Result (Unit {0}) HandleFault
     → History → Type 0
 GivesReplyTo read ledger at old new given later_given result past =
     GivesReply ledger past at old new given later_given read result
 
--- What was read holds a head, or a bad one; nothing more was taken once it contained a whole request, or a bad head; and a reply
--- was given.
+-- The bytes hold a head or a bad one. Reading stopped once they held a complete request or a bad
+-- head, and the call wrote a response.
 pub record Replies {B : Type 0} (ledger : B → Ledger) (at : ℕ) (old new : Office B) (link : Passage)
     (read : List ℕ) (result : Result (Unit {0}) HandleFault) : Type 0 where
   pub head : HasHead read
@@ -120,12 +122,14 @@ pub record Replies {B : Type 0} (ledger : B → Ledger) (at : ℕ) (old new : Of
   pub replies : After ledger old new
       (GivesReplyTo read ledger at old new link.given link.later_given result)
 
--- What was read holds no request and no bad head: nothing was given, and the office is as it was.
+-- The bytes hold no complete request and no bad head. Nothing was written, and the office is
+-- unchanged.
 pub record ReadsOn {B : Type 0} (old new : Office B) (link : Passage) (read : List ℕ) : Type 0 where
   pub goes_on : IsUnfinished routes read
   pub nothing : Keeps link.given link.later_given
   pub unchanged : new ≡ old
 
+-- The effect of a call on the bytes that it read, by its result.
 abbrev pub Does : {B : Type 0} → (B → Ledger) → (at : ℕ) → (old new : Office B) → Passage
     → (read : List ℕ) → Result (Unit {0}) HandleFault → Type 0
 Does ledger at old new link read (Ok x) = Replies ledger at old new link read (Ok x)
@@ -136,15 +140,15 @@ Does ledger at old new link read (Err Short) =
     ReadsOn old new link read × IsAtEnd link.later_remaining
 Does ledger at old new link read (Err TurnsUsed) = ReadsOn old new link read
 
--- The call took these bytes from the link, and did so with them.
+-- The call read these bytes from the link, and acted on them.
 pub record Handles {B : Type 0} (ledger : B → Ledger) (at : ℕ) (old new : Office B) (link : Passage)
     (result : Result (Unit {0}) HandleFault) : Type 0 where
   pub read : List ℕ
   pub takes : Consumes link.remaining link.later_remaining read
   pub does : Does ledger at old new link read result
 
--- The count of the link's failures rises by one exactly where it was the link that failed. There were 100,000 takes at most,
--- and so many where they are used up. The counts stay at 2^64 - 1.
+-- The link's count of failures rises by one exactly if the link failed. There were at most 100,000
+-- reads, and exactly that many if they were used up. The counts stop at 2^64 - 1.
 pub record CountsLink (result : Result (Unit {0}) HandleFault)
     (failed later_failed taken later_taken : ℕ)
     : Type 0 where
@@ -154,7 +158,8 @@ pub record CountsLink (result : Result (Unit {0}) HandleFault)
   pub few : (count : ℕ) → taken ≡ min count (2 ^ 64 - 1)
       → later_taken ≤ min (count + MOST_TAKES) (2 ^ 64 - 1)
 
--- There was no memory for a request: once a head was read, or a bad one, that is replied, and no office is asked.
+-- There was no memory for a request. After a head or a bad one, the response reports that, and no
+-- office is asked.
 pub record RepliesBare (link : Passage) (read : List ℕ) (result : Result (Unit {0}) HandleFault)
     : Type 0 where
   pub sent : Result (Unit {0}) LinkFailed
@@ -163,10 +168,13 @@ pub record RepliesBare (link : Passage) (read : List ℕ) (result : Result (Unit
   pub stops : StopsReading read link.last
   pub gives : Gives sent link.given link.later_given (reply_bytes (refused refusal.Memory))
 
+-- Without memory for a request, the bytes hold no complete request and no bad head. Nothing was
+-- written.
 pub record ReadsOnBare (link : Passage) (read : List ℕ) : Type 0 where
   pub goes_on : IsUnfinished routes read
   pub nothing : Keeps link.given link.later_given
 
+-- The effect of a call without memory for a request, by its result.
 abbrev pub DoesBare : Passage → (read : List ℕ) → Result (Unit {0}) HandleFault → Type 0
 DoesBare link read (Ok x) = RepliesBare link read (Ok x)
 DoesBare link read (Err Write) = RepliesBare link read (Err Write)
@@ -175,6 +183,7 @@ DoesBare link read (Err Read) = ReadsOnBare link read
 DoesBare link read (Err Short) = ReadsOnBare link read × IsAtEnd link.later_remaining
 DoesBare link read (Err TurnsUsed) = ReadsOnBare link read
 
+-- Without memory for a request, the call read these bytes from the link, and acted on them.
 pub record HandlesBare (link : Passage) (result : Result (Unit {0}) HandleFault) : Type 0 where
   pub read : List ℕ
   pub takes : Consumes link.remaining link.later_remaining read

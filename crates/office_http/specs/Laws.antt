@@ -1,10 +1,10 @@
--- A request has one reply.
+-- A request has one response.
 use Rattle.std.specs.Prelude.{◌≡◌, ℕ, List}
 use Rattle.http_request.specs.Routing.Routes.{routes}
 use Rattle.http_answer.specs.Offices.{Office}
 use Rattle.http_answer.specs.Whole.{IsReply}
 
--- Where an office answers the same, two replies to the same bytes are equal.
+-- If an office answers the same, two responses to the same bytes are equal.
 abbrev pub RepliesAreOne : Type 0
 RepliesAreOne = (office : Office) (bytes one other : List ℕ)
     → IsReply office routes bytes one → IsReply office routes bytes other → one ≡ other

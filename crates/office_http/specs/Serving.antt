@@ -1,4 +1,4 @@
--- What is replied to the bytes that were read, and what the office has accepted then.
+-- The response to the bytes that were read, and what the office has accepted then.
 use Rattle.std.specs.Prelude.{◌≡◌, ◌⊎◌, ◌++◌, ℕ, Bool, true, List, Option, Some, None, Result}
 use Rattle.interval_core.specs.declared.zone.Zone.{Zone}
 use Rattle.office_events.specs.declared.answers.Answer.{Answer}
@@ -25,18 +25,19 @@ use Rattle.http_answer.specs.Whole.{IsReply}
 use Rattle.office_http.specs.Wants.Wanting.{AsksNothing, AsksOffice}
 use Rattle.office_http.specs.Answering.{AnswersAt}
 
--- the bytes ask this of the office, or nothing that would change it
+-- The bytes ask the office for this command, or for nothing that would change it.
 abbrev pub Asks : (read : List ℕ) → Option Asked → Type 0
 Asks read None = AsksNothing routes read
 Asks read (Some asked) = AsksOffice routes read asked
 
--- what the office has accepted once this was asked
+-- What the office has accepted after this command was asked.
 abbrev pub with_asked : History → (at : ℕ) → Option Asked → History
 with_asked past at None = past
 with_asked past at (Some asked) =
     with_answer past at (event.Asked asked) (decision_of past at (event.Asked asked))
 
--- The reply is what the office answers, by the facts of what it accepted; and it has accepted what the bytes ask.
+-- The response is the office's answer, by the records of what it accepted. The office has also
+-- accepted the command of the bytes, if any.
 pub record IsAnswered (zone : Zone) (past : History) (at : ℕ) (read reply : List ℕ)
     (later : History)
     : Type 0 where
@@ -45,8 +46,8 @@ pub record IsAnswered (zone : Zone) (past : History) (at : ℕ) (read reply : Li
   pub asks : Asks read asked
   pub accepts : later ≡ with_asked past at asked
 
--- The store or memory failed, or the office had stopped: the reply tells so, and nothing is accepted. That it had stopped
--- is told only where it had.
+-- The store or memory failed, or the office had stopped. The response reports that, and nothing is
+-- accepted. It reports a stopped office only if the office had stopped.
 pub record IsUnavailable (past : History) (had_stopped : Bool) (before after : Failures)
     (reply : List ℕ) (later : History) : Type 0 where
   pub why : Refusal
@@ -55,8 +56,8 @@ pub record IsUnavailable (past : History) (had_stopped : Bool) (before after : F
   pub tells : reply ≡ reply_bytes (refused why)
   pub unchanged : later ≡ past
 
--- What is replied, over how the books failed before and after. A reply is cut off where the books fail while
--- its rows are handed on.
+-- The response, by how often the store had failed before and after. It is cut off if the store
+-- fails while its rows are written.
 abbrev pub IsServed : Zone → (past : History) → (at : ℕ) → (read : List ℕ) → (had_stopped : Bool)
     → (before after : Failures) → (cut : Option Refusal) → (reply : List ℕ) → (later : History)
     → Type 0
@@ -66,19 +67,19 @@ IsServed zone past at read had_stopped before after None reply later =
 IsServed zone past at read had_stopped before after (Some why) reply later =
     IsAnswered zone past at read reply later × IsOutside ⊥ before after why
 
--- A reply that is cut off lacks rows, or none of them, and its last line, which counts them.
+-- A response that is cut off lacks its last line, which counts the rows. It may also lack rows.
 pub record IsCutOff (put reply : List ℕ) : Type 0 where
   pub rows : List ℕ
   pub count : ℕ
   pub lacks : reply ≡ put ++ (rows ++ end_line count)
 
--- what was put is the reply, or where it was cut off a beginning of it
+-- The written bytes are the complete response, or a beginning of it if it was cut off.
 abbrev pub IsPut : (cut : Option Refusal) → (put reply : List ℕ) → Type 0
 IsPut None put reply = reply ≡ put
 IsPut (Some why) put reply = IsCutOff put reply
 
--- The office was fed the command that the bytes ask, and answered it so. A stop leaves what it left before, or the facts with
--- those of this command.
+-- The office executed the command of the bytes, with this answer. A crash leaves the records from
+-- before, or also those of this command.
 pub record IsFed (old new : Ledger) (past : History) (at : ℕ) (read : List ℕ) (later : History) :
     Type 0 where
   pub asked : Asked
@@ -87,14 +88,15 @@ pub record IsFed (old new : Ledger) (past : History) (at : ℕ) (read : List ℕ
   pub accepts : later ≡ with_answer past at (event.Asked asked) answer
   pub leaves : Leaves old new (LeftByEvent past at (event.Asked asked) answer)
 
--- It was fed that command, or nothing; then a stop leaves what it left.
+-- The office was fed that command, or nothing. Without a command, a crash leaves the same records
+-- as before.
 abbrev pub LeavesServed : (old new : Ledger) → (past : History) → (at : ℕ) → (read : List ℕ)
     → (later : History) → Type 0
 LeavesServed old new past at read later =
     IsFed old new past at read later ⊎ ((later ≡ past) × KeepsFacts old new)
 
--- A reply is answered to the bytes that were read, or what was put of it, and the office stands after what it has accepted.
--- What a stop leaves changes by the command that was asked alone.
+-- The call writes the response to the bytes, or a part of it, and the office matches what it has
+-- accepted. Only the command that was asked changes what a crash leaves.
 pub record Serves {B : Type 0} (ledger : B → Ledger) (past : History) (at : ℕ) (read : List ℕ)
     (old new : Run B) (cut : Option Refusal) (put : List ℕ) : Type 0 where
   pub reply : List ℕ
@@ -105,40 +107,42 @@ pub record Serves {B : Type 0} (ledger : B → Ledger) (past : History) (at : �
   pub stands : Stands ledger later new
   pub leaves : LeavesServed (ledger (books_in old)) (ledger (books_in new)) past at read later
 
--- it was put to an outlet
+-- The response was written through a writer.
 pub record Puts {B : Type 0} (ledger : B → Ledger) (past : History) (at : ℕ) (read : List ℕ)
     (old new : Run B) (from to : Outgoing) (cut : Option Refusal) : Type 0 where
   pub put : List ℕ
   pub serves : Serves ledger past at read old new cut put
   pub puts : sending.Puts from to put
 
--- Whatever the books hold, no request stops the office, a wrong answer of a store that was taken as true stays one, and the
--- zone stays.
+-- For any content of the store, no request stops the office. A wrong answer of the store that was
+-- taken as true stays recorded as such, and the zone stays.
 pub record Lasts {B : Type 0} (ledger : B → Ledger) (old new : Run B) : Type 0 where
   pub stopped : is_stopped new ≡ is_stopped old
   pub clean : (ledger (books_in new)).is_clean → (ledger (books_in old)).is_clean
   pub zone : (ledger (books_in new)).zone ≡ (ledger (books_in old)).zone
 
--- So a call serves what was read: by a reply that it puts to the outlet, and gives nothing else to its link.
+-- A call serves the bytes: it writes a response, and nothing else, to its link.
 pub record PutsReply {B : Type 0} (ledger : B → Ledger) (at : ℕ) (read : List ℕ) (old new : Run B)
     (from to : Outgoing) (cut : Option Refusal) : Type 0 where
   pub serves : After ledger old new (λ past. Puts ledger past at read old new from to cut)
   pub gives : OnlyGives from to
   pub lasts : Lasts ledger old new
 
--- The poll of a number is asked for, or of none, and what the office answers is the reply.
+-- The bytes query the poll of this number, or of no number, and the office's answer is the
+-- response.
 pub record IsPollAsked (read : List ℕ) (number : Option ℕ) : Type 0 where
   pub nothing : AsksNothing routes read
   pub replies : (office : Office)
       → IsReply office routes read (reply_bytes (poll_reply office number))
 
--- So it is with the interval rows of a meter, and the days of a register.
+-- The bytes query the interval rows of a meter, and the office's answer is the response.
 pub record AreIntervalsAsked (read : List ℕ) (meter : Option (List ℕ)) : Type 0 where
   pub nothing : AsksNothing routes read
   pub replies : (office : Office)
       → IsReply office routes read
       (reply_bytes (lines_reply intervals_text (office.intervals meter)))
 
+-- The bytes query the days of a register, and the office's answer is the response.
 pub record AreDaysAsked (read : List ℕ) (register : Option (List ℕ)) : Type 0 where
   pub nothing : AsksNothing routes read
   pub replies : (office : Office)

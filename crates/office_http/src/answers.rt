@@ -1,4 +1,4 @@
-//! What an office answers, put as the reply.
+//! Asks the office, and writes its answer as the response.
 ghost use Rattle.std.specs.Prelude.{◌≡◌};
 ghost use Rattle.http_request.specs.Routing.Routes.{routes};
 ghost use Rattle.office_http.specs.Wants.Wanting.{IsAskedFor, IsQuestion, Wants, HasFewFaults};
@@ -19,7 +19,7 @@ use office_core::Office;
 use office_events::{Answer, Asked, CommandKind, Event, Name, Refusal, StoreCause};
 use office_rules::facts_are_lawful;
 
-// What a command is told of its answer. No command is answered that it is noted.
+// Converts the answer to a command. `Noted` answers no command, so it means a damaged store.
 fn told(answer: Result<Answer, Refusal>) -> Result<CommandKind, Refusal>
     ensures { result ≡ answering.told answer }
 {
@@ -29,7 +29,7 @@ fn told(answer: Result<Answer, Refusal>) -> Result<CommandKind, Refusal>
     }
 }
 
-// Asks a command of the office.
+// Executes a command on the office.
 fn put_asked<'l, L: Link, B: Books>(
     bytes: &[u8],
     asked: Asked,
@@ -46,7 +46,7 @@ fn put_asked<'l, L: Link, B: Books>(
     Replied { writer, cut: None }
 }
 
-// Asks for the poll of a number.
+// Queries the poll of a number.
 fn put_poll_asked<'l, L: Link, B: Books>(
     bytes: &[u8],
     number: Option<u64>,
@@ -71,7 +71,7 @@ fn put_poll_asked<'l, L: Link, B: Books>(
     }
 }
 
-// Asks for the interval rows of a meter.
+// Queries the interval rows of a meter.
 fn put_intervals<'l, L: Link, B: Books>(
     bytes: &[u8],
     meter: &Option<Name>,
@@ -92,7 +92,7 @@ fn put_intervals<'l, L: Link, B: Books>(
     lines.end(answer)
 }
 
-// Asks for the days of a register.
+// Queries the days of a register.
 fn put_days<'l, L: Link, B: Books>(
     bytes: &[u8],
     register: &Option<Name>,
@@ -109,7 +109,6 @@ fn put_days<'l, L: Link, B: Books>(
     lines.end(answer)
 }
 
-// Asks a question of the office.
 fn put_question<'l, L: Link, B: Books>(
     bytes: &[u8],
     found: &Found<'_>,
@@ -143,7 +142,7 @@ fn put_question<'l, L: Link, B: Books>(
     }
 }
 
-/// Puts the reply to what was read, for which the office is asked what is wanted of it.
+/// Writes the response to the bytes that were read, after asking the office for what they want.
 pub fn put_reply<'l, L: Link, B: Books>(
     bytes: &[u8],
     want: Want<'_>,

@@ -1,4 +1,4 @@
-//! HTTP on a listener: connections, one after the other, of who may ask.
+//! HTTP on a listener: connections from accepted hosts, one after the other.
 
 mod connections;
 mod named;

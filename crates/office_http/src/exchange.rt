@@ -1,4 +1,4 @@
-//! One request in, one reply out.
+//! Reads one request, and writes one response.
 ghost use Rattle.std.specs.Prelude.{◌≡◌, ◌≤◌, length};
 ghost use Rattle.std.specs.Io.KnownBytes.{Keeps};
 ghost use Rattle.mb_wire.specs.Links.{risen};
@@ -22,7 +22,7 @@ use office_core::Office;
 use office_events::Refusal;
 use std::alloc::Global;
 
-/// How a request ends to which a reply was put.
+/// Returns the result of a request whose response was written or cut off.
 pub(crate) fn ended(sent: Result<(), LinkFailed>, cut: Option<Refusal>) -> Result<(), HandleFault>
     ensures { result ≡ ended sent cut }
 {
@@ -33,7 +33,7 @@ pub(crate) fn ended(sent: Result<(), LinkFailed>, cut: Option<Refusal>) -> Resul
     }
 }
 
-/// Reads a head, for which there is room, and replies that there is no memory for more.
+/// Reads a head into room on the stack, and responds that there is no memory for more.
 pub(crate) fn refuse<L: Link>(link: &mut L) -> Result<(), HandleFault>
     ensures handles { HandlesBare (passage (L.remaining link.old) (L.remaining link.new)
         (L.given link.old) (L.given link.new) (L.last link.new)) result }
@@ -50,7 +50,7 @@ pub(crate) fn refuse<L: Link>(link: &mut L) -> Result<(), HandleFault>
     ended(sent, None)
 }
 
-/// Replies to a request that was read.
+/// Responds to a request that was read.
 pub(crate) fn reply<L: Link, B: Books>(
     bytes: &[u8],
     want: Want<'_>,
@@ -76,7 +76,6 @@ pub(crate) fn reply<L: Link, B: Books>(
     ended(sent, cut)
 }
 
-// Reads a request, and replies to it.
 fn serve<L: Link, B: Books>(
     alloc: Global,
     router: &Router<Route>,
@@ -99,9 +98,10 @@ fn serve<L: Link, B: Books>(
     reply(inbox.bytes(), want, link, office, moment)
 }
 
-/// Serves one request by HTTP/1.1: reads it from the link, asks the office, and replies. Moments are seconds since
-/// 1970-01-01 UTC. A command that was accepted stands where its reply could not be given, and asked again it gets the
-/// kept answer.
+/// Serves one HTTP/1.1 request: reads it from the link, asks the office, and writes the response.
+///
+/// `moment` is in seconds since 1970-01-01 UTC. An accepted command keeps its effect if its
+/// response could not be written; a retry gets the stored answer.
 pub fn handle<L: Link, B: Books>(
     alloc: Global,
     link: &mut L,

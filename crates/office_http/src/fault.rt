@@ -9,22 +9,22 @@ use std::fmt::{Display, Formatter};
 /// Why a request was not served.
 #[derive(Clone, Copy, Debug, PartialEq, Eq)]
 pub enum HandleFault {
-    /// A take of the link failed.
+    /// A read of the link failed.
     Read,
-    /// A give of the link failed.
+    /// A write of the link failed.
     Write,
     /// The input ended inside the request.
     Short,
-    /// There were 100,000 takes.
+    /// 100,000 reads were made.
     TurnsUsed,
-    /// The books failed while rows were handed on, so the reply is cut off.
+    /// The store failed while rows were written, so the response is cut off.
     Cut,
 }
 
 impl HandleFault {
     ghost use Rattle.office_http.specs.Exchange.{fault_number};
 
-    /// Its number. No text of the program shows it.
+    /// Returns the number of the fault. No text of the program shows it.
     pub fn number(self) -> u8
         ensures { result ≡ fault_number self }
     {

@@ -1,4 +1,4 @@
-//! Requests by HTTP to an office: one request in, one reply out.
+//! Serves an office by HTTP: reads one request, and writes one response.
 #![tactic(auto)]
 
 mod answers;

@@ -1,4 +1,4 @@
-//! Reports that are put to an outlet row by row, as the rows are handed on. No call takes memory.
+//! Reports that are streamed row by row. No function here allocates.
 
 mod lines;
 

@@ -1,4 +1,4 @@
-//! What a request wants of an office, with the reply as far as no office is asked.
+//! What a request wants of an office, or the response that needs no office.
 
 mod kinds;
 mod laws;

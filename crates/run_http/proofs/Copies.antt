@@ -1,4 +1,4 @@
--- What lines, steps and facts leave of what was copied of a meter.
+-- The effect of journal lines, steps and records on a copy of a meter's quarter hours.
 pub mod StayingEntries
 pub mod StayingShares
 pub mod StayingRows

@@ -1,5 +1,5 @@
--- Worked examples of the meters at a register: their lines, the targets that ask for them, and refusals; of targets that go on; and
--- of what browsers are told.
+-- Worked examples: the lines of the meters at a register, their targets and refusals, targets with
+-- more segments, and the headers for browsers.
 use Rattle.std.proofs.Common.{◌≡◌, ℕ, List, [], ◌∷◌, Option, Some, None, Err, true, false, refl}
 use Rattle.std.specs.Prelude.{pos, negsuc, codes}
 use Rattle.std.specs.Fmt.{digits}
@@ -16,9 +16,10 @@ use Rattle.run_http.specs.declared.route.RunRoute.{RunRoute}
 use Rattle.run_http.specs.declared.route.RunRoute.TheVariants.{Own, Meters}
 use Rattle.run_http.specs.declared.route.StatusRoute.TheVariants.{Rejected}
 
--- ---- lines
+-- ---- Lines.
 
--- A meter of the shortest name, opened at the first moment at the least scale; it shows nothing, and is open.
+-- A meter with the shortest name, opened at time 0 at the least scale. Its counter is 0, and it is
+-- open.
 abbrev least : Installation
 least = record {
   opening = record { meter = codes "a"; register = codes "main"; ceiling = 1; range = 4294967296; at = 0; raw = 7; sf = pos 0 };
@@ -27,7 +28,7 @@ least = record {
   ended = false;
 }
 
--- One of the longest, with the greatest number in the place of each, and closed.
+-- A closed meter with a name of the greatest length and the greatest number in each field.
 abbrev greatest : Installation
 greatest = record {
   opening = record {
@@ -57,13 +58,13 @@ the_greatest : meters_text (greatest ∷ [])
 unfolding digits
 the_greatest = refl
 
--- They keep their order.
+-- The meters keep their order.
 both : meters_text (greatest ∷ least ∷ [])
     ≡ codes "Z-3456789_123456 18446744073709551614 18446744073709551615 4294967295 10 18446744073709551615 ended\na 0 0 0 -10 0 open\nend 2\n"
 unfolding digits
 both = refl
 
--- ---- targets
+-- ---- Targets.
 
 abbrev asks : List ℕ → Option RunRoute
 asks name = Some (Meters (Some name))
@@ -74,7 +75,7 @@ a_register = refl
 sixteen_bytes : IsRegisterTarget (codes "/registers/a234567890123456/meters") (asks (codes "a234567890123456"))
 sixteen_bytes = refl
 
--- what is no name is one that no register has
+-- A malformed name is that of no register.
 seventeen_bytes : IsRegisterTarget (codes "/registers/a2345678901234567/meters") (Some (Meters None))
 seventeen_bytes = refl
 
@@ -84,7 +85,7 @@ no_bytes = refl
 a_digit_first : IsRegisterTarget (codes "/registers/1/meters") (Some (Meters None))
 a_digit_first = refl
 
--- what is near it is the office's to answer
+-- A similar target is left to the office.
 one_byte_less : IsRegisterTarget (codes "/registers/main/meter") None
 one_byte_less = refl
 
@@ -94,7 +95,7 @@ one_byte_more = refl
 no_register : IsRegisterTarget (codes "/registers/meters") None
 no_register = refl
 
--- ---- targets that go on, or have a question mark
+-- ---- Targets with more segments, or with a question mark.
 
 past_the_last_day : IsRegisterTarget (codes "/registers/main/days/2026-01-01/2026-01-02/") None
 past_the_last_day = refl
@@ -105,7 +106,7 @@ past_the_last_moment = refl
 past_a_place : meter_target (codes "/meters/m1/entries/0/1") ≡ None
 past_a_place = refl
 
--- a last part that is nothing is malformed, and doesn't go on
+-- An empty last segment is malformed, and is not one segment more.
 no_place : meter_target (codes "/meters/m1/entries/") ≡ Some (Own (Rejected BadRequest))
 no_place = refl
 
@@ -115,7 +116,7 @@ a_question_mark = refl
 a_question_mark_in_a_name : IsTarget (codes "/registers/ma?in/meters") None
 a_question_mark_in_a_name = refl
 
--- ---- methods
+-- ---- Methods.
 
 by_get : IsRouteNamed (codes "GET") (codes "/registers/main/meters") (asks (codes "main"))
 by_get = (asks (codes "main"), refl, refl)
@@ -123,7 +124,7 @@ by_get = (asks (codes "main"), refl, refl)
 by_post : IsRouteNamed (codes "POST") (codes "/registers/main/meters") (Some (Own (Rejected MethodNotAllowed)))
 by_post = (asks (codes "main"), refl, refl)
 
--- ---- refusals
+-- ---- Refusals.
 
 unknown_is_refused : with_rows_reply meters_text (Err refusal.NotFound) []
     ≡ codes "HTTP/1.1 404 Not Found\r\nContent-Type: application/json\r\nContent-Length: 13\r\nConnection: close\r\n\r\n{\"refused\":1}"
@@ -135,7 +136,7 @@ a_stopped_office_refuses : with_rows_reply meters_text (Err refusal.Stopped) []
 unfolding digits
 a_stopped_office_refuses = refl
 
--- ---- browsers
+-- ---- Browsers.
 
 after_the_first_line : with_headers (codes "A: b\r\n") (codes "HTTP/1.1 200 OK\r\nC: d\r\n\r\n\n") ≡ codes "HTTP/1.1 200 OK\r\nA: b\r\nC: d\r\n\r\n\n"
 after_the_first_line = refl

@@ -1,4 +1,5 @@
--- What a new entry or a void can have changed of a meter's quarter hours, and what who copied them may keep.
+-- What new entries and voids can change of a meter's quarter hours, and what a copy of them may
+-- keep.
 use Rattle.std.specs.Prelude.{◌≡◌, ℕ, ◌+◌, ◌-◌, ◌%◌, ◌≤◌, nat_lt, List, ◌++◌, length, All, Option, Some, None}
 use Rattle.std.specs.List.{filter}
 use Rattle.energy_core.specs.declared.limits.TheConstants.{INTERVAL_SECONDS}
@@ -16,45 +17,47 @@ use Rattle.office_rules.specs.Intervals.{rows_of_meter}
 use Rattle.office_rules.specs.Lawful.{AreLawful}
 use Rattle.office_rules.specs.Meters.{opened, rows_of, installation_of}
 
--- the rows whose quarter hour starts before a moment
+-- The rows of the quarter hours that start before a time.
 abbrev pub rows_before : (moment : ℕ) → List Share → List Share
 rows_before moment rows = filter (λ row. nat_lt row.start moment) rows
 
--- the entries that stand or stood at the places before one
+-- The entries, voided or not, before a sequence number.
 abbrev pub entries_before : (place : ℕ) → List EntryRow → List EntryRow
 entries_before place entries = filter (λ entry. nat_lt entry.place place) entries
 
--- the place that the next entry gets: the opening has 1
+-- The sequence number of the next entry. The opening has 1.
 abbrev pub next_place : List Fact → Opening → ℕ
 next_place facts opening = length (rows_of facts opening) + 2
 
--- the start of the quarter hour of a moment
+-- The start of the quarter hour of a timestamp.
 abbrev pub quarter_of : (moment : ℕ) → ℕ
 quarter_of moment = moment - moment % INTERVAL_SECONDS
 
--- the moment of the last entry that stands before a place; the opening always stands
+-- The time of the last valid entry before a sequence number. The opening is always valid.
 abbrev pub stood_at : List Fact → Opening → (place : ℕ) → ℕ
 stood_at facts opening place =
     let entries = entries_in (entries_before place (rows_of facts opening)) in
     (last_of (opened opening) entries).at
 
+-- The time from which quarter hours can change, by the opening of the meter.
 abbrev pub changes_of : List Fact → (place : ℕ) → Option Opening → ℕ
 changes_of facts place None = 0
 changes_of facts place (Some opening) = quarter_of (stood_at facts opening place)
 
--- What a new entry or a void at a place can have changed: the quarter hours from that of the entry on that stands before it.
+-- The time from which a new entry or a void can change quarter hours: the start of that of the last
+-- valid entry before a sequence number.
 abbrev pub changes_from : List Fact → (meter : List ℕ) → (place : ℕ) → ℕ
 changes_from facts meter place = changes_of facts place (opening_of facts meter)
 
--- where a fact voids an entry of the meter, it is at the place or after it
+-- A record that voids an entry of the meter voids one at the sequence number or later.
 abbrev pub VoidsFrom : (meter : List ℕ) → (place : ℕ) → Fact → Type 0
 VoidsFrom meter place (fact.Void voided) = voided.meter ≡ meter → place ≤ voided.place
 VoidsFrom meter place _ = Unit {0}
 
--- Let further facts come, of which none voids an entry of the meter before a place, and let the place not be past that of the
--- next entry. Then its entries before the place stay as they were, and so does the moment from which on quarter hours can have
--- changed. Those before it, or before any earlier moment, stay, so that a copy of them and what the office tells from there on
--- are together all there is.
+-- What stays when later records arrive and void no entry of the meter before a sequence number. The
+-- number is at most that of the next entry. The entries before the number stay, and the time from
+-- which quarter hours can change. Quarter hours before that time, or before any earlier one, stay.
+-- So a copy of them is complete with the rows of the office from there on.
 pub record StaysBefore (further facts : List Fact) (meter : List ℕ) (opening : Opening)
     (place : ℕ) : Type 0 where
   pub entries : entries_before place (rows_of (further ++ facts) opening)
@@ -68,13 +71,15 @@ pub record StaysBefore (further facts : List Fact) (meter : List ℕ) (opening :
       ≡ rows_before from (rows_of_meter facts meter)
       ++ rows_within (Between from till) (rows_of_meter (further ++ facts) meter)
 
+-- This holds for all lawful records.
 abbrev pub RowsBeforeStay : Type 0
 RowsBeforeStay = (further facts : List Fact) (meter : List ℕ) (opening : Opening) (place : ℕ)
     → AreLawful (further ++ facts) → opening_of facts meter ≡ Some opening
     → place ≤ next_place facts opening → All (VoidsFrom meter place) further
     → StaysBefore further facts meter opening place
 
--- Where nothing is voided, what can change is told beside a meter's energy: the quarter hours from that of its last entry on.
+-- If nothing is voided, only quarter hours from that of the meter's last entry on can change. The
+-- time of that entry is reported beside the energy.
 abbrev pub EntriesComeAfter : Type 0
 EntriesComeAfter = (facts : List Fact) (meter : List ℕ) (opening : Opening) → AreLawful facts
     → opening_of facts meter ≡ Some opening

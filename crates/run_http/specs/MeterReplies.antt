@@ -1,4 +1,5 @@
--- The replies to questions for rows of a meter, or of the meters at a register, by what the office answers to them.
+-- The responses to queries for rows of a meter, or for the meters at a register, by the office's
+-- answers.
 use Rattle.std.specs.Prelude.{◌≡◌, ℕ, true, List, [], ◌∷◌, ◌++◌, Option, Result, Ok, Err, IfOk, OnOk, codes}
 use Rattle.std.specs.declared.alloc.Global.{Global}
 use Rattle.std.specs.declared.vec.Vec.{Vec}
@@ -14,12 +15,13 @@ use Rattle.run_http.specs.SiteReply.{with_refusal}
 use Rattle.run_http.specs.StatusRoute.{with_reply}
 use Rattle.run_http.specs.declared.kept_rows.KeptRows.{KeptRows}
 
--- A row is kept after those before it, as long as there was memory for each.
+-- A row is kept after the earlier ones, unless memory runs out.
 abbrev pub KeepsRow : KeptRows → Share → KeptRows → Type 0
 KeepsRow old row new = new.is_whole ≡ true
     → (old.is_whole ≡ true) × (new.rows.items ≡ old.rows.items ++ row ∷ [])
 
--- The office is asked, and so it answers by what it has accepted, unless there was no memory for the rows.
+-- The office answers the query by the records of what it accepted, unless memory runs out for the
+-- rows.
 pub record AsksRows {B T : Type 0} (ledger : B → Ledger) (old new : Office B)
     (says : List Fact → Option (List T)) {E : Type 0}
     (result : Result (Result (Vec T Global) Refusal) E) : Type 0 where
@@ -28,14 +30,14 @@ pub record AsksRows {B T : Type 0} (ledger : B → Ledger) (old new : Office B)
   pub gives : IfOk result (λ told. told ≡ answer)
   pub lists : OnOk result (ListsAccepted ledger old new answer says)
 
--- the text of the rows, or what any other question is refused by
+-- The text of the rows, or the refusal as for any other query.
 abbrev pub with_rows_reply : {T : Type 0} → (text : List T → List ℕ)
     → Result (Vec T Global) Refusal → List ℕ → List ℕ
 with_rows_reply text (Ok rows) before =
     with_reply Fine (codes "text/plain") (text rows.items) before
 with_rows_reply text (Err why) before = with_refusal why before
 
--- The office is asked, and what it answers is the reply, unless there was no memory for that.
+-- The response is the office's answer to the query, unless memory runs out.
 pub record RepliesRows {B T : Type 0} (ledger : B → Ledger) (old new : Office B)
     (says : List Fact → Option (List T)) (text : List T → List ℕ) (from to : List ℕ) {E : Type 0}
     (result : Result (Unit {0}) E) : Type 0 where

@@ -1,5 +1,6 @@
--- What a target asks of the rows of a meter: `/meters/NAME/intervals/FROM/TILL` the quarter hours that start at FROM or later,
--- and before TILL, `/meters/NAME/entries/PLACE` the entries from PLACE on, and `/meters/NAME/voids` those that voids name.
+-- The targets for rows of a meter: `/meters/NAME/intervals/FROM/TILL` has the quarter hours that
+-- start at FROM or later, and before TILL. `/meters/NAME/entries/PLACE` has the entries from PLACE
+-- on. `/meters/NAME/voids` has the voided entries.
 use Rattle.std.specs.Prelude.{ℕ, ◌+◌, ◌==◌, List, length, take, drop, position, bytes_eq, is_some, if◌then◌else◌, Option, Some, None, codes}
 use Rattle.http_request.specs.Values.{digits_in}
 use Rattle.http_request.specs.declared.status.Status.TheVariants.{BadRequest}
@@ -10,72 +11,81 @@ use Rattle.run_http.specs.declared.route.RunRoute.{RunRoute}
 use Rattle.run_http.specs.declared.route.RunRoute.TheVariants.{Own, Intervals, Entries, Voids}
 use Rattle.run_http.specs.declared.route.StatusRoute.TheVariants.{Rejected}
 
--- what follows a word that a text begins with
+-- What follows a word at the beginning of a text.
 abbrev pub after : (word text : List ℕ) → Option (List ℕ)
 after word text =
     if bytes_eq (take (length word) text) word then Some (drop (length word) text) else None
 
--- where its first slash (47) stands
+-- The index of the first slash (47).
 abbrev pub slash_in : List ℕ → Option ℕ
 slash_in text = position (λ byte. byte == 47) text
 
--- the span from one moment till another: one to nineteen digits each
+-- The span between two timestamps, if there are both.
 abbrev pub span_till : (from till : Option ℕ) → Option Span
 span_till None till = None
 span_till (Some from) None = None
 span_till (Some from) (Some till) = Some (Between from till)
 
+-- The span between two timestamps of one to nineteen digits each.
 abbrev pub span_of : (from till : List ℕ) → Option Span
 span_of from till = span_till (digits_in from) (digits_in till)
 
--- what is no span is malformed; where the name is none, no meter has it
+-- A target without a span is malformed. A malformed name is that of no meter.
 abbrev pub intervals_asked : (name : List ℕ) → Option Span → RunRoute
 intervals_asked name None = Own (Rejected BadRequest)
 intervals_asked name (Some span) = Intervals (named name) span
 
--- a target that goes on after its last part has no route
+-- A target with more segments has no route.
 abbrev pub intervals_till : (name from till : List ℕ) → Option RunRoute
 intervals_till name from till =
     if is_some (slash_in till) then None else Some (intervals_asked name (span_of from till))
 
+-- The route to quarter hours, if there is a second timestamp.
 abbrev pub intervals_cut : (name text : List ℕ) → Option ℕ → Option RunRoute
 intervals_cut name text None = None
 intervals_cut name text (Some at) = intervals_till name (take at text) (drop (at + 1) text)
 
+-- The route by what follows the segment `intervals`.
 abbrev pub intervals_in : (name text : List ℕ) → Option RunRoute
 intervals_in name text = intervals_cut name text (slash_in text)
 
--- so is what is no place
+-- A target without a sequence number is malformed.
 abbrev pub entries_asked : (name : List ℕ) → (place : Option ℕ) → RunRoute
 entries_asked name None = Own (Rejected BadRequest)
 entries_asked name (Some place) = Entries (named name) place
 
+-- The route by what follows the segment `entries`.
 abbrev pub entries_at : (name place : List ℕ) → Option RunRoute
 entries_at name place =
     if is_some (slash_in place) then None else Some (entries_asked name (digits_in place))
 
--- what follows the name and a slash
+-- The route by what follows the name and a slash.
 abbrev pub rows_asked : (name : List ℕ) → (intervals entries : Option (List ℕ))
     → Option RunRoute
 rows_asked name None None = None
 rows_asked name None (Some text) = entries_at name text
 rows_asked name (Some text) entries = intervals_in name text
 
+-- The route by what follows the name of the meter and a slash.
 abbrev pub rows_in : (name text : List ℕ) → Option RunRoute
 rows_in name text =
     if bytes_eq text (codes "voids") then Some (Voids (named name))
     else rows_asked name (after (codes "intervals/") text) (after (codes "entries/") text)
 
+-- The route, if there is a slash after the name of the meter.
 abbrev pub meter_cut : (text : List ℕ) → Option ℕ → Option RunRoute
 meter_cut text None = None
 meter_cut text (Some at) = rows_in (take at text) (drop (at + 1) text)
 
+-- The route by what follows the segment `meters`.
 abbrev pub meter_in : List ℕ → Option RunRoute
 meter_in text = meter_cut text (slash_in text)
 
+-- The route, if the target begins with the segment `meters`.
 abbrev pub meter_asked : Option (List ℕ) → Option RunRoute
 meter_asked None = None
 meter_asked (Some text) = meter_in text
 
+-- The route of a target for rows of a meter.
 abbrev pub meter_target : (target : List ℕ) → Option RunRoute
 meter_target target = meter_asked (after (codes "/meters/") target)

@@ -1,4 +1,4 @@
--- Which requests to the office ask for all quarter hours of a meter, and which may have an entry voided.
+-- Which requests to the office ask for all quarter hours of a meter, and which may void an entry.
 use Rattle.std.specs.Prelude.{◌≡◌, ◌&&◌, List, ℕ, Bool, false, Option, codes, is_some}
 use Rattle.std.specs.Str.{bytes_eq}
 use Rattle.httparse.specs.Spans.{span_bytes}
@@ -12,16 +12,17 @@ use Rattle.http_request.specs.declared.head.head.HeadState.TheVariants.{Open, To
 use Rattle.interval_core.specs.Lines.{intervals_text}
 use Rattle.run_http.specs.MeterTargets.{after}
 
--- whatever an office answers, its reply to these bytes has all quarter hours of the meter
+-- For any answers of the office, the response to these bytes has all quarter hours of the meter.
 abbrev pub AsksAllRows : Table → (bytes : List ℕ) → (meter : Option (List ℕ)) → Type 0
 AsksAllRows table bytes meter = (office : Office)
     → IsReply office table bytes (reply_bytes (lines_reply intervals_text (office.intervals meter)))
 
--- A void is asked for by POST, at a target that begins so, as no other command's does.
+-- Only a void is a POST to a target that begins with `/meters/`.
 abbrev pub may_void_by : (method target : List ℕ) → Bool
 may_void_by method target =
     bytes_eq method (codes "POST") && is_some (after (codes "/meters/") target)
 
+-- The complete head may be that of a void.
 abbrev pub may_void_in : (bytes : List ℕ) → HeadState → Bool
 may_void_in bytes Open = false
 may_void_in bytes TooLarge = false
@@ -29,7 +30,7 @@ may_void_in bytes NoHead = false
 may_void_in bytes (Whole at) =
     may_void_by (span_bytes bytes at.method) (span_bytes bytes at.target)
 
--- a look at the bytes finds such a head, or none
+-- The result for the head that parsing the bytes finds, if it finds one.
 pub record MayVoid (bytes : List ℕ) (result : Bool) : Type 0 where
   pub head_state : HeadState
   pub looks : Looks bytes head_state

@@ -1,5 +1,5 @@
--- Replies with quarter hours of a meter that are told piece by piece, so that none is in memory whole: what is still to be
--- told of one, and why that stays what it was when the reply was begun.
+-- Responses with quarter hours of a meter that are streamed in chunks, so that no complete response
+-- is in memory. Their rest, and why it stays what it was when the response began.
 use Rattle.std.specs.Prelude.{◌≡◌, ℕ, ◌+◌, ◌-◌, ◌<◌, ◌≤◌, min, max, List, [], ◌∷◌, ◌++◌, length, All, flat_map, codes, nat_lt, Bool, true, Option, Some, None, Result, Ok, Err}
 use Rattle.std.specs.Option.{option_and_then}
 use Rattle.std.specs.declared.alloc.Global.{Global}
@@ -30,36 +30,39 @@ use Rattle.run_http.specs.declared.pieces.RowsLeft.{RowsLeft}
 use Rattle.run_http.specs.declared.row_sizes.RowSizes.{RowSizes}
 use Rattle.run_http.specs.declared.row_sizes.Sizes.{Sizes}
 
--- the quarter hours of a meter that start at a moment or later, and before another
+-- The quarter hours of a meter that start at a time or later, and before another.
 abbrev pub rows_between : List Fact → (meter : Option (List ℕ)) → (from till : ℕ) → List Share
 rows_between facts meter from till = rows_in (intervals_within facts meter (Between from till))
 
--- The rows that are still to be told: those that are still to be asked for, and then those that are kept.
+-- The rows that remain: those that are still to be queried, and then those that were kept.
 abbrev pub rows_left : List Fact → RowsLeft → List Share
 rows_left facts left = rows_between facts left.meter left.from left.till ++ left.last.items
 
--- their lines, and how many rows the reply has
+-- The lines of the remaining rows, and the number of all rows.
 abbrev pub text_left : List Fact → RowsLeft → List ℕ
 text_left facts left =
     flat_map share_line (rows_left facts left)
     ++ end_line (left.told + length (rows_left facts left))
 
+-- Rows are still to be queried.
 abbrev pub has_more : RowsLeft → Bool
 has_more left = nat_lt left.from left.till
 
--- the quarter hour of the last entry of a meter
+-- The quarter hour of the last entry of a meter.
 abbrev pub last_quarter : Option Installation → ℕ
 last_quarter None = 0
 last_quarter (Some it) = quarter_of it.last.at
 
--- Those that are still to be asked for start before the quarter hour of the meter's last entry: new entries change none of them.
+-- The rows to query start before the quarter hour of the meter's last entry, so new entries change
+-- none of them.
 abbrev pub IsSettled : List Fact → RowsLeft → Type 0
 IsSettled facts left =
     left.from < left.till
     → left.till ≤ last_quarter (option_and_then (meter_of facts) left.meter)
 
--- Let further facts come, of which none voids an entry that the meter has by now. What is still to be told then stays as it was, so
--- that all pieces are of the moment at which the reply was begun, whenever they are told.
+-- Suppose later records void no entry that the meter has now. Then the rest of the response stays
+-- the same. All chunks are those of the time at which the response began, whenever they are
+-- written.
 abbrev pub TextStays : Type 0
 TextStays = (further facts : List Fact) (meter : List ℕ) (opening : Opening) (left : RowsLeft)
     → AreLawful (further ++ facts) → opening_of facts meter ≡ Some opening
@@ -67,27 +70,30 @@ TextStays = (further facts : List Fact) (meter : List ℕ) (opening : Opening) (
     → All (VoidsFrom meter (next_place facts opening)) further
     → text_left (further ++ facts) left ≡ text_left facts left
 
--- ---- to begin a reply
+-- ---- The beginning of a response.
 
--- from where on rows are asked for, and up to where later: none starts before the quarter hour of the opening, and those before that
--- of the last entry stay
+-- The start of the rows to query. None is before the quarter hour of the opening.
 abbrev pub first_asked : Installation → (from : ℕ) → ℕ
 first_asked it from = max from (quarter_of it.opening.at)
 
+-- The end of the rows that are queried later. Rows before the quarter hour of the meter's last
+-- entry stay.
 abbrev pub asked_till : Installation → (from till : ℕ) → ℕ
 asked_till it from till = max (first_asked it from) (min till (quarter_of it.last.at))
 
--- those are of more than so many seconds
+-- The rows that are queried later span more than `seconds`.
 abbrev pub are_many : Installation → (from till seconds : ℕ) → Bool
 are_many it from till seconds = nat_lt seconds (asked_till it from till - first_asked it from)
 
--- what was put, and what is still to be told, are the reply with all rows that were asked for, and the latter stays
+-- The written bytes and the rest are the response with all rows that were asked for, and the rest
+-- stays.
 pub record IsBegun (facts : List Fact) (meter : List ℕ) (from till : ℕ)
     (reply : List Share → List ℕ) (put : List ℕ) (left : RowsLeft) : Type 0 where
   pub tells : put ++ text_left facts left ≡ reply (rows_between facts (Some meter) from till)
   pub settled : IsSettled facts left
 
--- So it is where the meter stands so; or the books failed, or there was no memory.
+-- If `it` is the meter's current row, the response begins so, or the store failed. Memory may also
+-- have run out.
 abbrev pub AreBegun : {B E : Type 0} → (B → Ledger) → (old new : Office B) → Installation
     → (from till : ℕ) → (reply : List Share → List ℕ) → (put : List ℕ)
     → (answer : Result (Unit {0}) Refusal) → Result (Result RowsLeft Refusal) E → Type 0
@@ -101,7 +107,7 @@ AreBegun ledger old new it from till reply put answer (Ok (Err why)) =
     → IsOutside ⊥ (failures_of ledger old) (failures_of ledger new) why)
 AreBegun ledger old new it from till reply put answer (Err fault) = Unit {0}
 
--- The office is asked, which leaves it as it was, and so the reply is begun.
+-- The office is queried, which changes nothing, and the response begins.
 pub record BeginsReply {B : Type 0} (ledger : B → Ledger) (old new : Office B) (it : Installation)
     (from till : ℕ) (reply : List Share → List ℕ) (put : List ℕ) {E : Type 0}
     (result : Result (Result RowsLeft Refusal) E) : Type 0 where
@@ -109,27 +115,30 @@ pub record BeginsReply {B : Type 0} (ledger : B → Ledger) (old new : Office B)
   pub asks : OnlyAsks ledger old new answer
   pub begins : AreBegun ledger old new it from till reply put answer result
 
--- a reply that tells its size, as to any question for rows
+-- A response that reports its size, as to any other query for rows.
 abbrev pub with_rows : List ℕ → List Share → List ℕ
 with_rows text rows = with_reply Fine (codes "text/plain") (intervals_text rows) text
 
--- One of the office's own, which ends with how many rows there are. All start at 0 or later, and before 2^64 - 1 (`RowsBeforeStay`).
+-- The office's own response, which ends with the number of rows. All rows start at 0 or later, and
+-- before 2^64 - 1 (`RowsBeforeStay`).
 abbrev pub with_all_rows : List ℕ → List Share → List ℕ
 with_all_rows text rows = text ++ reply_bytes (lines_reply intervals_text (Ok rows))
 
--- ---- its size
+-- ---- The size of a response.
 
--- how many bytes the lines of some rows have, and how many rows they are
+-- The size of the lines of rows in bytes, and the number of rows.
 abbrev pub AreSizes : Sizes → List Share → Type 0
 AreSizes sizes rows =
     (sizes.bytes ≡ length (flat_map share_line rows)) × (sizes.count ≡ length rows)
 
--- A row's line is counted after those before it, unless there was no memory for one.
+-- The line of a row is added to the sizes, unless memory runs out.
 abbrev pub SizesRow : RowSizes → Share → RowSizes → Type 0
 SizesRow old row new = new.is_whole ≡ true
     → (old.is_whole ≡ true) × (new.sizes.bytes ≡ old.sizes.bytes + length (share_line row))
     × (new.sizes.count ≡ old.sizes.count + 1)
 
+-- The rows that are still to be queried have these sizes, unless the store fails or memory runs
+-- out.
 abbrev pub AreSized : {B E : Type 0} → (B → Ledger) → (old new : Office B) → RowsLeft
     → (answer : Result (Unit {0}) Refusal) → Result (Result Sizes Refusal) E → Type 0
 AreSized ledger old new left answer (Ok (Ok sizes)) =
@@ -142,27 +151,29 @@ AreSized ledger old new left answer (Ok (Err why)) =
     (failures_of ledger old) (failures_of ledger new) answer)
 AreSized ledger old new left answer (Err fault) = Unit {0}
 
--- how many bytes the body of a reply has, whose rows that are still to be asked for have these
+-- The size in bytes of the body of a response, by the sizes of the rows that are still to be
+-- queried.
 abbrev pub body_size : RowsLeft → Sizes → ℕ
 body_size left sizes =
     sizes.bytes
     + length (flat_map share_line left.last.items
     ++ end_line (left.told + sizes.count + length left.last.items))
 
--- what such a reply begins with
+-- The head of a response of this size.
 abbrev pub with_head : (size : ℕ) → List ℕ → List ℕ
 with_head size text = with_start_of Fine (codes "text/plain") size text ++ codes "\r\n\r\n"
 
--- The office is asked for the rows that are still to be asked for, to tell their size.
+-- The rows that are still to be queried are measured.
 pub record SizesRows {B : Type 0} (ledger : B → Ledger) (old new : Office B) (left : RowsLeft)
     {E : Type 0} (result : Result (Result Sizes Refusal) E) : Type 0 where
   pub answer : Result (Unit {0}) Refusal
   pub asks : OnlyAsks ledger old new answer
   pub sizes : AreSized ledger old new left answer result
 
--- ---- to tell it
+-- ---- The chunks of a response.
 
--- A piece was told: of rows that start within so many seconds, and of some where there were more. What else is to be told stays.
+-- A chunk was written, of rows that start within `seconds`. If rows remained to be queried, it
+-- covers a part of their span. The rest stays.
 pub record MovesOn (left later : RowsLeft) (seconds : ℕ) : Type 0 where
   pub meter : later.meter ≡ left.meter
   pub till : later.till ≡ left.till
@@ -170,7 +181,8 @@ pub record MovesOn (left later : RowsLeft) (seconds : ℕ) : Type 0 where
   pub none : left.till ≤ left.from → later.till ≤ later.from
   pub few : later.from ≤ left.from + seconds
 
--- What was told, and what is still to be told, are together what they were; or the books failed, or memory was wanting.
+-- The written bytes and the rest are together what they were. Otherwise the store failed, or memory
+-- ran out.
 abbrev pub HasTold : {B E : Type 0} → (B → Ledger) → (old new : Office B)
     → (answer : Result (Vec Share Global) Refusal) → (left later : RowsLeft) → (seconds : ℕ)
     → (from to : List ℕ) → Result (Result (Unit {0}) Refusal) E → Type 0
@@ -181,7 +193,7 @@ HasTold ledger old new answer left later seconds from to (Ok (Ok done)) =
 HasTold ledger old new answer left later seconds from to (Ok (Err why)) = answer ≡ Err why
 HasTold ledger old new answer left later seconds from to (Err fault) = Unit {0}
 
--- The rows of the piece are asked for.
+-- The rows of the chunk are queried, and written.
 pub record TellsOn {B : Type 0} (ledger : B → Ledger) (old new : Office B) (left later : RowsLeft)
     (seconds : ℕ) (from to : List ℕ) {E : Type 0} (result : Result (Result (Unit {0}) Refusal) E)
     : Type 0 where
@@ -189,29 +201,32 @@ pub record TellsOn {B : Type 0} (ledger : B → Ledger) (old new : Office B) (le
   pub asks : OnlyAsks ledger old new answer
   pub tells : HasTold ledger old new answer left later seconds from to result
 
--- Where none is still to be asked for, the rest is told.
+-- If no rows remain to be queried, the rest is written.
 abbrev pub TellsRest : RowsLeft → (from to : List ℕ) → Type 0
 TellsRest left from to =
     (facts : List Fact) → left.till ≤ left.from → to ≡ from ++ text_left facts left
 
--- ---- all of it
+-- ---- The complete response.
 
--- a piece that was told when these further facts had come, what is still to be told after it, and what was told up to its end
+-- A chunk: the records that were added before it, the rest of the response after it, and the text
+-- that was written up to its end.
 pub record Piece : Type 0 where
   pub further : List Fact
   pub later : RowsLeft
   pub text : List ℕ
 
--- what is still to be told after some pieces, the latest first, and what was told up to then
+-- The rest of a response after some chunks, the latest first.
 abbrev pub left_after : RowsLeft → List Piece → RowsLeft
 left_after left [] = left
 left_after left (piece ∷ earlier) = piece.later
 
+-- The text that was written up to the end of some chunks, the latest first.
 abbrev pub text_after : List ℕ → List Piece → List ℕ
 text_after text [] = text
 text_after text (piece ∷ earlier) = piece.text
 
--- It is told as above, after further facts, of which none voids an entry that the meter had at the beginning.
+-- The chunk is written as above. The records that were added before it void no entry that the meter
+-- had at the beginning.
 pub record IsPiece (facts : List Fact) (meter : List ℕ) (opening : Opening) (left : RowsLeft)
     (text : List ℕ) (piece : Piece) : Type 0 where
   pub lawful : AreLawful (piece.further ++ facts)
@@ -221,6 +236,7 @@ pub record IsPiece (facts : List Fact) (meter : List ℕ) (opening : Opening) (l
   pub tells : piece.text ++ text_left (piece.further ++ facts) piece.later
       ≡ text ++ text_left (piece.further ++ facts) left
 
+-- Each of these chunks, the latest first, is written as above after the earlier ones.
 abbrev pub ArePieces : List Fact → (meter : List ℕ) → Opening → RowsLeft → (text : List ℕ)
     → List Piece → Type 0
 ArePieces facts meter opening left text [] = Unit {0}
@@ -228,8 +244,9 @@ ArePieces facts meter opening left text (piece ∷ earlier) =
     IsPiece facts meter opening (left_after left earlier) (text_after text earlier) piece
     × ArePieces facts meter opening left text earlier
 
--- Let a reply be begun by these facts, and be told on by pieces, whatever else comes between them. What was told then, and what is
--- still to be told by the facts of the beginning, are together what they were: the reply of that moment.
+-- Let a response begin at these records, and be written in chunks. Records may be added between the
+-- chunks, if they void no entry that the meter had at the beginning. Then the written text, with
+-- the rest by the records of the beginning, is the response of that time.
 abbrev pub PiecesAreWhole : Type 0
 PiecesAreWhole = (facts : List Fact) (meter : List ℕ) (opening : Opening) (left : RowsLeft)
     (text : List ℕ) (pieces : List Piece) → opening_of facts meter ≡ Some opening

@@ -1,4 +1,4 @@
--- The replies to questions for the energy of a register, by what the office answers to them.
+-- The responses to queries for the energy of a register, by the office's answers.
 use Rattle.std.specs.Prelude.{◌≡◌, ℕ, false, List, map, Option, Some, Result, Ok, Err, IfOk, OnOk, codes}
 use Rattle.std.specs.Option.{option_and_then}
 use Rattle.std.specs.Io.KnownBytes.{Appends}
@@ -23,13 +23,13 @@ use Rattle.office_core.specs.declared.office.Office.{Office}
 use Rattle.run_http.specs.SiteReply.{with_refusal}
 use Rattle.run_http.specs.StatusRoute.{with_reply}
 
--- The rest of a report is written, or there was no memory for it.
+-- The rest of a report is written, unless memory runs out.
 pub record PutsLast {W E : Type 0} (contents : W → Option (List ℕ))
     (result : Result (Result (Unit {0}) Refusal) E) (old new : ReportRows W) : Type 0 where
   pub finishes : Finishes contents old new
   pub whole : OnOk result (new.failed ≡ false)
 
--- the report on those days of the register that the range of the form has, by the clocks of the zone
+-- The report on the days of the register within the range of the form, in the office's zone.
 abbrev pub IsReport : Zone → History → (register : Option (List ℕ)) → ReportForm
     → (Is : List ℕ → Type 0) → Type 0
 IsReport zone past register form Is =
@@ -37,8 +37,9 @@ IsReport zone past register form Is =
     × AreDaysWithin zone (facts_of past) register form.range (map account_of days)
     × Is (report_text form days)
 
--- It is told; or why there is none: there is no register of the name, the books or memory failed, or the office had stopped.
--- Only days of a register take memory of the office's own.
+-- The report is written, or the answer says why there is none. Either no register has the name, or
+-- the store or memory failed, or the office had stopped. The office allocates only for the days of
+-- a register that exists.
 pub record ReportsDays (zone : Zone) (past : History) (register : Option (List ℕ))
     (form : ReportForm) (before after : Failures) (answer : Result (Unit {0}) Refusal)
     (Is : List ℕ → Type 0) : Type 0 where
@@ -46,7 +47,7 @@ pub record ReportsDays (zone : Zone) (past : History) (register : Option (List �
       IsFound (there ≡ Some tt) there before after answer
   pub report : OnOk answer (IsReport zone past register form Is)
 
--- So it is by what an office had accepted.
+-- The same, by what the office accepted.
 abbrev pub TellsDaysReport : {B : Type 0} → (B → Ledger) → (old new : Office B)
     → (register : Option (List ℕ)) → ReportForm → Result (Unit {0}) Refusal → (Is : List ℕ → Type 0)
     → Type 0
@@ -54,7 +55,7 @@ TellsDaysReport ledger old new register form answer Is = After ledger old new
     (λ past. ReportsDays (ledger (books_in old)).zone past register form
     (failures_of ledger old) (failures_of ledger new) answer Is)
 
--- The office is asked, once, and the report is written, unless there was no memory for it.
+-- The office is queried once, and the report is written, unless memory runs out for it.
 pub record AsksEnergy {B : Type 0} (ledger : B → Ledger) (old new : Office B)
     (register : Option (List ℕ)) (form : ReportForm) (had holds : Option (List ℕ)) {E : Type 0}
     (result : Result (Result (Unit {0}) Refusal) E) : Type 0 where
@@ -63,12 +64,12 @@ pub record AsksEnergy {B : Type 0} (ledger : B → Ledger) (old new : Office B)
   pub gives : IfOk result (λ told. told ≡ answer)
   pub tells : OnOk result (TellsDaysReport ledger old new register form answer (Appends had holds))
 
--- the report, or what any other question is refused by
+-- The report, or the refusal as for any other query.
 abbrev pub with_energy_reply : Result (Unit {0}) Refusal → (report : List ℕ) → List ℕ → List ℕ
 with_energy_reply (Ok done) report text = with_reply Fine (codes "text/plain") report text
 with_energy_reply (Err why) report text = with_refusal why text
 
--- The office is asked, once, and what it answers is the reply, unless there was no memory for that.
+-- The office is queried once, and its answer is the response, unless memory runs out.
 pub record RepliesEnergy {B : Type 0} (ledger : B → Ledger) (old new : Office B)
     (register : Option (List ℕ)) (form : ReportForm) (from to : List ℕ) {E : Type 0}
     (result : Result (Unit {0}) E) : Type 0 where

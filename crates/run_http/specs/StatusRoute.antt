@@ -1,5 +1,5 @@
--- The routes of a run itself, and the replies to those that ask nothing of the office: one by what was counted, the page,
--- and faults.
+-- The routes of a run itself, and the responses of those that do not ask the office: the status,
+-- the page, and faults.
 use Rattle.std.specs.Prelude.{◌≡◌, ℕ, Bool, true, false, not, ◌&&◌, if◌then◌else◌, Option, Some, None, List, [], ◌++◌, length, codes, decimal}
 use Rattle.std.specs.Option.{option_map}
 use Rattle.std.specs.Str.{bytes_eq}
@@ -27,7 +27,7 @@ use Rattle.run_http.specs.declared.route.StatusRoute.TheVariants.{Status, Page, 
 use Rattle.web_page.specs.Parts.{body_of, content_type_of, part_of}
 use Rattle.web_page.specs.declared.parts.PagePart.{PagePart}
 
--- the three paths, and those of the page
+-- The three fixed paths, and those of the page.
 abbrev pub path_named : (target : List ℕ) → Option RunRoute
 path_named target =
     if bytes_eq target (codes "/status") then Some (Own Status)
@@ -35,41 +35,45 @@ path_named target =
     else if bytes_eq target (codes "/site") then Some Site
     else option_map (λ part. Own (Page part)) (part_of target)
 
--- or rows of a meter
+-- Otherwise rows of a meter.
 abbrev pub or_meter : (target : List ℕ) → Option RunRoute → Option RunRoute
 or_meter target None = meter_target target
 or_meter target (Some route) = Some route
 
+-- The route of a fixed path, or of rows of a meter.
 abbrev pub plain_target : (target : List ℕ) → Option RunRoute
 plain_target target = or_meter target (path_named target)
 
--- or the energy of a register, or its meters
+-- Otherwise the energy or the meters of a register.
 abbrev pub IsElse : (target : List ℕ) → Option RunRoute → Option RunRoute → Type 0
 IsElse target None route = IsRegisterTarget target route
 IsElse target (Some plain) route = route ≡ Some plain
 
+-- The route of a target without a question mark.
 abbrev pub IsWholeTarget : (target : List ℕ) → Option RunRoute → Type 0
 IsWholeTarget target route = IsElse target (plain_target target) route
 
--- a target with a question mark has no route
+-- A target with a question mark has no route.
 abbrev pub IsTargetUnless : (has_query : Bool) → (target : List ℕ) → Option RunRoute → Type 0
 IsTargetUnless true target route = route ≡ None
 IsTargetUnless false target route = IsWholeTarget target route
 
+-- The route of a target.
 abbrev pub IsTarget : (target : List ℕ) → Option RunRoute → Type 0
 IsTarget target route = IsTargetUnless (has_query target) target route
 
--- each is asked by GET alone
+-- Only GET is allowed.
 abbrev pub route_by : (method : List ℕ) → Option RunRoute → Option RunRoute
 route_by method None = None
 route_by method (Some route) =
     if bytes_eq method (codes "GET") then Some route else Some (Own (Rejected MethodNotAllowed))
 
+-- The route of a method and a target.
 abbrev pub IsRouteNamed : (method target : List ℕ) → Option RunRoute → Type 0
 IsRouteNamed method target route =
     (asked : Option RunRoute) × IsTarget target asked × (route ≡ route_by method asked)
 
--- what a head asks for: nothing before it is whole, or past its limits
+-- The route of a head. A head that is incomplete or bad has none.
 abbrev pub IsRouteIn : List ℕ → HeadState → Option RunRoute → Type 0
 IsRouteIn bytes Open route = route ≡ None
 IsRouteIn bytes TooLarge route = route ≡ None
@@ -81,6 +85,7 @@ IsRouteIn bytes (Whole at) route =
 abbrev pub is_link_to_page : (method target : List ℕ) → Bool
 is_link_to_page method target = bytes_eq method (codes "GET") && bytes_eq target (codes "/")
 
+-- The head asks for the page itself.
 abbrev pub asks_for_page : List ℕ → HeadState → Bool
 asks_for_page bytes Open = false
 asks_for_page bytes TooLarge = false
@@ -88,30 +93,33 @@ asks_for_page bytes NoHead = false
 asks_for_page bytes (Whole at) =
     is_link_to_page (span_bytes bytes at.method) (span_bytes bytes at.target)
 
+-- A page of another site asks for more than the page itself.
 abbrev pub is_forbidden : List ℕ → HeadState → Bool
 is_forbidden bytes head_state =
     is_cross_site_in bytes head_state && not (asks_for_page bytes head_state)
 
+-- The route, unless the request is forbidden.
 abbrev pub IsPermittedUnless : (forbidden : Bool) → List ℕ → HeadState → Option RunRoute → Type 0
 IsPermittedUnless true bytes head_state route = route ≡ Some (Own (Rejected Forbidden))
 IsPermittedUnless false bytes head_state route = IsRouteIn bytes head_state route
 
+-- The route, or 403 for a page of another site.
 abbrev pub IsPermitted : List ℕ → HeadState → Option RunRoute → Type 0
 IsPermitted bytes head_state route =
     IsPermittedUnless (is_forbidden bytes head_state) bytes head_state route
 
--- Who asks is tested before that, by the names that were given.
+-- The host is tested first, by the given names.
 abbrev pub IsRunRoute : (may : Bool) → List ℕ → HeadState → Option RunRoute → Type 0
 IsRunRoute true bytes head_state route = IsPermitted bytes head_state route
 IsRunRoute false bytes head_state route = route ≡ Some (Own (Rejected Misdirected))
 
--- a look at the bytes finds a head that asks for it
+-- The route of the head that parsing the bytes finds.
 pub record IsFor (names : List (List ℕ)) (bytes : List ℕ) (route : Option RunRoute) : Type 0 where
   pub head_state : HeadState
   pub looks : Looks bytes head_state
   pub asks : IsRunRoute (may_ask_in names bytes head_state) bytes head_state route
 
--- it is that of the energy of a register
+-- The route is that of the energy of a register.
 abbrev pub is_energy : Option RunRoute → Bool
 is_energy None = false
 is_energy (Some (Own own)) = false
@@ -123,12 +131,13 @@ is_energy (Some (Voids meter)) = false
 is_energy (Some (Energy register form)) = true
 is_energy (Some (Meters register)) = false
 
+-- Whether the bytes ask for the energy of a register.
 pub record AsksEnergy (names : List (List ℕ)) (bytes : List ℕ) (result : Bool) : Type 0 where
   pub route : Option RunRoute
   pub for : IsFor names bytes route
   pub is : result ≡ is_energy route
 
--- the status and the headers of each reply, whose body has so many bytes
+-- The status line and the headers of a response, for a body of this size.
 abbrev pub with_start_of : HttpStatus → (kind : List ℕ) → (size : ℕ) → List ℕ → List ℕ
 with_start_of status kind size text =
     text ++ codes "HTTP/1.1 " ++ decimal (number_of_status status) ++ codes " "
@@ -136,25 +145,29 @@ with_start_of status kind size text =
     ++ codes "\r\nContent-Type: " ++ kind ++ codes "\r\nContent-Length: " ++ decimal size
     ++ codes "\r\nConnection: close"
 
+-- The status line and the headers of a response, for this body.
 abbrev pub with_start : HttpStatus → (kind body : List ℕ) → List ℕ → List ℕ
 with_start status kind body text = with_start_of status kind (length body) text
 
+-- A response with a body.
 abbrev pub with_reply : HttpStatus → (kind body : List ℕ) → List ℕ → List ℕ
 with_reply status kind body text =
     with_start status kind body text ++ codes "\r\n\r\n" ++ body
 
--- Of a part of the page a browser is told to load nothing from elsewhere, to show it in no frame, and to show none that it
--- has kept before it has asked again.
+-- The headers of a part of the page. A browser loads nothing from elsewhere for it, shows it in no
+-- frame, and revalidates a cached copy before use.
 abbrev pub with_page_headers : List ℕ → List ℕ
 with_page_headers text =
     text ++ codes "\r\nContent-Security-Policy: default-src 'self'; frame-ancestors 'none'"
     ++ codes "\r\nCache-Control: no-cache"
 
+-- The response with a part of the page.
 abbrev pub with_page_reply : PagePart → List ℕ → List ℕ
 with_page_reply part text =
     with_page_headers (with_start Fine (content_type_of part) (body_of part) text)
     ++ codes "\r\n\r\n" ++ body_of part
 
+-- The response of a route that does not ask the office.
 abbrev pub with_route_reply : StatusRoute → Counts → List DeviceState → List DeviceLack
     → List ℕ → List ℕ
 with_route_reply Status counts devices lacks text =

@@ -1,4 +1,4 @@
--- The entries of a meter that voids name.
+-- The voided entries of a meter.
 use Rattle.std.specs.Prelude.{ℕ, Bool, false, not, List, filter, Option, Some}
 use Rattle.std.specs.Option.{option_map, option_and_then}
 use Rattle.office_events.specs.declared.facts.Fact.{Fact}
@@ -7,16 +7,16 @@ use Rattle.office_books.specs.declared.entries.MeterEntry.{MeterEntry}
 use Rattle.office_books.specs.declared.entries.MeterEntry.TheVariants.{Opening, Later}
 use Rattle.office_books.specs.Entries.{entries_at}
 
--- No void names an opening, and those that are named don't stand.
+-- An entry is voided. An opening is never voided.
 abbrev pub is_voided : MeterEntry → Bool
 is_voided (Opening last) = false
 is_voided (Later row sf) = not row.stands
 
--- of these entries, in their order
+-- The voided ones of these entries, in order.
 abbrev pub voided_in : List MeterEntry → List MeterEntry
 voided_in entries = filter is_voided entries
 
--- of all entries of a meter, where there is a meter of the name
+-- The voided entries of a meter, if there is a meter of the name.
 abbrev pub voids_of : List Fact → (meter : Option (List ℕ)) → Option (List MeterEntry)
 voids_of facts meter =
     option_map (λ opening. voided_in (entries_at facts (Some opening)))

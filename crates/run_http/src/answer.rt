@@ -1,4 +1,4 @@
-//! What a peer is replied.
+//! The response of the office to gathered bytes.
 ghost use Rattle.office_http.specs.Serving.{Lasts};
 ghost use Rattle.run_http.specs.Answer.{Asks};
 
@@ -8,19 +8,20 @@ use office_core::Office;
 use office_http::{HandleFault, handle};
 use std::alloc::Global;
 
-/// What comes of the bytes of a peer.
+/// The result of the bytes of a client.
 #[derive(Drop)]
 pub enum PeerReply {
-    /// They hold no whole request yet: nothing was asked.
+    /// The bytes hold no complete request. The office was not asked.
     Open,
-    /// They were replied to so; where the books failed the reply is cut off.
+    /// The response. It is cut off if the store failed while its rows were written.
     Replied(Vec<u8>),
-    /// There was no memory for the reply, or the request has too many pieces.
+    /// There was no memory for the response, or the request took too many reads.
     Failed,
 }
 
-/// Asks the office what bytes of a peer ask, at a moment in seconds since 1970-01-01 UTC. It may be called again with more
-/// bytes where they hold no whole request.
+/// Asks the office what the bytes of a client ask for. `moment` is in seconds since 1970-01-01 UTC.
+///
+/// If the bytes hold no complete request, call it again with more bytes.
 pub fn ask<B: Books>(
     alloc: Global,
     request: &[u8],

@@ -1,4 +1,4 @@
-//! What browsers are told of each reply of a run.
+//! The headers for browsers in each response of a run.
 ghost use Rattle.std.specs.Prelude.{◌≡◌, IfOk};
 ghost use Rattle.http_request.specs.Hosts.{texts};
 ghost use Rattle.run_http.specs.Browsers as browsers;
@@ -14,7 +14,6 @@ static OF_PAGE: &[u8] =
 static OF_OTHERS: &[u8] =
     b"X-Content-Type-Options: nosniff\r\nCross-Origin-Resource-Policy: same-origin\r\nCache-Control: no-store\r\n";
 
-// Whether a route is that of a part of the page.
 fn is_page(route: &Option<RunRoute>) -> bool
     ensures { result ≡ browsers.is_page route.now }
 {
@@ -30,14 +29,14 @@ fn headers_for(is_page: bool) -> &'static [u8]
     if is_page { OF_PAGE } else { OF_OTHERS }
 }
 
-// Where the first line of a reply ends.
+// Returns the index of the line feed that ends the first line of a response.
 fn first_line_end(reply: &[u8]) -> Option<usize>
     ensures { result ≡ browsers.first_line_end reply.now }
 {
     reply.iter().position(|byte| *byte == b'\n')
 }
 
-// A reply with more headers before its own.
+// Inserts headers after the first line of a response.
 fn with_headers(alloc: Global, more: &[u8], reply: &[u8]) -> Result<Vec<u8>, AllocError>
     ensures { IfOk result (λ told. told.items ≡ browsers.with_headers more.now reply.now) }
 {
@@ -50,9 +49,11 @@ fn with_headers(alloc: Global, more: &[u8], reply: &[u8]) -> Result<Vec<u8>, All
     Ok(told)
 }
 
-/// The reply to a request as a browser gets it: it takes the body for what `Content-Type` says, hands it to no page of another
-/// site, and keeps none but the parts of the page. The names are those by which the run may be asked. It fails where there is no
-/// memory.
+/// Adds the headers for browsers to the response to a request.
+///
+/// With these headers a browser takes the body for what `Content-Type` says, and shares it with no
+/// page of another site. Only parts of the page may be cached. `names` are the host names of the
+/// run. Fails if memory runs out.
 pub fn for_browsers(
     alloc: Global,
     names: &[&str],

@@ -1,9 +1,9 @@
-//! Rows that are kept as they are handed on.
+//! A row sink that keeps all rows.
 use interval_core::Share;
 use office_books::RowSink;
 use std::alloc::{AllocError, Global};
 
-/// The rows so far, as long as there was memory for each.
+/// The rows so far, unless memory ran out.
 #[derive(Drop)]
 pub struct KeptRows {
     rows: Vec<Share>,
@@ -13,7 +13,7 @@ pub struct KeptRows {
 impl KeptRows {
     ghost use Rattle.std.specs.Prelude.{◌≡◌, [], true, IfOk};
 
-    /// No row was handed on.
+    /// Makes an empty sink.
     pub fn new(alloc: Global) -> KeptRows
         ensures none { result.rows.items ≡ [] }
         ensures whole { result.is_whole ≡ true }
@@ -24,7 +24,7 @@ impl KeptRows {
         }
     }
 
-    /// All rows, where there was memory for each.
+    /// Returns all rows. Fails if memory ran out for one of them.
     pub fn into_rows(self) -> Result<Vec<Share>, AllocError>
         ensures whole { IfOk result (λ rows. self.is_whole ≡ true) }
         ensures rows { IfOk result (λ rows. rows ≡ self.rows) }

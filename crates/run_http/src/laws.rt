@@ -1,17 +1,22 @@
-//! What who copies the quarter hours of meters may rely on. Each function's clause is the law, over all lawful facts.
+//! Theorems for programs that copy the quarter hours of meters. Each function's clause is a theorem
+//! on all lawful records.
 ghost use Rattle.run_http.specs.Copies.{EntriesComeAfter, RowsBeforeStay};
 
 use interval_core::shares_add_up;
 
-/// Whatever else comes, where no void names an entry before a place, the quarter hours stay that start before that of the last
-/// entry which stands before the place; a copy of them and what the office tells of the others are all there is.
+/// Theorem: a copy of old quarter hours stays right.
+///
+/// Suppose no later void names an entry before a sequence number. Then the quarter hours before
+/// that of the last valid entry before the number stay. A copy of them is complete with the
+/// office's rows from there on.
 pub fn rows_before_stay()
     ensures { RowsBeforeStay }
 {
     shares_add_up();
 }
 
-/// Where nothing is voided, these are the quarter hours before that of the last entry, whose moment is told beside the energy.
+/// Theorem: if nothing is voided, only quarter hours from that of the last entry on can change. The
+/// time of that entry is reported beside the energy.
 pub fn entries_come_after()
     ensures { EntriesComeAfter }
 {}

@@ -1,5 +1,5 @@
-//! What a peer of a run is replied to bytes that were gathered: by the office, over a link in memory, by what was counted, or by
-//! what there is.
+//! Routes the requests of a run's clients, and builds the responses: from the office over a link in
+//! memory, from counts, or from the page.
 #![tactic(auto)]
 
 mod answer;

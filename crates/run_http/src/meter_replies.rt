@@ -1,4 +1,4 @@
-//! What a peer is replied who asks for rows of a meter.
+//! The responses to queries for rows of a meter.
 ghost use Rattle.std.specs.Prelude.{◌≡◌, OnOk};
 ghost use Rattle.interval_core.specs.Lines.{intervals_text};
 ghost use Rattle.office_core.specs.Parts.{entries_within, intervals_within};
@@ -16,10 +16,10 @@ use office_core::Office;
 use office_events::{Name, Refusal};
 use std::alloc::{AllocError, Global};
 
-/// The most entries that a reply tells.
+/// The most entries of a response.
 pub const MOST_ENTRIES: u32 = 4096;
 
-/// Asks the office for the quarter hours of a meter.
+/// Queries the quarter hours of a meter.
 pub(crate) fn ask_intervals<B: Books>(
     alloc: Global,
     office: &mut Office<B>,
@@ -38,7 +38,7 @@ pub(crate) fn ask_intervals<B: Books>(
     }
 }
 
-// Puts the reply for quarter hours that the office told of.
+// Appends the response with the quarter hours that the office answered.
 fn put_intervals_told(
     alloc: Global,
     text: &mut Vec<u8>,
@@ -57,8 +57,8 @@ fn put_intervals_told(
     }
 }
 
-/// Asks the office for the quarter hours of a meter, and puts the reply at the end of a text. Want of memory leaves a part
-/// of it.
+/// Queries the quarter hours of a meter, and appends the response. If memory runs out, a part of it
+/// remains.
 pub fn reply_intervals<B: Books>(
     alloc: Global,
     text: &mut Vec<u8>,
@@ -74,7 +74,7 @@ pub fn reply_intervals<B: Books>(
     put_intervals_told(alloc, text, &answer)
 }
 
-// Puts the reply for entries that the office told of.
+// Appends the response with the entries that the office answered.
 fn put_entries_told(
     alloc: Global,
     text: &mut Vec<u8>,
@@ -93,8 +93,8 @@ fn put_entries_told(
     }
 }
 
-/// Asks the office for the entries of a meter from a place on, at most 4,096, and puts the reply at the end of a text. Want of
-/// memory leaves a part of it.
+/// Queries the entries of a meter from a sequence number on, at most 4,096, and appends the
+/// response. If memory runs out, a part of it remains.
 pub fn reply_entries<B: Books>(
     alloc: Global,
     text: &mut Vec<u8>,

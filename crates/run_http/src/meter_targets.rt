@@ -1,4 +1,4 @@
-//! What a target asks of the rows of a meter.
+//! The targets for rows of a meter.
 ghost use Rattle.std.specs.Prelude.{◌≡◌, option_map};
 ghost use Rattle.run_http.specs.MeterTargets as targets;
 
@@ -7,21 +7,20 @@ use http_request::{Status, digits};
 use office_books::Span;
 use office_events::Name;
 
-/// What follows a word that a text begins with.
+/// Returns what follows `word` at the beginning of a text.
 pub(crate) fn after<'t>(word: &[u8], text: &'t [u8]) -> Option<&'t [u8]>
     ensures { option_map (λ rest. rest.now) result ≡ targets.after word.now text.now }
 {
     text.strip_prefix(word)
 }
 
-/// Where the first slash of a text stands.
+/// Returns the index of the first slash of a text.
 pub(crate) fn slash_in(text: &[u8]) -> Option<usize>
     ensures { result ≡ targets.slash_in text.now }
 {
     text.iter().position(|byte| *byte == b'/')
 }
 
-// The span from one moment till another.
 fn span_of(from: &[u8], till: &[u8]) -> Option<Span>
     ensures { result ≡ targets.span_of from.now till.now }
 {
@@ -30,7 +29,7 @@ fn span_of(from: &[u8], till: &[u8]) -> Option<Span>
     Some(Span::Between { from, till })
 }
 
-// The quarter hours of a span, where it is one.
+// Returns the route to the quarter hours of a span, or 400 without a span.
 fn intervals_asked(name: &[u8], span: Option<Span>) -> RunRoute
     ensures { result ≡ targets.intervals_asked name.now span }
 {
@@ -43,7 +42,7 @@ fn intervals_asked(name: &[u8], span: Option<Span>) -> RunRoute
     }
 }
 
-// The quarter hours from one moment till another, which ends the target.
+// Parses the two timestamps. The second must end the target.
 fn intervals_till(name: &[u8], from: &[u8], till: &[u8]) -> Option<RunRoute>
     ensures { result ≡ targets.intervals_till name.now from.now till.now }
 {
@@ -53,7 +52,7 @@ fn intervals_till(name: &[u8], from: &[u8], till: &[u8]) -> Option<RunRoute>
     Some(intervals_asked(name, span_of(from, till)))
 }
 
-// What asks for quarter hours, by what follows their word.
+// Parses what follows the segment `intervals`.
 fn intervals_in(name: &[u8], text: &[u8]) -> Option<RunRoute>
     ensures { result ≡ targets.intervals_in name.now text.now }
 {
@@ -61,7 +60,7 @@ fn intervals_in(name: &[u8], text: &[u8]) -> Option<RunRoute>
     intervals_till(name, &text[..at], &text[at + 1..])
 }
 
-// The entries from a place on, where it is one.
+// Returns the route to the entries from a sequence number on, or 400 without a number.
 fn entries_asked(name: &[u8], place: Option<u64>) -> RunRoute
     ensures { result ≡ targets.entries_asked name.now place }
 {
@@ -74,7 +73,7 @@ fn entries_asked(name: &[u8], place: Option<u64>) -> RunRoute
     }
 }
 
-// The entries from a place on, which ends the target.
+// Parses the sequence number, which must end the target.
 fn entries_at(name: &[u8], place: &[u8]) -> Option<RunRoute>
     ensures { result ≡ targets.entries_at name.now place.now }
 {
@@ -84,7 +83,6 @@ fn entries_at(name: &[u8], place: &[u8]) -> Option<RunRoute>
     Some(entries_asked(name, digits(place)))
 }
 
-// What asks for rows of a meter, by what follows its name.
 fn rows_in(name: &[u8], text: &[u8]) -> Option<RunRoute>
     ensures { result ≡ targets.rows_in name.now text.now }
 {
@@ -102,7 +100,6 @@ fn rows_in(name: &[u8], text: &[u8]) -> Option<RunRoute>
     }
 }
 
-// What asks for rows of a meter, by what follows the word for meters.
 fn meter_in(text: &[u8]) -> Option<RunRoute>
     ensures { result ≡ targets.meter_in text.now }
 {
@@ -110,7 +107,7 @@ fn meter_in(text: &[u8]) -> Option<RunRoute>
     rows_in(&text[..at], &text[at + 1..])
 }
 
-/// What a target asks of the rows of a meter, if it asks for some.
+/// Parses a target for rows of a meter.
 pub(crate) fn meter_target(target: &[u8]) -> Option<RunRoute>
     ensures { result ≡ targets.meter_target target.now }
 {

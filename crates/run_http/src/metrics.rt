@@ -1,4 +1,4 @@
-//! What a peer is replied who asks for metrics.
+//! The response to a query for metrics.
 ghost use Rattle.std.specs.Prelude.{◌≡◌, OnOk};
 ghost use Rattle.run_http.specs.MetricsReply.{with_metrics_reply};
 ghost use Rattle.run_http.specs.SiteReply.{RepliesSite};
@@ -13,7 +13,7 @@ use office_events::Refusal;
 use run_status::{Counts, DeviceState};
 use std::alloc::{AllocError, Global};
 
-// Puts the reply for what the office answers.
+// Appends the response with what the office answered.
 fn put_answer(
     alloc: Global,
     text: &mut Vec<u8>,
@@ -34,8 +34,8 @@ fn put_answer(
     }
 }
 
-/// Asks the office which meters are open, and puts the reply with what was counted and their energy at the end of a text. Want
-/// of memory leaves a part of it.
+/// Queries the open meters, and appends the response with their energy and the counts. If memory
+/// runs out, a part of it remains.
 pub fn reply_metrics<B: Books>(
     alloc: Global,
     text: &mut Vec<u8>,

@@ -1,4 +1,4 @@
-//! Which requests to the office ask for all quarter hours of a meter, and which may have an entry voided.
+//! Which requests to the office ask for all quarter hours of a meter, and which may void an entry.
 ghost use Rattle.std.specs.Prelude.{◌≡◌, IfSome};
 ghost use Rattle.http_request.specs.Head.Heads.{Looks};
 ghost use Rattle.http_request.specs.declared.head.head.HeadState.TheVariants.{Whole};
@@ -11,7 +11,7 @@ use http_request::{Ask, Head, HeadState, Route, ask_of, parse_head};
 use matchit::Router;
 use office_events::Name;
 
-// The meter all of whose quarter hours a whole head asks the office for, if it asks for those.
+// Returns the meter whose quarter hours a complete head asks for, if it does.
 fn meter_asked(
     router: &Router<Route>,
     request: &[u8],
@@ -34,8 +34,8 @@ fn meter_asked(
     }
 }
 
-/// The meter all of whose quarter hours a request asks the office for, by its routes, if it asks for those. `None` in that is a name
-/// that no meter can have.
+/// Returns the meter all of whose quarter hours a request asks the office for, by the office's
+/// routes. `Some(None)` is a name that no meter can have.
 pub fn all_rows_asked(router: &Router<Route>, request: &[u8]) -> Option<Option<Name>>
     ensures { IfSome result (AsksAllRows router.now request.now) }
 {
@@ -46,14 +46,13 @@ pub fn all_rows_asked(router: &Router<Route>, request: &[u8]) -> Option<Option<N
     }
 }
 
-// Whether a head of this method and this target may have an entry voided.
 fn may_void_by(method: &[u8], target: &[u8]) -> bool
     ensures { result ≡ requests.may_void_by method.now target.now }
 {
     method == b"POST".as_slice() && after(b"/meters/", target).is_some()
 }
 
-/// Whether a request may have the office void an entry.
+/// Returns whether a request may make the office void an entry.
 pub fn may_void(request: &[u8]) -> bool
     ensures { MayVoid request.now result }
 {

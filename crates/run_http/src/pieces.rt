@@ -1,4 +1,4 @@
-//! Quarter hours of a meter that are told piece by piece.
+//! Streams the quarter hours of a meter in chunks.
 ghost use Rattle.std.specs.Prelude.{◌≡◌, ◌+◌, ◌<◌, ◌≤◌, [], ◌++◌, length, flat_map, IfOk, IfSome, OnOk};
 ghost use Rattle.http_answer.specs.Sending.Replies.{text_head};
 ghost use Rattle.interval_core.specs.Lines.{intervals_text, share_line};
@@ -21,48 +21,49 @@ use office_rules::facts_are_lawful;
 use run_status::{put, put_number, put_word};
 use std::alloc::{AllocError, Global};
 
-/// What is still to be told of a reply with quarter hours of a meter.
+/// The rest of a response with quarter hours of a meter.
 #[derive(Drop)]
 pub struct RowsLeft {
     meter: Option<Name>,
-    /// Rows that start at `from` or later, and before `till`, are still to be asked for.
+    /// Rows that start at `from` or later, and before `till`, are still to be queried.
     from: u64,
     till: u64,
-    /// Rows that are told after them. New entries may change these, so they are kept.
+    /// The last rows of the response. New entries may change these rows, so the response keeps
+    /// them.
     last: Vec<Share>,
-    /// How many rows were told.
+    /// The number of rows that were written.
     told: usize,
 }
 
-// The start of the quarter hour of a moment.
 fn quarter_of(moment: u64) -> u64
     ensures { result ≡ copies.quarter_of moment }
 {
     moment - moment % INTERVAL_SECONDS
 }
 
-// From where on rows are asked for.
+// Returns the start of the rows to query.
 fn first_asked(it: &Installation, from: u64) -> u64
     ensures { result ≡ pieces.first_asked it.now from }
 {
     from.max(quarter_of(it.opening.at))
 }
 
-// Up to where rows are asked for later.
+// Returns the end of the rows to query later.
 fn asked_till(it: &Installation, from: u64, till: u64) -> u64
     ensures { result ≡ pieces.asked_till it.now from till }
 {
     first_asked(it, from).max(till.min(quarter_of(it.last.at)))
 }
 
-/// Whether the quarter hours of a meter that start at a moment or later, and before another, may be of more than so many seconds.
+/// Returns whether the rows that are queried later span more than `seconds`, in a response with the
+/// quarter hours from `from` on and before `till`.
 pub fn are_many(it: &Installation, from: u64, till: u64, seconds: u64) -> bool
     ensures { result ≡ pieces.are_many it.now from till seconds }
 {
     asked_till(it, from, till).saturating_sub(first_asked(it, from)) > seconds
 }
 
-// Asks for the rows that new entries may change, and keeps them; the others are still to be asked for.
+// Queries the rows that new entries may change, and keeps them. The other rows are queried later.
 fn begin_rows<B: Books>(
     alloc: Global,
     office: &mut Office<B>,
@@ -90,7 +91,7 @@ fn begin_rows<B: Books>(
     }
 }
 
-// Asks the office for the rows that are still to be asked for, to tell their size.
+// Queries the rows that are queried later, for their size only.
 fn ask_sizes<B: Books>(
     alloc: Global,
     office: &mut Office<B>,
@@ -111,14 +112,15 @@ fn ask_sizes<B: Books>(
     }
 }
 
-// The sum of three numbers, where it is one of as many bits.
+// Adds three numbers, unless the sum overflows.
 fn sum_of(a: usize, b: usize, c: usize) -> Option<usize>
     ensures { IfSome result (λ sum. sum ≡ a + b + c) }
 {
     a.checked_add(b)?.checked_add(c)
 }
 
-// How many bytes the body of a reply has, of which those rows are still to be asked for.
+// Returns the size in bytes of the body of a response, by the sizes of the rows that are still to
+// be queried.
 fn body_size(alloc: Global, left: &RowsLeft, sizes: Sizes) -> Result<usize, AllocError>
     ensures { IfOk result (λ size. size ≡ pieces.body_size left.now sizes) }
 {
@@ -134,7 +136,7 @@ fn body_size(alloc: Global, left: &RowsLeft, sizes: Sizes) -> Result<usize, Allo
     }
 }
 
-// Puts what a reply begins with whose body has so many bytes.
+// Appends the head of a response with a body of `size` bytes.
 fn put_head(text: &mut Vec<u8>, size: usize) -> Result<(), AllocError>
     ensures { OnOk result (text.new.items ≡ pieces.with_head size text.old.items) }
 {
@@ -142,8 +144,11 @@ fn put_head(text: &mut Vec<u8>, size: usize) -> Result<(), AllocError>
     put(text, b"\r\n\r\n")
 }
 
-/// Asks the office for quarter hours of a meter, those that start at a moment or later, and before another, by where the meter stands,
-/// and puts what the reply begins with, which tells its size, at the end of a text. Want of memory leaves a part of it.
+/// Begins a response with the quarter hours of a meter that start at `from` or later, and before
+/// `till`.
+///
+/// `it` is the meter's current row. The function appends the head, which has the size of the body.
+/// If memory runs out, a part of the head remains.
 pub fn begin_intervals<B: Books>(
     alloc: Global,
     text: &mut Vec<u8>,
@@ -168,7 +173,7 @@ pub fn begin_intervals<B: Books>(
     Ok(Ok(left))
 }
 
-// Puts what the office's own replies with rows begin with.
+// Appends the head of the office's own responses with rows.
 fn put_text_head(text: &mut Vec<u8>) -> Result<(), AllocError>
     ensures { OnOk result (text.new.items ≡ text.old.items ++ text_head) }
 {
@@ -180,7 +185,8 @@ fn put_text_head(text: &mut Vec<u8>) -> Result<(), AllocError>
     )
 }
 
-/// The same of all quarter hours of a meter, for the office's own reply, which doesn't tell its size.
+/// Begins the office's own response with all quarter hours of a meter, which does not report its
+/// size.
 pub fn begin_all_intervals<B: Books>(
     alloc: Global,
     text: &mut Vec<u8>,
@@ -200,7 +206,7 @@ pub fn begin_all_intervals<B: Books>(
     }
 }
 
-// Where a piece of so many seconds ends.
+// Returns the end of a chunk of `seconds` seconds.
 fn piece_end(from: u64, till: u64, seconds: u64) -> u64
     ensures low { from ≤ till → from ≤ result }
     ensures high { result ≤ till }
@@ -215,7 +221,7 @@ fn piece_end(from: u64, till: u64, seconds: u64) -> u64
     }
 }
 
-// Puts the lines of the rows of a piece, which ends there.
+// Appends the lines of the rows of a chunk, which ends at `till`.
 fn put_piece(
     text: &mut Vec<u8>,
     left: &mut RowsLeft,
@@ -235,15 +241,15 @@ fn put_piece(
     Ok(())
 }
 
-/// Whether rows are still to be asked for.
+/// Returns whether rows are still to be queried.
 pub fn has_more(left: &RowsLeft) -> bool
     ensures { result ≡ pieces.has_more left.now }
 {
     left.from < left.till
 }
 
-/// Asks the office for the next rows of a reply, those that start within so many seconds, and puts their lines at the end of a text.
-/// Want of memory leaves a part of them.
+/// Queries the next rows of a response, those that start within `seconds`, and appends their lines.
+/// If memory runs out, a part of them remains.
 pub fn tell_rows<B: Books>(
     alloc: Global,
     text: &mut Vec<u8>,
@@ -271,15 +277,15 @@ pub fn tell_rows<B: Books>(
     }
 }
 
-// How many rows a reply has whose last rows are told now.
+// Returns the number of rows of a response that writes its last rows now.
 fn count_of(left: &RowsLeft) -> Option<usize>
     ensures { IfSome result (λ count. count ≡ left.now.told + length left.now.last.items) }
 {
     left.told.checked_add(left.last.len())
 }
 
-/// Puts the last rows of a reply, of which no others are still to be asked for, and how many it has, at the end of a text. Want of
-/// memory leaves a part of them.
+/// Appends the last rows of a response, and the number of all its rows. Call it when no rows are
+/// left to query. If memory runs out, a part remains.
 pub fn end_rows(text: &mut Vec<u8>, left: &RowsLeft) -> Result<(), AllocError>
     ensures { OnOk result (TellsRest left.now text.old.items text.new.items) }
 {
@@ -290,15 +296,15 @@ pub fn end_rows(text: &mut Vec<u8>, left: &RowsLeft) -> Result<(), AllocError>
     put_end(text, count)
 }
 
-/// What is still to be told of a reply stays what it was when the reply was begun, whatever comes, unless a void names an entry that
-/// the meter had then.
+/// Theorem: the rest of a response stays the same, unless a void names an entry that the meter had
+/// when the response began.
 pub fn text_stays()
     ensures { TextStays }
 {
     shares_add_up();
 }
 
-/// So the pieces of a reply, one after the other, are the reply of the moment at which it was begun.
+/// Theorem: the chunks of a response together are the response of the time at which it began.
 pub fn pieces_are_whole()
     ensures { PiecesAreWhole }
 {

@@ -1,4 +1,4 @@
-//! What a peer is replied who asks which meters are at a register, and which were.
+//! The response to a query for the meters at a register.
 ghost use Rattle.std.specs.Prelude.{◌≡◌, OnOk};
 ghost use Rattle.office_core.specs.Parts.{meters_named};
 ghost use Rattle.run_http.specs.MeterReplies.{RepliesRows, with_rows_reply};
@@ -13,7 +13,7 @@ use office_core::Office;
 use office_events::{Installation, Name, Refusal};
 use std::alloc::{AllocError, Global};
 
-// Puts the reply for the meters that the office told of.
+// Appends the response with the meters that the office answered.
 fn put_meters_told(
     alloc: Global,
     text: &mut Vec<u8>,
@@ -32,8 +32,8 @@ fn put_meters_told(
     }
 }
 
-/// Asks the office for the meters at a register, closed ones too, in the order in which they were installed, and puts the reply at
-/// the end of a text. Want of memory leaves a part of it.
+/// Queries the meters at a register, closed ones too, in the order of their installation, and
+/// appends the response. If memory runs out, a part of it remains.
 pub fn reply_meters<B: Books>(
     alloc: Global,
     text: &mut Vec<u8>,

@@ -1,4 +1,4 @@
-//! What a peer is replied who asks for the energy of a register.
+//! The response to a query for the energy of a register.
 ghost use Rattle.std.specs.Prelude.{◌≡◌, IfOk, OnOk};
 ghost use Rattle.run_http.specs.RegisterReplies.{AsksEnergy, PutsLast, RepliesEnergy};
 ghost use Rattle.run_http.specs.RegisterReplies.{with_energy_reply};
@@ -13,7 +13,8 @@ use office_events::{Name, Refusal};
 use std::alloc::{AllocError, Global};
 use std::io::Write;
 
-// Writes what is left of a report, where there is one. There was no memory for it where a write failed.
+// Writes the rest of a report, unless the query was refused. A failed write means that memory ran
+// out.
 fn put_rest<W: Write>(
     told: Result<(), Refusal>,
     rows: &mut ReportRows<'_, W>,
@@ -35,7 +36,7 @@ fn put_rest<W: Write>(
     }
 }
 
-// Asks the office for the days of a register, and writes the report on them in a form.
+// Queries the days of a register, and writes the report on them.
 fn put_energy<B: Books, W: Write>(
     office: &mut Office<B>,
     register: &Option<Name>,
@@ -50,8 +51,8 @@ fn put_energy<B: Books, W: Write>(
     put_rest(told, &mut rows)
 }
 
-/// Puts the reply to a question for the energy of a register at the end of a text: with the report, or for a refusal. Want of
-/// memory leaves a part of it.
+/// Appends the response to a query for the energy of a register: the report, or the refusal. If
+/// memory runs out, a part of it remains.
 pub fn put_energy_reply(
     text: &mut Vec<u8>,
     answer: &Result<(), Refusal>,
@@ -66,9 +67,10 @@ pub fn put_energy_reply(
     }
 }
 
-/// Asks the office for the days of a register, and puts the reply with the report on them, in a form, at the end of a text.
-/// Where the form's range has both ends, only the quarter hours of its days, and of two days more at each end, are read. Want
-/// of memory leaves a part of the reply.
+/// Queries the days of a register, and appends the response with the report on them.
+///
+/// If the form's range has both ends, only the quarter hours of its days and of two days on each
+/// side are read. If memory runs out, a part of the response remains.
 pub fn reply_energy<B: Books>(
     alloc: Global,
     text: &mut Vec<u8>,

@@ -1,4 +1,4 @@
-//! What a target asks of a register: its energy, or which meters are and were there.
+//! The targets for a register: its energy, or its present and earlier meters.
 ghost use Rattle.std.specs.Prelude.{◌≡◌};
 ghost use Rattle.energy_report.specs.Days.{IsReadAs};
 ghost use Rattle.run_http.specs.RegisterTargets as targets;
@@ -11,7 +11,7 @@ use interval_core::{Day, DayRange};
 use office_events::Name;
 use std::str::from_utf8;
 
-// The day that bytes spell as `YYYY-MM-DD`.
+// Parses a day as `YYYY-MM-DD`.
 #[tactic(auto, using(crate::proofs::ReplyLemmas::Spelled::unread))]
 fn day_of(text: &[u8]) -> Option<Day>
     ensures { IsReadAs text.now result }
@@ -22,7 +22,6 @@ fn day_of(text: &[u8]) -> Option<Day>
     }
 }
 
-// The range from one day until another.
 fn range_of(from: &[u8], till: &[u8]) -> Option<DayRange>
     ensures { targets.IsRangeOf from.now till.now result }
 {
@@ -42,7 +41,7 @@ fn range_of(from: &[u8], till: &[u8]) -> Option<DayRange>
     Some(range)
 }
 
-// The lines of a report in mWh.
+// Returns the form of a report as lines in mWh.
 fn lines_of(range: DayRange, period: Period) -> ReportForm
     ensures { result ≡ targets.lines_of range period }
 {
@@ -54,7 +53,7 @@ fn lines_of(range: DayRange, period: Period) -> ReportForm
     }
 }
 
-// The days of a range, where it is one.
+// Returns the route to the days of a range, or 400 without a range.
 fn days_asked(name: &[u8], range: Option<DayRange>) -> RunRoute
     ensures { result ≡ targets.days_asked name.now range }
 {
@@ -67,7 +66,7 @@ fn days_asked(name: &[u8], range: Option<DayRange>) -> RunRoute
     }
 }
 
-// The months of all days.
+// Returns the route to the months of all days.
 fn months_asked(name: &[u8]) -> RunRoute
     ensures { result ≡ targets.months_asked name.now }
 {
@@ -77,7 +76,7 @@ fn months_asked(name: &[u8]) -> RunRoute
     }
 }
 
-// The days from one until another, which ends the target.
+// Parses the two days. The second must end the target.
 fn days_till(name: &[u8], from: &[u8], till: &[u8]) -> Option<RunRoute>
     ensures { targets.IsDaysTill name.now from.now till.now result }
 {
@@ -87,7 +86,7 @@ fn days_till(name: &[u8], from: &[u8], till: &[u8]) -> Option<RunRoute>
     Some(days_asked(name, range_of(from, till)))
 }
 
-// What asks for days, by what follows their word.
+// Parses what follows the segment `days`.
 fn days_in(name: &[u8], text: &[u8]) -> Option<RunRoute>
     ensures { targets.IsDaysIn name.now text.now result }
 {
@@ -97,7 +96,7 @@ fn days_in(name: &[u8], text: &[u8]) -> Option<RunRoute>
     }
 }
 
-// What asks for energy, by what follows the name of a register.
+// Parses what asks for energy after the name of a register.
 fn energy_in(name: &[u8], text: &[u8]) -> Option<RunRoute>
     ensures { targets.IsEnergyIn name.now text.now result }
 {
@@ -110,7 +109,6 @@ fn energy_in(name: &[u8], text: &[u8]) -> Option<RunRoute>
     }
 }
 
-// What asks for the meters at a register, or for its energy, by what follows its name.
 fn rows_in(name: &[u8], text: &[u8]) -> Option<RunRoute>
     ensures { targets.IsRowsIn name.now text.now result }
 {
@@ -122,7 +120,6 @@ fn rows_in(name: &[u8], text: &[u8]) -> Option<RunRoute>
     energy_in(name, text)
 }
 
-// What asks that of a register, by what follows the word for registers.
 fn register_in(text: &[u8]) -> Option<RunRoute>
     ensures { targets.IsRegisterIn text.now result }
 {
@@ -132,7 +129,7 @@ fn register_in(text: &[u8]) -> Option<RunRoute>
     }
 }
 
-/// What a target asks of a register, if it asks for its energy or for its meters.
+/// Parses a target for the energy or the meters of a register.
 pub(crate) fn register_target(target: &[u8]) -> Option<RunRoute>
     ensures { targets.IsRegisterTarget target.now result }
 {

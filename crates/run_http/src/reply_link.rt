@@ -1,10 +1,11 @@
-//! A link over a request that was gathered.
+//! A link in memory over a gathered request.
 ghost use Rattle.std.specs.Prelude.{Some};
 
 use mb_wire::{LastTake, Link, LinkFailed, Took};
 use std::alloc::Global;
 
-/// A link that hands out bytes that were gathered, and keeps what it is given. A give fails where there is no memory.
+/// A link that returns gathered bytes when read, and keeps the bytes that are written. A write
+/// fails if memory runs out.
 #[derive(Drop)]
 pub struct ReplyLink<'a> {
     pub input: &'a [u8],
@@ -18,7 +19,7 @@ pub struct ReplyLink<'a> {
 impl<'a> ReplyLink<'a> {
     ghost use Rattle.std.specs.Prelude.{◌≡◌, [], None};
 
-    /// Nothing was taken or given.
+    /// Makes a link over the bytes that has written nothing.
     pub fn new(alloc: Global, input: &'a [u8]) -> ReplyLink<'a>
         ensures input { result.input.now ≡ input.entry.now }
         ensures reply { result.reply.items ≡ [] }
@@ -36,7 +37,7 @@ impl<'a> ReplyLink<'a> {
         }
     }
 
-    /// What it was given.
+    /// Returns the written bytes.
     pub fn into_reply(self) -> Vec<u8>
         ensures { result ≡ self.entry.reply }
     {

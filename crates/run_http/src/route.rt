@@ -1,5 +1,5 @@
-//! The routes of a run itself: two that tell what was counted, one that tells what there is, rows of a meter, the energy of a
-//! register and the meters at one, the page, and who may not ask.
+//! The routes of a run itself: the status, metrics, the site, rows of a meter, the energy and
+//! meters of a register, and the page.
 ghost use Rattle.std.specs.Prelude.{◌≡◌, IfOk, OnOk};
 ghost use Rattle.http_request.specs.Head.Heads.{Looks};
 ghost use Rattle.http_answer.specs.Sending.Bodies.{fault_text};
@@ -16,53 +16,53 @@ use run_status::{Counts, DeviceLack, DeviceState, put, put_number, put_status, p
 use std::alloc::{AllocError, Global};
 use web_page::{PagePart, part_of};
 
-/// What a request is answered without asking the office.
+/// A route that is answered without asking the office.
 #[derive(Clone, Copy, Debug, PartialEq, Eq)]
 pub enum StatusRoute {
-    /// What was counted, as JSON.
+    /// The counts, the devices, and what the devices lack, as JSON.
     Status,
     /// A part of the page.
     Page(PagePart),
-    /// A fault: who may not ask, a page of another site, another method than GET, or a target with a part that is malformed.
+    /// A fault: 421 for a host that may not ask; 403 for a page of another site; 405 for a method
+    /// other than GET; 400 for a malformed part of the target.
     Rejected(Status),
 }
 
-/// A route of a run itself.
+/// A route of the run itself.
 #[derive(Clone, Copy, Debug, PartialEq, Eq)]
 pub enum RunRoute {
-    /// It is answered without asking the office.
+    /// A route that is answered without asking the office.
     Own(StatusRoute),
-    /// What was counted, and the energy of the meters that are open, which the office is asked for, as Prometheus reads it.
+    /// The counts and the energy of the open meters, in Prometheus's text format.
     Metrics,
-    /// The registers and their meters, which the office is asked for, as JSON.
+    /// The registers and their meters, as JSON.
     Site,
-    /// The quarter hours of a meter, which the office is asked for, as text. `None` is a name that no meter can have.
+    /// The quarter hours of a meter, as text. `None` is a name that no meter can have.
     Intervals {
         meter: Option<Name>,
         span: Span,
     },
-    /// Its entries from a place on, voided ones too.
+    /// The entries of a meter from a sequence number on, as text. Voided ones are among them.
     Entries {
         meter: Option<Name>,
         from: u64,
     },
-    /// Those of its entries that voids name.
+    /// The voided entries of a meter, as text.
     Voids {
         meter: Option<Name>,
     },
-    /// The energy of a register in the form of a report, which the office is asked for, as text. `None` is a name that no
-    /// register can have.
+    /// The energy of a register in the form of a report, as text. `None` is a name that no register
+    /// can have.
     Energy {
         register: Option<Name>,
         form: ReportForm,
     },
-    /// The meters at a register, closed ones too, which the office is asked for, as text.
+    /// The meters at a register, closed ones too, as text.
     Meters {
         register: Option<Name>,
     },
 }
 
-// The route of a path.
 fn path_named(target: &[u8]) -> Option<RunRoute>
     ensures { result ≡ texts.path_named target.now }
 {
@@ -77,7 +77,7 @@ fn path_named(target: &[u8]) -> Option<RunRoute>
     }
 }
 
-// The route of a path, or of rows of a meter.
+// Finds the route of a fixed path, or of rows of a meter.
 fn plain_target(target: &[u8]) -> Option<RunRoute>
     ensures { result ≡ texts.plain_target target.now }
 {
@@ -87,7 +87,7 @@ fn plain_target(target: &[u8]) -> Option<RunRoute>
     }
 }
 
-// The route of a target without a question mark.
+// Finds the route of a target without a question mark.
 fn whole_target(target: &[u8]) -> Option<RunRoute>
     ensures { texts.IsWholeTarget target.now result }
 {
@@ -97,7 +97,6 @@ fn whole_target(target: &[u8]) -> Option<RunRoute>
     }
 }
 
-// The route of a target.
 fn target_named(target: &[u8]) -> Option<RunRoute>
     ensures { texts.IsTarget target.now result }
 {
@@ -108,7 +107,7 @@ fn target_named(target: &[u8]) -> Option<RunRoute>
     }
 }
 
-// The route of a method and a target.
+// Finds the route of a target, and rejects methods other than GET.
 fn route_named(method: &[u8], target: &[u8]) -> Option<RunRoute>
     ensures { texts.IsRouteNamed method.now target.now result }
 {
@@ -124,7 +123,7 @@ fn route_named(method: &[u8], target: &[u8]) -> Option<RunRoute>
     }
 }
 
-// The route of a head that is whole and within its limits.
+// Finds the route of a complete head within its limits.
 fn route_in(request: &[u8], head_state: &HeadState) -> Option<RunRoute>
     requires { Looks request.now head_state.now }
     ensures { texts.IsRouteIn request.now head_state.now result }
@@ -135,14 +134,12 @@ fn route_in(request: &[u8], head_state: &HeadState) -> Option<RunRoute>
     }
 }
 
-// Whether a method and a target are those of a link to the page.
 fn is_link_to_page(method: &[u8], target: &[u8]) -> bool
     ensures { result ≡ texts.is_link_to_page method.now target.now }
 {
     method == b"GET".as_slice() && target == b"/".as_slice()
 }
 
-// Whether a head asks for the page itself.
 fn asks_for_page(request: &[u8], head_state: &HeadState) -> bool
     requires { Looks request.now head_state.now }
     ensures { result ≡ texts.asks_for_page request.now head_state.now }
@@ -153,7 +150,7 @@ fn asks_for_page(request: &[u8], head_state: &HeadState) -> bool
     }
 }
 
-// Whether a page of another site asks for more than the page itself, to which it may link.
+// Returns whether a page of another site asks for more than the page itself, to which it may link.
 fn is_forbidden(request: &[u8], head_state: &HeadState) -> bool
     requires { Looks request.now head_state.now }
     ensures { result ≡ texts.is_forbidden request.now head_state.now }
@@ -161,7 +158,7 @@ fn is_forbidden(request: &[u8], head_state: &HeadState) -> bool
     is_cross_site(request, head_state) && !asks_for_page(request, head_state)
 }
 
-// The route of who may ask, or a rejection of a page of another site.
+// Finds the route of a request whose host may ask, or rejects a page of another site.
 fn permitted_route(request: &[u8], head_state: &HeadState) -> Option<RunRoute>
     requires { Looks request.now head_state.now }
     ensures { texts.IsPermitted request.now head_state.now result }
@@ -173,8 +170,11 @@ fn permitted_route(request: &[u8], head_state: &HeadState) -> Option<RunRoute>
     }
 }
 
-/// Which of the run's routes a request asks for, once its head is whole and within its limits, or why it is rejected: who
-/// asks may not, by these names, or is a page of another site. None is one of the office's.
+/// Finds the route of a request among the run's own routes, once its head is complete and within
+/// its limits.
+///
+/// The route is a fault if the host may not ask, by `names`, or if a page of another site asks.
+/// `None` leaves the request to the office.
 pub fn run_route(names: &[&str], request: &[u8]) -> Option<RunRoute>
     ensures { texts.IsFor (hosts.texts names.now) request.now result }
 {
@@ -186,7 +186,7 @@ pub fn run_route(names: &[&str], request: &[u8]) -> Option<RunRoute>
     }
 }
 
-/// Whether a request asks for the energy of a register, where these names may ask.
+/// Returns whether [`run_route`] finds the energy of a register.
 pub fn asks_energy(names: &[&str], request: &[u8]) -> bool
     ensures { texts.AsksEnergy (hosts.texts names.now) request.now result }
 {
@@ -196,7 +196,7 @@ pub fn asks_energy(names: &[&str], request: &[u8]) -> bool
     }
 }
 
-/// Puts the status and the headers of each reply, for a body of a kind that has so many bytes.
+/// Appends the status line and the headers for a body of this type and size.
 pub(crate) fn put_start_of(
     text: &mut Vec<u8>,
     status: Status,
@@ -213,7 +213,6 @@ pub(crate) fn put_start_of(
     put(text, b"\r\nConnection: close")
 }
 
-// Puts those of a body.
 fn put_start(text: &mut Vec<u8>, status: Status, kind: &[u8], body: &[u8]) -> Result<(), AllocError>
     ensures { OnOk result (text.new.items
         ≡ texts.with_start status kind.now body.now text.old.items) }
@@ -221,7 +220,7 @@ fn put_start(text: &mut Vec<u8>, status: Status, kind: &[u8], body: &[u8]) -> Re
     put_start_of(text, status, kind, body.len())
 }
 
-/// Puts a reply with a body of a kind.
+/// Appends a response with a body of this type.
 pub(crate) fn put_reply(
     text: &mut Vec<u8>,
     status: Status,
@@ -235,7 +234,7 @@ pub(crate) fn put_reply(
     put_word(text, b"\r\n\r\n", body)
 }
 
-// Puts what a browser is told of a part of the page.
+// Appends the headers of a part of the page for browsers.
 fn put_page_headers(text: &mut Vec<u8>) -> Result<(), AllocError>
     ensures { OnOk result (text.new.items ≡ texts.with_page_headers text.old.items) }
 {
@@ -246,7 +245,6 @@ fn put_page_headers(text: &mut Vec<u8>) -> Result<(), AllocError>
     put(text, b"\r\nCache-Control: no-cache")
 }
 
-// Puts the reply with a part of the page.
 fn put_page(text: &mut Vec<u8>, part: PagePart) -> Result<(), AllocError>
     ensures { OnOk result (text.new.items ≡ texts.with_page_reply part text.old.items) }
 {
@@ -255,7 +253,6 @@ fn put_page(text: &mut Vec<u8>, part: PagePart) -> Result<(), AllocError>
     put_word(text, b"\r\n\r\n", part.body())
 }
 
-// The body for a fault.
 fn fault_body(alloc: Global, status: Status) -> Result<Vec<u8>, AllocError>
     ensures { IfOk result (λ body. body.items ≡ fault_text status) }
 {
@@ -265,7 +262,7 @@ fn fault_body(alloc: Global, status: Status) -> Result<Vec<u8>, AllocError>
     Ok(body)
 }
 
-/// Puts the reply of a route that is answered without asking the office.
+/// Appends the response of a route that is answered without asking the office.
 pub fn reply_status(
     alloc: Global,
     text: &mut Vec<u8>,

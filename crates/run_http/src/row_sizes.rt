@@ -1,17 +1,17 @@
-//! How many bytes the lines of rows have, which are counted as the rows are handed on, and none is kept.
+//! A row sink that measures the lines of rows, and keeps no row.
 use crate::texts::put_share;
 use interval_core::Share;
 use office_books::RowSink;
 use std::alloc::{AllocError, Global};
 
-/// How many bytes the lines of some rows have, and how many rows they are.
+/// The size of the lines of some rows in bytes, and the number of rows.
 #[derive(Clone, Copy, Debug, PartialEq, Eq)]
 pub struct Sizes {
     pub bytes: usize,
     pub count: usize,
 }
 
-/// The sizes so far, as long as there was memory for a line.
+/// The sizes so far, unless memory ran out.
 #[derive(Drop)]
 pub struct RowSizes {
     line: Vec<u8>,
@@ -23,7 +23,7 @@ impl RowSizes {
     ghost use Rattle.std.specs.Prelude.{◌≡◌, ◌+◌, length, true, IfOk, IfSome, OnOk};
     ghost use Rattle.interval_core.specs.Lines.{share_line};
 
-    /// No row was handed on.
+    /// Makes a sink that measured no row.
     pub fn new(alloc: Global) -> RowSizes
         ensures sizes { result.sizes ≡ record { bytes = 0; count = 0 } }
         ensures whole { result.is_whole ≡ true }
@@ -35,7 +35,7 @@ impl RowSizes {
         }
     }
 
-    // The sizes with one row more, whose line has so many bytes.
+    // Adds a row with a line of this size.
     fn with_line(&self, bytes: usize) -> Option<Sizes>
         ensures bytes { IfSome result (λ sizes. sizes.bytes ≡ self.now.sizes.bytes + bytes) }
         ensures count { IfSome result (λ sizes. sizes.count ≡ self.now.sizes.count + 1) }
@@ -45,7 +45,7 @@ impl RowSizes {
         Some(Sizes { bytes, count })
     }
 
-    // Counts a row.
+    // Measures a row.
     fn count_in(&mut self, row: &Share) -> Result<(), AllocError>
         ensures bytes { OnOk result (self.new.sizes.bytes
             ≡ self.old.sizes.bytes + length (share_line row.now)) }
@@ -63,7 +63,7 @@ impl RowSizes {
         }
     }
 
-    /// The sizes, where there was memory for each line.
+    /// Returns the sizes. Fails if memory ran out for a line.
     pub fn whole(&self) -> Result<Sizes, AllocError>
         ensures whole { IfOk result (λ sizes. self.now.is_whole ≡ true) }
         ensures sizes { IfOk result (λ sizes. sizes ≡ self.now.sizes) }

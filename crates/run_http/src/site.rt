@@ -1,4 +1,4 @@
-//! What a peer is replied who asks which registers and meters there are.
+//! The response to a query for the registers and meters of the site.
 ghost use Rattle.std.specs.Prelude.{◌≡◌, OnOk};
 ghost use Rattle.run_http.specs.SiteReply.{with_refusal, with_site_reply};
 
@@ -9,7 +9,7 @@ use http_request::Status;
 use office_events::Refusal;
 use std::alloc::{AllocError, Global};
 
-/// Puts the reply for a refusal.
+/// Appends the response that reports a refusal.
 pub(crate) fn put_refusal(text: &mut Vec<u8>, why: Refusal) -> Result<(), AllocError>
     ensures { OnOk result (text.new.items ≡ with_refusal why text.old.items) }
 {
@@ -17,8 +17,8 @@ pub(crate) fn put_refusal(text: &mut Vec<u8>, why: Refusal) -> Result<(), AllocE
     put_reply(text, status_of(why), b"application/json", body.bytes())
 }
 
-/// Puts the reply to the question which registers and meters there are at the end of a text: with what is told of them, or for a
-/// refusal. Moments are seconds since 1970-01-01 UTC. Want of memory leaves a part of it.
+/// Appends the response to a query for the registers and meters: their lines, or the refusal.
+/// `moment` is in seconds since 1970-01-01 UTC. If memory runs out, a part of it remains.
 pub fn put_site_reply(
     alloc: Global,
     text: &mut Vec<u8>,

@@ -1,4 +1,4 @@
-//! What a peer is replied who asks which entries of a meter were voided.
+//! The response to a query for the voided entries of a meter.
 ghost use Rattle.std.specs.Prelude.{◌≡◌, ◌++◌, ◌∷◌, [], OnOk};
 ghost use Rattle.run_http.specs.MeterReplies.{AsksRows, RepliesRows, with_rows_reply};
 ghost use Rattle.run_http.specs.Texts.MeterLines.{voids_text};
@@ -14,12 +14,12 @@ use office_core::Office;
 use office_events::{Name, Refusal};
 use std::alloc::{AllocError, Global};
 
-// How many entries are asked for at a time, and how often at most: places are numbers of 64 bits.
+// The most entries of one query, and the most queries. Together they cover all sequence numbers of
+// 64 bits.
 const PIECE: u32 = 65536;
 
 const MOST_PIECES: u64 = 281_474_976_710_655;
 
-// Whether a void names an entry.
 fn is_voided(entry: &MeterEntry) -> bool
     ensures { result ≡ voids.is_voided entry.now }
 {
@@ -29,7 +29,6 @@ fn is_voided(entry: &MeterEntry) -> bool
     }
 }
 
-// Keeps an entry after those before it, if a void names it.
 fn keep_if_voided(kept: &mut Vec<MeterEntry>, entry: &MeterEntry) -> Result<(), AllocError>
     ensures { OnOk result (kept.new.items
         ≡ kept.old.items ++ voids.voided_in (entry.now ∷ [])) }
@@ -40,7 +39,7 @@ fn keep_if_voided(kept: &mut Vec<MeterEntry>, entry: &MeterEntry) -> Result<(), 
     Ok(())
 }
 
-// Keeps those of a piece that voids name.
+// Keeps the voided entries of a chunk.
 fn keep_voided(kept: &mut Vec<MeterEntry>, piece: &[MeterEntry]) -> Result<(), AllocError>
     ensures { OnOk result (kept.new.items ≡ kept.old.items ++ voids.voided_in piece.now) }
 {
@@ -50,7 +49,7 @@ fn keep_voided(kept: &mut Vec<MeterEntry>, piece: &[MeterEntry]) -> Result<(), A
     Ok(())
 }
 
-// Asks the office for all entries of a meter, piece by piece, and keeps those that voids name.
+// Queries all entries of a meter in chunks, and keeps the voided ones.
 fn ask_voids<B: Books>(
     alloc: Global,
     office: &mut Office<B>,
@@ -73,7 +72,7 @@ fn ask_voids<B: Books>(
     Err(AllocError)
 }
 
-// Puts the reply for entries that voids name.
+// Appends the response with the voided entries.
 fn put_voids_told(
     alloc: Global,
     text: &mut Vec<u8>,
@@ -92,8 +91,8 @@ fn put_voids_told(
     }
 }
 
-/// Asks the office which entries of a meter voids name, and puts the reply at the end of a text. The entries are asked for 65,536 at
-/// a time. Want of memory leaves a part of the reply.
+/// Queries the voided entries of a meter, and appends the response. It queries 65,536 entries at a
+/// time. If memory runs out, a part of the response remains.
 pub fn reply_voids<B: Books>(
     alloc: Global,
     text: &mut Vec<u8>,

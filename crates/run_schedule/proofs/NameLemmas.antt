@@ -1,4 +1,4 @@
--- What stands between a beginning and an end.
+-- What lies between a beginning and an end.
 use Rattle.std.proofs.Common.{◌≡◌, ◌≢◌, List, ℕ, ◌++◌, Some, None, sym, ◌∙◌, ap, append_assoc}
 use Rattle.std.specs.Prelude.{Option, codes, false, true}
 use Rattle.std.specs.Borrow.{Bor}
@@ -34,13 +34,13 @@ ends_so name stem suffix rest more None front hyphen none = λ text is. none tex
 ends_so name stem suffix rest more (Some text) front hyphen is =
     grouped stem text.now suffix ∙ sym (front ∙ ap (λ l. stem ++ l) (hyphen ∙ ap (λ l. codes "-" ++ l) is))
 
--- ---- names of files
+-- ---- Names of files.
 
 pub no_name : (file name : List ℕ) (period : Period) → ((text : List ℕ) → stem_of file ++ codes "-" ++ text ++ suffix_of file ≢ name)
     → IsPeriodIn file period name None
 no_name file name period none = λ text called. none text called.named
 
--- no other text stands there
+-- No other text lies there.
 pub other_text : (file name text : List ℕ) (period : Period) → stem_of file ++ codes "-" ++ text ++ suffix_of file ≡ name → spells period text ≡ false
     → IsPeriodIn file period name None
 other_text file name text period is unspelled = λ other called.

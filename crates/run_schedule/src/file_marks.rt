@@ -1,15 +1,15 @@
-//! Whether the file at a path is still the one that the office has known.
+//! Whether the file at a path is still the office's open file.
 ghost use Rattle.std.specs.Prelude.{◌≡◌};
 ghost use Rattle.run_schedule.specs.FileMarks as marks;
 ghost use Rattle.run_schedule.specs.FileMarks.{IsStill};
 
-/// What the system reports of a file. The number of its links is not compared: a path that leads to the inode is a link to it, and a
-/// second link takes nothing from the file.
+/// What the system reports of a file. The number of links is not compared: a path that leads to the
+/// inode is one of its links, and a second link does the file no harm.
 #[derive(Clone, Copy, Debug, PartialEq, Eq)]
 pub struct FileMark {
     pub device: u64,
     pub inode: u64,
-    /// Its size in bytes.
+    /// The size in bytes.
     pub size: u64,
 }
 
@@ -24,15 +24,17 @@ pub enum FileLoss {
     Shortened,
 }
 
-// Whether two marks are of the same file.
 fn is_same_file(known: FileMark, found: FileMark) -> bool
     ensures { result ≡ marks.is_same_file known found }
 {
     known.device == found.device && known.inode == found.inode
 }
 
-/// Returns how the file that a path leads to differs from the open one, by what is known of that. The office itself makes a file
-/// longer and never shorter while it runs, so a longer file is no loss. Bytes that are overwritten in place can't be seen by it.
+/// Returns how the file at a path differs from the open one, by the last known mark of the open
+/// one.
+///
+/// While the office runs, it makes a file longer and never shorter, so a longer file is no loss.
+/// The marks do not show bytes that were overwritten in place.
 pub fn file_loss(known: FileMark, found: Option<FileMark>) -> Option<FileLoss>
     ensures loss { result ≡ marks.file_loss known found }
     ensures still { result ≡ None → IsStill known found }

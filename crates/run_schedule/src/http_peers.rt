@@ -1,4 +1,4 @@
-//! The places of the connections that are served at once.
+//! The slots of the connections that are served at the same time.
 
 mod choice;
 mod clients;

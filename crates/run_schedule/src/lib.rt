@@ -1,5 +1,5 @@
-//! When devices are polled, which peers are attended, in which file books are led, and whether that is still there: over moments,
-//! numbers and names alone.
+//! Decides when devices are polled, which clients are served, in which file energy is recorded, and
+//! whether the open file is still there. All decisions are over times, numbers and names.
 #![tactic(auto)]
 
 mod file_marks;

@@ -1,4 +1,5 @@
-//! Periods of the calendar: when one is over, how its file is called, and in which file books are led.
+//! Periods of the calendar: when a period ends, how its file is named, and in which file energy is
+//! recorded.
 
 mod ends;
 mod led;

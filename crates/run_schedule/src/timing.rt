@@ -1,5 +1,5 @@
-//! When devices are due, how long things may take, and which moment an event comes at. Times are whole seconds of the run,
-//! whose time begins as the clock does, or counts of them.
+//! When devices are due, how long operations may take, and which timestamp an event gets. Times are
+//! whole seconds of the run's time, which begins as the clock does, or durations in seconds.
 
 mod grid;
 mod limits;

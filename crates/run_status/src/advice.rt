@@ -1,4 +1,4 @@
-//! What is said to people: what the numbers mean that a run prints, and what its devices lack.
+//! Messages for people: what the numbers mean that a run prints, and what its devices lack.
 
 mod lacks;
 mod sentences;

@@ -1,4 +1,5 @@
-//! What a run tells: the text of its status, the lines that it prints, and what it says to people.
+//! Builds the texts that a run reports: its status, the lines that it prints, and its messages for
+//! people.
 #![tactic(auto)]
 
 mod advice;

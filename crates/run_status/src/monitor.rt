@@ -1,5 +1,5 @@
-//! Who keeps what an office is fed: the frames that are to be sent to each device, how each device stands, and what was
-//! counted; and who tells it in lines.
+//! The observer of a run's events: counts, the state of each device, the frames to send to each,
+//! and the lines to print.
 
 mod device_state;
 mod line_queue;

@@ -1,4 +1,4 @@
-//! What an office that polls has counted since it was opened, and the text that tells it.
+//! The counts of an office that polls, since it was opened, and their text.
 
 mod counts;
 mod lacking;

@@ -1,4 +1,4 @@
-//! What kinds of cases there are.
+//! The kinds of cases.
 
 /// The command that reads a case.
 #[derive(Clone, Copy, PartialEq, Eq)]
@@ -9,7 +9,7 @@ pub(crate) enum Command {
     Plan,
 }
 
-/// The command that reads a case, and whether each line of the case is a text of its own.
+/// The command that reads a case, and whether each line of the case is a separate text.
 #[derive(Clone, Copy)]
 pub(crate) struct Kind {
     pub(crate) command: Command,
@@ -30,7 +30,7 @@ fn by_lines(command: Command) -> Option<Kind> {
     })
 }
 
-/// The kind of a case, by the ending of its file's name.
+/// Returns the kind of a case, by the extension of its file.
 pub(crate) fn kind_of(ending: &str) -> Option<Kind> {
     match ending {
         "script" => whole(Command::Replay),

@@ -1,5 +1,6 @@
-//! Plays the cases that lie below a folder, the one it runs in where no word names it: each is a text that a command reads, and what it
-//! must print. It says which differ, and at the end how many agree.
+//! Runs the golden tests below a folder, which the first argument names, or below the working
+//! directory. Each case is a text that a command reads, and what the command must print. The
+//! program reports each case that differs, and at the end how many agree.
 #![tactic(auto)]
 
 mod case_kind;
@@ -45,7 +46,7 @@ fn play_all(rt: &HostRuntime) -> io::Result<Tally> {
     Ok(tally)
 }
 
-// Plays the cases of a folder, in the order of their names.
+// Runs the cases of a folder, in the order of their names.
 fn play_subject<'r>(
     rt: &'r HostRuntime,
     loopback: &mut Loopback<'r, HostRuntime>,
@@ -70,7 +71,7 @@ fn play_subject<'r>(
     Ok(())
 }
 
-// Plays the case in a file, and says where what is printed differs from what is wanted, if it does.
+// Runs the case in a file. Reports where its output differs from the expected one, if it does.
 fn play_case<'r>(
     rt: &'r HostRuntime,
     loopback: &mut Loopback<'r, HostRuntime>,

@@ -1,4 +1,4 @@
--- What a test or a table chooses.
+-- The choice of a test or a table.
 use Rattle.std.proofs.Common.{◌≡◌, ◌⊎◌, inl, inr, ℕ, Bool, true, false, List, [], ◌∷◌, Some, Option, refl, subst}
 use Rattle.std.specs.Prelude.{if◌then◌else◌, map, option_map}
 use Rattle.std.specs.Borrow.{Bor}
@@ -16,7 +16,7 @@ chosen false x y z h = inr h
 pub is_text : (word text : List ℕ) → bytes_eq word text ≡ true → word ≡ text
 is_text word text h = (bytes_eq-Decides word text).0 h
 
--- the first entry that was found in a table has the word's meaning
+-- The first matching entry of a table has the word's meaning.
 first_meaning : {T : Type 0} (b : Bool) (entry : Bor (List ℕ) × T) (later : Option (Bor (List ℕ) × T)) (meaning : Option T)
     → option_map (λ (e : Bor (List ℕ) × T). e.1) later ≡ meaning
     → option_map (λ (e : Bor (List ℕ) × T). e.1) (if b then Some entry else later) ≡ (if b then Some entry.1 else meaning)
@@ -28,12 +28,12 @@ pub found_meaning : {T : Type 0} (table : List (Bor (List ℕ) × T)) (word : Li
 found_meaning [] word = refl
 found_meaning (entry ∷ table) word = first_meaning (bytes_eq entry.0.now word) entry _ (meaning_in (map entry_of table) word) (found_meaning table word)
 
--- this holds of each word of a table and what it stands for
+-- P is true for each word of a table and its meaning.
 abbrev pub Each : {T : Type 0} → (T → List ℕ → Type 0) → List (List ℕ × T) → Type 0
 Each P [] = Unit {0}
 Each P (entry ∷ table) = P entry.1 entry.0 × Each P table
 
--- then it holds of a word and its meaning
+-- Then P is true for a word and its meaning.
 pub meant : {T : Type 0} (P : T → List ℕ → Type 0) (table : List (List ℕ × T)) (word : List ℕ) (v : T) → Each P table → meaning_in table word ≡ Some v → P v word
 meant P [] word v each h = cc h
 meant P (entry ∷ table) word v each h =

@@ -1,4 +1,4 @@
--- A line is read exactly where its words have a form.
+-- A line is parsed exactly if its words have a form.
 use Rattle.std.proofs.Common.{◌≡◌, ℕ, List, [], ◌∷◌, Some, None, Option, refl, sym, ◌∙◌, subst}
 use Rattle.std.specs.Prelude.{codes}
 use Rattle.office_events.specs.declared.commands.Command.TheVariants as command
@@ -71,7 +71,7 @@ question_known question.Intervals = refl
 question_known question.Days = refl
 question_known question.Poll = refl
 
--- what asks something is no number
+-- The verb of a query is no number.
 not_number : (q : Question) → number_of (question_text q) ≡ None
 not_number question.Meter = refl
 not_number question.Intervals = refl
@@ -81,7 +81,7 @@ not_number question.Poll = refl
 question_word : (word : List ℕ) (q : Question) → question_of word ≡ Some q → word ≡ question_text q
 question_word word q h = meant (λ q w. w ≡ question_text q) questions word q (refl, (refl, (refl, (refl, tt)))) h
 
--- The words of a verb's line are its moment, the verb and its values.
+-- The words of an event or a command are its timestamp, the verb and its values.
 
 verb_form : (v : Verb) (at : ℕ) (values : Values (kinds_of v)) → form_of (line_of v at values) ≡ Some (Of Number at ∷ Word (verb_text v) ∷ fields (kinds_of v) values)
 verb_form verb.Device at values = refl
@@ -133,7 +133,7 @@ asked_made question.Intervals words = refl
 asked_made question.Days words = refl
 asked_made question.Poll words = refl
 
--- Words that are read have a form.
+-- Words that are parsed have a form.
 
 timed_form : (words : List (List ℕ)) (first : List ℕ) (at : ℕ) (said : ScriptLine) → number_of first ≡ Some at → timed_said at words ≡ Some said
     → IsLine (first ∷ words) said
@@ -160,7 +160,7 @@ pub read_form : (words : List (List ℕ)) (said : ScriptLine) → line_said word
 read_form [] said h = cc h
 read_form (first ∷ words) said h = from_form (number_of first) first words said refl h
 
--- Words of a form are read.
+-- Words that have a form are parsed.
 
 timed_read : (v : Verb) (at : ℕ) (values : Values (kinds_of v)) (words : List (List ℕ))
     → Spell words (Of Number at ∷ Word (verb_text v) ∷ fields (kinds_of v) values) → line_said words ≡ Some (line_of v at values)
@@ -199,7 +199,7 @@ form_read words (line.Event at (event.Command (command.Close c))) h = timed_read
 form_read words (line.Event at (event.Command (command.Void c))) h = timed_read verb.Void at (c.meter, (c.place, tt)) words h
 form_read words (line.Event at (event.Command (command.StartRound c))) h = timed_read verb.Round at (c.device, (c.from, tt)) words h
 
--- What reading a line tells of the forms.
+-- The forms of a parsed line.
 
 pub is_line : (words : List (List ℕ)) (said : ScriptLine) → line_said words ≡ Some said → IsOnly words said
 is_line words said h = record {

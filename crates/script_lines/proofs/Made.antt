@@ -1,16 +1,16 @@
--- What is made of the values of words, and the fields that they spell.
+-- The result of `make` on the values of words, and the fields that the words spell.
 use Rattle.std.proofs.Common.{◌≡◌, ℕ, List, [], ◌∷◌, Some, None, Option, refl, sym, ap, ◌∙◌, subst}
 use Rattle.std.specs.Prelude.{option_map}
 use Rattle.script_lines.specs.LineWords.Fields.{Kind, Value, Field, Of, Spell, first_value, missing, spelled, ◌>>=◌}
 use Rattle.script_lines.specs.LineReader.{Values, made}
 use Rattle.script_lines.proofs.Chosen.{same}
 
--- the fields of values
+-- The fields of values.
 abbrev pub fields : (kinds : List Kind) → Values kinds → List Field
 fields [] values = []
 fields (kind ∷ kinds) values = Of kind values.0 ∷ fields kinds values.1
 
--- a step that gave something had something to go on with
+-- A step with a result had a value to continue with.
 pub bound : {X Y : Type 0} (o : Option X) (f : X → Option Y) (y : Y) → (o >>= f) ≡ Some y → (x : X) × (o ≡ Some x) × (f x ≡ Some y)
 bound None f y h = cc h
 bound (Some x) f y h = (x, refl, h)
@@ -22,7 +22,7 @@ paired (Some x) words v h =
     let p = same (x, words) v h in
     (ap (λ (q : _ × List (List ℕ)). Some q.0) p, ap (λ (q : _ × List (List ℕ)). q.1) p)
 
--- a value that was read is spelled by the first word, or may be missing
+-- A parsed value is spelled by the first word, or may be missing.
 pub first_spelled : (kind : Kind) (words : List (List ℕ)) (first : Value kind × List (List ℕ)) (more : List Field)
     → first_value kind words ≡ Some first → Spell first.1 more → Spell words (Of kind first.0 ∷ more)
 first_spelled kind [] first more h rest =
@@ -37,7 +37,7 @@ first_read : (kind : Kind) (value : Value kind) (words : List (List ℕ)) (more 
 first_read kind value [] more h = ([], ap (option_map (λ v. (v, []))) h.0, h.1)
 first_read kind value (word ∷ words) more h = (words, ap (option_map (λ v. (v, words))) h.0, h.1)
 
--- what was made is made of values that the words spell
+-- The result is that of values which the words spell.
 pub made_spelled : {X : Type 0} (kinds : List Kind) (make : Values kinds → X) (words : List (List ℕ)) (x : X) → made kinds make words ≡ Some x
     → (values : Values kinds) × Spell words (fields kinds values) × (make values ≡ x)
 made_spelled [] make [] x h = (tt, tt, same (make tt) x h)
@@ -47,7 +47,7 @@ made_spelled (kind ∷ kinds) make words x h =
     let rest = made_spelled kinds (λ values. make (first.0.0, values)) first.0.1 x first.2 in
     ((first.0.0, rest.0), first_spelled kind words first.0 (fields kinds rest.0) first.1 rest.1, rest.2)
 
--- words that spell values make what is made of them
+-- Words that spell values give the result of these values.
 pub spelled_made : {X : Type 0} (kinds : List Kind) (make : Values kinds → X) (values : Values kinds) (words : List (List ℕ))
     → Spell words (fields kinds values) → made kinds make words ≡ Some (make values)
 spelled_made [] make values [] h = refl
@@ -56,7 +56,7 @@ spelled_made (kind ∷ kinds) make values words h =
     let first = first_read kind values.0 words (fields kinds values.1) h in
     rw first.1 (spelled_made kinds (λ rest. make (values.0, rest)) values.1 first.0 first.2)
 
--- what is made of what was made
+-- A function of the result.
 pub made_again : {X Y : Type 0} (kinds : List Kind) (make : Values kinds → X) (f : X → Y) (words : List (List ℕ)) (x : X)
     → made kinds make words ≡ Some x → made kinds (λ values. f (make values)) words ≡ Some (f x)
 made_again kinds make f words x h =

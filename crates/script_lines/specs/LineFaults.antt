@@ -1,8 +1,9 @@
--- The numbers of what is wrong with a line.
+-- The numbers of the faults of a line.
 use Rattle.std.specs.Prelude.{ℕ}
 use Rattle.script_lines.specs.declared.line_fault.LineFault.{LineFault}
 use Rattle.script_lines.specs.declared.line_fault.LineFault.TheVariants.{Bad, Memory}
 
+-- The number of a fault.
 abbrev pub line_fault_number : LineFault → ℕ
 line_fault_number Bad = 1
 line_fault_number Memory = 2

@@ -1,4 +1,4 @@
--- What reading a script line answers.
+-- The result of parsing a script line.
 use Rattle.std.specs.Prelude.{◌≡◌, ◌<◌, ℕ, List, [], length, Ok, Err}
 use Rattle.std.specs.declared.result.Result.{Result}
 use Rattle.office_events.specs.declared.events.Event.TheVariants.{Bytes}
@@ -8,24 +8,25 @@ use Rattle.script_lines.specs.declared.line_fault.LineFault.TheVariants.{Bad, Me
 use Rattle.script_lines.specs.declared.script.ScriptLine.{ScriptLine}
 use Rattle.script_lines.specs.declared.script.ScriptLine.TheVariants.{Event, List as PointList}
 
--- words are this line, and no other
+-- The words spell this line, and no other.
 pub record IsOnly (words : List (List ℕ)) (line : ScriptLine) : Type 0 where
   pub is : IsLine words line
   pub only : (other : ScriptLine) → IsLine words other → other ≡ line
 
--- the bytes that a line brings: of a device, or of a point list
+-- The bytes of a line: those of a device, or of a point list.
 abbrev pub bytes_in : ScriptLine → List ℕ
 bytes_in (Event at (Bytes device piece)) = piece
 bytes_in (PointList at list) = list.text
 bytes_in line = []
 
--- words bring one byte or more
+-- The words spell a line with at least one byte.
 pub record BringBytes (words : List (List ℕ)) : Type 0 where
   pub line : ScriptLine
   pub is : IsLine words line
   pub some : 0 < length (bytes_in line)
 
--- the line that the words are, or Bad where they are none; memory can lack only for a line that brings bytes
+-- The line that the words spell, or Bad if they spell none. Memory can run out only for a line with
+-- bytes.
 abbrev pub Reads : List (List ℕ) → Result ScriptLine LineFault → Type 0
 Reads words (Ok line) = IsOnly words line
 Reads words (Err Bad) = (line : ScriptLine) → IsLine words line → ⊥

@@ -1,4 +1,4 @@
-//! The lines that set up a stand-in device: what it holds, and how it misbehaves.
+//! The lines that set up a simulated device: its register map and its injected faults.
 
 mod bank;
 mod bank_line;

@@ -1,4 +1,4 @@
-//! The forms of commands, after the words that name them.
+//! Parses commands, after their verb.
 ghost use Rattle.std.specs.Prelude.{◌≡◌};
 ghost use Rattle.script_lines.specs.LineReader.{said_by, said_last};
 ghost use Rattle.office_events.specs.declared.events.Event.TheVariants as event;
@@ -15,7 +15,7 @@ use office_events::{
     StartRound, VoidEntry,
 };
 
-// The line of a command, after whose words none is left.
+// Returns the line of a command, if no word is left.
 fn command_line(at: u64, command: Command, words: &mut Words<'_>) -> Option<ScriptLine>
     ensures { result ≡ said_last (line.Event at (event.Command command)) words.old }
 {

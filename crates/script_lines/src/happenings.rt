@@ -1,4 +1,4 @@
-//! The forms of what happens at devices, of a tick, and of questions, after the words that name them.
+//! Parses events and queries, after their verb.
 ghost use Rattle.std.specs.Prelude.{◌≡◌};
 ghost use Rattle.script_lines.specs.LineReader.{asked_by, said_by, said_last};
 ghost use Rattle.script_lines.specs.declared.script.ScriptLine.TheVariants as line;
@@ -10,7 +10,7 @@ use crate::verbs::Question;
 use office_events::Event;
 use poll_core::Closing;
 
-/// The line of an event, after whose words none is left.
+/// Returns the line of an event, if no word is left.
 pub(crate) fn event_line(at: u64, event: Event, words: &mut Words<'_>) -> Option<ScriptLine>
     ensures { result ≡ said_last (line.Event at event) words.old }
 {
@@ -40,7 +40,6 @@ pub(crate) fn connect(at: u64, words: &mut Words<'_>) -> Option<ScriptLine>
     event_line(at, event, words)
 }
 
-// Nothing more.
 pub(crate) fn tick(at: u64, words: &mut Words<'_>) -> Option<ScriptLine>
     ensures { result ≡ said_by verb.Tick at words.old }
 {
@@ -63,7 +62,7 @@ pub(crate) fn failed(at: u64, words: &mut Words<'_>) -> Option<ScriptLine>
     event_line(at, event, words)
 }
 
-/// What is asked: `NAME`, or the number of a poll.
+/// Parses the argument of a query: `NAME`, or the number of a poll.
 pub(crate) fn asked(question: Question, words: &mut Words<'_>) -> Option<ScriptLine>
     ensures { result ≡ asked_by question words.old }
 {

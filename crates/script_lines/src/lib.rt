@@ -1,4 +1,4 @@
-//! The lines of a script: what the words of each one spell.
+//! Parses the lines of scripts.
 #![tactic(auto)]
 
 mod bank;

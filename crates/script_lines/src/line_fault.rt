@@ -6,16 +6,16 @@ use std::error::Error;
 use std::fmt;
 use std::fmt::{Display, Formatter};
 
-/// Why a line was not read or carried out.
+/// Why a line was not read or executed.
 #[derive(Clone, Copy, Debug, PartialEq, Eq)]
 pub enum LineFault {
-    /// It has none of the forms.
+    /// The line has none of the forms.
     Bad,
     Memory,
 }
 
 impl LineFault {
-    /// 1 or 2.
+    /// Returns the number of the fault: 1 or 2.
     pub fn number(self) -> u8
         ensures { result ≡ line_fault_number self }
     {

@@ -1,4 +1,4 @@
-//! Reading a line of a script.
+//! Parses a line of a script.
 ghost use Rattle.std.specs.Prelude.{◌≡◌, ◌∷◌, IfOk, IsErr, None};
 ghost use Rattle.script_lines.specs.LineReader.{SaysBytes, SaysPiece, device_bytes_said, line_said, said_by, said_from, timed_said};
 ghost use Rattle.script_lines.specs.LineWords.Words.{words_of};
@@ -18,7 +18,7 @@ use std::alloc::{AllocError, Global};
 impl ScriptLine {
     ghost use Rattle.script_lines.specs.Seen.{Reads};
 
-    /// The line that a text spells.
+    /// Parses a line. `Memory` is returned only for a line with bytes.
     pub fn read(alloc: Global, line: &[u8]) -> Result<ScriptLine, LineFault>
         ensures { Reads (words_of line.now) result }
     {
@@ -32,7 +32,6 @@ impl ScriptLine {
     }
 }
 
-// The line that a text spells.
 fn line_in(alloc: Global, line: &[u8]) -> Result<Option<ScriptLine>, AllocError>
     ensures value { IfOk result (λ found. found ≡ line_said (words_of line.now)) }
     ensures memory { IsErr result → SaysBytes (line_said (words_of line.now)) }
@@ -44,7 +43,7 @@ fn line_in(alloc: Global, line: &[u8]) -> Result<Option<ScriptLine>, AllocError>
     }
 }
 
-// The line that begins with a word.
+// Parses a line by its first word.
 fn line_from(
     alloc: Global,
     first: &[u8],
@@ -59,14 +58,12 @@ fn line_from(
     }
 }
 
-// The question that begins with a word.
 fn question(first: &[u8], words: &mut Words<'_>) -> Option<ScriptLine>
     ensures { result ≡ said_from None first.now words.old }
 {
     asked(question_of(first)?, words)
 }
 
-// The line of a moment.
 fn timed_line(
     alloc: Global,
     at: u64,
@@ -84,7 +81,6 @@ fn timed_line(
     }
 }
 
-// The line of a verb.
 fn line_by(
     alloc: Global,
     verb: Verb,
@@ -151,7 +147,7 @@ fn bytes_line(
     }
 }
 
-// A device and bytes in hex, which may be missing for no bytes.
+// Parses a device and bytes in hexadecimal. A missing last word means no bytes.
 fn device_bytes(
     alloc: Global,
     words: &mut Words<'_>,

@@ -1,4 +1,4 @@
-//! The words of a line, and what each one spells.
+//! The words of a line, and their values.
 
 mod fields;
 mod meanings;

@@ -4,10 +4,10 @@ ghost use Rattle.std.specs.Prelude.{◌≡◌, ◌↔◌, IfSome, IsSome};
 use mb_wire::ReadSpan;
 use office_events::{Event, Name, Piece};
 
-/// A read that is to be started, with its numbers as they were written.
+/// A read to start, with its numbers as written.
 #[derive(Clone, Copy, Debug, PartialEq, Eq)]
 pub struct GivenStart {
-    /// `None` where what was written is no name.
+    /// `None` if the text is no name.
     pub device: Option<Name>,
     pub function: u64,
     pub address: u64,
@@ -17,7 +17,7 @@ pub struct GivenStart {
 impl GivenStart {
     ghost use Rattle.mb_wire.specs.Spans.{IsSpan, code_of};
 
-    /// The registers that are to be read, if they can be.
+    /// Returns the registers to read, if one read can have them.
     pub fn span(&self) -> Option<ReadSpan>
         ensures lawful { IsSome result ↔ IsSpan self.now.function self.now.address self.now.count }
         ensures function { IfSome result (λ span. code_of span.function ≡ self.now.function) }
@@ -31,30 +31,30 @@ impl GivenStart {
     }
 }
 
-/// The comma-separated values of the point list of a device. Whether they are a list shows when they are read.
+/// The point list of a device as CSV. Its faults appear when the list is parsed.
 #[derive(Drop)]
 pub struct GivenList {
-    /// `None` where what was written is no name.
+    /// `None` if the text is no name.
     pub device: Option<Name>,
     pub text: Piece,
 }
 
-/// A line of a script. Moments are seconds since 1970-01-01 UTC; numbers are as they were written; a name is `None` where
-/// what was written is no name.
+/// A line of a script. Timestamps are seconds since 1970-01-01 UTC. Numbers are as written, and a
+/// name is `None` if its text is no name.
 #[derive(Drop)]
 pub enum ScriptLine {
-    /// Something comes to the office.
+    /// An event or a command.
     Event { at: u64, event: Event },
-    /// A device is to have another point list.
+    /// A command that stores a new point list for a device.
     List { at: u64, list: GivenList },
-    /// A read is to be started.
+    /// A command that starts a read.
     Start { at: u64, start: GivenStart },
-    /// Where does a meter stand?
+    /// A query for the row of a meter.
     Meter { name: Option<Name> },
-    /// Which energy has a meter in each interval?
+    /// A query for the energy of a meter in each quarter hour.
     Intervals { name: Option<Name> },
-    /// Which energy has a register on each day?
+    /// A query for the energy of a register on each day.
     Days { name: Option<Name> },
-    /// How did a poll end?
+    /// A query for the outcome of a poll.
     Poll { number: u64 },
 }

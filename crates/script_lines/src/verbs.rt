@@ -1,10 +1,10 @@
-//! The words that say what a line is.
+//! The verbs of lines.
 ghost use Rattle.std.specs.Prelude.{◌≡◌};
 ghost use Rattle.script_lines.specs.LineReader.{question_of, verb_of};
 
 use crate::line_words::meaning_in;
 
-/// What happens at a moment.
+/// The verb of an event or a command, which has a timestamp.
 #[derive(Clone, Copy)]
 pub(crate) enum Verb {
     Device,
@@ -26,7 +26,7 @@ pub(crate) enum Verb {
     Failed,
 }
 
-/// What is asked.
+/// The verb of a query.
 #[derive(Clone, Copy)]
 pub(crate) enum Question {
     Meter,

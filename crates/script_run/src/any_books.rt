@@ -1,4 +1,4 @@
-//! Scripts over the books of any store.
+//! Runs scripts over any store.
 
 use crate::replaying::Replayed;
 use command_io::{Buffered, ExitStatus, InputLines, read_input};
@@ -53,7 +53,7 @@ fn feed_rows<B: Books, W: Write>(
     feed_event(office, at, &Event::Command(Command::PutList(put)), output)
 }
 
-// Writes the number of rows, or why no further row was answered.
+// Writes the number of rows, or the refusal that ended them.
 fn write_count<W: Write>(
     answered: Result<(), Refusal>,
     failed: bool,
@@ -67,7 +67,7 @@ fn write_count<W: Write>(
     }
 }
 
-// Carries out a line, and writes its answer.
+// Executes a line, and writes its answer.
 fn play_line<B: Books, W: Write>(
     alloc: Global,
     office: &mut Office<B>,
@@ -111,7 +111,7 @@ fn play_line<B: Books, W: Write>(
     }
 }
 
-// Carries out the lines of a text, up to the first that has none of the forms.
+// Executes the lines of a text, up to the first that has none of the forms.
 fn play_text<B: Books, W: Write>(
     alloc: Global,
     office: &mut Office<B>,
@@ -119,7 +119,7 @@ fn play_text<B: Books, W: Write>(
     output: &mut W,
 ) -> Result<ExitStatus, io::Error> {
     let mut lines = InputLines::of(text);
-    // (a text has fewer lines)
+    // (A text has fewer lines.)
     for _ in 0..u64::MAX {
         let Some(line) = lines.next_line() else {
             break;
@@ -136,7 +136,7 @@ fn play_text<B: Books, W: Write>(
     Ok(ExitStatus::Fine)
 }
 
-// Opens an office over the books at their latest moment.
+// Opens an office over the store, at its latest timestamp.
 fn open_office<B: Books>(alloc: Global, books: B) -> Result<Office<B>, Refusal> {
     let mut books = books;
     let moment = match books.latest() {
@@ -149,7 +149,7 @@ fn open_office<B: Books>(alloc: Global, books: B) -> Result<Office<B>, Refusal> 
     }
 }
 
-// Opens the office, and carries out the lines of a text over it.
+// Opens the office, and executes the lines of a text over it.
 fn play_books<B: Books, W: Write>(
     alloc: Global,
     books: B,
@@ -168,8 +168,10 @@ fn play_books<B: Books, W: Write>(
     }
 }
 
-/// Runs a script as [`replay`](crate::replay) does, over the books of any store. The office is opened at the latest moment that
-/// the books hold, which is 0 in new ones; days are those of the books' zone.
+/// Runs a script as [`replay`](crate::replay) does, over any store.
+///
+/// The office is opened at the latest timestamp of the store, which is 0 in a new one. Days are
+/// those of the store's zone.
 pub fn replay_books<B: Books, R: Read, W: Write>(
     alloc: Global,
     books: B,

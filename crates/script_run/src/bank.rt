@@ -1,4 +1,4 @@
-//! The text that sets up a stand-in for a device: its bank lines, carried out.
+//! Sets up a simulated device from the lines of a text.
 
 mod setup;
 mod setup_lines;

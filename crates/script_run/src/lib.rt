@@ -1,4 +1,4 @@
-//! Scripts, run over an office in memory or in any store, and over a stand-in for the devices.
+//! Runs scripts over an office in memory or in any store, and over simulated devices.
 #![tactic(auto)]
 
 mod any_books;

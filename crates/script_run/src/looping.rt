@@ -1,4 +1,4 @@
-//! Scripts whose devices are a stand-in in this process.
+//! Runs scripts whose devices are simulated in this process.
 
 mod answers;
 mod lines;

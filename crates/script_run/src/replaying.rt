@@ -1,4 +1,4 @@
-//! Scripts, run over an office in memory.
+//! Runs scripts over an office in memory.
 
 mod events;
 mod lines;

@@ -1,4 +1,4 @@
-//! Writes of answers that fail, call by call. What is written is in golden cases.
+//! Writes of answers that fail at each call in turn. Golden tests show what is written.
 use crate::streams::Kept;
 use energy_core::Cause;
 use office_events::{Answer, Name, Note};
@@ -13,7 +13,7 @@ const STARTED: Answer = Answer::Started {
     of: 2,
 };
 
-// A poll's outcome, its reading, and one that is held.
+// An outcome of a poll, its accepted reading, and a rejected one.
 fn notes(rt: &impl Abort) -> [Note; 3] {
     let meter = Name::new(b"m1").expect(rt, "no name");
     let answered = Note::Outcome {
@@ -40,7 +40,8 @@ const WHOLE: &str = "\
     held m1 4294967295 cause 6\n\
     started 1 1 2 00ff\n";
 
-// Each write fails in turn, of at most so many bytes, until none does. Returns how many writes there are.
+// Makes each write fail in turn, of at most `most` bytes, until none fails. Returns how many writes
+// there are.
 fn assert_failing_writes(
     rt: &impl Abort,
     alloc: Global,
@@ -61,14 +62,14 @@ fn assert_failing_writes(
     panic!(rt; "a write fails each time")
 }
 
-/// Frames, the line that they are written in, and in how many calls of at most 50 bytes.
+/// Frames, the line with them, and the number of calls of at most 50 bytes that write the line.
 struct Case {
     frames: &'static [u8],
     line: &'static str,
     calls: usize,
 }
 
-// The digits are written in pieces of 64.
+// Digits are written in pieces of 64.
 static CASES: [Case; 5] = [
     Case {
         frames: b"\x00\x00\x00\x00\x00\x06\x01\x03\x9c\x9e\x00\x03",
@@ -103,7 +104,7 @@ static CASES: [Case; 5] = [
     },
 ];
 
-// The notes come before the answer.
+// Notifications are written before the answer, and each failing write is reported.
 #[test]
 fn each_failing_write_is_told(rt: HostRuntime) {
     let notes = notes(&rt);

@@ -1,4 +1,4 @@
-//! A stand-in on a listener, and its peers in the same process.
+//! A simulator on a listener, and its clients in the same process.
 use mb_device::{Area, Bank, Kind, ServeFault, Trick, answer_all, answer_one};
 use mb_wire::MemoryLink;
 use std::alloc::Global;
@@ -6,17 +6,17 @@ use std::io::{self, Read, Write};
 use std::net::{Shutdown, TcpListener, TcpStream};
 use std::process::Abort;
 
-// A read of holding register 0 by unit 1, and its answer where the register is 9.
+// A read of holding register 0 of unit 1, and its response if the register is 9.
 const READ: &[u8] = &[0, 7, 0, 0, 0, 6, 1, 3, 0, 0, 0, 1];
 
 const NINE: &[u8] = &[0, 7, 0, 0, 0, 5, 1, 3, 2, 0, 9];
 
-// A write of 5 to it, whose answer is the same bytes, and the answer to a read from then on.
+// A write of 5 to the register, whose response is the same bytes, and the response to a later read.
 const WRITE: &[u8] = &[0, 8, 0, 0, 0, 6, 1, 6, 0, 0, 0, 5];
 
 const FIVE: &[u8] = &[0, 7, 0, 0, 0, 5, 1, 3, 2, 0, 5];
 
-// A frame whose length is none: it garbles the stream.
+// A frame with an impossible length, which garbles the stream.
 const GARBLED: &[u8] = &[0, 7, 0, 0, 0, 1, 1, 3];
 
 static AREA: [Area; 1] = [Area {
@@ -31,7 +31,7 @@ fn bank_with_nine(rt: &impl Abort, alloc: Global) -> Bank {
     bank
 }
 
-/// What a peer sends, and what it is answered; none where it sends on.
+/// What a client sends, and the response. `None` if the client does not end its stream.
 struct Peer {
     sent: &'static [u8],
     answer: Option<&'static [u8]>,
@@ -60,7 +60,7 @@ static PEERS: [Peer; 5] = [
     },
 ];
 
-// The stream of a peer that has sent its bytes.
+// Connects a client that sends its bytes.
 fn stream_of(rt: &HostRuntime, listener: &TcpListener, peer: &Peer) -> io::Result<TcpStream> {
     let mut stream = TcpStream::connect(rt, listener.local_addr()?)?;
     stream.write_all(peer.sent)?;
@@ -70,7 +70,7 @@ fn stream_of(rt: &HostRuntime, listener: &TcpListener, peer: &Peer) -> io::Resul
     Ok(stream)
 }
 
-// Asserts that a peer gets its answer, and then the end.
+// Asserts that a client gets its response, and then the end of the stream.
 fn assert_answered(rt: &impl Abort, alloc: Global, stream: &mut TcpStream, peer: &Peer) {
     if let Some(answer) = peer.answer {
         let mut got = Vec::new(alloc);
@@ -79,7 +79,7 @@ fn assert_answered(rt: &impl Abort, alloc: Global, stream: &mut TcpStream, peer:
     }
 }
 
-// Each connection is answered in turn, and a garbled one ends alone.
+// The simulator answers each connection in turn, and a garbled stream ends only its own.
 #[test]
 fn each_connection_is_answered_in_turn(rt: HostRuntime) {
     let listener = TcpListener::bind(&rt, "127.0.0.1:0").expect(&rt, "no listener");
@@ -95,12 +95,14 @@ fn each_connection_is_answered_in_turn(rt: HostRuntime) {
     }
 }
 
-// A call of a link that fails, if one does, how a read is answered then under a trick, and the bytes that are written.
+// The call of a link that fails, if any, the result of answering a read under an injected fault,
+// and the written bytes.
 static ANSWERS: [(Option<u64>, Result<u64, ServeFault>, &[u8]); 2] = [
     (None, Ok(1), &[0, 7, 0, 0]),
     (Some(1), Err(ServeFault::Read), &[]),
 ];
 
+// An injected fault changes the response on a link, and a link that fails is reported.
 #[test]
 fn a_trick_is_played_on_a_link_and_a_link_that_fails_is_told(rt: HostRuntime) {
     for (failing, answer, written) in &ANSWERS {

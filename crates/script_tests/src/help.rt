@@ -1,4 +1,4 @@
-//! Help and the version, wherever they are asked for.
+//! Help and the version, by each form that requests them.
 use crate::spelled_words::{assert_parts, assert_spelled, spelled};
 use command_words::program;
 
@@ -19,6 +19,7 @@ static HELP: [(&str, &str); 14] = [
     ("completions|-h", "help: "),
 ];
 
+// Each form of asking for help prints help.
 #[test]
 fn each_form_of_help_is_help(rt: HostRuntime) {
     assert_parts(&rt, rt.alloc(), &HELP);
@@ -109,7 +110,7 @@ Example:
   sunreg run --db office.db --listen 8080 --every 60 --devices inv=192.0.2.7:502
 ";
 
-/// Each line, and its help or the version.
+/// Each command line, and its help or the version.
 static TEXTS: [(&str, &str); 10] = [
     ("--help", PROGRAM),
     ("help", PROGRAM),
@@ -123,11 +124,13 @@ static TEXTS: [(&str, &str); 10] = [
     ("-V|bogus", "Version"),
 ];
 
+// The help of the program and of some commands is exactly this text.
 #[test]
 fn the_texts_of_help_stand(rt: HostRuntime) {
     assert_spelled(&rt, rt.alloc(), &TEXTS);
 }
 
+// The program's help fits one screen of 30 lines with 80 columns.
 #[test]
 fn help_fits_one_screen(rt: HostRuntime) {
     let text = spelled(&rt, rt.alloc(), "--help");
@@ -138,6 +141,7 @@ fn help_fits_one_screen(rt: HostRuntime) {
     }
 }
 
+// The table has all commands, and begins and ends as help does.
 #[test]
 fn the_table_has_the_commands_in_the_order_of_help(rt: HostRuntime) {
     let program = program();

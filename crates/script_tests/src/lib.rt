@@ -1,5 +1,6 @@
-//! Tests of scripts: streams that fail and inputs of megabytes, what no script prints, stand-ins for devices, and the words of the
-//! program. What a script and its output can show is a case in the data of `script_cases`.
+//! Tests of scripts, simulators and arguments: failing streams, inputs of megabytes, what no script
+//! prints, and the command line. What a script and its output can show is a golden test of
+//! `script_cases`.
 #![tactic(auto)]
 
 #[cfg(test)]

@@ -1,4 +1,5 @@
-//! What printed numbers mean: each number that is printed has a meaning, and no sentence of a meaning is empty.
+//! The meanings of printed numbers. Each printed number has a meaning, and no sentence of it is
+//! empty.
 use printed_numbers::{Kind, kind_named, kinds, meaning_of};
 use std::process::Abort;
 
@@ -12,6 +13,7 @@ static NUMBERS: [(Kind, u32); 6] = [
     (Kind::ChainFault, 4),
 ];
 
+// Each number of each enum has a meaning.
 #[test]
 fn each_number_has_a_meaning(rt: HostRuntime) {
     for (kind, greatest) in &NUMBERS {
@@ -22,12 +24,13 @@ fn each_number_has_a_meaning(rt: HostRuntime) {
     }
 }
 
-// Asserts that a sentence can stand in another, before a full stop.
+// Asserts that a text can be part of a sentence, before its full stop.
 fn assert_sentence(rt: &impl Abort, text: &str) {
     assert!(rt; !text.is_empty() && !text.ends_with('.'), "{text}");
     assert!(rt; !text.ends_with(' '), "{text}");
 }
 
+// All 72 meanings have their sentences.
 #[test]
 fn no_sentence_is_empty(rt: HostRuntime) {
     let mut count: u32 = 0;
@@ -44,6 +47,7 @@ fn no_sentence_is_empty(rt: HostRuntime) {
     assert!(rt; count == 72);
 }
 
+// Each kind is found by its word.
 #[test]
 fn each_kind_is_named(rt: HostRuntime) {
     for kind in kinds() {

@@ -3,9 +3,9 @@ use crate::spelled_words::{assert_parts, spelled};
 
 const WRONG: &str = "wrong: error: ";
 
-/// Each line, and a part of what it spells.
+/// Each command line, and a part of what it spells.
 static NUMBERS: [(&str, &str); 48] = [
-    // a port of `serve`: 1 to 65535, in at most ten digits
+    // A port of `serve`: 1 to 65535, in at most ten digits.
     ("serve|--db|x|--connections|1|--port|1", "port: 1,"),
     ("serve|--db|x|--connections|1|--port|65535", "port: 65535,"),
     (
@@ -28,7 +28,7 @@ static NUMBERS: [(&str, &str); 48] = [
     ("serve|--db|x|--connections|1|--port|0x50", WRONG),
     ("serve|--db|x|--connections|1|--port|8_0", WRONG),
     ("serve|--db|x|--connections|1|--port|\u{0661}", WRONG),
-    // the port of `run`: 1 to 65535, in at most ten digits
+    // The port of `run`: 1 to 65535, in at most ten digits.
     (
         "run|--db|x|--every|1|--devices|a=h:1|--listen|1",
         "listen: 1,",
@@ -66,7 +66,7 @@ static NUMBERS: [(&str, &str); 48] = [
         "run|--db|x|--every|1|--devices|a=h:1|--listen|\u{0661}",
         WRONG,
     ),
-    // connections: 1 to 1000000
+    // Connections: 1 to 1000000.
     ("serve|--db|x|--port|1|--connections|1", "connections: 1,"),
     (
         "serve|--db|x|--port|1|--connections|1000000",
@@ -74,7 +74,7 @@ static NUMBERS: [(&str, &str); 48] = [
     ),
     ("serve|--db|x|--port|1|--connections|0", WRONG),
     ("serve|--db|x|--port|1|--connections|1000001", WRONG),
-    // seconds from one round to the next: 1 to 86400; of all: 1 to 4000000000
+    // Seconds from one round to the next, 1 to 86400, and of the run, 1 to 4000000000.
     (
         "run|--db|x|--listen|1|--devices|a=h:1|--every|1|--for|1",
         "every: 1,",
@@ -107,7 +107,7 @@ static NUMBERS: [(&str, &str); 48] = [
         "run|--db|x|--listen|1|--devices|a=h:1|--every|1|--for|4000000001",
         WRONG,
     ),
-    // megabytes: 1 to 1000000
+    // Megabytes: 1 to 1000000.
     (
         "run|--db|x|--listen|1|--devices|a=h:1|--every|1|--most-kept|1",
         "most_kept: Some(1),",
@@ -126,6 +126,7 @@ static NUMBERS: [(&str, &str); 48] = [
     ),
 ];
 
+// Each number is accepted exactly within its range.
 #[test]
 fn numbers_are_in_their_ranges(rt: HostRuntime) {
     assert_parts(&rt, rt.alloc(), &NUMBERS);
@@ -161,7 +162,7 @@ static DEVICES: [(&str, &str); 25] = [
         "run|--db|x|--listen|1|--every|1|--devices| a=h:1,a=h:1",
         r#"devices: [Device { name: " a", host: "h", port: 1 }, Device { name: "a","#,
     ),
-    // 64 devices are the most: these are the first and the last
+    // 64 devices are the most. These parts are the first and the last of them.
     (
         LONGEST,
         r#"devices: [Device { name: "d1", host: "h", port: 1 }, Device { name: "d2","#,
@@ -191,6 +192,7 @@ static DEVICES: [(&str, &str); 25] = [
     ),
 ];
 
+// A list of devices spells each device in order, and malformed lists are rejected.
 #[test]
 fn lists_name_their_devices(rt: HostRuntime) {
     assert_parts(&rt, rt.alloc(), &DEVICES);

@@ -5,7 +5,7 @@ use std::alloc::Global;
 use std::io::ErrorKind;
 use sunspec_text::{chain_text, plan_text};
 
-// What an input is given to.
+// The task that reads an input.
 #[derive(Clone, Copy)]
 enum Task {
     Chain,
@@ -90,7 +90,7 @@ static CASES: [(Task, &str, &str, ExitStatus); 8] = [
     ),
 ];
 
-// A read that fails or is interrupted ends the run, and none comes after it.
+// A read that fails or is interrupted ends the run, and no read follows it.
 #[test]
 fn each_failing_read_ends_it(rt: HostRuntime) {
     for (task, text, _, _) in &CASES {
@@ -107,6 +107,7 @@ fn each_failing_read_ends_it(rt: HostRuntime) {
     }
 }
 
+// A failing write ends the run.
 #[test]
 fn each_failing_write_ends_it(rt: HostRuntime) {
     for (task, text, output, status) in &CASES {

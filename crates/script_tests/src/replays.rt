@@ -7,7 +7,7 @@ use std::alloc::Global;
 use std::io::ErrorKind;
 use std::process::Abort;
 
-// A device with a meter, a read of it, and its reply.
+// A device with a meter, a read of it, and its response.
 const READING: &str = "\
     1000 device inv 1 5 1\n\
     1000 register main inv 3 40094 @40096\n\
@@ -31,7 +31,7 @@ pub(crate) fn zone(rt: &impl Abort) -> Zone {
     Zone::read("UTC0").ok().expect(rt, "no zone")
 }
 
-/// Runs a script. This is the one call of `replay`, which is generic over its streams.
+/// Runs a script. This is the only call of `replay`, which is generic over its streams.
 pub(crate) fn run(
     rt: &impl Abort,
     alloc: Global,
@@ -41,6 +41,7 @@ pub(crate) fn run(
     replay(alloc, zone(rt), input, output)
 }
 
+// A failing or interrupted read ends the script, and nothing is printed.
 #[test]
 fn each_failing_read_ends_a_script(rt: HostRuntime) {
     for kind in [ErrorKind::Interrupted, ErrorKind::BrokenPipe] {
@@ -54,6 +55,7 @@ fn each_failing_read_ends_a_script(rt: HostRuntime) {
     }
 }
 
+// A failing write ends the script.
 #[test]
 fn each_failing_write_ends_a_script(rt: HostRuntime) {
     for most in [1, 7, 8192] {

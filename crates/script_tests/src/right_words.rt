@@ -1,8 +1,8 @@
-//! Words that spell a command, with options in any order, and what applies where none is given.
+//! Arguments that spell a command, with options in any order, and the defaults.
 use crate::spelled_words::assert_spelled;
 use command_words::{CommandLine, command_of};
 
-/// Each line and its command.
+/// Each command line and its command.
 static RIGHT: [(&str, &str); 40] = [
     ("replay", r#"Replay { zone: "UTC0" }"#),
     ("replay|--zone|CET-1", r#"Replay { zone: "CET-1" }"#),
@@ -13,7 +13,7 @@ static RIGHT: [(&str, &str); 40] = [
     ),
     ("plan", "Plan"),
     ("chain", "Chain"),
-    // options stand in any order
+    // Options may come in any order.
     (
         "create|--db|a b.db|--zone|UTC0",
         r#"Create { db: "a b.db", zone: "UTC0" }"#,
@@ -26,18 +26,18 @@ static RIGHT: [(&str, &str); 40] = [
         "round|--db=o.db|--device=inv|--host=meter.lan|--port=502",
         r#"Round { db: "o.db", device: "inv", host: "meter.lan", port: 502 }"#,
     ),
-    // at this host where none is given
+    // The default host is this machine.
     (
         "round|--db|o.db|--device|\u{e4} b|--port|502",
         "Round { db: \"o.db\", device: \"\u{e4} b\", host: \"127.0.0.1\", port: 502 }",
     ),
-    // a name stays as it stands
+    // A name is kept as it is written.
     (
         "report|--db|o.db|--register|Main,=1 \u{3bc}",
         "Report { db: \"o.db\", register: \"Main,=1 \u{3bc}\", form: FormWords { from: None, \
          till: None, period: None, unit: None, format: None, statement: false } }",
     ),
-    // days stay as they stand
+    // Days are kept as they are written.
     (
         "report|--db|o.db|--register|main|--from|2024-02-30|--till=|--by|year|--unit|kwh\
          |--format|json",
@@ -45,7 +45,7 @@ static RIGHT: [(&str, &str); 40] = [
          from: Some(\"2024-02-30\"), till: Some(\"\"), period: Some(Year), \
          unit: Some(KilowattHours), format: Some(Json), statement: false } }",
     ),
-    // the other words of a form
+    // The other values of a report's form.
     (
         "report|--db|o.db|--register|main|--by|day|--unit|mwh|--format|text",
         "Report { db: \"o.db\", register: \"main\", form: FormWords { from: None, till: None, \
@@ -56,19 +56,19 @@ static RIGHT: [(&str, &str); 40] = [
         "Report { db: \"o.db\", register: \"main\", form: FormWords { from: None, till: None, \
          period: Some(Month), unit: None, format: Some(Csv), statement: false } }",
     ),
-    // a statement has no periods
+    // A statement has no periods.
     (
         "report|--db|o.db|--register|main|--statement|--unit|kwh",
         "Report { db: \"o.db\", register: \"main\", form: FormWords { from: None, till: None, \
          period: None, unit: Some(KilowattHours), format: None, statement: true } }",
     ),
-    // several files keep their order
+    // Several files keep their order.
     (
         "report|--db=2026.db|--register|main|--db|o.db|--statement|--",
         "ReportFiles { files: [\"2026.db\", \"o.db\"], register: \"main\", form: FormWords { \
          from: None, till: None, period: None, unit: None, format: None, statement: true } }",
     ),
-    // unit 1 and five seconds where none are given
+    // The defaults are unit 1 and five seconds.
     (
         "scan|--port|502",
         "Scan { host: \"127.0.0.1\", port: 502, unit: 1, timeout: 5, list: false, setup: None }",
@@ -87,7 +87,7 @@ static RIGHT: [(&str, &str); 40] = [
         "stand-in|--host|::1|--port|1502|--connections|10",
         r#"StandIn { host: "::1", port: 1502, connections: 10 }"#,
     ),
-    // at this host where none is given
+    // The default host is this machine.
     (
         "stand-in|--port|1502|--connections|10",
         r#"StandIn { host: "127.0.0.1", port: 1502, connections: 10 }"#,
@@ -104,7 +104,7 @@ static RIGHT: [(&str, &str); 40] = [
         "carry|--until|4294967295|--to|n.db|--from|o.db",
         r#"Carry { from: "o.db", to: "n.db", until: Some(4294967295) }"#,
     ),
-    // `explain` reports itself that a word is no number
+    // `explain` itself reports that an argument is no number.
     (
         "explain|refused|12",
         r#"Explain { what: "refused", number: "12" }"#,
@@ -130,7 +130,7 @@ static RIGHT: [(&str, &str); 40] = [
         "audit|--db=old.db|--db|o.db",
         r#"Audit { dbs: ["old.db", "o.db"], seal: Nothing }"#,
     ),
-    // no counter is read where no device is given
+    // Without devices, no counter is read.
     (
         "enter|--db|o.db|--caller|site",
         r#"Enter { db: "o.db", caller: "site", devices: [], only_read: false }"#,
@@ -145,7 +145,7 @@ static RIGHT: [(&str, &str); 40] = [
          host: \"meter.lan\", port: 502 }, Device { name: \"b\", host: \"[::1]\", port: 1 }], \
          only_read: false }",
     ),
-    // `serve` goes by this machine's names where none is given
+    // By default `serve` uses only the names of this machine.
     (
         "serve|--db|o.db|--port|8080|--connections|7",
         r#"Serve { db: "o.db", port: 8080, connections: 7, host_names: [] }"#,
@@ -155,7 +155,7 @@ static RIGHT: [(&str, &str); 40] = [
         "Serve { db: \"o.db\", port: 8080, connections: 7, \
          host_names: [\"a.example\", \"b.example\"] }",
     ),
-    // `run` has no end, no new files and no limit where none is given
+    // By default `run` has no end, no new files and no limit.
     (
         "run|--db|o.db|--listen|8080|--every|60|--devices|inv=192.0.2.7:502",
         "Run { dbs: [\"o.db\"], listen: 8080, every: 60, devices: [Device { name: \"inv\", \
@@ -186,11 +186,13 @@ static RIGHT: [(&str, &str); 40] = [
     ),
 ];
 
+// Each command line spells its command.
 #[test]
 fn words_spell_commands(rt: HostRuntime) {
     assert_spelled(&rt, rt.alloc(), &RIGHT);
 }
 
+// Without arguments the command is `replay`.
 #[test]
 fn no_word_is_replay(rt: HostRuntime) {
     let replay = CommandLine::Replay { zone: "UTC0" };

@@ -2,7 +2,7 @@
 use interval_core::{Day, DayTotal, Share};
 use script_text::{Line, write_day, write_end, write_interval};
 
-/// A day, how many quarter hours it has, and its energy in mWh.
+/// A day, the number of its quarter hours, and its energy in mWh.
 static DAYS: [(i16, i8, i8, u32, u128); 2] = [(33, 12, 9, 1, 7), (-1, 1, 1, 1000, u128::MAX)];
 
 static WRITTEN: &str = "\
@@ -11,6 +11,7 @@ static WRITTEN: &str = "\
     0033-12-09   1                        7\n\
     -000001-01-01 1000 340282366920938463463374607431768211455\n";
 
+// The greatest numbers, and days of any year, are written in full.
 #[test]
 fn the_greatest_numbers_and_days_of_any_year_are_written(rt: HostRuntime) {
     let share = Share {
@@ -32,6 +33,7 @@ fn the_greatest_numbers_and_days_of_any_year_are_written(rt: HostRuntime) {
     assert!(rt; told.as_slice() == WRITTEN.as_bytes());
 }
 
+// A line is built from texts and numbers, and can be cloned.
 #[test]
 fn a_line_is_built_up(rt: HostRuntime) {
     let mut line = Line::new();

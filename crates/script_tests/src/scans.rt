@@ -1,4 +1,4 @@
-//! What is printed of a live device.
+//! What a scan of a live device prints.
 use command_io::ExitStatus;
 use device_scan::{ScanFault, ScanObserver};
 use mb_wire::MemoryLink;
@@ -7,7 +7,7 @@ use std::process::Abort;
 use sun_chain::Model;
 use sunspec_text::{ScanForm, Site, scan_text};
 
-// Who is shown nothing.
+// An observer that ignores everything.
 #[derive(Drop)]
 struct Nobody;
 
@@ -15,7 +15,8 @@ impl ScanObserver for Nobody {
     fn reads(&mut self, _model: Model) {}
 }
 
-// The words of a device from 40000 on: the mark, a model 103 whose counter WH shows 5000 at scale 0, and the end.
+// Returns the words of a device from 40000 on: the mark, a model 103 whose counter WH is 5000 at
+// scale 0, and the end.
 fn words(rt: &impl Abort, alloc: Global) -> Vec<u16> {
     let mut words = [0x5375, 0x6E53, 103, 50]
         .to_vec(alloc)
@@ -31,7 +32,8 @@ fn words(rt: &impl Abort, alloc: Global) -> Vec<u16> {
     words
 }
 
-// The reads of a scan: the identifier, the first word, how many, and how many bytes that are.
+// The reads of a scan: the transaction identifier, the first word, the number of words, and their
+// bytes.
 static READS: [(u8, usize, usize, u8); 4] = [
     (1, 0, 2, 4),
     (2, 2, 2, 4),
@@ -39,7 +41,7 @@ static READS: [(u8, usize, usize, u8); 4] = [
     (4, 54, 2, 4),
 ];
 
-// What the device answers to them.
+// Returns the device's responses to the reads.
 fn replies(rt: &impl Abort, alloc: Global) -> Vec<u8> {
     let words = words(rt, alloc);
     let mut bytes = Vec::new(alloc);
@@ -56,7 +58,8 @@ fn replies(rt: &impl Abort, alloc: Global) -> Vec<u8> {
     bytes
 }
 
-// How a scan ends over a link whose call number `fails` fails, and what it prints in a form.
+// Scans over a link whose call number `fails` fails. Returns how the scan ends, and what it prints
+// in a form.
 fn scanned(
     rt: &impl Abort,
     alloc: Global,
@@ -77,7 +80,7 @@ const SITE: Site<'static> = Site {
     timeout: 5,
 };
 
-// What `chain` prints of the same words.
+// The output of `chain` for the same words.
 const CHAIN: &str = "\
     base 40000\n\
     model 40002 103 50\n\
@@ -126,7 +129,7 @@ const CHAIN: &str = "\
     point EvtVnd4 0x00000000\n\
     end 40054\n";
 
-/// A form, and what the text in it begins and ends with.
+/// A form, and how the text in it begins and ends.
 struct Case {
     form: ScanForm<'static>,
     begin: &'static str,
@@ -155,6 +158,7 @@ static CASES: [Case; 3] = [
     },
 ];
 
+// A scan is printed in each of its forms.
 #[test]
 fn a_scan_is_printed_in_each_form(rt: HostRuntime) {
     for case in &CASES {
@@ -169,9 +173,10 @@ fn a_scan_is_printed_in_each_form(rt: HostRuntime) {
     }
 }
 
-// The first give, the first take, and a give of the last request.
+// The first write, the first read, and a write of the last request.
 static CALLS: [u64; 3] = [1, 13, 180];
 
+// A scan over a failing link prints nothing.
 #[test]
 fn a_link_that_fails_prints_nothing(rt: HostRuntime) {
     for call in &CALLS {

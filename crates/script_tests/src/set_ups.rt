@@ -1,17 +1,17 @@
-//! Texts that set a stand-in up.
+//! Texts that set up a simulated device.
 use command_io::ExitStatus;
 use mb_device::{Kind, Trick};
 use script_run::{Setup, SetupParts, set_up};
 use std::alloc::Global;
 
-// What a text prints, and the status that ends it, if it does.
+// Runs a text. Returns what it prints, and the status that ends it, if any.
 fn run(alloc: Global, text: &str) -> (Result<Setup, ExitStatus>, Vec<u8>) {
     let mut printed = Vec::new(alloc);
     let set = set_up(alloc, &mut text.as_bytes(), &mut printed);
     (set, printed)
 }
 
-// Texts, what they print, and the status that ends them, if one does.
+// Texts, what they print, and the status that ends them, if any.
 static TEXTS: [(&str, &str, Option<ExitStatus>); 18] = [
     ("", "", None),
     ("# nothing\n\narea coil 0 65536\n", "", None),
@@ -77,6 +77,7 @@ static TEXTS: [(&str, &str, Option<ExitStatus>); 18] = [
     ),
 ];
 
+// Refused and bad lines are reported.
 #[test]
 fn what_is_refused_is_told(rt: HostRuntime) {
     for (text, output, status) in &TEXTS {
@@ -94,6 +95,7 @@ const SET_UP: &str = "\
     trick 2 unit\n\
     trick 2 id\n";
 
+// The simulator keeps the accepted areas, values and faults.
 #[test]
 fn what_is_taken_is_kept(rt: HostRuntime) {
     let (set, _printed) = run(rt.alloc(), SET_UP);

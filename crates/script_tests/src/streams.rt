@@ -3,7 +3,7 @@ use std::alloc::Global;
 use std::io::{self, ErrorKind, Read, Write};
 use std::process::Abort;
 
-/// Gives its text a byte at a time, and one call of `read` fails.
+/// A reader that returns its text a byte at a time. One call of `read` fails.
 #[derive(Drop)]
 pub(crate) struct Slow<'a> {
     text: &'a [u8],
@@ -13,7 +13,7 @@ pub(crate) struct Slow<'a> {
 }
 
 impl<'a> Slow<'a> {
-    /// The call 0 never comes.
+    /// Makes a reader whose call number `failing` fails. Calls are numbered from 1.
     pub(crate) fn of(text: &'a [u8], failing: usize, kind: ErrorKind) -> Slow<'a> {
         Slow {
             text,
@@ -23,7 +23,7 @@ impl<'a> Slow<'a> {
         }
     }
 
-    /// No call fails.
+    /// Makes a reader whose calls all succeed.
     pub(crate) fn whole(text: &'a [u8]) -> Slow<'a> {
         Slow::of(text, 0, ErrorKind::Other)
     }
@@ -46,7 +46,7 @@ impl Read for Slow<'_> {
     }
 }
 
-/// Keeps what is written, at most so many bytes a call, and one call of `write` fails.
+/// A writer that keeps what is written, at most `most` bytes a call. One call of `write` fails.
 #[derive(Drop)]
 pub(crate) struct Kept {
     pub(crate) got: Vec<u8>,
@@ -65,13 +65,13 @@ impl Kept {
         }
     }
 
-    /// No call fails.
+    /// Makes a writer whose calls all succeed.
     pub(crate) fn whole(alloc: Global) -> Kept {
         Kept::new(alloc, usize::MAX, 8192)
     }
 
-    /// Asserts that a prefix of the text was written, all of it unless a call failed, and that no call followed a failed one.
-    /// Returns whether none failed.
+    /// Asserts that a prefix of the text was written, all of it unless a call failed, and that no
+    /// call followed a failed one. Returns whether no call failed.
     pub(crate) fn assert_written(&self, rt: &impl Abort, output: &str) -> bool {
         let whole = self.calls < self.failing;
         assert!(rt; self.calls <= self.failing);

@@ -1,4 +1,4 @@
-//! Words that spell no command, and the texts that are printed of them.
+//! Arguments that spell no command, and the texts that are printed for them.
 use crate::spelled_words::{assert_spelled, spelled};
 
 static WRONG: [&str; 61] = [
@@ -65,6 +65,7 @@ static WRONG: [&str; 61] = [
     "run|--db|x|--db|y|--listen|1|--every|1|--devices|a=h:1|--carry|month|--earlier|3",
 ];
 
+// Other command lines are wrong.
 #[test]
 fn other_words_are_wrong(rt: HostRuntime) {
     for line in &WRONG {
@@ -76,7 +77,7 @@ fn other_words_are_wrong(rt: HostRuntime) {
     }
 }
 
-/// What each of these lines is refused for.
+/// Each command line, and the text of its fault.
 static TEXTS: [(&str, &str); 10] = [
     (
         "serve|--db|x",
@@ -157,6 +158,7 @@ For more information, try '--help'.
     ),
 ];
 
+// The text of a fault names the argument that is wrong.
 #[test]
 fn faults_of_words_are_named(rt: HostRuntime) {
     assert_spelled(&rt, rt.alloc(), &TEXTS);

@@ -1,5 +1,5 @@
--- The command of each route, by the members of its body. `name` is what the route's parameter took: a register, or for a
--- void a meter; it is none where that is no name.
+-- The command of each route, by the members of its body. `name` is the route's parameter: a
+-- register, or for a void a meter. It is None if the parameter is no name.
 use Rattle.std.specs.Prelude.{ℕ, List, Option, Some, None, Result, Ok, Err, codes}
 use Rattle.serde_json.specs.Data.{Data}
 use Rattle.http_answer.specs.Commands.Json.Tables.{close_members, device_members, exchange_members, fault_of, install_members, manual_members, register_fault, rescale_members, reset_members, void_members}
@@ -11,6 +11,7 @@ use Rattle.office_events.specs.declared.commands.Command.{Command}
 use Rattle.office_events.specs.declared.commands.Command.TheVariants as command
 use Rattle.http_answer.specs.Commands.Values.{integer_in, name_in, natural_in, optional_in, or_full_range, scale_in}
 
+-- A new device.
 abbrev pub add_device : Data → Command
 add_device d = command.AddDevice (record {
   name = name_in (codes "name") d;
@@ -19,6 +20,7 @@ add_device d = command.AddDevice (record {
   window = natural_in (codes "window") d;
 })
 
+-- A new register.
 abbrev pub add_register : Data → Command
 add_register d = command.AddRegister (record {
   name = name_in (codes "name") d;
@@ -28,6 +30,7 @@ add_register d = command.AddRegister (record {
   scale = scale_in d;
 })
 
+-- A meter is installed at a register.
 abbrev pub install : Option (List ℕ) → Data → Command
 install name d = command.Install (record {
   register = name;
@@ -38,6 +41,7 @@ install name d = command.Install (record {
   range = or_full_range (optional_in (codes "range") d);
 })
 
+-- A meter is closed, and another is installed at its register.
 abbrev pub exchange : Option (List ℕ) → Data → Command
 exchange name d = command.Exchange (record {
   register = name;
@@ -50,6 +54,7 @@ exchange name d = command.Exchange (record {
   range = or_full_range (optional_in (codes "range") d);
 })
 
+-- The counter of a meter is reset.
 abbrev pub reset : Option (List ℕ) → Data → Command
 reset name d = command.Reset (record {
   register = name;
@@ -57,6 +62,7 @@ reset name d = command.Reset (record {
   after = natural_in (codes "after") d;
 })
 
+-- The counter of a meter changes its value and its scale.
 abbrev pub rescale : Option (List ℕ) → Data → Command
 rescale name d = command.Rescale (record {
   register = name;
@@ -65,6 +71,7 @@ rescale name d = command.Rescale (record {
   sf = integer_in (codes "sf") d;
 })
 
+-- A reading by hand, at the given timestamp if there is one.
 abbrev pub manual : Option (List ℕ) → Data → Command
 manual name d = command.Manual (record {
   register = name;
@@ -73,6 +80,7 @@ manual name d = command.Manual (record {
   at = optional_in (codes "at") d;
 })
 
+-- A meter is closed with its last reading.
 abbrev pub close : Option (List ℕ) → Data → Command
 close name d = command.Close (record {
   register = name;
@@ -80,18 +88,20 @@ close name d = command.Close (record {
   rolls = natural_in (codes "rolls") d;
 })
 
+-- An entry of a meter is voided.
 abbrev pub void : Option (List ℕ) → Data → Command
 void name d = command.Void (record {
   meter = name;
   place = natural_in (codes "place") d;
 })
 
--- the command, unless the body has a fault
+-- The command, unless the body has a fault.
 abbrev pub unless_fault : Option BodyFault → Command → Result Command BodyFault
 unless_fault None c = Ok c
 unless_fault (Some fault) c = Err fault
 
--- What the JSON body of a route's requests asks for, or its fault. A list's body is no JSON, and a question has none.
+-- The command that the JSON body of a route's request gives, or the fault of the body. The body of
+-- a list is no JSON, and a query has no command.
 abbrev pub command_of : Route → Option (List ℕ) → Data → Result Command BodyFault
 command_of route.Devices name d = unless_fault (fault_of device_members d) (add_device d)
 command_of route.List name d = Err Malformed

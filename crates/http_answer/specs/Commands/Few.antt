@@ -1,15 +1,17 @@
--- How many faulty rows a list has at most.
+-- The most faulty rows of a list.
 use Rattle.std.specs.Prelude.{◌≤◌, List, length, All, Result, Ok, Err}
 use Rattle.office_events.specs.declared.commands.Command.{Command}
 use Rattle.point_list.specs.declared.fault.FaultyRow.{FaultyRow}
 use Rattle.http_answer.specs.declared.commands.fault.CommandFault.{CommandFault}
 use Rattle.http_answer.specs.declared.commands.fault.CommandFault.TheVariants.{Malformed, Negative, Faulty, Memory}
 
--- the header is row 1, and no row is read after the 513th below it
+-- At most 513 rows, the last of them at most row 514. The header is row 1, and no row is read after
+-- the 513th below it.
 pub record AreFew (rows : List FaultyRow) : Type 0 where
   pub few : length rows ≤ 513
   pub low : All (λ faulty. faulty.row ≤ 514) rows
 
+-- The faulty rows, if any, are at most 513.
 abbrev pub HasFewRows : Result Command CommandFault → Type 0
 HasFewRows (Ok c) = Unit {0}
 HasFewRows (Err Malformed) = Unit {0}

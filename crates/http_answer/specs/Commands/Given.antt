@@ -1,4 +1,4 @@
--- What the bytes of a body give: a command, or the reason why there is none.
+-- What the bytes of a body give: a command, or the reason why there is no command.
 use Rattle.std.specs.Prelude.{◌≡◌, ◌⊎◌, ℕ, List, Option, Some, Result, Ok, Err, IsUtf8}
 use Rattle.serde_json.specs.Data.{Data}
 use Rattle.serde_json.specs.Read.{read}
@@ -14,45 +14,48 @@ use Rattle.http_answer.specs.Commands.Commands.{command_of}
 use Rattle.http_answer.specs.declared.commands.fault.CommandFault.{CommandFault}
 use Rattle.http_answer.specs.declared.commands.fault.CommandFault.TheVariants.{Malformed, Negative, Faulty, Memory}
 
--- the bytes are a JSON text (RFC 8259) of this value
+-- The bytes are a JSON text (RFC 8259) of this value.
 pub record IsJson (bytes : List ℕ) (d : Data) : Type 0 where
   pub utf8 : IsUtf8 bytes
   pub value : read bytes ≡ Some d
 
+-- The fault of a JSON body, as a fault of a command.
 abbrev pub fault_told : BodyFault → CommandFault
 fault_told body.Malformed = Malformed
 fault_told body.Negative = Negative
 fault_told body.Memory = Memory
 
+-- A result with a JSON body's fault, as the result of a command.
 abbrev pub told : Result Command BodyFault → Result Command CommandFault
 told (Ok c) = Ok c
 told (Err fault) = Err (fault_told fault)
 
--- the bytes are a JSON text, and this is what its value asks for
+-- The bytes are a JSON text, and its value gives this command or fault.
 pub record GivesJson (at : Route) (name : Option (List ℕ)) (bytes : List ℕ)
     (given : Result Command CommandFault) : Type 0 where
   pub value : Data
   pub is : IsJson bytes value
   pub gives : given ≡ told (command_of at name value)
 
--- they are none
+-- The bytes are no JSON text.
 pub record IsNoJson (bytes : List ℕ) (given : Result Command CommandFault) : Type 0 where
   pub none : (d : Data) → IsJson bytes d → ⊥
   pub gives : given ≡ Err Malformed
 
+-- What a JSON body gives, unless memory runs out.
 abbrev pub IsBody : Route → Option (List ℕ) → (bytes : List ℕ) → Result Command CommandFault
     → Type 0
 IsBody at name bytes given =
     GivesJson at name bytes given ⊎ IsNoJson bytes given ⊎ (given ≡ Err Memory)
 
--- the bytes spell a point list, which is put with its plan
+-- The bytes spell a point list, and the command stores it with its plan.
 pub record GivesList (name : Option (List ℕ)) (bytes : List ℕ) (c : Command) : Type 0 where
   pub list : Planned
   pub spelled : SpellsList bytes list.points
   pub planned : IsPlanned list
   pub is : c ≡ PutList (record { device = name; list = list })
 
--- The bytes are the text of a list of comma-separated values, not JSON.
+-- The bytes are a point list as CSV, not JSON.
 abbrev pub IsListBody : Option (List ℕ) → (bytes : List ℕ) → Result Command CommandFault → Type 0
 IsListBody name bytes (Ok c) = GivesList name bytes c
 IsListBody name bytes (Err Malformed) = ⊥
@@ -60,7 +63,7 @@ IsListBody name bytes (Err Negative) = ⊥
 IsListBody name bytes (Err (Faulty rows)) = AreFaults (list_faults (rows_read bytes)) rows
 IsListBody name bytes (Err Memory) = Unit {0}
 
--- What the body of a route's request gives. Memory says nothing of the body.
+-- What the body of a route's request gives. Memory says nothing about the body.
 abbrev pub Gives : Route → Option (List ℕ) → (bytes : List ℕ) → Result Command CommandFault → Type 0
 Gives route.List name bytes given = IsListBody name bytes given
 Gives route.Devices name bytes given = IsBody route.Devices name bytes given

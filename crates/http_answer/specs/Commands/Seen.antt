@@ -4,6 +4,7 @@ use Rattle.http_answer.specs.declared.commands.json.devices.Scale.TheVariants.{F
 use Rattle.office_events.specs.declared.commands.GivenScale.{GivenScale}
 use Rattle.office_events.specs.declared.commands.GivenScale.TheVariants as given
 
+-- The scale of a body, as a command has it.
 abbrev pub scale_seen : Scale → GivenScale
 scale_seen (Fixed sf) = given.Fixed sf
 scale_seen (At address) = given.Register address

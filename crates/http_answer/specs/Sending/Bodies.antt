@@ -1,10 +1,12 @@
--- The bodies of replies that tell a number.
+-- The bodies of responses that report a number.
 use Rattle.std.specs.Prelude.{ℕ, List, ◌++◌, codes, decimal}
 use Rattle.http_request.specs.Status.Statuses.{number_of_status}
 use Rattle.http_request.specs.declared.status.Status.{Status}
 
+-- The body for a refusal, by its number.
 abbrev pub refused_text : ℕ → List ℕ
 refused_text number = codes "{\"refused\":" ++ decimal number ++ codes "}"
 
+-- The body for a fault, by its status.
 abbrev pub fault_text : Status → List ℕ
 fault_text status = codes "{\"fault\":" ++ decimal (number_of_status status) ++ codes "}"

@@ -1,12 +1,13 @@
--- What an outbox holds back.
+-- The bytes in a write buffer.
 use Rattle.std.specs.Prelude.{ℕ, List, take, Option}
 use Rattle.http_answer.specs.Sending.Sending.{Progress}
 use Rattle.http_answer.specs.declared.sending.outbox.Outbox.{Outbox}
 
+-- The buffered bytes.
 abbrev pub buffered_in : Outbox → List ℕ
 buffered_in outbox = take outbox.filled outbox.buffered
 
--- how far what was put to an outbox has come, after what was given to its link
+-- How far the bytes for a link have come: written, buffered, or lost after a failed write.
 abbrev pub progress : (given : Option (List ℕ)) → Outbox → Progress
 progress given outbox = record {
   given = given;

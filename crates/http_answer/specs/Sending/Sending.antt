@@ -1,12 +1,12 @@
--- What of the bytes that were put has come to the peer.
+-- How much of the bytes for a link was written to it.
 use Rattle.std.specs.Prelude.{◌≡◌, ℕ, Bool, true, false, not, ◌&&◌, List, ◌++◌, Option}
 use Rattle.std.specs.Io.KnownBytes.{Appends, Keeps}
 use base.Fml.{GName}
 use Rattle.mb_wire.specs.Links.{risen}
 use Rattle.mb_wire.specs.declared.link.LastTake.{LastTake}
 
--- All that was put so far begins with what was given since `base`. The rest is what is buffered or, once a
--- give has failed, is lost.
+-- All bytes so far begin with those written since `base`. The rest is buffered, or was lost after a
+-- failed write.
 pub record Sends (base given : Option (List ℕ)) (buffered : List ℕ) (failed : Bool) (all : List ℕ) :
     Type 0 where
   pub sent : List ℕ
@@ -15,27 +15,27 @@ pub record Sends (base given : Option (List ℕ)) (buffered : List ℕ) (failed 
   pub came : Appends base given sent
   pub whole : failed ≡ false → left ≡ buffered
 
--- How far what was put has come: what was given to the link, what is buffered after that, and whether a give
--- has failed.
+-- How far the bytes for a link have come: what was written, what is buffered after it, and whether
+-- a write failed.
 pub record Progress : Type 0 where
   pub given : Option (List ℕ)
   pub buffered : List ℕ
   pub failed : Bool
 
--- bytes are put after all that was put before
+-- The bytes follow all earlier ones.
 abbrev pub PutsAfter : Progress → Progress → List ℕ → Type 0
 PutsAfter old new bytes =
     (base : Option (List ℕ)) (all : List ℕ) → Sends base old.given old.buffered old.failed all
     → Sends base new.given new.buffered new.failed (all ++ bytes)
 
--- nothing is put after all that was put before
+-- No bytes follow the earlier ones.
 abbrev pub PutsNothing : Progress → Progress → Type 0
 PutsNothing old new =
     (base : Option (List ℕ)) (all : List ℕ) → Sends base old.given old.buffered old.failed all
     → Sends base new.given new.buffered new.failed all
 
--- What a contract sees of an outlet: which link it is to, what that tells of itself, which bytes are buffered, and
--- whether a give has failed.
+-- The model of a writer: its link, what the link reports of itself, the buffered bytes, and whether
+-- a write failed.
 pub record Outgoing : Type 0 where
   pub link : GName
   pub given : Option (List ℕ)
@@ -46,12 +46,12 @@ pub record Outgoing : Type 0 where
   pub buffered : List ℕ
   pub failed : Bool
 
--- all that was put to an outlet since its link had given `base`
+-- All bytes for the link since it had got `base`.
 abbrev pub HasPut : Option (List ℕ) → Outgoing → List ℕ → Type 0
 HasPut base out all = Sends base out.given out.buffered out.failed all
 
--- The outlet is to the same link. Nothing was taken from it, and its count of failures rises exactly where a give
--- fails; once one has failed no more is given.
+-- The writer keeps its link, and reads nothing from it. The link's count of failures rises exactly
+-- when a write fails, and nothing is written after that.
 pub record OnlyGives (old new : Outgoing) : Type 0 where
   pub link : new.link ≡ old.link
   pub stays : old.failed ≡ true → new.failed ≡ true
@@ -60,7 +60,7 @@ pub record OnlyGives (old new : Outgoing) : Type 0 where
   pub takes : new.takes ≡ old.takes
   pub last : new.last ≡ old.last
 
--- bytes are put after all that was put before
+-- The bytes follow all earlier ones, and only writes reach the link.
 pub record Puts (old new : Outgoing) (bytes : List ℕ) : Type 0 where
   pub put : (base : Option (List ℕ)) (all : List ℕ) → HasPut base old all
       → HasPut base new (all ++ bytes)

@@ -1,20 +1,20 @@
-//! Why a body asks for no command.
+//! Why a body gives no command.
 use crate::commands::json::BodyFault;
 use point_list::FaultyRows;
 use std::error::Error;
 use std::fmt;
 use std::fmt::{Display, Formatter};
 
-/// Why a body asks for no command.
+/// Why a body gives no command.
 #[derive(Debug, Drop)]
 pub enum CommandFault {
-    /// It is no JSON object, or a member that is wanted is missing or of another kind.
+    /// The body is no JSON object, or a required member is missing or has the wrong type.
     Malformed,
-    /// All members are there, and a number is negative that must not be.
+    /// All members exist, and a number that must not be negative is negative.
     Negative,
-    /// The rows of a point list that are faulty.
+    /// The faulty rows of a point list.
     Faulty(FaultyRows),
-    /// Memory was refused.
+    /// Out of memory.
     Memory,
 }
 

@@ -1,4 +1,4 @@
-//! What the bytes of a body give.
+//! The command that the bytes of a body give.
 ghost use Rattle.std.specs.Prelude.{◌≡◌};
 ghost use Rattle.serde_json.specs.View.{view};
 ghost use Rattle.http_answer.specs.Commands.Commands.{command_of};
@@ -14,7 +14,6 @@ use office_events::{Command, Name, PlannedList, PutList};
 use point_list::{ListFault, PointList, read_list};
 use std::alloc::Global;
 
-// What the value of a body asks for.
 fn command_of(route: Route, name: Option<Name>, body: &Body) -> Result<Command, BodyFault>
     ensures { result ≡ command_of route name (view body.now) }
 {
@@ -34,7 +33,6 @@ fn command_of(route: Route, name: Option<Name>, body: &Body) -> Result<Command, 
     }
 }
 
-// What a body of JSON asks for.
 fn json_command(
     alloc: Global,
     route: Route,
@@ -53,7 +51,7 @@ fn json_command(
     }
 }
 
-// The list that is put, with its plan.
+// Parses a point list into the command that stores it with its plan.
 fn put_list(alloc: Global, device: Option<Name>, bytes: &[u8]) -> Result<Command, CommandFault>
     ensures given { IsListBody device bytes.now result }
     ensures few { HasFewRows result }
@@ -68,9 +66,11 @@ fn put_list(alloc: Global, device: Option<Name>, bytes: &[u8]) -> Result<Command
     }
 }
 
-/// The command that the body of a request asks for. `name` is what the parameter of the route took, if that is a
-/// name. Of a list the body is the text of comma-separated values, else it is one JSON object, of which other
-/// members than those of the command are ignored. The route of a question has no command: its body is malformed.
+/// Parses the body of a request into a command.
+///
+/// `name` is the parameter of the route, if it is a name. The body of [`Route::List`] is CSV, any
+/// other body is one JSON object. Members that the command does not have are ignored. For the route
+/// of a query the body is `Malformed`.
 pub fn command_in(
     alloc: Global,
     route: Route,

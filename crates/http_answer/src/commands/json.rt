@@ -1,4 +1,4 @@
-//! The JSON bodies of commands, by members.
+//! The members of the commands' JSON bodies.
 
 mod body;
 mod devices;

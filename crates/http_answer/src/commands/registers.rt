@@ -1,4 +1,4 @@
-//! The commands that speak of the meter at a register.
+//! The commands for the meter at a register.
 ghost use Rattle.std.specs.Prelude.{◌≡◌};
 ghost use Rattle.serde_json.specs.View.{view};
 ghost use Rattle.http_request.specs.declared.routing.routes.Route.TheVariants as route;
@@ -10,7 +10,7 @@ use crate::commands::json::{
 use crate::commands::values::{name, or_full_range};
 use office_events::{Close, Command, Exchange, Install, Manual, Name, Rescale, Reset, VoidEntry};
 
-// A meter is installed.
+// Reads the command that installs a meter.
 pub(crate) fn install(register: Option<Name>, body: &Body) -> Result<Command, BodyFault>
     ensures { result ≡ command_of route.Install register (view body.now) }
 {
@@ -25,7 +25,7 @@ pub(crate) fn install(register: Option<Name>, body: &Body) -> Result<Command, Bo
     }))
 }
 
-// A meter is closed, and another installed.
+// Reads the command that closes a meter and installs another.
 pub(crate) fn exchange(register: Option<Name>, body: &Body) -> Result<Command, BodyFault>
     ensures { result ≡ command_of route.Exchange register (view body.now) }
 {
@@ -42,7 +42,7 @@ pub(crate) fn exchange(register: Option<Name>, body: &Body) -> Result<Command, B
     }))
 }
 
-// A counter is set.
+// Reads the command that resets a counter.
 pub(crate) fn reset(register: Option<Name>, body: &Body) -> Result<Command, BodyFault>
     ensures { result ≡ command_of route.Reset register (view body.now) }
 {
@@ -54,7 +54,7 @@ pub(crate) fn reset(register: Option<Name>, body: &Body) -> Result<Command, Body
     }))
 }
 
-// A counter is set, at another scale.
+// Reads the command that sets a counter at another scale.
 pub(crate) fn rescale(register: Option<Name>, body: &Body) -> Result<Command, BodyFault>
     ensures { result ≡ command_of route.Rescale register (view body.now) }
 {
@@ -67,7 +67,7 @@ pub(crate) fn rescale(register: Option<Name>, body: &Body) -> Result<Command, Bo
     }))
 }
 
-// A reading by hand.
+// Reads the command that enters a reading by hand.
 pub(crate) fn manual(register: Option<Name>, body: &Body) -> Result<Command, BodyFault>
     ensures { result ≡ command_of route.Manual register (view body.now) }
 {
@@ -80,7 +80,7 @@ pub(crate) fn manual(register: Option<Name>, body: &Body) -> Result<Command, Bod
     }))
 }
 
-// A meter is closed.
+// Reads the command that closes a meter.
 pub(crate) fn close(register: Option<Name>, body: &Body) -> Result<Command, BodyFault>
     ensures { result ≡ command_of route.Close register (view body.now) }
 {
@@ -92,7 +92,7 @@ pub(crate) fn close(register: Option<Name>, body: &Body) -> Result<Command, Body
     }))
 }
 
-// An entry is voided.
+// Reads the command that voids an entry.
 pub(crate) fn void(meter: Option<Name>, body: &Body) -> Result<Command, BodyFault>
     ensures { result ≡ command_of route.Void meter (view body.now) }
 {

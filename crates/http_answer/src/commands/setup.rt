@@ -8,7 +8,7 @@ use crate::commands::json::{Body, BodyFault, device_in, register_in};
 use crate::commands::values::{given_scale, name};
 use office_events::{AddDevice, AddRegister, Command};
 
-// A new device.
+// Reads the command that adds a device.
 pub(crate) fn add_device(body: &Body) -> Result<Command, BodyFault>
     ensures { result ≡ unless_fault (fault_of device_members (view body.now))
         (add_device (view body.now)) }
@@ -22,7 +22,7 @@ pub(crate) fn add_device(body: &Body) -> Result<Command, BodyFault>
     }))
 }
 
-// A new register.
+// Reads the command that adds a register.
 pub(crate) fn add_register(body: &Body) -> Result<Command, BodyFault>
     ensures { result ≡ unless_fault (register_fault (view body.now))
         (add_register (view body.now)) }

@@ -1,4 +1,4 @@
-//! What the members of a body give a command.
+//! The values of a command's fields, from the members of a body.
 ghost use Rattle.std.specs.Prelude.{◌≡◌};
 ghost use Rattle.office_events.specs.Names.{named};
 ghost use Rattle.http_answer.specs.Commands.Values.{or_full_range};
@@ -8,14 +8,13 @@ use crate::commands::json::Scale;
 use energy_core::MAX_RANGE;
 use office_events::{GivenScale, Name};
 
-// The name that a text is, if it is one.
+// Returns the name that a text spells, if it is a name.
 pub(crate) fn name(text: &str) -> Option<Name>
     ensures { result ≡ named text.now }
 {
     Name::new(text.as_bytes())
 }
 
-// The range that was given, or the full one.
 pub(crate) fn or_full_range(range: Option<u64>) -> u64
     ensures { result ≡ or_full_range range }
 {

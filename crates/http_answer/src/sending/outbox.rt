@@ -1,4 +1,4 @@
-//! Bytes that are buffered until there are enough of them to give.
+//! A buffer that collects bytes before they are written to a link.
 ghost use Rattle.std.specs.Prelude.{◌≡◌, ◌≤◌, ◌<◌, ◌+◌, ◌++◌, [], length};
 ghost use Rattle.std.specs.Prelude.{true, false, not, ◌&&◌};
 ghost use Rattle.std.specs.Io.KnownBytes.{Keeps};
@@ -6,10 +6,10 @@ ghost use Rattle.mb_wire.specs.Links.{risen};
 
 use mb_wire::{Link, give_all};
 
-// How many bytes are buffered at most.
+// The size of the buffer in bytes.
 const ROOM: usize = 512;
 
-// Bytes on their way to a link. It keeps the first give that failed, and drops what is put after it.
+// A write buffer for a link. After the first failed write it drops all bytes.
 #[derive(Drop)]
 pub(crate) struct Outbox {
     pub(crate) buffered: [u8; 512],
@@ -22,7 +22,6 @@ impl Outbox {
     ghost use Rattle.http_answer.specs.Sending.Sending.{PutsAfter, PutsNothing};
     ghost use Rattle.http_answer.specs.Sending.Holding.{buffered_in, progress};
 
-    // Holds nothing.
     pub(crate) fn new() -> Outbox
         ensures works { result.failed ≡ false }
         ensures empty { buffered_in result ≡ [] }
@@ -34,14 +33,13 @@ impl Outbox {
         }
     }
 
-    // Whether a give failed.
     pub(crate) fn has_failed(&self) -> bool
         ensures { result ≡ self.now.failed }
     {
         self.failed
     }
 
-    // Gives what is buffered.
+    // Writes the buffered bytes to the link.
     pub(crate) fn flush<L: Link>(&mut self, link: &mut L)
         ensures sends { PutsNothing (progress (L.given link.old) self.old)
             (progress (L.given link.new) self.new) }
@@ -61,7 +59,7 @@ impl Outbox {
         self.filled = 0;
     }
 
-    // Gives what is buffered, where there is no room for so many bytes more.
+    // Flushes the buffer if it has no room for `count` more bytes.
     fn make_room<L: Link>(&mut self, link: &mut L, count: usize)
         ensures sends { PutsNothing (progress (L.given link.old) self.old)
             (progress (L.given link.new) self.new) }
@@ -79,7 +77,7 @@ impl Outbox {
         }
     }
 
-    // Holds bytes back, for which there is room.
+    // Appends bytes to the buffer.
     fn hold(&mut self, bytes: &[u8])
         requires { self.old.filled + length bytes.now ≤ 512 }
         ensures buffered { buffered_in self.new ≡ buffered_in self.old ++ bytes.now }
@@ -90,7 +88,7 @@ impl Outbox {
         self.filled = end;
     }
 
-    // Gives bytes at once, where nothing is buffered.
+    // Writes bytes to the link at once. Nothing may be buffered.
     fn pass<L: Link>(&mut self, link: &mut L, bytes: &[u8])
         requires works { self.old.failed ≡ false }
         requires empty { buffered_in self.old ≡ [] }
@@ -104,7 +102,7 @@ impl Outbox {
         self.failed = give_all(link, bytes).is_err();
     }
 
-    // Puts bytes after those put before.
+    // Writes bytes after all earlier ones, through the buffer if they fit.
     pub(crate) fn put<L: Link>(&mut self, link: &mut L, bytes: &[u8])
         ensures sends { PutsAfter (progress (L.given link.old) self.old)
             (progress (L.given link.new) self.new) bytes.now }

@@ -1,4 +1,4 @@
-//! The text of a reply.
+//! The text of a response.
 ghost use Rattle.std.specs.Prelude.{◌++◌, decimal};
 ghost use Rattle.http_answer.specs.Sending.Sending.{Puts};
 ghost use Rattle.http_answer.specs.Sending.Replies.{json_reply, status_line, text_head};
@@ -8,7 +8,6 @@ use http_request::Status;
 use itoa::Buffer;
 use mb_wire::Link;
 
-// Puts a number in decimal digits.
 fn put_number<L: Link>(number: u64, writer: &mut ReplyWriter<'_, L>)
     ensures { Puts writer.old writer.new (decimal number) }
 {
@@ -16,7 +15,6 @@ fn put_number<L: Link>(number: u64, writer: &mut ReplyWriter<'_, L>)
     writer.put(buffer.format(number).as_bytes());
 }
 
-// Puts the status line.
 fn put_status<L: Link>(status: Status, writer: &mut ReplyWriter<'_, L>)
     ensures { Puts writer.old writer.new (status_line status) }
 {
@@ -27,7 +25,7 @@ fn put_status<L: Link>(status: Status, writer: &mut ReplyWriter<'_, L>)
     writer.put(b"\r\n");
 }
 
-/// Puts a reply with a body of JSON.
+/// Writes a response with a JSON body.
 pub fn put_json<L: Link>(status: Status, body: &[u8], writer: &mut ReplyWriter<'_, L>)
     ensures { Puts writer.old writer.new (json_reply status body.now) }
 {
@@ -38,7 +36,7 @@ pub fn put_json<L: Link>(status: Status, body: &[u8], writer: &mut ReplyWriter<'
     writer.put(body);
 }
 
-/// Puts the head of a reply of text. The lines of the text follow, by `ReplyWriter::put`.
+/// Writes the head of a text response. The lines of the text follow, by [`ReplyWriter::put`].
 pub fn put_text_head<L: Link>(writer: &mut ReplyWriter<'_, L>)
     ensures { Puts writer.old writer.new text_head }
 {

@@ -5,12 +5,12 @@ use Rattle.std.proofs.lemmas.List.{drop_all}
 use Rattle.http_request.specs.Head.Lines.{ended_lines, head_lines, is_empty_line, text_lines}
 use Rattle.http_request.proofs.HeadLemmas.Scanning.{step_feed, step_text}
 
--- the lines of a head that are still to come, after its first or with none such yet
+-- The head's lines among those ahead, after a line with text or before any.
 abbrev pub lines_after : Bool → List (List ℕ) → List (List ℕ)
 lines_after true lines = text_lines lines
 lines_after false lines = head_lines lines
 
--- how many such lines
+-- The number of those lines.
 abbrev pub count_after : Bool → List (List ℕ) → ℕ
 count_after seen lines = length (lines_after seen lines)
 
@@ -24,27 +24,27 @@ count_text : (seen : Bool) (line : List ℕ) (lines : List (List ℕ)) → is_em
 count_text true line lines e = rw e refl
 count_text false line lines e = rw e refl
 
--- no line is left
+-- No line is left.
 pub none_left : (seen : Bool) (line bytes : List ℕ) (i : ℕ) → length bytes ≤ i → count_after seen (ended_lines line (drop i bytes)) ≡ 0
 none_left true line bytes i le = ap (λ b. length (text_lines (ended_lines line b))) (drop_all i bytes le)
 none_left false line bytes i le = ap (λ b. length (head_lines (ended_lines line b))) (drop_all i bytes le)
 
--- a byte that ends no line
+-- A byte that is no line feed.
 pub text_on : (seen : Bool) (bytes : List ℕ) (start i : ℕ) → start ≤ i → i < length bytes → get_or bytes i 0 ≢ 10
     → count_after seen (ended_lines (slice_range bytes start i) (drop i bytes)) ≡ count_after seen (ended_lines (slice_range bytes start (i + 1)) (drop (i + 1) bytes))
 text_on seen bytes start i le lt ne = ap (count_after seen) (step_text bytes start i le lt ne)
 
--- a line feed after an empty line, with no text before
+-- A line feed after an empty line, before any text.
 pub feed_empty : (bytes : List ℕ) (start i : ℕ) → i < length bytes → get_or bytes i 0 ≡ 10 → is_empty_line (slice_range bytes start i) ≡ true
     → count_after false (ended_lines (slice_range bytes start i) (drop i bytes)) ≡ count_after false (ended_lines (slice_range bytes (i + 1) (i + 1)) (drop (i + 1) bytes))
 feed_empty bytes start i lt is empty = ap (count_after false) (step_feed bytes start i lt is) ∙ skip_empty (slice_range bytes start i) (ended_lines (slice_range bytes (i + 1) (i + 1)) (drop (i + 1) bytes)) empty
 
--- a line feed after text
+-- A line feed after text.
 pub feed_text : (seen : Bool) (bytes : List ℕ) (start i : ℕ) → i < length bytes → get_or bytes i 0 ≡ 10 → is_empty_line (slice_range bytes start i) ≡ false
     → count_after seen (ended_lines (slice_range bytes start i) (drop i bytes)) ≡ suc (count_after true (ended_lines (slice_range bytes (i + 1) (i + 1)) (drop (i + 1) bytes)))
 feed_text seen bytes start i lt is full = ap (count_after seen) (step_feed bytes start i lt is) ∙ count_text seen (slice_range bytes start i) (ended_lines (slice_range bytes (i + 1) (i + 1)) (drop (i + 1) bytes)) full
 
--- a line feed after an empty line that stands after text
+-- A line feed after an empty line that follows text.
 pub feed_end : (bytes : List ℕ) (start i : ℕ) → i < length bytes → get_or bytes i 0 ≡ 10 → is_empty_line (slice_range bytes start i) ≡ true
     → count_after true (ended_lines (slice_range bytes start i) (drop i bytes)) ≡ 0
 feed_end bytes start i lt is empty = ap (count_after true) (step_feed bytes start i lt is) ∙ end_here (slice_range bytes start i) (ended_lines (slice_range bytes (i + 1) (i + 1)) (drop (i + 1) bytes)) empty

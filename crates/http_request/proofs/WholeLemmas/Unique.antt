@@ -1,4 +1,4 @@
--- The bytes that were read hold one request at most.
+-- The bytes that were read begin with at most one request.
 use Rattle.std.proofs.Common.{◌≡◌, ◌∙◌, ℕ, List, length, take, drop, refl, sym, ap, arith, length-drop}
 use Rattle.httparse.specs.Grammar.{RequestHead}
 use Rattle.httparse.proofs.GrammarLemmas.{request_unique}
@@ -21,24 +21,24 @@ start_is bytes at x =
     let headers = x.0.1.1.headers in
     λ i. record { method = method i; target = target i; headers = headers i }
 
--- two looks that find a head find one
+-- Two parses that find a head find the same head.
 pub start_one : (bytes : List ℕ) (a b : Head) → IsHeadAt bytes a → IsHeadAt bytes b → (start_at bytes a ≡ start_at bytes b) × (a.len ≡ b.len)
 start_one bytes a b x y =
     let same = head_unique bytes a.len b.len x.0.0 y.0.0 x.0.1.0 y.0.1.0 in
     (start_is bytes a x ∙ ap start_of same.0 ∙ sym (start_is bytes b y), same.1)
 
--- where a part of the body lacks, no whole request was read
+-- Bytes that lack a part of the body hold no complete request.
 pub lacks_not_whole : (table : Table) (bytes : List ℕ) (at : Head) → LacksBody table bytes → IsWhole table bytes at → ⊥
 lacks_not_whole table bytes at l w =
     let one = start_one bytes l.at at l.head w.head in
     let size : body_size table (start_at bytes l.at) ≡ body_size table (start_at bytes at) = ap (body_size table) one.0 in
     omega (arith, l.body, w.body, one.1, size)
 
--- nor where what was read goes on
+-- Bytes with an incomplete head hold no complete request.
 pub open_not_whole : (table : Table) (bytes : List ℕ) (at : Head) → IsOpenHead bytes → IsWhole table bytes at → ⊥
 open_not_whole table bytes at o w = o.none at.len w.head.0.0 w.head.0.1.0
 
--- what the bytes hold of a request
+-- The request that the bytes hold.
 pub request_of_whole : (table : Table) (bytes : List ℕ) (at : Head) → IsWhole table bytes at → HoldsRequest table bytes (start_at bytes at) (body_of table bytes at)
 request_of_whole table bytes at w = record {
   head = w.head.0.0;
@@ -49,7 +49,7 @@ request_of_whole table bytes at w = record {
   body_is = refl;
 }
 
--- and that is one request
+-- Those requests are the same.
 pub one_request : (table : Table) (bytes : List ℕ) (start other_start : Start) (body other_body : List ℕ) → HoldsRequest table bytes start body → HoldsRequest table bytes other_start other_body
     → IsOneRequest start other_start body other_body
 one_request table bytes start other_start body other_body x y =

@@ -1,21 +1,21 @@
--- Headers by their names, in whatever case these are written.
+-- Headers by name, without regard to the name's case.
 use Rattle.std.specs.Prelude.{◌≡◌, ◌≤◌, ℕ, Bool, List, [], ◌∷◌, length, map, if◌then◌else◌}
 use Rattle.std.specs.Char.{to_ascii_lowercase}
 use Rattle.std.specs.Str.{bytes_eq}
 use Rattle.http_request.specs.declared.head.headers.Given.{Given}
 use Rattle.http_request.specs.declared.head.headers.Given.TheVariants.{Never, Once, Often}
 
--- the names are one but for the case of letters
+-- The names are equal but for the case of letters.
 abbrev pub same_name : List ℕ → List ℕ → Bool
 same_name one other = bytes_eq (map to_ascii_lowercase one) (map to_ascii_lowercase other)
 
--- the values of the headers of a name, in order
+-- The values of the headers of a name, in order.
 abbrev pub values_of : List ℕ → List (List ℕ × List ℕ) → List (List ℕ)
 values_of name [] = []
 values_of name (header ∷ headers) =
     if same_name header.0 name then header.1 ∷ values_of name headers else values_of name headers
 
--- never, once with this value, or twice and more
+-- How often the header is given, with its value if it is given once.
 abbrev pub Gives : Given → List (List ℕ) → Type 0
 Gives Never values = values ≡ []
 Gives (Once value) values = values ≡ value.now ∷ []

@@ -1,4 +1,4 @@
--- The head of a request within its limits, and bytes that hold none.
+-- The head of a request within its limits, and bytes that hold no head.
 use Rattle.std.specs.Prelude.{◌≡◌, ◌≤◌, ◌<◌, ◌⊎◌, ◌||◌, ℕ, nat_lt, Bool, true, false, not, List, length, take, drop, All}
 use Rattle.httparse.specs.Grammar.{ReadsRequest, RequestHead}
 use Rattle.httparse.specs.Spans.{AreFieldsAt, IsHeaderWithin, IsWithin, span_bytes}
@@ -7,46 +7,47 @@ use Rattle.http_request.specs.declared.head.head.Head.{Head}
 use Rattle.http_request.specs.declared.head.head.HeadState.{HeadState}
 use Rattle.http_request.specs.declared.head.head.HeadState.TheVariants.{Open, TooLarge, NoHead, Whole}
 
--- the first n bytes are this head, which has at most 64 headers in at most 8,192 bytes
+-- The first n bytes are this head, with at most 64 headers in at most 8,192 bytes.
 pub record IsHead (bytes : List ℕ) (n : ℕ) (h : RequestHead) : Type 0 where
   pub reads : ReadsRequest bytes h (drop n bytes)
   pub inside : n ≤ length bytes
   pub size : n ≤ 8192
   pub count : length h.fields ≤ 64
 
--- no head within the limits begins the bytes
+-- The bytes begin with no head within the limits.
 abbrev pub HasNoHead : List ℕ → Type 0
 HasNoHead bytes = (n : ℕ) (h : RequestHead) → IsHead bytes n h → ⊥
 
--- the bytes in which a head has to end
+-- The bytes in which a head has to end.
 abbrev pub front_of : List ℕ → List ℕ
 front_of bytes = take 8192 bytes
 
--- A bad head: what was read begins with no head within the limits, and its first 8,192 bytes hold the empty
--- line that ends a head, or there are so many without it.
+-- A bad head: the bytes begin with no head within the limits, and more bytes cannot complete one.
+-- Either the first 8,192 bytes hold the empty line that ends a head, or there are 8,192 bytes
+-- without it.
 pub record IsBadHead (bytes : List ℕ) : Type 0 where
   pub none : HasNoHead bytes
   pub over : (has_head_end (front_of bytes) ≡ true) ⊎ (8192 ≤ length bytes)
 
--- neither a head nor a bad one: what was read goes on
+-- An incomplete head: not a head within the limits, and not yet a bad one.
 pub record IsOpenHead (bytes : List ℕ) : Type 0 where
   pub none : HasNoHead bytes
   pub goes_on : has_head_end (front_of bytes) ≡ false
   pub size : length bytes < 8192
 
--- Past the limits: a head that does not end in its first 8,192 bytes, or that has more than 64 lines after
+-- Past the limits: the head has no end in its first 8,192 bytes, or has more than 64 lines after
 -- its first.
 abbrev pub is_past_limits : List ℕ → Bool
 is_past_limits bytes =
     not (has_head_end (front_of bytes)) || nat_lt 65 (length (lines_of_head (front_of bytes)))
 
--- where the parts of a head stand in the bytes
+-- The spans of a head's parts give the parsed parts.
 pub record Covers (bytes : List ℕ) (at : Head) (h : RequestHead) : Type 0 where
   pub method : span_bytes bytes at.method ≡ h.method
   pub target : span_bytes bytes at.target ≡ h.target
   pub headers : AreFieldsAt bytes at.headers at.count h.fields
 
--- the places are inside the bytes
+-- All spans lie within the bytes.
 pub record IsPlaced (bytes : List ℕ) (at : Head) : Type 0 where
   pub method : IsWithin (length bytes) at.method
   pub target : IsWithin (length bytes) at.target
@@ -54,19 +55,19 @@ pub record IsPlaced (bytes : List ℕ) (at : Head) : Type 0 where
   pub len : at.len ≤ length bytes
   pub headers : All (IsHeaderWithin (length bytes)) (take at.count at.headers)
 
--- there is a head
+-- The bytes begin with this head, and its spans give its parts.
 abbrev pub IsHeadAt : List ℕ → Head → Type 0
 IsHeadAt bytes at =
     ((h : RequestHead) × (IsHead bytes at.len h × Covers bytes at h)) × IsPlaced bytes at
 
--- what a look found
+-- The result of parsing the bytes that were read.
 abbrev pub Looks : List ℕ → HeadState → Type 0
 Looks bytes Open = IsOpenHead bytes
 Looks bytes TooLarge = IsBadHead bytes × (is_past_limits bytes ≡ true)
 Looks bytes NoHead = IsBadHead bytes × (is_past_limits bytes ≡ false)
 Looks bytes (Whole at) = IsHeadAt bytes at
 
--- the head is still to come
+-- The head is still incomplete.
 abbrev pub is_open : HeadState → Bool
 is_open Open = true
 is_open TooLarge = false

@@ -8,30 +8,31 @@ use Rattle.http_request.specs.declared.routing.routes.Route.{Route}
 use Rattle.http_request.specs.declared.routing.targets.Found.{Found}
 use Rattle.http_request.specs.declared.routing.routes.Route.TheVariants.{Devices, List as ListRoute, Registers, Install, Exchange, Reset, Rescale, Manual, Close, Void, Days, Meter, Intervals, Poll}
 
--- a target with a question mark
+-- The target has a question mark.
 abbrev pub has_query : List ℕ → Bool
 has_query target = list_any (λ byte. byte == 63) target
 
--- the route that a table has for a target, and what the route's parameter took of it
+-- The route of a target in a table.
 abbrev pub first_route : Table → List ℕ → Option Route
 first_route table target = option_map (λ r. r.value) (first table target)
 
+-- The value of the parameter of a target's route.
 abbrev pub first_name : Table → List ℕ → Option (List ℕ)
 first_name table target = option_and_then (λ r. param_of r target) (first table target)
 
--- the route of a request's target; one with a question mark has none
+-- The route of a request's target. A target with a question mark has none.
 abbrev pub route_in : Table → List ℕ → Option Route
 route_in table target = if has_query target then None else first_route table target
 
--- what the route's parameter took of a target; of one with a byte past ASCII none is read
+-- The value of the route's parameter. It is not read from a target with a byte past ASCII.
 abbrev pub name_in : Table → List ℕ → Option (List ℕ)
 name_in table target = if list_all is_ascii target then first_name table target else None
 
--- the bytes of the name that was found
+-- The bytes of the parameter's value.
 abbrev pub name_of : Found → Option (List ℕ)
 name_of found = option_map (λ s. s.now) found.name
 
--- whether a route is that of a question; all others are commands
+-- The route is a query. All other routes are commands.
 abbrev pub is_question : Route → Bool
 is_question Devices = false
 is_question ListRoute = false
@@ -48,6 +49,6 @@ is_question Meter = true
 is_question Intervals = true
 is_question Poll = true
 
--- GET for a question, POST for a command
+-- GET for a query, POST for a command.
 abbrev pub method_of : Route → List ℕ
 method_of route = if is_question route then codes "GET" else codes "POST"

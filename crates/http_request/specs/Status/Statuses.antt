@@ -1,8 +1,9 @@
--- The statuses of replies (RFC 9110, section 15; RFC 6585, section 5).
+-- The statuses of responses (RFC 9110, section 15; RFC 6585, section 5).
 use Rattle.std.specs.Prelude.{ℕ, List, codes}
 use Rattle.http_request.specs.declared.status.Status.{Status}
 use Rattle.http_request.specs.declared.status.Status.TheVariants.{Fine, BadRequest, Forbidden, NotFound, MethodNotAllowed, Conflict, LengthRequired, ContentTooLarge, Misdirected, Unprocessable, FieldsTooLarge, Unavailable}
 
+-- The status code.
 abbrev pub number_of_status : Status → ℕ
 number_of_status Fine = 200
 number_of_status BadRequest = 400
@@ -17,6 +18,7 @@ number_of_status Unprocessable = 422
 number_of_status FieldsTooLarge = 431
 number_of_status Unavailable = 503
 
+-- The reason phrase.
 abbrev pub reason_of_status : Status → List ℕ
 reason_of_status Fine = codes "OK"
 reason_of_status BadRequest = codes "Bad Request"

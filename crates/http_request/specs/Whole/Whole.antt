@@ -1,4 +1,4 @@
--- A whole request.
+-- A complete request.
 use Rattle.std.specs.Prelude.{◌≡◌, ◌+◌, ◌<◌, ◌≤◌, ◌⊎◌, ℕ, Bool, true, false, List, length, take, drop, Option, Some, None, Result, Ok, Err}
 use Rattle.httparse.specs.Grammar.{RequestHead}
 use Rattle.http_request.specs.Head.Heads.{IsHead, IsHeadAt, IsOpenHead, Looks}
@@ -17,47 +17,47 @@ use Rattle.http_request.specs.declared.ask.Ask.{Ask}
 use Rattle.http_request.specs.declared.status.Status.{Status}
 use Rattle.http_request.specs.declared.status.Status.TheVariants.{BadRequest, FieldsTooLarge}
 
--- so many bytes, unless a test has failed or it is a question
+-- The size of the body, or 0 for a failed test or a query.
 abbrev pub size_unless : Option Status → Bool → Option ℕ → ℕ
 size_unless (Some status) question size = 0
 size_unless None true size = 0
 size_unless None false None = 0
 size_unless None false (Some size) = size
 
--- How many bytes of a body are part of the request: none of a question's, none where a test of the head has
--- failed, else as many as Content-Length says.
+-- The size in bytes of the body that belongs to the request: none for a query or a failed test of
+-- the head, otherwise the value of Content-Length.
 abbrev pub body_size : Table → Start → ℕ
 body_size table start =
     size_unless (head_fault table start) (asks (route_in table start.target))
     (size_in (post_headers_of start.headers))
 
--- a head has come, and all of the body
+-- The head has arrived, and the complete body.
 pub record IsWhole (table : Table) (bytes : List ℕ) (at : Head) : Type 0 where
   pub head : IsHeadAt bytes at
   pub body : at.len + body_size table (start_at bytes at) ≤ length bytes
 
--- a head has come, and not all of the body
+-- The head has arrived, but not the complete body.
 pub record LacksBody (table : Table) (bytes : List ℕ) : Type 0 where
   pub at : Head
   pub head : IsHeadAt bytes at
   pub body : length bytes < at.len + body_size table (start_at bytes at)
 
--- what was read goes on: it holds no whole request yet, and no bad head
+-- The bytes hold no complete request and no bad head.
 abbrev pub IsUnfinished : Table → List ℕ → Type 0
 IsUnfinished table bytes = IsOpenHead bytes ⊎ LacksBody table bytes
 
--- a look at what was read finds a whole request, or a bad head
+-- The bytes parse as a complete request or a bad head.
 abbrev pub Holds : Table → List ℕ → HeadState → Type 0
 Holds table bytes Open = ⊥
 Holds table bytes TooLarge = Looks bytes TooLarge
 Holds table bytes NoHead = Looks bytes NoHead
 Holds table bytes (Whole at) = IsWhole table bytes at
 
--- they hold one of them
+-- The bytes hold a complete request or a bad head.
 abbrev pub IsReadWhole : Table → List ℕ → Type 0
 IsReadWhole table bytes = (head_state : HeadState) × Holds table bytes head_state
 
--- A whole request or a bad head was read; or taking failed, and neither was.
+-- A complete request or a bad head was read; or a read failed, and neither was read.
 abbrev pub ReadsRequest : Table → Result HeadState TakeFault → List ℕ → List ℕ → Option (List ℕ)
     → Option (List ℕ) → Type 0
 ReadsRequest table (Ok head_state) old new before after =
@@ -65,19 +65,20 @@ ReadsRequest table (Ok head_state) old new before after =
 ReadsRequest table (Err fault) old new before after =
     Came old new before after × IsUnfinished table new × EndsAt fault after
 
--- What a whole request asks for, or the status that answers it: 431 for a head past the limits, 400 for what
--- is no head, else that of the first test of the head that fails.
+-- The query or command of a complete request, or the status that rejects it: 431 for a head past
+-- the limits, 400 for a malformed head, otherwise the status of the first failed test.
 abbrev pub TestsRequest : Table → List ℕ → HeadState → Result Ask Status → Type 0
 TestsRequest table bytes Open result = ⊥
 TestsRequest table bytes TooLarge result = result ≡ Err FieldsTooLarge
 TestsRequest table bytes NoHead result = result ≡ Err BadRequest
 TestsRequest table bytes (Whole at) result = TestsHead table (start_at bytes at) result
 
--- the body of a request
+-- The body of a request.
 abbrev pub body_of : Table → List ℕ → Head → List ℕ
 body_of table bytes at = take (body_size table (start_at bytes at)) (drop at.len bytes)
 
--- The bytes begin with a whole request: a head within the limits, which begins so, and this body.
+-- The bytes begin with a complete request: a head within the limits with these parts, and this
+-- body.
 pub record HoldsRequest (table : Table) (bytes : List ℕ) (start : Start) (body : List ℕ) : Type 0
   where
     pub head : RequestHead
@@ -87,11 +88,12 @@ pub record HoldsRequest (table : Table) (bytes : List ℕ) (start : Start) (body
     pub whole : len + body_size table start ≤ length bytes
     pub body_is : body ≡ take (body_size table start) (drop len bytes)
 
--- Bytes begin with one request at most.
+-- The two requests are the same.
 pub record IsOneRequest (start other_start : Start) (body other_body : List ℕ) : Type 0 where
   pub one_start : start ≡ other_start
   pub one_body : body ≡ other_body
 
+-- Bytes begin with at most one request.
 abbrev pub RequestsAreOne : Type 0
 RequestsAreOne =
     (table : Table) (bytes : List ℕ) (start other_start : Start) (body other_body : List ℕ)

@@ -1,4 +1,4 @@
-//! Heads by `httparse`, within their limits.
+//! The head of a request, parsed by `httparse` within its limits.
 ghost use Rattle.std.specs.Prelude.{◌≡◌, IfSome, IsNone};
 ghost use Rattle.http_request.specs.Head.Heads.{HasNoHead, IsHeadAt, Looks, front_of};
 
@@ -6,41 +6,42 @@ use crate::head::lines::{has_head_end, head_line_count};
 use httparse::Status;
 use httparse::spans::{EMPTY_HEADER_SPAN, HeaderSpan, Span, parse_request};
 
-/// How many headers a head may have.
+/// The most headers of a head.
 pub const MOST_HEADERS: usize = 64;
 
-/// How many bytes a head may have.
+/// The most bytes of a head.
 pub const MOST_BYTES: usize = 8192;
 
-/// A head, by the places of its parts in the bytes that it was read from.
+/// The head of a request, as spans of the bytes that it was parsed from.
 #[derive(Clone, Copy)]
 pub struct Head {
     pub method: Span,
     pub target: Span,
     pub headers: [HeaderSpan; MOST_HEADERS],
-    /// How many of the headers there are.
+    /// The number of headers. The rest of `headers` is unused.
     pub count: usize,
-    /// How many bytes the head has, with the empty line that ends it.
+    /// The size of the head in bytes, with the empty line that ends it.
     pub len: usize,
 }
 
-/// What was read so far holds of a head.
+/// How far the bytes hold a head.
 #[derive(Clone, Copy)]
 pub enum HeadState {
-    /// None yet, and its end has not come.
+    /// No complete head yet: its end has not arrived.
     Open,
-    /// One past the limits: more than 8,192 bytes or 64 headers.
+    /// A head past the limits: no end in its first 8,192 bytes, or more than 64 lines after its
+    /// first.
     TooLarge,
-    /// None within the limits, and the end has come.
+    /// A malformed head: it ends within the limits, but is not the head of a request.
     NoHead,
-    /// One within the limits.
+    /// A complete head within the limits.
     Whole(Head),
 }
 
 impl HeadState {
     ghost use Rattle.http_request.specs.Head.Heads.{is_open};
 
-    /// Whether a head is still to come.
+    /// Returns whether the head is still incomplete.
     pub fn is_open(&self) -> bool
         ensures { result ≡ is_open self.now }
     {
@@ -48,7 +49,7 @@ impl HeadState {
     }
 }
 
-// The head at the front of the bytes, if one within the limits is there.
+// Returns the head at the front of the bytes, if it is complete and within the limits.
 fn head_of(bytes: &[u8]) -> Option<Head>
     ensures head { IfSome result (IsHeadAt bytes.now) }
     ensures none { IsNone result → HasNoHead bytes.now }
@@ -69,7 +70,7 @@ fn head_of(bytes: &[u8]) -> Option<Head>
     })
 }
 
-// The bytes in which a head has to end.
+// Returns the bytes in which a head has to end.
 fn front_of(bytes: &[u8]) -> &[u8]
     ensures { result.now ≡ front_of bytes.now }
 {
@@ -80,7 +81,7 @@ fn front_of(bytes: &[u8]) -> &[u8]
     }
 }
 
-/// Looks for a head in what was read so far.
+/// Parses the head at the front of the bytes that were read.
 pub fn parse_head(bytes: &[u8]) -> HeadState
     ensures { Looks bytes.now result }
 {

@@ -5,7 +5,7 @@ ghost use Rattle.http_request.specs.Head.Headers.{same_name, values_of, Gives};
 
 use httparse::spans::HeaderSpan;
 
-/// How often a header is given.
+/// How often a header is given, with its value if it is given once.
 #[derive(Clone, Copy, Debug, PartialEq, Eq)]
 pub enum Given<'b> {
     Never,
@@ -13,14 +13,14 @@ pub enum Given<'b> {
     Often,
 }
 
-/// Whether two names are one but for the case of letters.
+/// Compares two header names without case.
 pub(crate) fn same_name(one: &[u8], other: &[u8]) -> bool
     ensures { result ≡ same_name one.now other.now }
 {
     one.eq_ignore_ascii_case(other)
 }
 
-// What was found, and one value more.
+// Adds one value of the header to those found.
 fn one_more<'b>(found: Given<'b>, value: &'b [u8]) -> Given<'b>
     ensures { (values : List (List ℕ)) → Gives found.entry values
         → Gives result (values ++ value.now ∷ []) }
@@ -31,7 +31,8 @@ fn one_more<'b>(found: Given<'b>, value: &'b [u8]) -> Given<'b>
     }
 }
 
-/// The value of the header of this name, in whatever case it is written.
+/// Returns how often the header of this name is given, and its value. The case of the name is
+/// ignored.
 pub fn header_value<'b>(bytes: &'b [u8], headers: &[HeaderSpan], name: &[u8]) -> Given<'b>
     requires within { All (IsHeaderWithin (length bytes.now)) headers.now }
     ensures { Gives result (values_of name.now (map (header_bytes bytes.now) headers.now)) }

@@ -1,8 +1,8 @@
-//! Lines, and the empty line that ends a head.
+//! Lines of bytes, and the empty line that ends a head.
 ghost use Rattle.std.specs.Prelude.{◌≡◌, length};
 ghost use Rattle.http_request.specs.Head.Lines.{has_head_end, is_empty_line, lines_of_head};
 
-// Whether a line that a line feed ended is empty: no byte, or a carriage return alone.
+// Returns whether a line is empty. The line has no line feed, but may have a carriage return.
 fn is_empty_line(line: &[u8]) -> bool
     ensures { result ≡ is_empty_line line.now }
 {
@@ -13,16 +13,14 @@ fn is_empty_line(line: &[u8]) -> bool
     }
 }
 
-// What a scan for the end of a head found.
 #[derive(Clone, Copy)]
 struct LineScan {
-    // How many lines the head has: those before the empty line that ends it.
+    // The number of lines of the head before the empty line that ends it.
     lines: usize,
-    // Whether that empty line has come.
+    // Whether the empty line has arrived.
     ended: bool,
 }
 
-// Scans the bytes for an empty line after one that is not empty.
 fn scan(bytes: &[u8]) -> LineScan
     ensures lines { result.lines ≡ length (lines_of_head bytes.now) }
     ensures ended { result.ended ≡ has_head_end bytes.now }
@@ -49,14 +47,14 @@ fn scan(bytes: &[u8]) -> LineScan
     }
 }
 
-/// Whether the bytes hold an empty line after one that is not empty.
+/// Returns whether the bytes hold the end of a head: an empty line after a nonempty line.
 pub fn has_head_end(bytes: &[u8]) -> bool
     ensures { result ≡ has_head_end bytes.now }
 {
     scan(bytes).ended
 }
 
-/// How many lines a head has: those before the empty line that ends it.
+/// Returns the number of lines of a head before the empty line that ends it.
 pub fn head_line_count(bytes: &[u8]) -> usize
     ensures { result ≡ length (lines_of_head bytes.now) }
 {

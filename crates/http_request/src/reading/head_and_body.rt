@@ -1,4 +1,4 @@
-//! Reads on until a head has come, or a bad one, and until a body has come.
+//! Reads until the head has arrived, and until the body has arrived.
 ghost use Rattle.std.specs.Prelude.{◌≡◌, ◌≤◌, ◌<◌, OnOk, length};
 ghost use Rattle.std.specs.Io.KnownBytes.{Keeps};
 ghost use Rattle.mb_wire.specs.Links.{risen};
@@ -10,7 +10,7 @@ use crate::head::{HeadState, parse_head};
 use crate::reading::inbox::{Inbox, TakeFault};
 use mb_wire::Link;
 
-/// Takes until what was taken holds a head, or a bad one. The look that it answers is not Open.
+/// Reads until the inbox holds a head or a bad one. The returned state is never `Open`.
 pub fn read_head<L: Link>(inbox: &mut Inbox<'_>, link: &mut L) -> Result<HeadState, TakeFault>
     requires { 8192 ≤ room_of inbox.old }
     ensures reads { ReadsHead result (bytes_in inbox.old) (bytes_in inbox.new)
@@ -31,7 +31,7 @@ pub fn read_head<L: Link>(inbox: &mut Inbox<'_>, link: &mut L) -> Result<HeadSta
     }
 }
 
-/// Takes until there are so many bytes.
+/// Reads until the inbox holds `count` bytes in all.
 pub fn read_body<L: Link>(
     inbox: &mut Inbox<'_>,
     link: &mut L,

@@ -1,4 +1,4 @@
-//! What was taken from a link.
+//! A buffer for the bytes that are read from a link.
 ghost use Rattle.std.specs.Prelude.{◌≤◌, length};
 
 use mb_wire::{Link, LinkFailed, Took};
@@ -6,17 +6,17 @@ use std::error::Error;
 use std::fmt;
 use std::fmt::{Display, Formatter};
 
-/// How many takes there are at most.
+/// The most reads of one inbox.
 pub const MOST_TAKES: u32 = 100_000;
 
-/// Why no more was taken.
+/// Why reading stopped.
 #[derive(Clone, Copy, Debug, PartialEq, Eq)]
 pub enum TakeFault {
-    /// A take failed.
+    /// A read failed.
     Read,
     /// The input ended.
     Short,
-    /// There were 100,000 takes.
+    /// The inbox has made 100,000 reads.
     TurnsUsed,
 }
 
@@ -32,7 +32,7 @@ impl Display for TakeFault {
 
 impl Error for TakeFault {}
 
-/// What was taken from a link, in room that is lent to it.
+/// A buffer in borrowed room for the bytes that are read from a link, with a count of the reads.
 #[derive(Drop)]
 pub struct Inbox<'a> {
     room: &'a mut [u8],
@@ -48,7 +48,7 @@ impl<'a> Inbox<'a> {
     ghost use Rattle.mb_wire.specs.Links.{risen};
     ghost use Rattle.http_request.specs.Reading.Taking.{CountsTakes, EndedBy, TakesOn, brought, bytes_in, is_read_fault, room_of};
 
-    /// Nothing was taken yet.
+    /// Makes an empty inbox.
     pub fn new(room: &'a mut [u8]) -> Inbox<'a>
         ensures empty { bytes_in result ≡ [] }
         ensures takes { result.takes ≡ 0 }
@@ -61,14 +61,15 @@ impl<'a> Inbox<'a> {
         }
     }
 
-    /// All that was taken.
+    /// Returns all bytes that were read.
     pub fn bytes(&self) -> &[u8]
         ensures { result.now ≡ bytes_in self.entry.now }
     {
         &self.room[..self.filled]
     }
 
-    /// One take more, unless there were 100,000.
+    /// Reads once more, unless 100,000 reads were made. A read that times out counts and adds
+    /// nothing.
     pub fn take_more<L: Link>(&mut self, link: &mut L) -> Result<(), TakeFault>
         requires { length (bytes_in self.old) < room_of self.old }
         ensures takes_on { TakesOn result (bytes_in self.old) (bytes_in self.new)

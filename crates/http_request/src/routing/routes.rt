@@ -5,7 +5,7 @@ ghost use Rattle.http_request.specs.Routing.Routes.{Fits, add, routes};
 use matchit::{InsertError, Router};
 use std::alloc::{AllocError, Global};
 
-/// What a target asks for.
+/// The route of a target.
 #[derive(Clone, Copy, Debug, PartialEq, Eq, Drop)]
 pub enum Route {
     Devices,
@@ -27,7 +27,7 @@ pub enum Route {
 impl Route {
     ghost use Rattle.http_request.specs.Routing.Targets.{is_question, method_of};
 
-    /// Whether it asks for something; the others are commands, which change something.
+    /// Returns whether the route is a query. All other routes are commands, which change something.
     pub fn is_question(self) -> bool
         ensures { result ≡ is_question self }
     {
@@ -37,7 +37,7 @@ impl Route {
         )
     }
 
-    /// The method of its requests.
+    /// Returns the HTTP method of the route.
     pub fn method(self) -> &'static [u8]
         ensures { result.now ≡ method_of self }
     {
@@ -45,7 +45,6 @@ impl Route {
     }
 }
 
-// Adds a route whose text reads well, and which fits those before it.
 fn add(router: &mut Router<Route>, text: &str, route: Route) -> Result<(), AllocError>
     requires { Fits text.now router.old }
     ensures { OnOk result (router.new ≡ add text.now route router.old) }
@@ -60,7 +59,8 @@ fn add(router: &mut Router<Route>, text: &str, route: Route) -> Result<(), Alloc
     }
 }
 
-// Adds the routes of the table to a router that has none. (Apart, since a router that is let go at each `?` takes the prover a minute.)
+// Adds the routes of the table to an empty router. With this body in `router`, which would drop the
+// router at each `?`, the prover needs a minute.
 fn fill(router: &mut Router<Route>) -> Result<(), AllocError>
     requires { router.old ≡ [] }
     ensures { OnOk result (router.new ≡ routes) }
@@ -82,7 +82,7 @@ fn fill(router: &mut Router<Route>) -> Result<(), AllocError>
     Ok(())
 }
 
-/// The router of the table.
+/// Makes the router of all routes.
 pub fn router(alloc: Global) -> Result<Router<Route>, AllocError>
     ensures { IfOk result (λ r. r ≡ routes) }
 {

@@ -1,4 +1,4 @@
-//! Where the target of a request leads.
+//! The route of a request's target.
 ghost use Rattle.std.specs.Prelude.{◌≡◌, IfSome, IsUtf8, None, option_map};
 ghost use Rattle.std.specs.Str.{IsAscii};
 ghost use Rattle.matchit.specs.Params.{walk};
@@ -9,14 +9,13 @@ use crate::routing::routes::Route;
 use matchit::{Params, Router};
 use std::str::from_utf8;
 
-/// Where a target leads: its route, and what the route's parameter took of it.
+/// The route of a target, and the value of the route's parameter.
 #[derive(Clone, Copy, Debug, PartialEq, Eq, Drop)]
 pub struct Found<'v> {
     pub route: Route,
     pub name: Option<&'v str>,
 }
 
-// What the first parameter took.
 fn first_value<'v>(params: &Params<'_, 'v>) -> Option<&'v str>
     requires { IsAscii params.now.path.now }
     ensures { let p = params.now in option_map (λ s. s.now) result
@@ -29,7 +28,6 @@ fn first_value<'v>(params: &Params<'_, 'v>) -> Option<&'v str>
     }
 }
 
-// The route of a target of ASCII bytes.
 fn found_at<'v>(router: &Router<Route>, target: &'v str) -> Option<Found<'v>>
     requires { IsAscii target.now }
     ensures route { option_map (λ f. f.route) result ≡ first_route router.now target.now }
@@ -44,14 +42,15 @@ fn found_at<'v>(router: &Router<Route>, target: &'v str) -> Option<Found<'v>>
     }
 }
 
-/// Whether a target has a question mark. No route has one.
+/// Returns whether a target has a question mark. Such a target has no route.
 pub fn has_query(target: &[u8]) -> bool
     ensures { result ≡ has_query target.now }
 {
     target.iter().any(|byte| *byte == b'?')
 }
 
-// The route of a text with a byte past ASCII: its parameter is not read, since no name has such a byte.
+// Finds the route of a text with a byte past ASCII. Its parameter is not read, since no name has
+// such a byte.
 fn bare_route<'v>(router: &Router<Route>, target: &'v str) -> Option<Found<'v>>
     ensures route { option_map (λ f. f.route) result ≡ first_route router.now target.now }
     ensures name { IfSome result (λ f. name_of f ≡ None) }
@@ -65,7 +64,8 @@ fn bare_route<'v>(router: &Router<Route>, target: &'v str) -> Option<Found<'v>>
     }
 }
 
-/// The route of a target, and what its parameter took. The table is the router's: `router` makes it.
+/// Finds the route of a target, and the value of its parameter. [`router`](super::router) makes the
+/// router.
 #[tactic(auto, using(crate::proofs::RoutingLemmas::Plain::all_ascii, crate::proofs::RoutingLemmas::Plain::not_ascii))]
 pub fn route_of<'v>(router: &Router<Route>, target: &'v [u8]) -> Option<Found<'v>>
     requires { IsUtf8 target.now }

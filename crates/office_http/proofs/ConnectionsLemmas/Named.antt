@@ -1,4 +1,4 @@
--- What one call does that tests who asks.
+-- The effect of a call that tests the host.
 use Rattle.std.proofs.Common.{◌≡◌, ◌∙◌, ◌⊎◌, inl, inr, ℕ, false, true, List, [], ◌++◌, Option, None, Result, Ok, Err, refl, sym, ap, subst, append_assoc}
 use Rattle.std.specs.Io.KnownBytes.{Consumes, Keeps}
 use Rattle.std.proofs.KnownBytes.{Consumes-kept, Keeps-refl}
@@ -24,7 +24,7 @@ use Rattle.office_http.specs.Connections.Named.{HandlesNamed, MayAsk, RepliesMis
 use Rattle.office_http.specs.declared.fault.HandleFault.{HandleFault}
 use Rattle.office_http.proofs.Handled.{came_is, does_reply, gives_since, stopped}
 
--- ---- what was read in two parts
+-- ---- Bytes that were read in two parts.
 
 pub counts_both : {X Y : Type 0} (first : Result X TakeFault) (next : Result Y TakeFault) (a b c : Inbox) (r s t : ℕ)
     → CountsTakes first a b r s → CountsTakes next b c s t → CountsTakes next a c r t
@@ -58,12 +58,12 @@ stops_both a b c chunk was then now came first (inr last) =
       size = last.size;
     }
 
--- all that was read was taken from the link
+-- All bytes were read from the link.
 took : (old new : List ℕ) (r s t : Option (List ℕ)) → old ≡ [] → Came old new r s → Keeps s t → Consumes r t new
 took old new r s t empty came keeps =
     subst (Consumes r t) (sym (came_is old new r s empty came)) (Consumes-kept r s t came.chunk came.consumed keeps)
 
--- ---- who asks
+-- ---- The test of the host.
 
 none_yet : (names : List (List ℕ)) (read : List ℕ) → IsOpenHead read → MayAsk names read
 none_yet names read goes_on = record {
@@ -84,7 +84,7 @@ tested_first names tested read r s head_state finds may came = record {
   may = may;
 }
 
--- ---- taking failed
+-- ---- A read failed.
 
 does_nothing : {B : Type 0} (ledger : B → Ledger) (at : ℕ) (office : Office B) (fault : TakeFault) (read : List ℕ) (remaining later given later_given : Option (List ℕ))
     (last : Option LastTake) → IsUnfinished routes read → Keeps given later_given → EndsAt fault later
@@ -119,7 +119,7 @@ no_body names ledger at office fault head_state old mid new remaining between la
   }));
 }
 
--- ---- a reply was given
+-- ---- A response was written.
 
 pub turned_away : {B : Type 0} (names : List (List ℕ)) (ledger : B → Ledger) (at : ℕ) (office : Office B) (inbox full : Inbox) (head_state : HeadState)
     (result : Result (Unit {0}) HandleFault) (remaining mid later given given_mid later_given : Option (List ℕ)) (was between last : Option LastTake)

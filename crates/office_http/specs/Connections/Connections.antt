@@ -1,4 +1,4 @@
--- What connections leave of an office.
+-- The office after connections.
 use Rattle.std.specs.Prelude.{◌≡◌, ℕ, ◌≤◌, List, [], ◌∷◌, length, Option, Some, None}
 use Rattle.socket_link.specs.Clocks.{TellsMoment}
 use Rattle.office_events.specs.declared.events.Asked.{Asked}
@@ -11,41 +11,44 @@ use Rattle.office_http.specs.Serving.{with_asked}
 use Rattle.office_http.specs.Wants.Wanting.{AsksOffice}
 use Rattle.office_http.specs.Connections.Named.{MayAsk}
 
--- The bytes that were read ask this of the office, and their head may ask here; or the office was asked nothing.
+-- The bytes ask the office for this command, and their head may ask; or the office was asked for no
+-- command.
 abbrev pub AskedBy : (names : List (List ℕ)) → (read : List ℕ) → Option Asked → Type 0
 AskedBy names read None = Unit {0}
 AskedBy names read (Some asked) = MayAsk names read × AsksOffice routes read asked
 
--- A connection, and what was asked on it of an office that may be asked by these names besides this machine's own.
+-- A connection, and the command that it asked of an office with these names beside those of this
+-- machine.
 pub record Connection (names : List (List ℕ)) : Type 0 where
   pub at : ℕ
   pub read : List ℕ
   pub asked : Option Asked
   pub asks : AskedBy names read asked
 
--- what the office has accepted after these connections, the latest first: each request is accepted, refused or answered
--- from what was kept, as its definition says
+-- What the office accepted after these connections, the latest first. Each request is accepted,
+-- refused or answered from a stored response, as its definition says.
 abbrev pub history_with : {names : List (List ℕ)} → (past : History) → List (Connection names)
     → History
 history_with past [] = past
 history_with past (one ∷ earlier) = with_asked (history_with past earlier) one.at one.asked
 
--- each came at the moment that the clock told for it, and for nothing else the clock was asked
+-- Each connection has the clock's time for it, and the clock was read for nothing else.
 abbrev pub AreTimed : {names : List (List ℕ)} → (begun now : Option (List ℕ))
     → List (Connection names) → Type 0
 AreTimed begun now [] = now ≡ begun
 AreTimed begun now (one ∷ earlier) =
     (between : Option (List ℕ)) × AreTimed begun between earlier × TellsMoment between now one.at
 
--- The office stands after one connection at this moment.
+-- The office matches what it accepted before, and one connection at this time.
 pub record ServesOne {B : Type 0} (names : List (List ℕ)) (at : ℕ) (ledger : B → Ledger)
     (past : History) (office : Office B) : Type 0 where
   pub connection : Connection names
   pub moment : connection.at ≡ at
   pub stands : Stands ledger (with_asked past connection.at connection.asked) office
 
--- The office stands after at most so many connections, each at the moment of the clock. One whose request could not be
--- answered, since the store or memory failed or the office had stopped, has asked nothing.
+-- The office matches what it accepted before, and at most `most` connections, each at the clock's
+-- time. A connection asked for no command if its request could not be answered, because the store
+-- or memory failed or the office had stopped.
 pub record ServesUpTo {B : Type 0} (names : List (List ℕ)) (most : ℕ)
     (begun now : Option (List ℕ)) (ledger : B → Ledger) (past : History)
     (office : Office B) : Type 0 where

@@ -1,4 +1,4 @@
--- What one call of `handle_named` does: it tests who asks, and then does what `handle` does.
+-- The effect of one call of `handle_named`: it tests the host, and then acts as `handle` does.
 use Rattle.std.specs.Prelude.{◌≡◌, ◌⊎◌, ℕ, true, false, List, ◌++◌, None, Result}
 use Rattle.std.specs.Io.KnownBytes.{Consumes}
 use Rattle.mb_wire.specs.declared.link.LinkFailed.{LinkFailed}
@@ -13,12 +13,13 @@ use Rattle.http_answer.specs.Replies.{fault, reply_bytes}
 use Rattle.office_http.specs.Exchange.{Does, DoesBare, Passage, StopsReading, ended}
 use Rattle.office_http.specs.declared.fault.HandleFault.{HandleFault}
 
--- one of them is a beginning of the other
+-- The first bytes are a beginning of the others.
 pub record IsFrontOf (front bytes : List ℕ) : Type 0 where
   pub rest : List ℕ
   pub is : bytes ≡ front ++ rest
 
--- What was read begins as what was tested does, which holds a head that may ask, or none yet.
+-- The tested bytes hold a head that may ask, or no head yet. They are a beginning of what was read,
+-- or the reverse.
 pub record MayAsk (names : List (List ℕ)) (read : List ℕ) : Type 0 where
   pub tested : List ℕ
   pub same : IsFrontOf tested read ⊎ IsFrontOf read tested
@@ -26,14 +27,15 @@ pub record MayAsk (names : List (List ℕ)) (read : List ℕ) : Type 0 where
   pub finds : Looks tested head_state
   pub may : may_ask_in names tested head_state ≡ true
 
--- The reply is that this isn't the place to ask; all of it was given, or at a failure a beginning.
+-- The response is 421. All of it was written, or a beginning if a write failed.
 pub record RepliesMisdirected (link : Passage) (result : Result (Unit {0}) HandleFault) : Type 0
   where
     pub sent : Result (Unit {0}) LinkFailed
     pub ends : result ≡ ended sent None
     pub gives : Gives sent link.given link.later_given (reply_bytes (fault Misdirected))
 
--- A head was read that may not ask, and nothing more: that is replied, and the office is as it was.
+-- The call read a head that may not ask, and nothing more. The response is 421, and the office is
+-- unchanged.
 pub record TurnsAway {B : Type 0} (names : List (List ℕ)) (old new : Office B) (link : Passage)
     (read : List ℕ) (result : Result (Unit {0}) HandleFault) : Type 0 where
   pub head_state : HeadState
@@ -43,20 +45,20 @@ pub record TurnsAway {B : Type 0} (names : List (List ℕ)) (old new : Office B)
   pub replies : RepliesMisdirected link result
   pub unchanged : new ≡ old
 
--- A head was read that may ask, or none: then it does what `handle` does.
+-- The call read a head that may ask, or no head. Then it acts as `handle` does.
 pub record LetsAsk {B : Type 0} (names : List (List ℕ)) (ledger : B → Ledger) (at : ℕ)
     (old new : Office B) (link : Passage) (read : List ℕ) (result : Result (Unit {0}) HandleFault)
     : Type 0 where
   pub may : MayAsk names read
   pub does : Does ledger at old new link read result
 
--- There was no memory: who asks was not tested, and the office isn't asked.
+-- There was no memory. The host was not tested, and the office was not asked.
 pub record HasNoRoom {B : Type 0} (old new : Office B) (link : Passage) (read : List ℕ)
     (result : Result (Unit {0}) HandleFault) : Type 0 where
   pub does : DoesBare link read result
   pub unchanged : new ≡ old
 
--- The call took these bytes from the link, and did so with them.
+-- The call read these bytes from the link, and acted on them in one of three ways.
 pub record HandlesNamed {B : Type 0} (names : List (List ℕ)) (ledger : B → Ledger) (at : ℕ)
     (old new : Office B) (link : Passage) (result : Result (Unit {0}) HandleFault) : Type 0 where
   pub read : List ℕ

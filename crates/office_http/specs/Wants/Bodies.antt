@@ -1,4 +1,4 @@
--- What a body gives is one.
+-- A body gives one result.
 use Rattle.std.specs.Prelude.{◌≡◌, ◌≢◌, ℕ, List, Option, Result, Err}
 use Rattle.http_answer.specs.Commands.Given.{Gives}
 use Rattle.http_answer.specs.declared.commands.fault.CommandFault.{CommandFault}
@@ -6,7 +6,7 @@ use Rattle.http_answer.specs.declared.commands.fault.CommandFault.TheVariants.{M
 use Rattle.http_request.specs.declared.routing.routes.Route.{Route}
 use Rattle.office_events.specs.declared.commands.Command.{Command}
 
--- Where memory is not wanting, the body of a route's request gives one command, or one fault.
+-- Unless memory runs out, the body of a route's request gives one command, or one fault.
 abbrev pub BodiesGiveOne : Type 0
 BodiesGiveOne =
     (at : Route) (name : Option (List ℕ)) (body : List ℕ) (one other : Result Command CommandFault)

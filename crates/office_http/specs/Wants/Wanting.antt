@@ -21,7 +21,8 @@ use Rattle.http_answer.specs.Whole.{IsCommand, IsReply}
 use Rattle.office_http.specs.declared.wants.kinds.Want.{Want}
 use Rattle.office_http.specs.declared.wants.kinds.Want.TheVariants as want
 
--- The bytes hold a request that asks this of the office: all tests of its head pass, and its body gives a command.
+-- The bytes hold a request for this command: its head passes all tests, and its body gives the
+-- command.
 pub record AsksOffice (table : Table) (bytes : List ℕ) (asked : Asked) : Type 0 where
   pub start : Start
   pub body : List ℕ
@@ -32,40 +33,41 @@ pub record AsksOffice (table : Table) (bytes : List ℕ) (asked : Asked) : Type 
   pub gives : Gives route (name_asked (name_in table start.target)) body (Ok command)
   pub is : asked ≡ asked_of start body command
 
--- they ask nothing that would change it
+-- The bytes ask for no command.
 abbrev pub AsksNothing : Table → (bytes : List ℕ) → Type 0
 AsksNothing table bytes = (asked : Asked) → AsksOffice table bytes asked → ⊥
 
--- whatever the office answers, this is the reply, and the office is asked to change nothing
+-- This is the response, with any answers of the office. The bytes ask for no command.
 pub record IsToldOff (table : Table) (bytes text : List ℕ) : Type 0 where
   pub nothing : AsksNothing table bytes
   pub reply : (office : Office) → IsReply office table bytes text
 
--- the office is asked a question, and what it answers is the reply
+-- The bytes ask a query, and the office's answer is the response.
 pub record IsQuestion (table : Table) (bytes : List ℕ) (found : Found) : Type 0 where
   pub asks : is_question found.route ≡ true
   pub nothing : AsksNothing table bytes
   pub reply : (office : Office)
       → IsReply office table bytes (reply_bytes (question_reply office found.route (name_of found)))
 
--- the office is asked to change something, and what it answers is the reply
+-- The bytes ask for a command, and the office's answer is the response.
 pub record IsAskedFor (table : Table) (bytes : List ℕ) (asked : Asked) : Type 0 where
   pub asks : AsksOffice table bytes asked
   pub reply : (office : Office)
       → IsReply office table bytes (reply_bytes (row_reply done_text (office.asked asked)))
 
--- A body gives no command for this reason; or memory was wanting, which says nothing of the request.
+-- The body gives no command for this reason. Or memory ran out, which says nothing about the
+-- request.
 abbrev pub IsNoCommand : Table → (bytes : List ℕ) → CommandFault → Type 0
 IsNoCommand table bytes why = (why ≡ Memory) ⊎ IsToldOff table bytes (reply_bytes (fault_said why))
 
--- what is wanted of the office
+-- What the bytes want of the office.
 abbrev pub Wants : Table → (bytes : List ℕ) → Want → Type 0
 Wants table bytes (want.Rejected status) = IsToldOff table bytes (reply_bytes (fault status))
 Wants table bytes (want.Answer found) = IsQuestion table bytes found
 Wants table bytes (want.Refused why) = IsNoCommand table bytes why
 Wants table bytes (want.Command asked) = IsAskedFor table bytes asked
 
--- the faulty rows of a list are few
+-- The number of a list's faulty rows is bounded.
 abbrev pub HasFewFaults : Want → Type 0
 HasFewFaults (want.Rejected status) = Unit {0}
 HasFewFaults (want.Answer found) = Unit {0}

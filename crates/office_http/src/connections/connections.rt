@@ -14,10 +14,11 @@ use std::alloc::Global;
 use std::io::{self, ErrorKind, Read, Write};
 use std::net::{OpenListener, OpenStream};
 
-/// How many seconds may pass until a connection has had its reply.
+/// The most seconds from accepting a connection to its response.
 pub const MOST_SECONDS: u64 = 10;
 
-// Serves the one request of a connection that came at a moment. What goes wrong ends the connection, and nothing else.
+// Serves the one request of a connection that was accepted at `moment`. A failure ends only this
+// connection.
 fn serve_connection<R: std::rt::Clock, S: Read + Write + OpenStream + Drop, B: Books>(
     rt: &R,
     alloc: Global,
@@ -41,16 +42,18 @@ fn serve_connection<R: std::rt::Clock, S: Read + Write + OpenStream + Drop, B: B
     }
 }
 
-// Whether a failure to accept a connection is that connection's alone.
+// Returns whether a failure to accept a connection concerns only that connection.
 fn is_of_connection(kind: ErrorKind) -> bool {
     matches!(kind, ErrorKind::ConnectionAborted | ErrorKind::Interrupted)
 }
 
-/// Serves requests by HTTP/1.1 on so many connections, one after the other: each has one request, which comes to the office
-/// at the moment that the clock tells when the connection was accepted, if who asks may ask here, as `handle_named` tells by
-/// these names. What goes wrong on a connection ends that one alone, and it counts. A connection that has no reply 10 seconds
-/// after it was accepted is given up, whatever is made of the clock; its sockets' calls wait for a second each at most. A
-/// listener that fails ends the serving.
+/// Serves HTTP/1.1 requests on `connections` connections, one after the other.
+///
+/// Each connection has one request. The office gets it with the clock's time when the connection
+/// was accepted, if [`handle_named`] lets its host ask. A failure on a connection ends only that
+/// connection, and the connection counts. A connection without a response 10 seconds after it was
+/// accepted is dropped. These seconds are those of the monotonic clock; each call of a socket waits
+/// for at most a second. An error of the listener ends the serving.
 pub fn serve_named_on<R: std::rt::Clock, L: OpenListener, B: Books, C: Clock>(
     rt: &R,
     alloc: Global,
@@ -82,8 +85,10 @@ where
     Ok(())
 }
 
-/// The same by the names of this machine alone. The clock is asked for moments and nothing else, so that nothing limits the
-/// time of a connection but that each call of its socket waits for a second at most.
+/// Serves requests as [`serve_named_on`] does, under the names of this machine only.
+///
+/// It uses no clock but that of the timestamps. So a connection has no deadline, except that
+/// each call of its socket waits for at most a second.
 pub fn serve_on<L: OpenListener, B: Books, C: Clock>(
     alloc: Global,
     listener: &L,

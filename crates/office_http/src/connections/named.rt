@@ -1,4 +1,4 @@
-//! One request in, one reply out, of who may ask here.
+//! Serves one request of an accepted host.
 ghost use Rattle.std.specs.Prelude.{◌≡◌, ◌≤◌, false, length};
 ghost use Rattle.std.specs.Io.KnownBytes.{Keeps};
 ghost use Rattle.mb_wire.specs.Links.{risen};
@@ -19,7 +19,7 @@ use office_books::Books;
 use office_core::Office;
 use std::alloc::Global;
 
-/// Replies that this isn't the place to ask: 421.
+/// Writes the response 421 to a request whose host may not ask.
 pub fn turn_away<L: Link>(link: &mut L) -> Result<(), HandleFault>
     ensures replies { RepliesMisdirected (passage (L.remaining link.old) (L.remaining link.new)
         (L.given link.old) (L.given link.new) (L.last link.new)) result }
@@ -36,7 +36,7 @@ pub fn turn_away<L: Link>(link: &mut L) -> Result<(), HandleFault>
     ended(sent, None)
 }
 
-// Reads a head, and what belongs to it where it may ask, and replies.
+// Reads a head, and if its host may ask also the body, and responds.
 fn serve_named<L: Link, B: Books>(
     alloc: Global,
     router: &Router<Route>,
@@ -65,9 +65,11 @@ fn serve_named<L: Link, B: Books>(
     reply(inbox.bytes(), want, link, office, moment)
 }
 
-/// Serves one request as `handle` does, of who may ask here: a head that names this machine alone, or one of these names, or
-/// no host. Any other is answered 421 as soon as its head has come, and nothing of it is looked at. Where there is no memory
-/// for a request, whoever asks is answered that.
+/// Serves one request as [`handle`](crate::exchange::handle) does, if its host may ask.
+///
+/// A head may ask if it names this machine, one of `names`, or no host. Any other head gets 421 as
+/// soon as it has arrived, and no other test. If there is no memory for a request, the response
+/// reports that without a test of the host.
 pub fn handle_named<L: Link, B: Books>(
     alloc: Global,
     names: &[&str],

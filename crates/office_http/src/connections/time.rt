@@ -1,9 +1,9 @@
-//! Time that goes on evenly, whatever is made of the clock.
+//! The monotonic clock, for deadlines.
 use socket_link::Clock;
 use std::io::{self, ErrorKind};
 use std::time::Duration;
 
-/// The seconds of a clock that nobody sets, from some moment on. One that can't be read is late for everything.
+/// The seconds of the monotonic clock. If it can't be read, every deadline has passed.
 #[derive(Drop)]
 pub(crate) struct Even<'r, R: std::rt::Clock> {
     rt: &'r R,
@@ -24,7 +24,7 @@ impl<R: std::rt::Clock> Clock for Even<'_, R> {
     }
 }
 
-/// A clock by which no time passes.
+/// A clock on which no time passes.
 #[derive(Clone, Copy)]
 pub(crate) struct Untimed;
 

@@ -1,4 +1,4 @@
-//! Rows that are put to an outlet as lines.
+//! A row sink that writes rows as lines.
 ghost use Rattle.std.specs.Prelude.{◌≡◌};
 ghost use Rattle.http_answer.specs.Sending.Sending.{Puts};
 ghost use Rattle.interval_core.specs.Lines.{share_line};
@@ -12,7 +12,7 @@ use office_books::RowSink;
 use office_events::Refusal;
 use std::marker::Model;
 
-/// Puts a line for each row that it takes, and the head of the reply before the first.
+/// A row sink that writes each row as a line, and the head of the response before the first.
 #[derive(Drop)]
 pub struct RowLines<'l, L: Link> {
     writer: ReplyWriter<'l, L>,
@@ -25,15 +25,15 @@ impl<'l, L: Link> Model for RowLines<'l, L> {
     ghost view = { λ lines. record { out = lines.writer; count = lines.count } };
 }
 
-/// An outlet to which a reply was put.
+/// A response that was written, or was cut off.
 #[derive(Drop)]
 pub struct Replied<'l, L: Link> {
     pub writer: ReplyWriter<'l, L>,
-    /// Why the reply is cut off, if it is.
+    /// Why the response is cut off, if it is.
     pub cut: Option<Refusal>,
 }
 
-// Puts the head of the reply before the first line.
+// Writes the head of the response before the first line.
 fn put_head<L: Link>(count: u64, writer: &mut ReplyWriter<'_, L>)
     ensures { Puts writer.old writer.new (head_before count) }
 {
@@ -43,14 +43,17 @@ fn put_head<L: Link>(count: u64, writer: &mut ReplyWriter<'_, L>)
 }
 
 impl<'l, L: Link> RowLines<'l, L> {
-    /// No row was put yet.
+    /// Makes a sink that has written no row.
     pub fn new(writer: ReplyWriter<'l, L>) -> RowLines<'l, L>
         ensures { result ≡ record { out = writer.entry; count = 0 } }
     {
         RowLines { writer, count: 0 }
     }
 
-    /// Ends the report: with the count of its rows, or where it was refused by that refusal, if no row was put before.
+    /// Ends the report with the number of its rows, or with a refusal.
+    ///
+    /// A refusal before the first row is the response. After a row it cuts the response off, and
+    /// nothing more is written.
     pub fn end(self, answer: Result<(), Refusal>) -> Replied<'l, L>
         ensures { EndsReport self.entry answer result.writer result.cut }
     {

@@ -6,12 +6,12 @@ use office_events::Asked;
 /// What a request wants.
 #[derive(Drop)]
 pub enum Want<'b> {
-    /// It fails a test of its head.
+    /// Nothing: its head fails a test.
     Rejected(Status),
-    /// It asks a question.
+    /// The answer to a query.
     Answer(Found<'b>),
-    /// It asks for a command, and its body gives none, or memory is wanting.
+    /// Nothing: it asks for a command, but its body gives none, or memory ran out.
     Refused(CommandFault),
-    /// It asks this of the office.
+    /// The execution of a command.
     Command(Asked),
 }

@@ -1,10 +1,10 @@
-//! Laws: what a body gives.
+//! Theorems: what a body gives.
 ghost use Rattle.office_http.specs.Wants.Bodies.{BodiesGiveOne};
 
 use point_list::texts_spell_one_list;
 use read_plan::lists_are_planned_once;
 
-/// A law: where memory is not wanting, a body gives one command or one fault.
+/// Theorem: a body gives one command or one fault, unless memory runs out.
 pub fn bodies_give_one_command()
     ensures { BodiesGiveOne }
 {

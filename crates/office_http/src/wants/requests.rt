@@ -1,4 +1,4 @@
-//! What a whole request wants of an office.
+//! What a complete request wants of an office.
 ghost use Rattle.std.specs.Prelude.{◌≡◌, ◌⊎◌, Ok, Err};
 ghost use Rattle.http_request.specs.Asking.{TestsHead};
 ghost use Rattle.http_request.specs.HeadTests.{start_at};
@@ -18,7 +18,7 @@ use http_request::{
 use matchit::Router;
 use std::alloc::Global;
 
-// The command that a request asks for, with what is kept of the request.
+// Parses the command of a request, and copies the bytes that are stored of the request.
 fn wanted_command<'b>(
     alloc: Global,
     router: &Router<Route>,
@@ -52,7 +52,7 @@ fn wanted_command<'b>(
     }
 }
 
-/// What a whole request wants of an office. Want of memory comes before the office is asked.
+/// Returns what a complete request wants of an office. If memory runs out, the office is not asked.
 pub fn wanted<'b>(
     alloc: Global,
     router: &Router<Route>,

@@ -1,4 +1,4 @@
--- Quarter hours of a meter, asked for part by part.
+-- Quarter hours of a meter, queried part by part.
 use Rattle.std.proofs.Common.{◌≡◌, ℕ, ◌+◌, ◌<◌, ◌≤◌, nat_lt, nat_le, Bool, true, false, cond, ◌&&◌, List, [], ◌∷◌, ◌++◌, min, max, refl, sym, ap, ◌∙◌, inl, inr, Option, Some, None, arith}
 use Rattle.std.specs.Prelude.{All}
 use Rattle.std.specs.Option.{option_map}
@@ -29,7 +29,7 @@ use Rattle.run_http.specs.Pieces.{rows_between}
 use Rattle.run_http.proofs.Copies.StayingShares.{StartFrom, none_start, not_before}
 use Rattle.run_http.proofs.Copies.StayingRows.{entries_come_after, own_name, rows_before_stay}
 
--- ---- of rows
+-- ---- Rows.
 
 le_true : (a b : ℕ) → a ≤ b → nat_le a b ≡ true
 le_true a b le = grind (arith, nat_tests, le)
@@ -56,11 +56,11 @@ and_false : (b : Bool) → b && false ≡ false
 and_false true = refl
 and_false false = refl
 
--- where a test is the same of each row, so is what passes it
+-- If two tests agree on each row, the same rows pass them.
 kept_same : (a b : Bool) (row : Share) (left right : List Share) → a ≡ b → left ≡ right → cond a (row ∷ left) left ≡ cond b (row ∷ right) right
 kept_same a b row left right same rest = ap (λ c. cond c (row ∷ left) left) same ∙ ap (λ rs. cond b (row ∷ rs) rs) rest
 
--- none starts in a span that ends where it begins, or before
+-- No row starts in a span that ends where it begins, or before.
 pub empty_within : (from till : ℕ) (rows : List Share) → till ≤ from → rows_within (Between from till) rows ≡ []
 empty_within from till [] le = refl
 empty_within from till (row ∷ rows) le =
@@ -73,14 +73,14 @@ empty_within from till (row ∷ rows) le =
       | inr e ↦ cond-false _ _ _ (ap (λ b. b && nat_lt row.start till) e) ∙ empty_within from till rows le
     ]
 
--- none starts before a moment
+-- No row starts before a time.
 none_within : (from till : ℕ) (rows : List Share) → StartFrom till rows → rows_within (Between from till) rows ≡ []
 none_within from till [] h = refl
 none_within from till (row ∷ rows) h =
     cond-false _ _ _ (ap (λ b. nat_le from row.start && b) (not_before till row.start h.0) ∙ and_false (nat_le from row.start))
     ∙ none_within from till rows h.1
 
--- where all start from a moment on, a span may begin there that begins before
+-- If all rows start at a time or later, a span that begins earlier may begin there.
 same_from : (from at till : ℕ) (rows : List Share) → from ≤ at → StartFrom at rows → rows_within (Between from till) rows ≡ rows_within (Between at till) rows
 same_from from at till [] le h = refl
 same_from from at till (row ∷ rows) le h =
@@ -93,7 +93,7 @@ of_first : (b : Bool) (row : Share) (all first others : List Share) → all ≡ 
 of_first true row all first others is = ap (λ rs. row ∷ rs) is
 of_first false row all first others is = is
 
--- rows in order, in two parts
+-- Rows in order, in two parts.
 pub in_parts : (from at till : ℕ) (rows : List Share) → Rising rows → from ≤ at → at ≤ till
     → rows_within (Between from till) rows ≡ rows_within (Between from at) rows ++ rows_within (Between at till) rows
 in_parts from at till [] rising low high = refl
@@ -114,7 +114,7 @@ in_parts from at till (row ∷ rows) rising low high =
           ∙ ap (λ rs. rs ++ rows_within (Between at till) (row ∷ rows)) (sym (none_within from at (row ∷ rows) from_at))
     ]
 
--- what starts in a span starts before its end
+-- A row that starts in a span starts before its end.
 within_before : (from till : ℕ) (rows : List Share) → rows_within (Between from till) (rows_before till rows) ≡ rows_within (Between from till) rows
 within_before from till [] = refl
 within_before from till (row ∷ rows) =
@@ -134,7 +134,7 @@ first_tests from low first start is le =
       | inr e ↦ let over : start < first = omega (arith, is, is_above from start e) in e ∙ sym (le_false first start over)
     ]
 
--- where all start from a moment on, none is left out that starts before
+-- If all rows start at a time or later, a later first time leaves none out.
 from_first : (from low first till : ℕ) (rows : List Share) → first ≡ max from low → StartFrom low rows
     → rows_within (Between from till) rows ≡ rows_within (Between first till) rows
 from_first from low first till [] is h = refl
@@ -144,7 +144,7 @@ from_first from low first till (row ∷ rows) is h =
     (ap (λ b. b && nat_lt row.start till) (first_tests from low first row.start is h.0))
     (from_first from low first till rows is h.1)
 
--- those that are asked for later, and those that are kept
+-- The rows that are queried later, and the rows that are kept.
 parted : (from low first last end till : ℕ) (rows : List Share) → Rising rows → StartFrom low rows → first ≡ max from low → end ≡ max first (min till last)
     → rows_within (Between from till) rows ≡ rows_within (Between first end) rows ++ rows_within (Between end till) rows
 parted from low first last end till rows rising start is ends =
@@ -158,7 +158,7 @@ parted from low first last end till rows rising start is ends =
     ] in
     from_first from low first till rows is start ∙ two
 
--- ---- of facts
+-- ---- Records.
 
 asked_of : (facts : List Fact) (from till : ℕ) (opening : Option Opening)
     → rows_in (option_map (rows_within (Between from till)) (option_map (rows_of_opening facts) opening))
@@ -166,12 +166,12 @@ asked_of : (facts : List Fact) (from till : ℕ) (opening : Option Opening)
 asked_of facts from till None = refl
 asked_of facts from till (Some opening) = refl
 
--- what is asked of a meter, by its rows
+-- The rows of a meter in a span, by its records.
 between_rows : (facts : List Fact) (meter : List ℕ) (from till : ℕ)
     → rows_between facts (Some meter) from till ≡ rows_within (Between from till) (rows_of_meter facts meter)
 between_rows facts meter from till = asked_of facts from till (opening_of facts meter)
 
--- none is asked for in a span that ends where it begins, or before
+-- No row is queried in a span that ends where it begins, or before.
 pub none_between : (facts : List Fact) (meter : Option (List ℕ)) (from till : ℕ) → till ≤ from → rows_between facts meter from till ≡ []
 none_between facts None from till le = refl
 none_between facts (Some meter) from till le = between_rows facts meter from till ∙ empty_within from till (rows_of_meter facts meter) le
@@ -200,7 +200,7 @@ opening_named facts o meter there = ap (opening_of facts) (own_name facts meter 
 rows_named : (facts : List Fact) (o : Opening) (meter : List ℕ) → opening_of facts meter ≡ Some o → rows_of_meter facts meter ≡ rows_of_opening facts o
 rows_named facts o meter there = ap (rows_of_installed facts) there
 
--- all that is asked of a meter, in the two parts
+-- All queried rows of a meter, in the two parts.
 pub all_parts : SharesAddUp → (facts : List Fact) (meter : List ℕ) (o : Opening) (from first last end till : ℕ) → AreLawful facts
     → opening_of facts meter ≡ Some o → first ≡ max from (quarter_of o.at) → end ≡ max first (min till last)
     → rows_between facts (Some meter) from till ≡ rows_between facts (Some meter) first end ++ rows_between facts (Some meter) end till
@@ -235,7 +235,7 @@ parts_of law facts meter None from at till h there low high =
     asked from till ∙ ap (λ rs. rs ++ []) (sym (asked from at)) ∙ ap (λ rs. rows_between facts (Some meter) from at ++ rs) (sym (asked at till))
 parts_of law facts meter (Some o) from at till h there low high = two_parts law facts meter o from at till h there low high
 
--- a piece of what is still to be asked for, and the others
+-- A chunk of the rows that are still to be queried, and the others.
 pub a_piece : SharesAddUp → (facts : List Fact) (meter : Option (List ℕ)) (from at till : ℕ) → AreLawful facts
     → (from ≤ till → from ≤ at) → at ≤ till → (till ≤ from → at ≡ till)
     → rows_between facts meter from till ≡ rows_between facts meter from at ++ rows_between facts meter at till
@@ -250,7 +250,7 @@ a_piece law facts (Some meter) from at till h low high none =
           ∙ ap (λ rs. rows_between facts (Some meter) from at ++ rs) (sym (none_between facts (Some meter) at till (omega (arith, same))))
     ]
 
--- ---- of further facts
+-- ---- Later records.
 
 lawful_before : (further facts : List Fact) → AreLawful (further ++ facts) → AreLawful facts
 lawful_before [] facts h = h

@@ -20,7 +20,7 @@ use Rattle.http_request.specs.declared.routing.targets.Found.{Found}
 use Rattle.interval_core.specs.Lines.{intervals_text}
 use Rattle.run_http.specs.OfficeRequests.{AsksAllRows}
 
--- a question has no body
+-- A query has no body.
 whole : (table : Table) (bytes : List ℕ) (at : Head) (found : Found) → IsHeadAt bytes at → TestsHead table (start_at bytes at) (Ok (Question found))
     → IsWhole table bytes at
 whole table bytes at found head tests = record {

@@ -19,7 +19,7 @@ hyphen : (text : List ℕ) → IsAscii text → IsAscii (45 ∷ text)
 hyphen text is zero = omega arith
 hyphen text is (suc i) = is i
 
--- the ten characters of a day
+-- The ten characters of a day.
 ascii_by : (year month day : ℕ) → year ≤ 9999 → month ≤ 12 → day ≤ 31
     → IsAscii (year_text (pos year) ++ 45 ∷ [] ++ pad2 month ++ 45 ∷ [] ++ pad2 day)
 ascii_by year month day few_years few_months few_days =

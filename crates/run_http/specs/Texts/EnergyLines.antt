@@ -1,5 +1,5 @@
--- The energy of the meters that are open, in Prometheus's text format, version 0.0.4. Each definition from `with_label` on gives a
--- text with something at its end.
+-- The energy of the open meters, in Prometheus's text format, version 0.0.4. Each definition from
+-- `with_label` on appends to a text.
 use Rattle.std.specs.Prelude.{ℕ, ◌==◌, negsuc, List, [], ◌∷◌, ◌++◌, Option, Some, None, codes, decimal, if◌then◌else◌}
 use Rattle.std.specs.List.{flat_map}
 use Rattle.sun_points.specs.Decimal.{magnitude_text}
@@ -8,7 +8,7 @@ use Rattle.office_core.specs.declared.site.SiteRow.{SiteRow}
 use Rattle.run_http.specs.Texts.Families.{family_text}
 use Rattle.run_http.specs.declared.texts.families.MetricKind.TheVariants.{Counter, Gauge}
 
--- Within the quotes of a label a backslash (92), a quote (34) and a line feed (10) are escaped.
+-- A byte of a label's value. A backslash (92), a quote (34) and a line feed (10) are escaped.
 abbrev pub label_byte : ℕ → List ℕ
 label_byte byte =
     if byte == 92 then codes "\\\\"
@@ -16,48 +16,54 @@ label_byte byte =
     else if byte == 10 then codes "\\n"
     else byte ∷ []
 
+-- The value of a label.
 abbrev pub label_text : List ℕ → List ℕ
 label_text value = flat_map label_byte value
 
+-- A label with its value.
 abbrev pub with_label : List ℕ → (before value : List ℕ) → List ℕ
 with_label text before value = text ++ before ++ label_text value
 
--- of which meter a value is, after what introduces that
+-- The labels of a meter's value.
 abbrev pub with_labels : List ℕ → (before : List ℕ) → SiteRow → Installation → List ℕ
 with_labels text before row meter =
     with_label (with_label (with_label text before meter.opening.meter)
     (codes "\",register=\"") row.register.name)
     (codes "\",device=\"") row.register.device
 
--- its whole energy: mWh, so Wh with three decimals
+-- The total energy of a meter in Wh. Its totals are in mWh, so the value has three decimals.
 abbrev pub with_energy : List ℕ → SiteRow → Installation → List ℕ
 with_energy text row meter =
     with_labels text (codes "\nsunreg_energy_watthours_total{meter=\"") row meter
     ++ codes "\"} " ++ magnitude_text meter.total (negsuc 2)
 
--- the moment of its last entry that stands
+-- The time of the last valid entry of a meter.
 abbrev pub with_entry : List ℕ → SiteRow → Installation → List ℕ
 with_entry text row meter =
     with_labels text (codes "\nsunreg_last_entry_timestamp_seconds{meter=\"") row meter
     ++ codes "\"} " ++ decimal meter.last.at
 
--- A register without a meter has no line, and neither has one whose meter was closed.
+-- A register without a meter has no line, like a register whose meter was closed.
 abbrev pub with_energy_of : List ℕ → SiteRow → Option Installation → List ℕ
 with_energy_of text row None = text
 with_energy_of text row (Some meter) = if meter.ended then text else with_energy text row meter
 
+-- The time of the last entry of a register's meter, if it is open.
 abbrev pub with_entry_of : List ℕ → SiteRow → Option Installation → List ℕ
 with_entry_of text row None = text
 with_entry_of text row (Some meter) = if meter.ended then text else with_entry text row meter
 
+-- The energy of each open meter.
 abbrev pub with_energies : List ℕ → List SiteRow → List ℕ
 with_energies text [] = text
 with_energies text (row ∷ rows) = with_energies (with_energy_of text row row.meter) rows
 
+-- The time of the last entry of each open meter.
 abbrev pub with_entries : List ℕ → List SiteRow → List ℕ
 with_entries text [] = text
 with_entries text (row ∷ rows) = with_entries (with_entry_of text row row.meter) rows
 
+-- The metrics of the open meters.
 abbrev pub with_meters : List ℕ → List SiteRow → List ℕ
 with_meters text rows =
     with_entries

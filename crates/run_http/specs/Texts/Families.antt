@@ -1,13 +1,14 @@
--- What a metric is, in Prometheus's text format: the two lines before its values.
+-- The description of a metric, in Prometheus's text format: the two lines before its values.
 use Rattle.std.specs.Prelude.{ℕ, List, ◌++◌, codes}
 use Rattle.run_http.specs.declared.texts.families.MetricKind.{MetricKind}
 use Rattle.run_http.specs.declared.texts.families.MetricKind.TheVariants.{Counter, Gauge}
 
+-- The name of a type.
 abbrev pub kind_word : MetricKind → List ℕ
 kind_word Counter = codes "counter"
 kind_word Gauge = codes "gauge"
 
--- what it tells, and of which kind it is
+-- The help and the type of a metric.
 abbrev pub family_text : (name help : List ℕ) → MetricKind → List ℕ
 family_text name help kind =
     codes "# HELP " ++ name ++ codes " " ++ help

@@ -1,5 +1,5 @@
--- `/metrics`: the counts, the devices and the meters that are open, in Prometheus's text format, version 0.0.4. Each definition
--- gives a text with something at its end.
+-- `/metrics`: the counts, the devices and the open meters, in Prometheus's text format, version
+-- 0.0.4. Each definition appends to a text.
 use Rattle.std.specs.Prelude.{ℕ, Bool, true, false, List, [], ◌∷◌, ◌++◌, Option, Some, None, codes, decimal, slice_index}
 use Rattle.run_status.specs.declared.status.counts.Counts.{Counts}
 use Rattle.run_status.specs.declared.status.status.DeviceState.{DeviceState}
@@ -9,6 +9,7 @@ use Rattle.run_http.specs.Texts.Families.{family_text}
 use Rattle.run_http.specs.declared.texts.families.MetricKind.TheVariants.{Counter, Gauge}
 use Rattle.run_status.specs.Status.StatusText.{with_name}
 
+-- The polls that ended, by outcome.
 abbrev pub with_outcomes : List ℕ → Counts → List ℕ
 with_outcomes text counts =
     text
@@ -19,6 +20,7 @@ with_outcomes text counts =
     ++ codes "\nsunreg_polls_total{outcome=\"malformed\"} " ++ decimal counts.malformed
     ++ codes "\nsunreg_polls_total{outcome=\"lost\"} " ++ decimal counts.lost
 
+-- The accepted readings, and the refused events.
 abbrev pub with_readings : List ℕ → Counts → List ℕ
 with_readings text counts =
     text ++ codes "\n"
@@ -28,6 +30,7 @@ with_readings text counts =
     (codes "Events of devices that the office refused.") Counter
     ++ codes "\nsunreg_refusals_total " ++ decimal counts.refusals
 
+-- The rejected readings, by cause.
 abbrev pub with_causes : List ℕ → List ℕ → List ℕ
 with_causes text held =
     text ++ codes "\n"
@@ -46,28 +49,31 @@ with_causes text held =
     ++ codes "\nsunreg_held_readings_total{cause=\"not_below_range\"} "
     ++ decimal (slice_index held 7)
 
+-- Whether a device is connected, as 1 or 0.
 abbrev pub with_state : List ℕ → Bool → List ℕ
 with_state text true = text ++ codes "\"} 1"
 with_state text false = text ++ codes "\"} 0"
 
--- whether each device is connected
+-- Whether each device is connected.
 abbrev pub with_states : List ℕ → List DeviceState → List ℕ
 with_states text [] = text
 with_states text (device ∷ devices) =
     with_states (with_state (with_name text (codes "\nsunreg_device_connected{device=\"") device)
     device.connected) devices
 
--- a device that had no reading yet has no line
+-- The time of the latest reading of a device. A device without a reading has no line.
 abbrev pub with_moment : List ℕ → DeviceState → Option ℕ → List ℕ
 with_moment text device None = text
 with_moment text device (Some moment) =
     with_name text (codes "\nsunreg_last_reading_timestamp_seconds{device=\"") device
     ++ codes "\"} " ++ decimal moment
 
+-- The time of the latest reading of each device.
 abbrev pub with_moments : List ℕ → List DeviceState → List ℕ
 with_moments text [] = text
 with_moments text (device ∷ devices) = with_moments (with_moment text device device.latest) devices
 
+-- The metrics of the devices.
 abbrev pub with_devices : List ℕ → List DeviceState → List ℕ
 with_devices text devices =
     with_moments
@@ -81,6 +87,7 @@ with_devices text devices =
     devices
     ++ codes "\n"
 
+-- All metrics.
 abbrev pub with_metrics : List ℕ → Counts → List DeviceState → List SiteRow → List ℕ
 with_metrics text counts devices rows =
     with_meters

@@ -1,4 +1,4 @@
--- `/site`: the registers and their meters, as JSON. Each definition gives a text with something at its end.
+-- `/site`: the registers and their meters, as JSON. Each definition appends to a text.
 use Rattle.std.specs.Prelude.{ℕ, List, [], ◌∷◌, ◌++◌, Option, Some, None, codes, decimal}
 use Rattle.std.specs.Fmt.{signed_decimal}
 use Rattle.office_events.specs.declared.questions.Installation.{Installation}
@@ -6,49 +6,55 @@ use Rattle.office_core.specs.declared.site.SiteRow.{SiteRow}
 use Rattle.http_answer.specs.Rows.{bool_text}
 use Rattle.run_http.specs.declared.texts.site.SiteLine.{SiteLine}
 
--- where the counter stands, as the meter's last entry that stands has it
+-- The last valid entry of a meter.
 abbrev pub with_last : List ℕ → Installation → List ℕ
 with_last text row =
     text ++ codes "\",\"at\":" ++ decimal row.last.at ++ codes ",\"last\":" ++ decimal row.last.raw
     ++ codes ",\"sf\":" ++ signed_decimal row.last.sf
 
--- how much of its energy in mWh is that of earlier files, as a string of digits, where they tell of it, too
+-- The part of the energy that earlier files recorded, in mWh, as a string of digits. It is missing
+-- if they do not have the meter.
 abbrev pub with_earlier : List ℕ → Option ℕ → List ℕ
 with_earlier text None = text
 with_earlier text (Some mwh) = text ++ codes "\",\"earlier\":\"" ++ decimal mwh
 
--- its whole energy in mWh, as a string of digits, and whether it was closed
+-- The total energy of a meter in mWh, as a string of digits, and whether the meter was closed.
 abbrev pub with_total : List ℕ → Installation → (earlier : Option ℕ) → List ℕ
 with_total text row earlier =
     with_earlier (text ++ codes ",\"total\":\"" ++ decimal row.total) earlier
     ++ codes "\",\"ended\":" ++ bool_text row.ended
 
--- names have letters, digits, `_` and `-` alone, so they stand in JSON as they are
+-- The meter of a register. Names consist of letters, digits, `_` and `-`, so JSON need not escape
+-- them.
 abbrev pub with_meter : List ℕ → Option Installation → (earlier : Option ℕ) → List ℕ
 with_meter text None earlier = text ++ codes "\",\"meter\":null"
 with_meter text (Some row) earlier =
     with_total (with_last (text ++ codes "\",\"meter\":\"" ++ row.opening.meter) row) row earlier
 
+-- The device and the name of a register.
 abbrev pub with_register : (before : List ℕ) → List ℕ → SiteRow → List ℕ
 with_register before text row =
     text ++ before ++ row.register.device
     ++ codes "\",\"register\":\"" ++ row.register.name
 
+-- A register and its meter.
 abbrev pub with_line : (before : List ℕ) → List ℕ → SiteLine → List ℕ
 with_line before text line =
     with_meter (with_register before text line.row) line.row.meter line.earlier ++ codes "}"
 
+-- More registers, each after a comma.
 abbrev pub with_more_lines : List ℕ → List SiteLine → List ℕ
 with_more_lines text [] = text
 with_more_lines text (line ∷ lines) =
     with_more_lines (with_line (codes ",{\"device\":\"") text line) lines
 
+-- Registers with commas between them.
 abbrev pub with_lines : List ℕ → List SiteLine → List ℕ
 with_lines text [] = text
 with_lines text (line ∷ lines) =
     with_more_lines (with_line (codes "{\"device\":\"") text line) lines
 
--- the moment of the question, and what is told of each register
+-- The time of the query, and the registers.
 abbrev pub with_site : List ℕ → (at : ℕ) → List SiteLine → List ℕ
 with_site text at lines =
     with_lines (text ++ codes "{\"at\":" ++ decimal at ++ codes ",\"registers\":[") lines

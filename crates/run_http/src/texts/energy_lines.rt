@@ -1,4 +1,4 @@
-//! The energy of the meters that are open, in Prometheus's text format.
+//! The energy of the open meters, in Prometheus's text format.
 ghost use Rattle.std.specs.Prelude.{◌≡◌, ℕ, ◌%◌, ◌++◌, negsuc, false, OnOk};
 ghost use Rattle.std.specs.Fmt.{digit_glyph};
 ghost use Rattle.sun_points.specs.Decimal.{low_digits, magnitude_text};
@@ -10,7 +10,7 @@ use office_events::{Installation, Name};
 use run_status::{put, put_number};
 use std::alloc::AllocError;
 
-// Puts a byte of a label.
+// Appends a byte of a label's value, escaped if it must be.
 fn put_label_byte(text: &mut Vec<u8>, byte: u8) -> Result<(), AllocError>
     ensures { OnOk result (text.new.items ≡ text.old.items ++ energy.label_byte byte) }
 {
@@ -22,7 +22,7 @@ fn put_label_byte(text: &mut Vec<u8>, byte: u8) -> Result<(), AllocError>
     }
 }
 
-// Puts what introduces a label, and its value.
+// Appends `before` and the value of a label.
 fn put_label(text: &mut Vec<u8>, before: &[u8], value: &Name) -> Result<(), AllocError>
     ensures { OnOk result (text.new.items
         ≡ energy.with_label text.old.items before.now value.now) }
@@ -34,7 +34,7 @@ fn put_label(text: &mut Vec<u8>, before: &[u8], value: &Name) -> Result<(), Allo
     Ok(())
 }
 
-// Puts of which meter a value is, after what introduces that.
+// Appends `before` and the labels of a meter's value.
 fn put_labels(
     text: &mut Vec<u8>,
     before: &[u8],
@@ -49,14 +49,13 @@ fn put_labels(
     put_label(text, b"\",device=\"", &row.register.device)
 }
 
-// The last digit of a number.
 fn last_digit(number: u64) -> u8
     ensures { result ≡ digit_glyph false (number % 10) }
 {
     b'0' + (number % 10) as u8
 }
 
-// The last three digits of a number.
+// Returns the last three digits of a number.
 fn last_digits(number: u64) -> [u8; 3]
     ensures { result ≡ low_digits 10 3 number }
 {
@@ -67,7 +66,7 @@ fn last_digits(number: u64) -> [u8; 3]
     ]
 }
 
-// Puts a thousandth of a number, with three decimals, after what introduces it.
+// Appends `before` and a thousandth of a number, with three decimals.
 fn put_thousandth(text: &mut Vec<u8>, before: &[u8], number: u64) -> Result<(), AllocError>
     ensures { OnOk result (text.new.items
         ≡ text.old.items ++ before.now ++ magnitude_text number (negsuc 2)) }
@@ -77,7 +76,6 @@ fn put_thousandth(text: &mut Vec<u8>, before: &[u8], number: u64) -> Result<(), 
     put(text, &last_digits(number))
 }
 
-// Puts the energy of a meter.
 fn put_energy(text: &mut Vec<u8>, row: &SiteRow, meter: &Installation) -> Result<(), AllocError>
     ensures { OnOk result (text.new.items
         ≡ energy.with_energy text.old.items row.now meter.now) }
@@ -91,7 +89,6 @@ fn put_energy(text: &mut Vec<u8>, row: &SiteRow, meter: &Installation) -> Result
     put_thousandth(text, b"\"} ", meter.total)
 }
 
-// Puts the moment of the last entry of a meter.
 fn put_entry(text: &mut Vec<u8>, row: &SiteRow, meter: &Installation) -> Result<(), AllocError>
     ensures { OnOk result (text.new.items ≡ energy.with_entry text.old.items row.now meter.now) }
 {
@@ -104,7 +101,7 @@ fn put_entry(text: &mut Vec<u8>, row: &SiteRow, meter: &Installation) -> Result<
     put_number(text, b"\"} ", meter.last.at)
 }
 
-// Puts the energy of the meter of a register, where one is open.
+// Appends the energy of the meter at a register, if it is open.
 fn put_energy_of(text: &mut Vec<u8>, row: &SiteRow) -> Result<(), AllocError>
     ensures { OnOk result (text.new.items
         ≡ energy.with_energy_of text.old.items row.now row.now.meter) }
@@ -115,7 +112,7 @@ fn put_energy_of(text: &mut Vec<u8>, row: &SiteRow) -> Result<(), AllocError>
     }
 }
 
-// Puts the moment of the last entry of the meter of a register, where one is open.
+// Appends the time of the last entry of the meter at a register, if it is open.
 fn put_entry_of(text: &mut Vec<u8>, row: &SiteRow) -> Result<(), AllocError>
     ensures { OnOk result (text.new.items
         ≡ energy.with_entry_of text.old.items row.now row.now.meter) }
@@ -144,8 +141,8 @@ fn put_entries(text: &mut Vec<u8>, rows: &[SiteRow]) -> Result<(), AllocError>
     Ok(())
 }
 
-/// Puts the energy of the meters that are open, and the moment of the last entry of each, at the end of a text. Want of memory
-/// leaves a part of it.
+/// Appends the energy of the open meters, and the time of the last entry of each. If memory runs
+/// out, a part of it remains.
 pub(crate) fn put_meters(text: &mut Vec<u8>, rows: &[SiteRow]) -> Result<(), AllocError>
     ensures { OnOk result (text.new.items ≡ energy.with_meters text.old.items rows.now) }
 {

@@ -1,16 +1,16 @@
-//! What each metric is, in Prometheus's text format.
+//! The description of a metric, in Prometheus's text format.
 ghost use Rattle.std.specs.Prelude.{◌≡◌, ◌++◌, OnOk, codes};
 ghost use Rattle.run_http.specs.Texts.Families as families;
 
 use run_status::{put, put_word};
 use std::alloc::AllocError;
 
-/// Whether the values of a metric only grow while the program runs.
+/// The type of a metric.
 #[derive(Clone, Copy, Debug, PartialEq, Eq)]
 pub(crate) enum MetricKind {
-    /// They do.
+    /// The values only grow while the program runs.
     Counter,
-    /// They may grow and fall.
+    /// The values may grow and fall.
     Gauge,
 }
 
@@ -23,7 +23,7 @@ fn kind_word(kind: MetricKind) -> &'static [u8]
     }
 }
 
-/// Puts what a metric tells, and of which kind it is.
+/// Appends the help and the type of a metric.
 pub(crate) fn put_family(
     text: &mut Vec<u8>,
     name: &[u8],
@@ -39,7 +39,7 @@ pub(crate) fn put_family(
     put_word(text, b" ", kind_word(kind))
 }
 
-/// Puts that after the values of another metric.
+/// Appends the help and the type of a metric after the values of another.
 pub(crate) fn put_next_family(
     text: &mut Vec<u8>,
     name: &[u8],

@@ -11,7 +11,7 @@ use office_books::MeterEntry;
 use run_status::{put, put_number, put_scale};
 use std::alloc::AllocError;
 
-/// Puts how many rows there are.
+/// Appends the line with the number of rows.
 pub(crate) fn put_end(text: &mut Vec<u8>, count: usize) -> Result<(), AllocError>
     ensures { OnOk result (text.new.items ≡ text.old.items ++ end_line count) }
 {
@@ -19,7 +19,7 @@ pub(crate) fn put_end(text: &mut Vec<u8>, count: usize) -> Result<(), AllocError
     put(text, b"\n")
 }
 
-/// Puts the line of a quarter hour.
+/// Appends the line of a quarter hour.
 pub(crate) fn put_share(text: &mut Vec<u8>, row: &Share) -> Result<(), AllocError>
     ensures { OnOk result (text.new.items ≡ text.old.items ++ share_line row.now) }
 {
@@ -28,7 +28,7 @@ pub(crate) fn put_share(text: &mut Vec<u8>, row: &Share) -> Result<(), AllocErro
     put(text, b"\n")
 }
 
-/// Puts a line for each quarter hour.
+/// Appends a line for each quarter hour.
 pub(crate) fn put_share_lines(text: &mut Vec<u8>, rows: &[Share]) -> Result<(), AllocError>
     ensures { OnOk result (text.new.items ≡ text.old.items ++ flat_map share_line rows.now) }
 {
@@ -38,8 +38,8 @@ pub(crate) fn put_share_lines(text: &mut Vec<u8>, rows: &[Share]) -> Result<(), 
     Ok(())
 }
 
-/// Puts the quarter hours of a meter at the end of a text, a line each, and then how many there are. Want of memory leaves a
-/// part of it.
+/// Appends a line for each quarter hour of a meter, and a line with their number. If memory runs
+/// out, a part remains.
 pub fn put_shares(text: &mut Vec<u8>, rows: &[Share]) -> Result<(), AllocError>
     ensures { OnOk result (text.new.items ≡ text.old.items ++ intervals_text rows.now) }
 {
@@ -47,7 +47,6 @@ pub fn put_shares(text: &mut Vec<u8>, rows: &[Share]) -> Result<(), AllocError>
     put_end(text, rows.len())
 }
 
-// Puts where an entry comes from.
 fn put_kind(text: &mut Vec<u8>, kind: EntryKind) -> Result<(), AllocError>
     ensures { OnOk result (text.new.items ≡ text.old.items ++ lines.kind_word kind) }
 {
@@ -60,7 +59,6 @@ fn put_kind(text: &mut Vec<u8>, kind: EntryKind) -> Result<(), AllocError>
     }
 }
 
-// Puts the numbers of an entry.
 fn put_numbers(text: &mut Vec<u8>, entry: &Entry) -> Result<(), AllocError>
     ensures { OnOk result (text.new.items ≡ text.old.items ++ lines.numbers_text entry.now) }
 {
@@ -84,7 +82,7 @@ fn put_numbers(text: &mut Vec<u8>, entry: &Entry) -> Result<(), AllocError>
     }
 }
 
-// Puts whether an entry stands.
+// Appends whether an entry is valid (`stands`) or voided.
 fn put_standing(text: &mut Vec<u8>, stands: bool) -> Result<(), AllocError>
     ensures { OnOk result (text.new.items ≡ text.old.items ++ lines.standing_word stands) }
 {
@@ -95,7 +93,6 @@ fn put_standing(text: &mut Vec<u8>, stands: bool) -> Result<(), AllocError>
     }
 }
 
-// Puts the line of the opening.
 fn put_opening(text: &mut Vec<u8>, last: &Last) -> Result<(), AllocError>
     ensures { OnOk result (text.new.items ≡ text.old.items ++ lines.opening_line last.now) }
 {
@@ -105,7 +102,6 @@ fn put_opening(text: &mut Vec<u8>, last: &Last) -> Result<(), AllocError>
     put(text, b" stands\n")
 }
 
-// Puts the line of a later entry.
 fn put_later(text: &mut Vec<u8>, row: &EntryRow, sf: i16) -> Result<(), AllocError>
     ensures { OnOk result (text.new.items ≡ text.old.items ++ lines.later_line row.now sf) }
 {
@@ -116,7 +112,6 @@ fn put_later(text: &mut Vec<u8>, row: &EntryRow, sf: i16) -> Result<(), AllocErr
     put_standing(text, row.stands)
 }
 
-// Puts the line of an entry.
 fn put_entry(text: &mut Vec<u8>, entry: &MeterEntry) -> Result<(), AllocError>
     ensures { OnOk result (text.new.items ≡ text.old.items ++ lines.entry_line entry.now) }
 {
@@ -126,7 +121,6 @@ fn put_entry(text: &mut Vec<u8>, entry: &MeterEntry) -> Result<(), AllocError>
     }
 }
 
-// Puts a line for each entry.
 fn put_entry_lines(text: &mut Vec<u8>, entries: &[MeterEntry]) -> Result<(), AllocError>
     ensures { OnOk result (text.new.items
         ≡ text.old.items ++ flat_map lines.entry_line entries.now) }
@@ -137,7 +131,8 @@ fn put_entry_lines(text: &mut Vec<u8>, entries: &[MeterEntry]) -> Result<(), All
     Ok(())
 }
 
-/// Puts entries of a meter at the end of a text, a line each, and then how many there are. Want of memory leaves a part of it.
+/// Appends a line for each of these entries of a meter, and a line with their number. If memory
+/// runs out, a part remains.
 pub fn put_entries(text: &mut Vec<u8>, entries: &[MeterEntry]) -> Result<(), AllocError>
     ensures { OnOk result (text.new.items ≡ text.old.items ++ lines.entries_text entries.now) }
 {
@@ -145,7 +140,7 @@ pub fn put_entries(text: &mut Vec<u8>, entries: &[MeterEntry]) -> Result<(), All
     put_end(text, entries.len())
 }
 
-// ---- those that voids name
+// ---- voided entries
 
 fn moment(entry: &Entry) -> u64
     ensures { result ≡ moment_of entry.now }
@@ -156,7 +151,7 @@ fn moment(entry: &Entry) -> u64
     }
 }
 
-// Puts the line of a later entry that a void names.
+// Appends the line of a voided entry after the opening.
 fn put_voided_row(text: &mut Vec<u8>, row: &EntryRow) -> Result<(), AllocError>
     ensures { OnOk result (text.new.items ≡ text.old.items ++ lines.void_row_line row.now) }
 {
@@ -166,7 +161,6 @@ fn put_voided_row(text: &mut Vec<u8>, row: &EntryRow) -> Result<(), AllocError>
     put(text, b"\n")
 }
 
-// Puts the line of an entry that a void names.
 fn put_void(text: &mut Vec<u8>, entry: &MeterEntry) -> Result<(), AllocError>
     ensures { OnOk result (text.new.items ≡ text.old.items ++ lines.void_line entry.now) }
 {
@@ -179,7 +173,6 @@ fn put_void(text: &mut Vec<u8>, entry: &MeterEntry) -> Result<(), AllocError>
     }
 }
 
-// Puts a line for each entry that a void names.
 fn put_void_lines(text: &mut Vec<u8>, entries: &[MeterEntry]) -> Result<(), AllocError>
     ensures { OnOk result (text.new.items
         ≡ text.old.items ++ flat_map lines.void_line entries.now) }
@@ -190,8 +183,9 @@ fn put_void_lines(text: &mut Vec<u8>, entries: &[MeterEntry]) -> Result<(), Allo
     Ok(())
 }
 
-/// Puts the place, the kind and the moment of each of these entries of a meter, which voids name, at the end of a text, a line each,
-/// and then how many there are. Want of memory leaves a part of it.
+/// Appends a line for each of these voided entries of a meter, and a line with their number. The
+/// line of an entry has its sequence number, its kind and its time. If memory runs out, a part
+/// remains.
 pub fn put_voids(text: &mut Vec<u8>, entries: &[MeterEntry]) -> Result<(), AllocError>
     ensures { OnOk result (text.new.items ≡ text.old.items ++ lines.voids_text entries.now) }
 {

@@ -1,4 +1,4 @@
-//! `/metrics`: the counts, the devices and the meters that are open, in Prometheus's text format.
+//! `/metrics`: the counts, the devices and the open meters, in Prometheus's text format.
 ghost use Rattle.std.specs.Prelude.{◌≡◌, OnOk};
 ghost use Rattle.run_http.specs.Texts.MetricsText as metrics;
 
@@ -180,7 +180,8 @@ fn put_devices(text: &mut Vec<u8>, devices: &[DeviceState]) -> Result<(), AllocE
     put(text, b"\n")
 }
 
-/// Puts the metrics at the end of a text: totals of meters, which are mWh, in Wh. Want of memory leaves a part of it.
+/// Appends the metrics. The totals of meters are in Wh, with three decimals, since totals are in
+/// mWh. If memory runs out, a part remains.
 pub fn put_metrics(
     text: &mut Vec<u8>,
     counts: &Counts,

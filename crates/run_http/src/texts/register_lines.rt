@@ -8,7 +8,6 @@ use office_events::Installation;
 use run_status::{put, put_number, put_scale};
 use std::alloc::AllocError;
 
-// Puts where a counter stands.
 fn put_last(text: &mut Vec<u8>, last: &Last) -> Result<(), AllocError>
     ensures { OnOk result (text.new.items ≡ text.old.items ++ lines.last_text last.now) }
 {
@@ -17,7 +16,6 @@ fn put_last(text: &mut Vec<u8>, last: &Last) -> Result<(), AllocError>
     put_scale(text, b" ", last.sf)
 }
 
-// Puts whether a meter was closed.
 fn put_state(text: &mut Vec<u8>, ended: bool) -> Result<(), AllocError>
     ensures { OnOk result (text.new.items ≡ text.old.items ++ lines.state_word ended) }
 {
@@ -28,7 +26,6 @@ fn put_state(text: &mut Vec<u8>, ended: bool) -> Result<(), AllocError>
     }
 }
 
-// Puts the line of a meter.
 fn put_meter(text: &mut Vec<u8>, row: &Installation) -> Result<(), AllocError>
     ensures { OnOk result (text.new.items ≡ text.old.items ++ lines.meter_line row.now) }
 {
@@ -39,7 +36,6 @@ fn put_meter(text: &mut Vec<u8>, row: &Installation) -> Result<(), AllocError>
     put_state(text, row.ended)
 }
 
-// Puts a line for each meter.
 fn put_meter_lines(text: &mut Vec<u8>, rows: &[Installation]) -> Result<(), AllocError>
     ensures { OnOk result (text.new.items ≡ text.old.items ++ flat_map lines.meter_line rows.now) }
 {
@@ -49,7 +45,7 @@ fn put_meter_lines(text: &mut Vec<u8>, rows: &[Installation]) -> Result<(), Allo
     Ok(())
 }
 
-/// Puts meters at the end of a text, a line each, and then how many there are. Want of memory leaves a part of it.
+/// Appends a line for each meter, and a line with their number. If memory runs out, a part remains.
 pub fn put_register_meters(text: &mut Vec<u8>, rows: &[Installation]) -> Result<(), AllocError>
     ensures { OnOk result (text.new.items ≡ text.old.items ++ lines.meters_text rows.now) }
 {

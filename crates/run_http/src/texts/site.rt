@@ -8,15 +8,14 @@ use office_events::Installation;
 use run_status::{put, put_number, put_scale, put_word};
 use std::alloc::AllocError;
 
-/// What is told of a register: its latest meter, and how much of that meter's energy, in mWh, is that of earlier files, where they tell
-/// of it, too.
+/// A register with its latest meter. `earlier` is the part of that meter's energy that earlier
+/// files recorded, in mWh, if they have the meter too.
 #[derive(Clone, Copy, Debug, PartialEq, Eq)]
 pub struct SiteLine {
     pub row: SiteRow,
     pub earlier: Option<u64>,
 }
 
-// Puts a word of JSON.
 fn put_bool(text: &mut Vec<u8>, before: &[u8], value: bool) -> Result<(), AllocError>
     ensures { OnOk result (text.new.items ≡ text.old.items ++ before.now ++ bool_text value) }
 {
@@ -27,7 +26,6 @@ fn put_bool(text: &mut Vec<u8>, before: &[u8], value: bool) -> Result<(), AllocE
     }
 }
 
-// Puts where the counter of a meter stands.
 fn put_last(text: &mut Vec<u8>, row: &Installation) -> Result<(), AllocError>
     ensures { OnOk result (text.new.items ≡ json.with_last text.old.items row.now) }
 {
@@ -36,7 +34,7 @@ fn put_last(text: &mut Vec<u8>, row: &Installation) -> Result<(), AllocError>
     put_scale(text, b",\"sf\":", row.last.sf)
 }
 
-// Puts how much of the energy of a meter is that of earlier files.
+// Appends the part of a meter's energy that earlier files recorded.
 fn put_earlier(text: &mut Vec<u8>, earlier: Option<u64>) -> Result<(), AllocError>
     ensures { OnOk result (text.new.items ≡ json.with_earlier text.old.items earlier) }
 {
@@ -46,7 +44,7 @@ fn put_earlier(text: &mut Vec<u8>, earlier: Option<u64>) -> Result<(), AllocErro
     }
 }
 
-// Puts the energy of a meter, and whether it was closed.
+// Appends the energy of a meter, and whether it was closed.
 fn put_total(text: &mut Vec<u8>, row: &Installation, earlier: Option<u64>) -> Result<(), AllocError>
     ensures { OnOk result (text.new.items ≡ json.with_total text.old.items row.now earlier) }
 {
@@ -55,7 +53,7 @@ fn put_total(text: &mut Vec<u8>, row: &Installation, earlier: Option<u64>) -> Re
     put_bool(text, b"\",\"ended\":", row.ended)
 }
 
-// Puts the meter of a register, or that there is none.
+// Appends the meter of a register, or `null` without a meter.
 fn put_meter(
     text: &mut Vec<u8>,
     meter: &Option<Installation>,
@@ -73,7 +71,6 @@ fn put_meter(
     }
 }
 
-// Puts the names of a register, after what stands before it.
 fn put_register(text: &mut Vec<u8>, before: &[u8], row: &SiteRow) -> Result<(), AllocError>
     ensures { OnOk result (text.new.items ≡ json.with_register before.now text.old.items row.now) }
 {
@@ -81,7 +78,6 @@ fn put_register(text: &mut Vec<u8>, before: &[u8], row: &SiteRow) -> Result<(), 
     put_word(text, b"\",\"register\":\"", row.register.name.as_bytes())
 }
 
-// Puts a register and its meter.
 fn put_line(text: &mut Vec<u8>, before: &[u8], line: &SiteLine) -> Result<(), AllocError>
     ensures { OnOk result (text.new.items ≡ json.with_line before.now text.old.items line.now) }
 {
@@ -90,7 +86,7 @@ fn put_line(text: &mut Vec<u8>, before: &[u8], line: &SiteLine) -> Result<(), Al
     put(text, b"}")
 }
 
-// Puts what is told of registers, each after a comma.
+// Appends registers, each after a comma.
 fn put_more_lines(text: &mut Vec<u8>, lines: &[SiteLine]) -> Result<(), AllocError>
     ensures { OnOk result (text.new.items ≡ json.with_more_lines text.old.items lines.now) }
 {
@@ -112,8 +108,8 @@ fn put_lines(text: &mut Vec<u8>, lines: &[SiteLine]) -> Result<(), AllocError>
     }
 }
 
-/// Puts the registers and their meters at the end of a text, as JSON: `moment` is that of the question, in seconds since
-/// 1970-01-01 UTC, totals are mWh. Want of memory leaves a part of it.
+/// Appends the registers and their meters as JSON. `moment` is the time of the query, in seconds
+/// since 1970-01-01 UTC, and totals are in mWh. If memory runs out, a part remains.
 pub fn put_site(text: &mut Vec<u8>, moment: u64, lines: &[SiteLine]) -> Result<(), AllocError>
     ensures { OnOk result (text.new.items ≡ json.with_site text.old.items moment lines.now) }
 {

@@ -1,56 +1,63 @@
--- Places of connections, and which one a new connection gets.
+-- The slots of connections, and the slot of a new connection.
 use Rattle.std.specs.Prelude.{◌≡◌, ℕ, ◌<◌, ◌≤◌, nat_le, nat_lt, if◌then◌else◌, Bool, true, false, List, length, position, slice_set, slice_get, Option, None, Some}
 use Rattle.run_schedule.specs.declared.http_peers.place.Place.{Place}
 use Rattle.run_schedule.specs.declared.http_peers.place.Place.TheVariants.{Free, Silent, Asked}
 use Rattle.run_schedule.specs.declared.http_peers.peers.Admission.{Admission}
 
+-- The slot has no connection.
 abbrev pub is_free : Place → Bool
 is_free Free = true
 is_free (Silent until) = false
 is_free (Asked until) = false
 
+-- The connection has reached its end.
 abbrev pub is_over : (now : ℕ) → Place → Bool
 is_over now Free = false
 is_over now (Silent until) = nat_le until now
 is_over now (Asked until) = nat_le until now
 
+-- The slot after its connection sent a request.
 abbrev pub asked : Place → Place
 asked Free = Free
 asked (Silent until) = Asked until
 asked (Asked until) = Asked until
 
+-- The end of an idle connection.
 abbrev pub silent_until : Place → Option ℕ
 silent_until Free = None
 silent_until (Silent until) = Some until
 silent_until (Asked until) = None
 
--- the connection of a place may last so long, and nothing is due to it
+-- The connection of a slot is idle, and may last until this time.
 abbrev pub IsSilentAt : List Place → (place until : ℕ) → Type 0
 IsSilentAt places place until = slice_get places place ≡ Some (Silent until)
 
--- the one that ends first of a connection to which nothing is due, by its place and its end, and that of the next place
+-- The idle connection that ends first, out of the best so far and that of the next slot. Each has a
+-- slot and an end.
 abbrev pub older : Option (ℕ × ℕ) → ℕ → Place → Option (ℕ × ℕ)
 older best i Free = best
 older best i (Asked until) = best
 older None i (Silent until) = Some (i, until)
 older (Some best) i (Silent until) = if nat_lt until best.1 then Some (i, until) else Some best
 
--- it ends first, of those to which nothing is due; or all wait
+-- The slot is that of the idle connection that ends first. Without a slot, no connection is idle.
 abbrev pub IsOldest : List Place → Option ℕ → Type 0
 IsOldest places None = (place until : ℕ) → IsSilentAt places place until → ⊥
 IsOldest places (Some place) =
     (until : ℕ) × IsSilentAt places place until
     × ((other later : ℕ) → IsSilentAt places other later → until ≤ later)
 
--- the first free place, or where none is free that of the oldest connection to which nothing is due
+-- The first free slot, otherwise that of the idle connection that ends first.
 abbrev pub IsChosenAfter : (free : Option ℕ) → List Place → Option ℕ → Type 0
 IsChosenAfter (Some place) places chosen = chosen ≡ Some place
 IsChosenAfter None places chosen = IsOldest places chosen
 
+-- The slot for a new connection, if there is one.
 abbrev pub IsChosen : List Place → Option ℕ → Type 0
 IsChosen places chosen = IsChosenAfter (position is_free places) places chosen
 
--- the place of a new connection, which may last until this moment; one that had it is to be dropped
+-- A new connection gets a slot, and may last until this time. An idle connection that had the slot
+-- is to be dropped.
 abbrev pub Admits : (until : ℕ) → (old new : List Place) → Option Admission → Type 0
 Admits until old new None = IsChosen old None × (new ≡ old)
 Admits until old new (Some one) =
@@ -58,16 +65,20 @@ Admits until old new (Some one) =
     × (slice_get old one.place ≡ Some Free → one.drops ≡ false)
     × ((later : ℕ) → IsSilentAt old one.place later → one.drops ≡ true)
 
+-- The slots after the connection of a slot sent a request, if the slot exists.
 abbrev pub asked_in : ℕ → Option Place → List Place → List Place
 asked_in place None places = places
 asked_in place (Some one) places = slice_set places place (asked one)
 
+-- The slots after the connection of a slot sent a request.
 abbrev pub asked_at : ℕ → List Place → List Place
 asked_at place places = asked_in place (slice_get places place) places
 
+-- The connection of a slot has reached its end, if the slot exists.
 abbrev pub is_over_in : (now : ℕ) → Option Place → Bool
 is_over_in now None = false
 is_over_in now (Some one) = is_over now one
 
+-- The connection of a slot has reached its end.
 abbrev pub is_over_at : ℕ → (now : ℕ) → List Place → Bool
 is_over_at place now places = is_over_in now (slice_get places place)

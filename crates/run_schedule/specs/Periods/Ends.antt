@@ -1,4 +1,4 @@
--- When a period of the calendar is over, by the clocks of a zone.
+-- When a period of the calendar ends, by the clocks of a zone.
 use Rattle.std.specs.Prelude.{ℕ, ℤ, ◌<◌, ◌≤◌, ◌<ℤ◌, ◌≤ℤ◌, Option, Some, None}
 use Rattle.jiff_core.specs.declared.civil.date.Date.{Date}
 use Rattle.interval_core.specs.Zone.{day_at}
@@ -7,23 +7,24 @@ use Rattle.interval_core.specs.declared.zone.Zone.{Zone}
 use Rattle.energy_report.specs.declared.form.Period.{Period}
 use Rattle.energy_report.specs.Periods.{last_day}
 
--- The first moment after this one at which a later day has begun.
+-- The first time after `moment` at which a later day has begun.
 pub record IsFirstPast (zone : Zone) (last : ℤ) (moment next : ℕ) : Type 0 where
   pub later : moment < next
   pub bound : next ≤ LAST_MOMENT
   pub past : last <ℤ day_at zone next
   pub first : (at : ℕ) → moment < at → at < next → day_at zone at ≤ℤ last
 
--- no later day begins after this moment
+-- No later day begins after `moment`.
 abbrev pub IsNeverPast : Zone → (last : ℤ) → (moment : ℕ) → Type 0
 IsNeverPast zone last moment =
     (at : ℕ) → moment < at → at ≤ LAST_MOMENT → day_at zone at ≤ℤ last
 
+-- The first time after `moment` at which a later day has begun, if there is one.
 abbrev pub IsPastFrom : Zone → (last : ℤ) → (moment : ℕ) → Option ℕ → Type 0
 IsPastFrom zone last moment (Some next) = IsFirstPast zone last moment next
 IsPastFrom zone last moment None = IsNeverPast zone last moment
 
--- After this moment, the period in which a day falls is over from the next on: the first at which a later day has begun
--- than its last one.
+-- The first time after `moment` at which the period of `day` is over: a later day than the period's
+-- last has begun.
 abbrev pub IsPeriodEnd : Zone → Period → Date → (moment : ℕ) → (next : Option ℕ) → Type 0
 IsPeriodEnd zone period day moment next = IsPastFrom zone (last_day period day) moment next

@@ -6,42 +6,47 @@ use Rattle.std.specs.Str.{bytes_eq}
 use Rattle.energy_report.specs.declared.form.Period.{Period}
 use Rattle.energy_report.specs.declared.form.Period.TheVariants as period
 
--- the name of a file ends with `.db`
+-- The name ends with `.db`.
 abbrev pub has_suffix : List ℕ → Bool
 has_suffix file = bytes_eq (drop (length file - 3) file) (codes ".db")
 
--- what stands before the end, and the end
+-- The name without its extension.
 abbrev pub stem_of : (file : List ℕ) → List ℕ
 stem_of file = if has_suffix file then take (length file - 3) file else file
 
+-- The extension of the name, or nothing.
 abbrev pub suffix_of : (file : List ℕ) → List ℕ
 suffix_of file = if has_suffix file then codes ".db" else []
 
--- The file of a period: of `office.db` and `2026-11` it is `office-2026-11.db`, and of `office` `office-2026-11`.
+-- The file of a period: for `office.db` and `2026-11` it is `office-2026-11.db`, and for `office`
+-- it is `office-2026-11`.
 abbrev pub file_of : (file text : List ℕ) → List ℕ
 file_of file text = stem_of file ++ codes "-" ++ text ++ suffix_of file
 
--- ---- texts of periods
+-- ---- The texts of periods.
 
+-- A decimal digit.
 abbrev pub is_digit : ℕ → Bool
 is_digit byte = nat_le 48 byte && nat_le byte 57
 
--- two digits from 01 to 12, and from 01 to 31
+-- Two digits from 01 to 12.
 abbrev pub is_month : (tens ones : ℕ) → Bool
 is_month tens ones =
     ((tens == 48) && nat_le 49 ones && nat_le ones 57)
     || ((tens == 49) && nat_le 48 ones && nat_le ones 50)
 
+-- Two digits from 01 to 31.
 abbrev pub is_day : (tens ones : ℕ) → Bool
 is_day tens ones =
     ((tens == 48) && nat_le 49 ones && nat_le ones 57)
     || (nat_le 49 tens && nat_le tens 50 && is_digit ones)
     || ((tens == 51) && nat_le 48 ones && nat_le ones 49)
 
+-- Four digits.
 abbrev pub is_year : (a b c d : ℕ) → Bool
 is_year a b c d = is_digit a && is_digit b && is_digit c && is_digit d
 
--- A text has the form of a period's: `2026-11-25`, `2026-11` or `2026`.
+-- A text has the form of a period's text: `2026-11-25`, `2026-11` or `2026`.
 abbrev pub spells : Period → List ℕ → Bool
 spells period.Year (a ∷ b ∷ c ∷ d ∷ []) = is_year a b c d
 spells period.Year _ = false
@@ -57,6 +62,7 @@ pub record IsNamed (file : List ℕ) (period : Period) (name text : List ℕ) : 
   pub spelled : spells period text ≡ true
   pub named : file_of file text ≡ name
 
+-- The period of a file by its name, if it has one.
 abbrev pub IsPeriodIn : (file : List ℕ) → Period → (name : List ℕ) → Option (Bor (List ℕ)) → Type 0
 IsPeriodIn file period name (Some text) = IsNamed file period name text.now
 IsPeriodIn file period name None = (text : List ℕ) → ¬ IsNamed file period name text

@@ -1,4 +1,4 @@
--- What is done with the file in which books are led, and until when.
+-- What to do with the active file, and until when.
 use Rattle.std.specs.Prelude.{◌≡◌, ℕ, ◌+◌, ◌*◌, ◌/◌, ◌≤◌, min, nat_lt, Bool, if◌then◌else◌}
 use Rattle.std.specs.Prelude.{List, length, take, Option, Some, None}
 use Rattle.std.specs.Borrow.{Bor}
@@ -12,42 +12,43 @@ use Rattle.run_schedule.specs.Periods.Led.{number_in}
 use Rattle.run_schedule.specs.declared.periods.plans.Plan.{Plan}
 use Rattle.run_schedule.specs.declared.periods.plans.Plan.TheVariants.{Stay, StayAhead, Wait, Carry}
 
--- a period's text as far as another tells it too: of a month beside a year its year
+-- A period's text, cut to the length of another: for a month beside a year, its year.
 abbrev pub as_far_as : (other text : List ℕ) → List ℕ
 as_far_as other text = take (min (length text) (length other)) text
 
+-- The period is later than the other, as far as both texts say.
 abbrev pub is_later : (text other : List ℕ) → Bool
 is_later text other = nat_lt (number_in (as_far_as text other)) (number_in (as_far_as other text))
 
--- a file whose period is over is carried, but not while the clock stands before its last entry
+-- A file whose period is over is rolled over, but not while the clock is before its last entry.
 abbrev pub plan_of_past : (last_entry now : ℕ) → Plan
 plan_of_past last_entry now = if nat_lt now last_entry then Wait else Carry
 
--- Books go on in the file of the current period, and in that of a later one. A run's own file, which
--- is of no period, is like one whose period is over.
+-- Records continue in the file of the current period, or of a later one. A run's own file has no
+-- period, and is treated like one whose period is over.
 abbrev pub plan_of : Option (Bor (List ℕ)) → (current : List ℕ) → (last_entry now : ℕ) → Plan
 plan_of None current last_entry now = plan_of_past last_entry now
 plan_of (Some led) current last_entry now =
     if bytes_eq led.now current then Stay
     else (if is_later led.now current then StayAhead else plan_of_past last_entry now)
 
--- What is carried is of no later period, as far as both tell it, and has no entry that is still to
--- come.
+-- A file that is rolled over has no later period, as far as both texts say. It has no entry in the
+-- future.
 abbrev pub NothingGoesBack : Type 0
 NothingGoesBack = (led : Bor (List ℕ)) (current : List ℕ) (last_entry now : ℕ)
     → plan_of (Some led) current last_entry now ≡ Carry
     → (number_in (as_far_as current led.now) ≤ number_in (as_far_as led.now current))
     × (last_entry ≤ now)
 
--- ---- until when
+-- ---- Until when.
 
--- The period's end, and the round that is due then; without an end where the period has none.
+-- The end of the period, and the round that is due then. A period without an end has none here.
 abbrev pub IsPeriodUntil : Zone → Period → Date → (every now : ℕ) → Option ℕ → Type 0
 IsPeriodUntil zone period day every now (Some until) =
     (next : ℕ) × IsPeriodEnd zone period day now (Some next) × (until ≡ next + min (every / 2) 30)
 IsPeriodUntil zone period day every now None = IsPeriodEnd zone period day now None
 
--- the next full hour, and the round that is due then
+-- The next full hour, and the round that is due then.
 abbrev pub next_try : (every now : ℕ) → Option ℕ
 next_try every now =
     if nat_lt LAST_MOMENT now then None

@@ -2,7 +2,8 @@
 use Rattle.std.specs.Prelude.{ℕ, ◌+◌, ◌-◌, ◌^◌, max, min}
 use Rattle.run_schedule.specs.declared.timing.run_time.RunTime.{RunTime}
 
--- where an even clock tells this: as much after the beginning as passed by that clock, and never before the latest
+-- The time when the monotonic clock has `even`: the base and what passed by that clock since the
+-- beginning, but not before the latest time.
 abbrev pub time_by : RunTime → (even : ℕ) → ℕ
 time_by time even =
     max time.latest (min (time.base + (even - time.began)) (2 ^ 64 - 1))

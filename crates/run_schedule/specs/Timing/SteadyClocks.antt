@@ -1,19 +1,19 @@
--- What a clock is taken to tell.
+-- The timestamps of a clock that may be set back.
 use Rattle.std.specs.Prelude.{ℕ, ◌-◌, max, nat_lt, not, ◌&&◌, Bool, Option, Some, None, if◌then◌else◌}
 use Rattle.run_schedule.specs.declared.timing.steady_clock.ClockReading.{ClockReading}
 use Rattle.run_schedule.specs.declared.timing.steady_clock.SteadyClock.{SteadyClock}
 
--- How far the clock stands before the latest moment, the first time that it does.
+-- How far the clock is before the latest timestamp, at the first reading where it is.
 abbrev pub set_back_by : SteadyClock → ℕ → Option ℕ
 set_back_by steady_clock now =
     if nat_lt now steady_clock.latest && not steady_clock.is_back
     then Some (steady_clock.latest - now) else None
 
--- From where the moment went ahead by more than a minute.
+-- The latest timestamp, if the clock is more than a minute ahead of it.
 abbrev pub ahead_by : (latest now : ℕ) → Option ℕ
 ahead_by latest now = if nat_lt 60 (now - latest) then Some latest else None
 
--- the moment goes on, or stays where the clock was set back
+-- The timestamp advances, or stays while the clock is back.
 abbrev pub read_by : SteadyClock → ℕ → ClockReading
 read_by steady_clock now = record {
   moment = max steady_clock.latest now;
@@ -21,6 +21,7 @@ read_by steady_clock now = record {
   ahead_from = ahead_by steady_clock.latest now;
 }
 
+-- What is known of the clock after a reading.
 abbrev pub clock_after : SteadyClock → ℕ → SteadyClock
 clock_after steady_clock now =
     record { latest = max steady_clock.latest now; is_back = nat_lt now steady_clock.latest }

@@ -1,4 +1,4 @@
-//! The place for a new connection.
+//! The slot for a new connection.
 ghost use Rattle.std.specs.Prelude.{◌≡◌, position};
 ghost use Rattle.std.specs.Option.{option_map};
 ghost use Rattle.run_schedule.specs.HttpPeers.Places as specs;
@@ -6,7 +6,8 @@ ghost use Rattle.run_schedule.specs.HttpPeers.Places.{IsChosen, IsOldest};
 
 use crate::http_peers::place::Place;
 
-// The older one of a connection to which nothing is due, by its place and its end, and that of the next place.
+// Returns the idle connection that ends first, out of the best so far and that of the next slot.
+// Each has a slot and an end.
 fn older(best: Option<(usize, u64)>, i: usize, place: Place) -> Option<(usize, u64)>
     ensures { result ≡ specs.older best i place }
 {
@@ -24,7 +25,7 @@ fn older(best: Option<(usize, u64)>, i: usize, place: Place) -> Option<(usize, u
     }
 }
 
-// The oldest connection to which nothing is due, by its place and its end: the one that ends first.
+// Returns the slot and the end of the idle connection that ends first.
 fn oldest_silent(places: &[Place]) -> Option<(usize, u64)>
     ensures { IsOldest places.now (option_map (λ best. best.0) result) }
 {
@@ -41,8 +42,8 @@ fn first_free(places: &[Place]) -> Option<usize>
     places.iter().position(|place| place.is_free())
 }
 
-/// The place for a new connection: the first free one; where none is free, that of the connection that ends first of those to
-/// which nothing is due; none where all wait for a reply.
+/// Returns the slot for a new connection: the first free slot, otherwise that of the idle
+/// connection that ends first. Returns `None` if all connections wait for a response.
 pub fn place_for(places: &[Place]) -> Option<usize>
     ensures { IsChosen places.now result }
 {

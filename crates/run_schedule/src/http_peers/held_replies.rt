@@ -1,19 +1,20 @@
-//! How much is held of replies that peers have not taken.
+//! The limit on the responses in memory that clients have not read.
 ghost use Rattle.std.specs.Prelude.{◌≡◌};
 ghost use Rattle.run_schedule.specs.HttpPeers.HeldReplies as specs;
 ghost use Rattle.run_schedule.specs.HttpPeers.HeldReplies.{HoldsLittle};
 
-/// From how many bytes on that are held no further request is replied to: 64 KiB for each place.
+/// The limit in bytes: 64 KiB for each slot. At the limit no further request gets a response yet.
 const MOST_HELD: usize = 4_194_304;
 
-/// Whether a request may be replied to, where so many bytes of replies are held.
+/// Returns whether a request may get a response, if `held` bytes of responses are in memory.
 pub fn may_reply(held: usize) -> bool
     ensures { result ≡ specs.may_reply held }
 {
     held < MOST_HELD
 }
 
-/// What is held where each reply is made while it may be: 4 MiB, and the one that goes past them.
+/// Theorem: if each response is made while it may be, less than 4 MiB and the longest response are
+/// in memory.
 pub fn little_is_held()
     ensures { HoldsLittle }
 {}

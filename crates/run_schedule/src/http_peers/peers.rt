@@ -1,19 +1,19 @@
-//! The places of all connections.
+//! The slots of all connections.
 use crate::http_peers::choice::place_for;
 use crate::http_peers::place::Place;
 
-/// The most connections at once.
+/// The most connections at the same time.
 pub const MOST_PEERS: usize = 64;
 
-/// A place that a new connection has got.
+/// The slot that a new connection got.
 #[derive(Clone, Copy, Debug, PartialEq, Eq)]
 pub struct Admission {
     pub place: usize,
-    /// Whether a connection had the place to which nothing was due, and is to be dropped.
+    /// Whether the slot was that of an idle connection, which the caller must drop.
     pub drops: bool,
 }
 
-/// The places of the connections that are served at once.
+/// The slots of the connections that are served at the same time.
 #[derive(Drop)]
 pub struct Peers {
     pub places: [Place; 64],
@@ -24,7 +24,7 @@ impl Peers {
     ghost use Rattle.run_schedule.specs.HttpPeers.Places as places;
     ghost use Rattle.run_schedule.specs.HttpPeers.Places.{Admits};
 
-    /// All places are free.
+    /// Makes slots that are all free.
     pub fn new() -> Peers
         ensures { result.places ≡ replicate 64 Place.Free }
     {
@@ -33,7 +33,8 @@ impl Peers {
         }
     }
 
-    /// Gives a new connection a place, where one is free or nothing is due to its connection. It may last for so many seconds.
+    /// Gives a new connection a slot, if a slot is free or its connection is idle. The connection
+    /// may last for `seconds`.
     pub fn admit(&mut self, now: u64, seconds: u64) -> Option<Admission>
         ensures { Admits (min (now + seconds) (2 ^ 64 - 1)) self.old.places self.new.places result }
     {
@@ -46,7 +47,7 @@ impl Peers {
         Some(Admission { place, drops })
     }
 
-    /// The connection of a place has asked.
+    /// Records that the connection of a slot sent a request.
     pub fn ask(&mut self, place: usize)
         requires { place < 64 }
         ensures { self.new.places ≡ places.asked_at place self.old.places }
@@ -54,7 +55,8 @@ impl Peers {
         self.places[place] = self.places[place].asked();
     }
 
-    /// The connection of a place was replied to: from now on it makes room for a new one, and may last until this moment.
+    /// Records that the connection of a slot got its response. From now on it is idle: it may last
+    /// until `until`, and makes room for a new connection.
     pub fn linger(&mut self, place: usize, until: u64)
         requires { place < 64 }
         ensures { self.new.places ≡ slice_set self.old.places place (Place.Silent until) }
@@ -62,7 +64,7 @@ impl Peers {
         self.places[place] = Place::Silent(until);
     }
 
-    /// The connection of a place has ended.
+    /// Frees a slot whose connection has ended.
     pub fn end(&mut self, place: usize)
         requires { place < 64 }
         ensures { self.new.places ≡ slice_set self.old.places place Place.Free }
@@ -70,7 +72,8 @@ impl Peers {
         self.places[place] = Place::Free;
     }
 
-    /// No connection gets this place: it counts as that of one that has asked and has no end.
+    /// Closes a slot, so that no connection gets it. The slot counts as that of a connection that
+    /// waits for a response and has no end.
     pub fn shut(&mut self, place: usize)
         requires { place < 64 }
         ensures { self.new.places ≡ slice_set self.old.places place (Place.Asked (2 ^ 64 - 1)) }
@@ -78,7 +81,7 @@ impl Peers {
         self.places[place] = Place::Asked(u64::MAX);
     }
 
-    /// Whether the connection of a place has lasted too long.
+    /// Returns whether the connection of a slot has reached its end.
     pub fn is_over(&self, place: usize, now: u64) -> bool
         requires { place < 64 }
         ensures { result ≡ places.is_over_at place now self.now.places }

@@ -1,13 +1,14 @@
-//! A place for a connection: free, or taken until a moment.
+//! The slot of a connection: free, idle, or waiting for a response.
 
-/// A place for a connection. Moments are seconds of the run's time.
+/// The slot of a connection. Times are seconds of the run's time.
 #[derive(Clone, Copy, Debug, PartialEq, Eq)]
 pub enum Place {
-    /// No connection has it.
+    /// The slot has no connection.
     Free,
-    /// Nothing is due to its connection, which has not asked yet or was replied to; it may last until this moment.
+    /// The connection is idle: it sent no request yet, or got its response. It may last until this
+    /// time.
     Silent(u64),
-    /// Its connection has asked and waits for its reply; it may last until this moment.
+    /// The connection sent a request and waits for its response. It may last until this time.
     Asked(u64),
 }
 
@@ -15,7 +16,7 @@ impl Place {
     ghost use Rattle.std.specs.Prelude.{◌≡◌};
     ghost use Rattle.run_schedule.specs.HttpPeers.Places as places;
 
-    /// Whether no connection has it.
+    /// Returns whether the slot has no connection.
     pub fn is_free(self) -> bool
         ensures { result ≡ places.is_free self }
     {
@@ -26,7 +27,7 @@ impl Place {
         }
     }
 
-    /// Whether its connection has lasted too long.
+    /// Returns whether the connection has reached its end.
     pub fn is_over(self, now: u64) -> bool
         ensures { result ≡ places.is_over now self }
     {
@@ -37,7 +38,7 @@ impl Place {
         }
     }
 
-    /// The place, once its connection has asked.
+    /// Returns the slot after its connection sent a request.
     pub fn asked(self) -> Place
         ensures { result ≡ places.asked self }
     {
@@ -48,7 +49,7 @@ impl Place {
         }
     }
 
-    /// Until when a connection may last to which nothing is due.
+    /// Returns the end of an idle connection.
     pub fn silent_until(self) -> Option<u64>
         ensures { result ≡ places.silent_until self }
     {

@@ -1,20 +1,20 @@
-//! How much is replied in a turn, and which place is attended first.
+//! How many responses a turn makes, and which slot comes first.
 ghost use Rattle.std.specs.Prelude.{◌≡◌, ◌<◌, ℕ, List};
 ghost use Rattle.run_schedule.specs.HttpPeers.TurnShares as shares;
 ghost use Rattle.run_schedule.specs.HttpPeers.TurnShares.{AreFew, MayReply};
 
 use crate::http_peers::peers::MOST_PEERS;
 
-/// How many bytes the replies of a turn may have together before the other requests wait for the next. The rows of a meter of
-/// two years are a reply of 1.8 MB, and take 50 to 100 ms to make, so these are some 10 ms; and the one that goes past them is
-/// the last of its turn.
+/// The bytes of a turn's responses after which the other requests wait for the next turn. The rows
+/// of a meter over two years are a response of 1.8 MB, which takes 50 to 100 ms to make. So these
+/// bytes take some 10 ms. The response that exceeds them is the last of its turn.
 const MOST_BYTES: usize = 262_144;
 
-/// How many milliseconds the replies of a turn may take together before the other requests wait for the next: energy by months
-/// has few bytes, and is reckoned from as many rows.
+/// The milliseconds of a turn's responses after which the other requests wait for the next turn.
+/// Energy by month has few bytes, but it is computed from as many rows.
 const MOST_MILLISECONDS: u64 = 20;
 
-/// What is left of the replies of a turn.
+/// What is left of a turn's share of responses.
 #[derive(Clone, Copy, Debug, PartialEq, Eq)]
 pub struct TurnShare {
     requests: usize,
@@ -23,7 +23,7 @@ pub struct TurnShare {
 }
 
 impl TurnShare {
-    /// That of a turn that begins.
+    /// Returns the share of a turn that begins.
     pub fn whole() -> TurnShare
         ensures { result ≡ shares.whole }
     {
@@ -34,14 +34,15 @@ impl TurnShare {
         }
     }
 
-    /// Whether the requests that wait are for the next turn.
+    /// Returns whether the other requests wait for the next turn.
     pub fn is_over(self) -> bool
         ensures { result ≡ shares.is_over self }
     {
         self.requests == 0 || self.bytes == 0 || self.milliseconds == 0
     }
 
-    /// What is left after a reply of so many bytes, which took so long.
+    /// Returns what is left after a response with this many bytes, which took this many
+    /// milliseconds.
     pub fn after(self, bytes: usize, milliseconds: u64) -> TurnShare
         ensures { result ≡ shares.after self bytes milliseconds }
     {
@@ -53,13 +54,13 @@ impl TurnShare {
     }
 }
 
-/// What a turn replies: where each reply was begun while something was left, they are 64 at most, and those before the last
-/// have less than 256 KiB together and took less than 20 ms.
+/// Theorem: if each response begins while something of the share is left, a turn has at most 64
+/// responses. All but the last have less than 256 KiB together, and took less than 20 ms.
 pub fn replies_are_few()
     ensures { (replies : List (ℕ × ℕ)) → MayReply replies → AreFew replies }
 {}
 
-/// The place that is attended at a step of a turn that begins with the first one.
+/// Returns the slot at a step of a turn that begins with slot `first`.
 pub fn place_at(first: usize, step: usize) -> usize
     ensures place { result < 64 }
     ensures round { first < 64 → step < 64 → result ≡ shares.place_at first step }
@@ -67,8 +68,8 @@ pub fn place_at(first: usize, step: usize) -> usize
     first.saturating_add(step) % MOST_PEERS
 }
 
-/// Turns go round: each place is attended in a turn; and one that waits, since another came before it, waits for less in a turn
-/// that begins after that.
+/// Theorem: a turn serves each slot. If another slot came before a waiting one, and the next turn
+/// begins after that other slot, fewer slots come before the waiting one.
 pub fn turns_go_round()
     ensures each { (first place : ℕ) → first < 64 → place < 64
         → shares.place_at first (shares.before place first) ≡ place }

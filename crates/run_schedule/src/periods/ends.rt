@@ -1,4 +1,4 @@
-//! When a period of the calendar is over.
+//! When a period of the calendar ends.
 ghost use Rattle.std.specs.Prelude.{◌≡◌, ◌≤◌, ◌<◌, ◌/◌, ◌≤ℤ◌, ◌<ℤ◌, ◌+ℤ◌, ◌-ℤ◌, ◌*ℤ◌, ℕ, pos, min, true, false};
 ghost use Rattle.jiff.specs.Words.{epoch_day};
 ghost use Rattle.interval_core.specs.Zone.{day_at};
@@ -8,16 +8,17 @@ ghost use Rattle.run_schedule.specs.Periods.Ends.{IsPastFrom, IsPeriodEnd};
 use energy_report::Period;
 use interval_core::{Day, LAST_MOMENT, Zone, day_of};
 
-/// How many seconds a day has.
+/// The seconds of a day.
 const DAY: i64 = 86_400;
 
-/// How many seconds the clocks of a zone are ahead of UTC, or behind it, at most: 25:59:59.
+/// The greatest UTC offset of a zone in seconds, ahead or back: 25:59:59.
 const MOST_OFFSET: i64 = 93_599;
 
 /// The most seconds for a round that is due as a period begins.
 const MOST_LAST_ROUND: u64 = 30;
 
-// When the day after a day begins by the earliest clock that a zone can have, in seconds since 1970-01-01 UTC.
+// Returns when the day after `last` begins by the earliest clock that a zone can have, in seconds
+// since 1970-01-01 UTC.
 fn earliest_after(last: Day) -> i64
     ensures { result ≡ (epoch_day last +ℤ pos 1) *ℤ pos 86_400 -ℤ pos 93_599 }
 {
@@ -25,7 +26,7 @@ fn earliest_after(last: Day) -> i64
     (day + 1) * DAY - MOST_OFFSET
 }
 
-// A moment after this one, before which no later day begins anywhere.
+// Returns a time after `moment`. Between the two, no day after `last` has begun in any zone.
 fn search_from(last: Day, moment: u64) -> u64
     requires { moment ≤ LAST_MOMENT }
     ensures later { moment < result }
@@ -38,7 +39,7 @@ fn search_from(last: Day, moment: u64) -> u64
     }
 }
 
-// Whether a later day than this has begun at a moment.
+// Returns whether a day after `last` has begun.
 fn is_past(zone: &Zone, last: Day, at: u64) -> bool
     requires { at ≤ LAST_MOMENT }
     ensures later { result ≡ true → epoch_day last <ℤ day_at zone.now at }
@@ -50,7 +51,7 @@ fn is_past(zone: &Zone, last: Day, at: u64) -> bool
     }
 }
 
-// The first moment after this one at which a later day has begun.
+// Returns the first time after `moment` at which a day after `last` has begun.
 fn first_past(zone: &Zone, last: Day, moment: u64) -> Option<u64>
     requires { moment ≤ LAST_MOMENT }
     ensures { IsPastFrom zone.now (epoch_day last) moment result }
@@ -63,8 +64,9 @@ fn first_past(zone: &Zone, last: Day, moment: u64) -> Option<u64>
     None
 }
 
-/// From which moment on the period is over in which a day falls, by the clocks of a zone: the first after this moment at which a
-/// later day has begun than its last one. None where there is none up to the last moment.
+/// Returns the first time after `moment` at which the period of `day` is over, by the clocks of a
+/// zone: a later day than the period's last has begun. Returns `None` if there is no such time up
+/// to the last timestamp.
 pub fn period_end(zone: &Zone, period: Period, day: Day, moment: u64) -> Option<u64>
     ensures { IsPeriodEnd zone.now period day moment result }
 {
@@ -74,8 +76,8 @@ pub fn period_end(zone: &Zone, period: Period, day: Day, moment: u64) -> Option<
     first_past(zone, period.last_day(day), moment)
 }
 
-/// How many seconds a round has that is due as a period begins, before the file is changed: half of those from one round to the
-/// next, and 30 at most.
+/// Returns the seconds for a round that is due as a period begins, before the run changes the file:
+/// half of the polling interval, at most 30.
 pub fn last_round(every: u64) -> u64
     ensures { result ≡ min (every / 2) 30 }
 {

@@ -1,4 +1,5 @@
-//! In which of the files of periods books are led, by their names.
+//! Which of the files of periods is the active one, by their names. In the active file energy is
+//! recorded.
 ghost use Rattle.std.specs.Prelude.{◌≡◌, ◌≤◌, ◌<◌, ◌*◌, ◌+◌, nat_lt};
 ghost use Rattle.run_schedule.specs.Periods.Led as numbers;
 ghost use Rattle.run_schedule.specs.Periods.Led.{IsToldBy};
@@ -14,7 +15,7 @@ fn pair(tens: u8, ones: u8) -> u32
     10 * u32::from(tens.saturating_sub(48)) + u32::from(ones.saturating_sub(48))
 }
 
-// The year, month and day of a period's text; 0 for what it doesn't tell.
+// Returns the year, month and day of a period's text, with 0 for those that it lacks.
 fn numbers_in(text: &[u8]) -> (u32, u32, u32)
     ensures year { result.0 ≡ numbers.year_in text.now }
     ensures month { result.1 ≡ numbers.month_in text.now }
@@ -37,7 +38,7 @@ fn numbers_in(text: &[u8]) -> (u32, u32, u32)
     }
 }
 
-/// The number of a period's text, by which those of one length are in their order.
+/// Returns a number by which texts of one length are in the order of their periods.
 pub(crate) fn number_in(text: &[u8]) -> u32
     ensures { result ≡ numbers.number_in text.now }
 {
@@ -63,7 +64,8 @@ fn rank(length: Period, text: &[u8]) -> u32
     2 * 512 * year + own + 32 * month + day
 }
 
-// Of which period a file is by its name, of a run's own length or of the other one.
+// Returns the period of a file by its name, if the period has the run's own length or the other
+// one.
 fn told_by<'a>(file: &[u8], length: Period, name: &'a [u8]) -> Option<&'a [u8]>
     ensures { IsToldBy file.now length name.now result }
 {
@@ -79,8 +81,8 @@ fn is_before(length: Period, text: &[u8], other: &[u8]) -> bool
     rank(length, text) < rank(length, other)
 }
 
-/// Of which period the file is in which books are led, by the names that were seen: its text, as `2026-11` or `2026`; none
-/// where there is no file of a period.
+/// The period of the active file, by the names so far, as `2026-11` or `2026`. `None` if no file of
+/// a period was seen.
 #[derive(Drop)]
 pub struct LedPeriod {
     pub text: Option<Vec<u8>>,
@@ -90,14 +92,14 @@ impl LedPeriod {
     ghost use Rattle.std.specs.Prelude.{◌≡◌, [], OnOk, OnErr, None};
     ghost use Rattle.run_schedule.specs.Periods.Led.{SeesOneMore};
 
-    /// No name was seen.
+    /// Makes a value that has seen no name.
     pub fn none() -> LedPeriod
         ensures { result.text ≡ None }
     {
         LedPeriod { text: None }
     }
 
-    // Whether the file of this period is led, and no longer that which is.
+    // Returns whether the file of this period replaces the active one.
     fn gives_way_to(&self, length: Period, text: &[u8]) -> bool
         ensures { result ≡ numbers.gives_way self.now.text length text.now }
     {
@@ -107,8 +109,10 @@ impl LedPeriod {
         }
     }
 
-    /// Sees a name that lies beside a run's own file. Books are led in the file of the latest year, of one year in that of the
-    /// run's own length, and of these in that of the latest month, or day.
+    /// Adds the name of a file beside the run's own file.
+    ///
+    /// The active file is that of the latest year. Within a year it is a file of the run's own
+    /// period length, if there is one. Of several, it is that of the latest month or day.
     pub fn see(
         &mut self,
         alloc: Global,

@@ -7,10 +7,10 @@ ghost use Rattle.run_schedule.specs.Periods.Names.{IsPeriodIn, file_of, stem_of,
 use energy_report::Period;
 use std::alloc::{AllocError, Global};
 
-/// What ends the name of a database, which stays behind the period.
+/// The extension of a database file, which stays at the end of the name.
 const SUFFIX: &[u8] = b".db";
 
-// What stands before the end of a file's name, and the end.
+// Splits the name of a file before its extension.
 fn parts_of(file: &[u8]) -> (&[u8], &[u8])
     ensures stem { result.0.now ≡ stem_of file.now }
     ensures suffix { result.1.now ≡ suffix_of file.now }
@@ -23,7 +23,6 @@ fn parts_of(file: &[u8]) -> (&[u8], &[u8])
     }
 }
 
-// The bytes one after the other.
 fn joined(alloc: Global, stem: &[u8], text: &[u8], suffix: &[u8]) -> Result<Vec<u8>, AllocError>
     ensures { IfOk result
         (λ name. name.items ≡ stem.now ++ codes "-" ++ text.now ++ suffix.now) }
@@ -36,8 +35,8 @@ fn joined(alloc: Global, stem: &[u8], text: &[u8], suffix: &[u8]) -> Result<Vec<
     Ok(name)
 }
 
-/// The name of the file of a period: of `office.db` and `2026-11` it is `office-2026-11.db`. Without `.db` at its end a name gets
-/// the period there.
+/// Returns the name of the file of a period: for `office.db` and `2026-11` it is
+/// `office-2026-11.db`. A name without `.db` gets the period at its end.
 pub fn file_of_period(alloc: Global, file: &[u8], text: &[u8]) -> Result<Vec<u8>, AllocError>
     ensures { IfOk result (λ name. name.items ≡ file_of file.now text.now) }
 {
@@ -71,7 +70,7 @@ fn is_year(a: u8, b: u8, c: u8, d: u8) -> bool
     is_digit(a) && is_digit(b) && is_digit(c) && is_digit(d)
 }
 
-// Whether a text has the form of a period's.
+// Returns whether a text has the form of a period's text.
 pub(crate) fn spells(period: Period, text: &[u8]) -> bool
     ensures { result ≡ named.spells period text.now }
 {
@@ -91,7 +90,6 @@ pub(crate) fn spells(period: Period, text: &[u8]) -> bool
     }
 }
 
-// What stands after a beginning.
 fn after<'a>(text: &'a [u8], front: &[u8]) -> Option<&'a [u8]>
     ensures { MatchOption result ((rest : List ℕ) → text.now ≢ front.now ++ rest)
         (λ rest. text.now ≡ front.now ++ rest.now) }
@@ -99,7 +97,6 @@ fn after<'a>(text: &'a [u8], front: &[u8]) -> Option<&'a [u8]>
     text.strip_prefix(front)
 }
 
-// What stands before an end.
 fn before<'a>(text: &'a [u8], end: &[u8]) -> Option<&'a [u8]>
     ensures { MatchOption result ((front : List ℕ) → text.now ≢ front ++ end.now)
         (λ front. text.now ≡ front.now ++ end.now) }
@@ -107,7 +104,7 @@ fn before<'a>(text: &'a [u8], end: &[u8]) -> Option<&'a [u8]>
     text.strip_suffix(end)
 }
 
-// What stands between a beginning with a hyphen and an end.
+// Returns what lies between a stem with a hyphen and an extension.
 fn between<'a>(name: &'a [u8], stem: &[u8], suffix: &[u8]) -> Option<&'a [u8]>
     ensures { MatchOption result
         ((text : List ℕ) → stem.now ++ codes "-" ++ text ++ suffix.now ≢ name.now)
@@ -122,7 +119,7 @@ fn between<'a>(name: &'a [u8], stem: &[u8], suffix: &[u8]) -> Option<&'a [u8]>
     }
 }
 
-/// Of which period a file is by its name, where it is one of those that belong to a file.
+/// Returns the period of a file by its name, if it belongs to the run's own file.
 pub fn period_of_file<'a>(file: &[u8], period: Period, name: &'a [u8]) -> Option<&'a [u8]>
     ensures { IsPeriodIn file.now period name.now result }
 {

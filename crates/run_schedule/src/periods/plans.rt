@@ -1,4 +1,4 @@
-//! What is done with the file in which books are led, and until when.
+//! What to do with the active file, and until when.
 ghost use Rattle.std.specs.Prelude.{◌≡◌, ◌≤◌, min, length};
 ghost use Rattle.run_schedule.specs.Periods.Plans as specs;
 ghost use Rattle.run_schedule.specs.Periods.Plans.{IsPeriodUntil, NothingGoesBack};
@@ -8,23 +8,24 @@ use crate::periods::led::number_in;
 use energy_report::Period;
 use interval_core::{Day, LAST_MOMENT, Zone};
 
-/// How many seconds an hour has.
+/// The seconds of an hour.
 const HOUR: u64 = 3600;
 
-/// What is done with the file in which books are led.
+/// What to do with the active file, in which energy is recorded.
 #[derive(Clone, Copy, Debug, PartialEq, Eq)]
 pub enum Plan {
-    /// They go on in it: it is that of the current period.
+    /// Records continue in the file. It is that of the current period.
     Stay,
-    /// They go on in it: its period is later than the clock says.
+    /// Records continue in the file. Its period is later than that of the clock.
     StayAhead,
-    /// They go on in it for a while: its period is over, and the clock stands before its last entry.
+    /// Records continue in the file for a while. Its period is over, but its last entry is later
+    /// than the clock.
     Wait,
-    /// It is carried into that of the current period.
+    /// The file is rolled over into that of the current period.
     Carry,
 }
 
-// How many characters both texts have.
+// Returns the length of the shorter text.
 fn shared(text: &[u8], other: &[u8]) -> usize
     ensures is { result ≡ min (length text.now) (length other.now) }
     ensures within { result ≤ length text.now }
@@ -50,8 +51,10 @@ fn plan_of_past(last_entry: u64, now: u64) -> Plan
     }
 }
 
-/// What is done with the file in which books are led, where it is of this period, by its text; where that is none, it is a
-/// run's own file. The current period is told by its text, and moments are seconds since 1970-01-01 UTC.
+/// Returns what to do with the active file, by the text of its period. A run's own file has no
+/// period.
+///
+/// `current` is the text of the current period. Times are in seconds since 1970-01-01 UTC.
 pub fn plan_of(led: Option<&[u8]>, current: &[u8], last_entry: u64, now: u64) -> Plan
     ensures { result ≡ specs.plan_of led.entry current.now last_entry now }
 {
@@ -69,13 +72,14 @@ pub fn plan_of(led: Option<&[u8]>, current: &[u8], last_entry: u64, now: u64) ->
     }
 }
 
-/// No file is carried into that of an earlier period, nor one that has an entry which is still to come.
+/// Theorem: no file is rolled over into that of an earlier period, or before its last entry.
 pub fn nothing_goes_back()
     ensures { NothingGoesBack }
 {}
 
-/// Until when books go on in the file of the period in which a day falls, by the clocks of a zone: to its end, and then for as
-/// long as the round has that is due there, of devices that are polled each so many seconds. None: without an end.
+/// Returns until when records continue in the file of the period of `day`, by the clocks of a zone:
+/// its end, plus the time for the round that is due then. Devices are polled every `every` seconds.
+/// `None` is no end.
 pub fn period_until(zone: &Zone, period: Period, day: Day, every: u64, now: u64) -> Option<u64>
     ensures { IsPeriodUntil zone.now period day every now result }
 {
@@ -85,8 +89,8 @@ pub fn period_until(zone: &Zone, period: Period, day: Day, every: u64, now: u64)
     }
 }
 
-/// Until when books go on in a file that couldn't be carried: to the next full hour, and then for as long as the round has that
-/// is due there. None past the last moment.
+/// Returns until when records continue in a file whose rollover failed: the next full hour, plus
+/// the time for the round that is due then. Returns `None` past the last timestamp.
 pub fn next_try(every: u64, now: u64) -> Option<u64>
     ensures { result ≡ specs.next_try every now }
 {

@@ -1,7 +1,7 @@
-//! The grid of moments at which devices are due.
+//! The grid of times at which devices are due.
 ghost use Rattle.std.specs.Prelude.{◌≡◌, ◌≤◌, ◌<◌, ◌+◌, ◌*◌, ◌^◌, ℕ};
 
-/// The first multiple of `every` after now. What was missed is not made up for.
+/// Returns the first multiple of `every` after `now`. Missed rounds are not made up for.
 pub fn next_due(every: u64, now: u64) -> u64
     requires some { 0 < every }
     requires fits { now + every < 2 ^ 64 }

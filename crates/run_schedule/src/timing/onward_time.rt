@@ -1,19 +1,19 @@
-//! The time of a clock over several runs, one after the other.
+//! The time of a clock over several runs in turn.
 
-/// What a clock tells that may be told to go on from the latest moment: so no run begins before a moment of the run before it,
-/// where the clock was set back meanwhile.
+/// The time of a clock that does not go back from one run to the next. So no run begins before a
+/// timestamp of the run before it, even if the clock was set back in between.
 #[derive(Clone, Copy, Debug, PartialEq, Eq)]
 pub struct OnwardTime {
-    /// No moment before this one is told.
+    /// The least time that is reported.
     pub least: u64,
-    /// The latest moment that was told.
+    /// The latest time that was reported.
     pub latest: u64,
 }
 
 impl OnwardTime {
     ghost use Rattle.std.specs.Prelude.{◌≡◌, max};
 
-    /// A time that tells each moment as the clock does.
+    /// Makes a time that reports what the clock does.
     pub fn new() -> OnwardTime
         ensures { result ≡ record { least = 0; latest = 0 } }
     {
@@ -23,7 +23,7 @@ impl OnwardTime {
         }
     }
 
-    /// The moment where the clock tells this.
+    /// Returns the time when the clock has `now`.
     pub fn read(&mut self, now: u64) -> u64
         ensures told { result ≡ max now self.old.least }
         ensures least { self.new.least ≡ self.old.least }
@@ -34,7 +34,7 @@ impl OnwardTime {
         moment
     }
 
-    /// From here on it tells no moment before the latest so far.
+    /// Makes the latest time so far the least that is reported from now on.
     pub fn go_on(&mut self)
         ensures { self.new ≡ record { least = self.old.latest; latest = self.old.latest } }
     {

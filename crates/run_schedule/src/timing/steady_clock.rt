@@ -1,22 +1,23 @@
-//! A clock that goes on.
+//! A clock whose timestamps never go back.
 ghost use Rattle.std.specs.Prelude.{◌≡◌, ◌≤◌, false};
 ghost use Rattle.run_schedule.specs.Timing.SteadyClocks.{ahead_by, read_by, clock_after};
 
-/// How many seconds the moment may go ahead from one reading to the next, without that being told.
+/// The most seconds that the time may advance from one reading to the next without a report.
 const MOST_AHEAD: u64 = 60;
 
-/// A moment that never goes back.
+/// A timestamp that never goes back.
 #[derive(Clone, Copy, Debug, PartialEq, Eq)]
 pub struct ClockReading {
-    /// The moment of what comes now: the clock's, or the latest where the clock stands before it.
+    /// The timestamp of an event that arrives now: that of the clock, or the latest one if the
+    /// clock is before it.
     pub moment: u64,
-    /// How many seconds the clock stands before the latest moment, where that is to be told now; it is told once.
+    /// How many seconds the clock is before the latest timestamp, at the first reading where it is.
     pub set_back: Option<u64>,
-    /// From which moment on it went ahead, where it did so by more than a minute.
+    /// The timestamp before the time went ahead, if it went ahead by more than a minute.
     pub ahead_from: Option<u64>,
 }
 
-// The moment before, where the clock has gone ahead of it by more than a minute.
+// Returns the latest timestamp, if the clock is more than a minute ahead of it.
 fn ahead_from(latest: u64, now: u64) -> Option<u64>
     ensures { result ≡ ahead_by latest now }
 {
@@ -30,14 +31,14 @@ fn ahead_from(latest: u64, now: u64) -> Option<u64>
 /// What is known of a clock that may be set back.
 #[derive(Clone, Copy, Debug, PartialEq, Eq)]
 pub struct SteadyClock {
-    /// The latest moment.
+    /// The latest timestamp.
     pub latest: u64,
-    /// Whether the clock stood before it when it was read last.
+    /// Whether the clock was before the latest timestamp at the last reading.
     pub is_back: bool,
 }
 
 impl SteadyClock {
-    /// A watch that goes on from a moment.
+    /// Makes a clock that continues from a timestamp.
     pub fn new(latest: u64) -> SteadyClock
         ensures latest { result.latest ≡ latest }
         ensures back { result.is_back ≡ false }
@@ -48,7 +49,7 @@ impl SteadyClock {
         }
     }
 
-    /// The moment of what comes now, where the clock tells this.
+    /// Returns the timestamp of an event that arrives when the clock has `now`.
     pub fn read(&mut self, now: u64) -> ClockReading
         ensures reads { result ≡ read_by self.old now }
         ensures after { self.new ≡ clock_after self.old now }

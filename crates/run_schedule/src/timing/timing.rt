@@ -1,26 +1,27 @@
-//! When a device is looked at.
+//! When a device needs attention.
 use crate::timing::grid::next_due;
 use crate::timing::limits::{CONNECT_SECONDS, round_until, until};
 use crate::timing::pauses::{next_pause, retry_at};
 
-/// What the connection to a device does.
+/// The state of the connection to a device.
 #[derive(Clone, Copy, Debug, PartialEq, Eq)]
 pub enum Phase {
-    /// There is none.
+    /// There is no connection.
     Resting,
-    /// It is being made.
+    /// The connection is being made.
     Connecting,
-    /// It stands, and the device is polled.
+    /// The connection exists, and the device is polled.
     Polling,
 }
 
-/// When a device is looked at next.
+/// When a device needs attention next.
 #[derive(Clone, Copy, Debug, PartialEq, Eq)]
 pub struct Timing {
     pub phase: Phase,
-    /// While it rests: the moment at which it is tried. Else: until when the connection may be made, or the round last.
+    /// While the device rests, the time of the next attempt. Otherwise the deadline of the
+    /// connection or the round.
     pub at: u64,
-    /// The pause after the latest connection that failed; 0 where it stood.
+    /// The pause after the latest failed connection, or 0 after a successful one.
     pub pause: u64,
 }
 
@@ -29,7 +30,7 @@ impl Timing {
     ghost use Rattle.run_schedule.specs.Timing.Timings as timings;
     ghost use Rattle.run_schedule.specs.Timing.Timings.{IsDue, IsRetried};
 
-    /// A device that rests until it is due.
+    /// Makes a device that rests until it is due.
     pub fn new(every: u64, now: u64) -> Timing
         requires some { 0 < every }
         requires fits { now + every < 2 ^ 64 }
@@ -44,7 +45,7 @@ impl Timing {
         }
     }
 
-    /// Whether it is to be tried.
+    /// Returns whether to connect to the device now.
     pub fn is_due(&self, now: u64) -> bool
         ensures { result ≡ timings.is_due now self.now }
     {
@@ -55,7 +56,7 @@ impl Timing {
         }
     }
 
-    /// Whether its connection takes too long, or its round.
+    /// Returns whether the connection or the round has passed its deadline.
     pub fn is_over(&self, now: u64) -> bool
         ensures { result ≡ timings.is_over now self.now }
     {
@@ -66,7 +67,7 @@ impl Timing {
         }
     }
 
-    /// The connection is being made.
+    /// Records that the connection is being made.
     pub fn begin(&mut self, now: u64)
         ensures { self.new ≡ timings.begun now self.old }
     {
@@ -74,7 +75,7 @@ impl Timing {
         self.at = until(now, CONNECT_SECONDS);
     }
 
-    /// It stands.
+    /// Records that the connection was made, and the round begins.
     pub fn stand(&mut self, every: u64, now: u64)
         ensures { self.new ≡ timings.stands every now }
     {
@@ -83,7 +84,8 @@ impl Timing {
         self.pause = 0;
     }
 
-    /// It could not be made: the device is tried again after a pause that grows, and never later than when it is due.
+    /// Records that the connection failed. The device is retried after a pause that grows, but no
+    /// later than when it is due.
     pub fn fail(&mut self, every: u64, now: u64)
         requires some { 0 < every }
         requires fits { now + every < 2 ^ 64 }
@@ -96,7 +98,7 @@ impl Timing {
         self.at = retry_at(now, self.pause, next_due(every, now));
     }
 
-    /// It has ended: the device rests until it is due.
+    /// Records that the connection has ended. The device rests until it is due.
     pub fn rest(&mut self, every: u64, now: u64)
         requires some { 0 < every }
         requires fits { now + every < 2 ^ 64 }

@@ -1,4 +1,4 @@
--- What is to be sent to the device of a place.
+-- The bytes to send to the device of a slot.
 use Rattle.std.proofs.Common.{◌≡◌, inl, inr, ℕ, ◌<◌, ◌≤◌, List, [], ◌++◌, length, set, get_or, map, Bool, true, false, cond, Some, None, sym, ap, ◌∙◌}
 use Rattle.std.proofs.lemmas.List.{append-nil, map-set}
 use Rattle.std.proofs.lemmas.Option.{slice_get-get_or, slice_get-map, slice_get_past}
@@ -8,13 +8,13 @@ use Rattle.std.specs.Option.{option_map}
 use Rattle.office_events.specs.declared.events.Event.{Event}
 use Rattle.run_status.specs.Monitor.Output.{IsPut, IsSentTo, kept, sent_in, sent_to, taken_at, taken_in}
 
--- put whole, or not at all
+-- Frames are queued completely, or not at all.
 pub put_or_not : (e : Event) (frames old left new : List ℕ) (done : Bool) → left ≡ kept e old
     → new ≡ cond done (left ++ frames) left → IsPut e frames old new
 put_or_not e frames old left new true was is = inl (is ∙ ap (λ xs. xs ++ frames) was)
 put_or_not e frames old left new false was is = inr (is ∙ was ∙ sym (append-nil (kept e old)))
 
--- an element of a list, seen by f
+-- An element of a list, mapped by f.
 pub seen_at : {X : Type 0} (f : X → List ℕ) (xs : List X) (place : ℕ) (d : X) → place < length xs
     → slice_get (map f xs) place ≡ Some (f (get_or xs place d))
 seen_at f xs place d inside = slice_get-map f xs place ∙ ap (option_map f) (slice_get-get_or xs place d inside)
@@ -22,7 +22,7 @@ seen_at f xs place d inside = slice_get-map f xs place ∙ ap (option_map f) (sl
 pub seen_past : {X : Type 0} (f : X → List ℕ) (xs : List X) (place : ℕ) → length xs ≤ place → slice_get (map f xs) place ≡ None
 seen_past f xs place past = slice_get-map f xs place ∙ ap (option_map f) (slice_get_past xs place past)
 
--- frames are sent to a device where what is put after its queue is written back
+-- Frames are queued for a device if its queue is replaced by a longer one.
 pub sent_there : {X : Type 0} (f : X → List ℕ) (xs : List X) (place : ℕ) (x d : X) (e : Event) (frames : List ℕ) → place < length xs
     → f x ≡ kept e (f (get_or xs place d)) ++ frames → map f (set xs place x) ≡ sent_to place e frames (map f xs)
 sent_there f xs place x d e frames inside is =
@@ -34,7 +34,7 @@ pub sent_at : {X : Type 0} (f : X → List ℕ) (xs : List X) (place : ℕ) (x d
 sent_at f xs place x d e frames inside (inl is) = inl (sent_there f xs place x d e frames inside is)
 sent_at f xs place x d e frames inside (inr is) = inr (sent_there f xs place x d e [] inside is)
 
--- past the last place nothing changes
+-- Beyond the last slot nothing changes.
 pub sent_nowhere : {X : Type 0} (f : X → List ℕ) (xs : List X) (place : ℕ) (e : Event) (frames : List ℕ) → length xs ≤ place
     → IsSentTo place e frames (map f xs) (map f xs)
 sent_nowhere f xs place e frames past =
@@ -47,7 +47,7 @@ taken_there f xs place d inside = ap taken_in (sym (seen_at f xs place d inside)
 pub taken_nowhere : {X : Type 0} (f : X → List ℕ) (xs : List X) (place : ℕ) → length xs ≤ place → [] ≡ taken_at place (map f xs)
 taken_nowhere f xs place past = ap taken_in (sym (seen_past f xs place past))
 
--- nothing is left at a place
+-- The queue of a slot is emptied.
 pub left_there : {X : Type 0} (f : X → List ℕ) (xs : List X) (place : ℕ) (x : X) → f x ≡ [] → map f (set xs place x) ≡ set (map f xs) place []
 left_there f xs place x is = map-set f xs place x ∙ ap (set (map f xs) place) is
 

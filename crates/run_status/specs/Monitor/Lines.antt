@@ -1,4 +1,4 @@
--- Lines that a person reads. Each definition gives a text with something at its end.
+-- The lines that a run prints for people. Each definition appends to a text.
 use Rattle.std.specs.Prelude.{ℕ, List, [], ◌∷◌, ◌++◌, Option, Some, None, Result, Ok, Err, codes, decimal}
 use Rattle.energy_core.specs.Verdict.{cause_number}
 use Rattle.poll_core.specs.declared.outcome.Closing.TheVariants as closing
@@ -10,11 +10,12 @@ use Rattle.office_events.specs.declared.events.Event.{Event}
 use Rattle.office_events.specs.declared.events.Event.TheVariants as event
 use Rattle.office_events.specs.declared.refusals.Refusal.{Refusal}
 
--- the moment, and the name of the device; `-` for a name that no device can have
+-- The timestamp and the name of the device, or `-` for a name that no device can have.
 abbrev pub with_head : (at : ℕ) → (name : Option (List ℕ)) → List ℕ → List ℕ
 with_head at None text = text ++ decimal at ++ codes " -"
 with_head at (Some name) text = text ++ decimal at ++ codes " " ++ name
 
+-- A connection that began or ended.
 abbrev pub with_event : (at : ℕ) → (name : Option (List ℕ)) → Event → List ℕ → List ℕ
 with_event at name (event.Connected given) text = with_head at name text ++ codes " connected\n"
 with_event at name (event.Bytes given piece) text = text
@@ -25,13 +26,14 @@ with_event at name (event.Gone given closing.Failed) text =
 with_event at name (event.Command c) text = text
 with_event at name (event.Asked asked) text = text
 
+-- An event that was accepted, or its refusal.
 abbrev pub with_answer : (at : ℕ) → (name : Option (List ℕ)) → Event → Result Answer Refusal
     → List ℕ → List ℕ
 with_answer at name e (Ok given) text = with_event at name e text
 with_answer at name e (Err why) text =
     with_head at name text ++ codes " refused " ++ decimal (refusal_number why) ++ codes "\n"
 
--- a reading that was held: the meter, what it showed, and why
+-- A rejected reading: the meter, its counter, and the cause.
 abbrev pub with_note : (at : ℕ) → (name : Option (List ℕ)) → Note → List ℕ → List ℕ
 with_note at name (note.Outcome poll outcome) text = text
 with_note at name (note.Reading meter raw rolls step) text = text
@@ -39,15 +41,18 @@ with_note at name (note.Held meter raw cause) text =
     with_head at name text ++ codes " held " ++ meter ++ codes " " ++ decimal raw ++ codes " cause "
     ++ decimal (cause_number cause) ++ codes "\n"
 
+-- The rejected readings of an event.
 abbrev pub with_notes : (at : ℕ) → (name : Option (List ℕ)) → List Note → List ℕ → List ℕ
 with_notes at name [] text = text
 with_notes at name (one ∷ notes) text = with_notes at name notes (with_note at name one text)
 
+-- All lines of an event of a device.
 abbrev pub with_lines : (at : ℕ) → (name : Option (List ℕ)) → Event → Result Answer Refusal
     → List Note → List ℕ → List ℕ
 with_lines at name e answer notes text =
     with_notes at name notes (with_answer at name e answer text)
 
+-- A round: how many of its polls were answered, timed out, or ended otherwise.
 abbrev pub with_sum : (at : ℕ) → (name : Option (List ℕ)) → (answered silent failed : ℕ)
     → List ℕ → List ℕ
 with_sum at name answered silent failed text =

@@ -1,4 +1,4 @@
-//! What the devices of a run lack in the books.
+//! What the devices of a run lack in the store.
 ghost use Rattle.std.specs.Prelude.{◌≡◌};
 ghost use Rattle.std.specs.Option.{option_map};
 ghost use Rattle.office_books.specs.Ledgers.{Finds, OnlyReads};
@@ -13,33 +13,34 @@ use std::alloc::AllocError;
 /// What a device lacks.
 #[derive(Clone, Copy, Debug, PartialEq, Eq)]
 pub enum Lack {
-    /// The books have no device of its name.
+    /// The store has no device of this name.
     NoDevice,
-    /// It has no point list.
+    /// The device has no point list.
     NoList,
-    /// It has no register.
+    /// The device has no register.
     NoRegister,
-    /// No read of its list has the counter of this register and its scale.
+    /// No read of the list has both the counter of this register and its scale.
     NotInList(Register),
     /// No meter is open at this register.
     NoMeter(Register),
 }
 
-/// A device that was named, and what it lacks.
+/// A device of the command line, and something that it lacks.
 #[derive(Clone, Copy, Debug, PartialEq, Eq)]
 pub struct DeviceLack {
     pub device: Option<Name>,
     pub lack: Lack,
 }
 
-// Whether one of these reads gives a reading of the register.
+// Returns whether one of these reads gives a reading of the register.
 fn is_read(reads: &[PlannedRead], register: &Register) -> bool
     ensures { result ≡ specs.is_read reads.now register.now }
 {
     reads.iter().any(|read| is_read_by(read.span, register))
 }
 
-// Whether a read of the list does; where there is no list, that is lacking and not this.
+// Returns whether a read of the list gives a reading of the register. It is true without a list,
+// since then `NoList` is reported.
 fn is_in_list(list: &Option<PlannedList>, register: &Register) -> bool
     ensures { result ≡ specs.is_in_list list.now register.now }
 {
@@ -49,7 +50,6 @@ fn is_in_list(list: &Option<PlannedList>, register: &Register) -> bool
     }
 }
 
-// Whether a meter is open.
 fn is_open(row: &Option<Installation>) -> bool
     ensures { result ≡ specs.is_open row.now }
 {
@@ -59,7 +59,6 @@ fn is_open(row: &Option<Installation>) -> bool
     }
 }
 
-// Whether a meter is open at a register.
 fn has_meter<B: Books>(books: &mut B, register: &Register) -> Result<bool, BooksFault>
     ensures found { Finds (B.ledger books.old) (B.ledger books.new) result
         (λ known b. b ≡ specs.has_meter known register.now) }
@@ -68,14 +67,12 @@ fn has_meter<B: Books>(books: &mut B, register: &Register) -> Result<bool, Books
     Ok(is_open(&books.installation(&register.name)?))
 }
 
-// Whether the devices have one of a name.
 fn has_name(devices: &[Device], name: &Name) -> bool
     ensures { result ≡ specs.has_name name.now devices.now }
 {
     devices.iter().any(|device| device.name.is(name))
 }
 
-// Whether the books have a device of a name.
 fn has_device<B: Books>(books: &mut B, name: &Name) -> Result<bool, BooksFault>
     ensures found { Finds (B.ledger books.old) (B.ledger books.new) result
         (λ known b. b ≡ specs.has_device known name.now) }
@@ -84,7 +81,7 @@ fn has_device<B: Books>(books: &mut B, name: &Name) -> Result<bool, BooksFault>
     Ok(has_name(&books.devices()?, name))
 }
 
-// Adds a lack, unless there is none.
+// Adds a lack if `is_lacking`.
 fn add(
     lacks: &mut Vec<DeviceLack>,
     device: &Name,
@@ -102,7 +99,6 @@ fn add(
     Ok(())
 }
 
-// Adds what a register lacks.
 fn add_of_register<B: Books>(
     lacks: &mut Vec<DeviceLack>,
     books: &mut B,
@@ -122,7 +118,6 @@ fn add_of_register<B: Books>(
     Ok(())
 }
 
-// Adds what each register lacks.
 fn add_of_registers<B: Books>(
     lacks: &mut Vec<DeviceLack>,
     books: &mut B,
@@ -141,7 +136,7 @@ fn add_of_registers<B: Books>(
     Ok(())
 }
 
-// Adds what a device lacks that the books have.
+// Adds what a device of the store lacks.
 fn add_of_device<B: Books>(
     lacks: &mut Vec<DeviceLack>,
     books: &mut B,
@@ -158,7 +153,7 @@ fn add_of_device<B: Books>(
     add_of_registers(lacks, books, device, &list, &registers)
 }
 
-// Adds what a device of a name lacks.
+// Adds what the device of this name lacks.
 fn add_of_name<B: Books>(
     lacks: &mut Vec<DeviceLack>,
     books: &mut B,
@@ -175,9 +170,16 @@ fn add_of_name<B: Books>(
     Ok(())
 }
 
-/// Adds what a device lacks by what the books hold: it is known, it has a point list and a register, and each of its
-/// registers lies in a read of the list and has an open meter. None is a name that no device can have. Where the books or
-/// memory fail, a part of it may be added.
+/// Adds what a device lacks by the records of the store.
+///
+/// A device lacks nothing if it meets these conditions:
+///
+/// - the store knows it;
+/// - it has a point list and a register;
+/// - each of its registers lies in a read of the list and has an open meter.
+///
+/// `None` is a name that no device can have. If the store or memory fails, a part may have been
+/// added.
 pub fn add_lacks<B: Books>(
     lacks: &mut Vec<DeviceLack>,
     books: &mut B,

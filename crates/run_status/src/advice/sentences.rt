@@ -1,4 +1,4 @@
-//! Sentences for people: what is lacking or wrong, and what to do.
+//! Sentences for people: what is missing or wrong, and what to do.
 ghost use Rattle.std.specs.Prelude.{◌≡◌, ◌≤◌, ◌-◌, ◌^◌, OnOk};
 ghost use Rattle.run_status.specs.Advice.Sentences as sentences;
 
@@ -9,7 +9,7 @@ use office_events::{Command, Event, Name, Refusal, Register, ScaleSource};
 use printed_numbers::{Kind, Meaning, meaning_of};
 use std::alloc::AllocError;
 
-// Puts the name of a device, and `-` for what is no one device's.
+// Appends the name of a device, or `-` if the message concerns no single device.
 fn put_subject(text: &mut Vec<u8>, device: &Option<Name>) -> Result<(), AllocError>
     ensures { OnOk result (text.new.items ≡ sentences.with_subject device.now text.old.items) }
 {
@@ -19,7 +19,7 @@ fn put_subject(text: &mut Vec<u8>, device: &Option<Name>) -> Result<(), AllocErr
     }
 }
 
-// The first register that a reading needs.
+// Returns the first address that a reading of the register needs.
 fn first_needed(register: &Register) -> u64
     ensures { result ≡ sentences.first_needed register.now }
 {
@@ -30,7 +30,7 @@ fn first_needed(register: &Register) -> u64
     }
 }
 
-// And the last.
+// Returns the last address that a reading of the register needs.
 fn last_needed(register: &Register) -> u64
     ensures { result ≡ sentences.last_needed register.now }
 {
@@ -41,7 +41,7 @@ fn last_needed(register: &Register) -> u64
     }
 }
 
-// Puts whose list a register isn't in.
+// Appends the device in whose list the register is missing.
 fn put_list_of(text: &mut Vec<u8>, device: &Option<Name>) -> Result<(), AllocError>
     ensures { OnOk result (text.new.items ≡ sentences.with_list_of device.now text.old.items) }
 {
@@ -51,7 +51,7 @@ fn put_list_of(text: &mut Vec<u8>, device: &Option<Name>) -> Result<(), AllocErr
     }
 }
 
-// Puts that a register isn't read, and what a read would need.
+// Appends that no read has a register, and what such a read needs.
 fn put_unread(
     text: &mut Vec<u8>,
     device: &Option<Name>,
@@ -72,7 +72,6 @@ fn put_unread(
     put(text, b" to it\n")
 }
 
-// Puts that no meter is open at a register.
 fn put_unmetered(text: &mut Vec<u8>, register: &Register) -> Result<(), AllocError>
     ensures { OnOk result (text.new.items ≡ sentences.with_unmetered register.now text.old.items) }
 {
@@ -85,7 +84,6 @@ fn put_unmetered(text: &mut Vec<u8>, register: &Register) -> Result<(), AllocErr
     put(text, b"/install\n")
 }
 
-// Puts that a device has no list yet.
 fn put_unlisted(text: &mut Vec<u8>, device: &Option<Name>) -> Result<(), AllocError>
     ensures { OnOk result (text.new.items ≡ sentences.with_unlisted device.now text.old.items) }
 {
@@ -104,7 +102,8 @@ fn put_unlisted(text: &mut Vec<u8>, device: &Option<Name>) -> Result<(), AllocEr
     put(text, b"/list\n")
 }
 
-/// Puts a line that says what a device lacks, and what to do. Want of memory leaves a part of it.
+/// Appends a line that says what a device lacks, and what to do. If memory runs out, a part of it
+/// remains.
 pub fn put_lack(text: &mut Vec<u8>, lack: &DeviceLack) -> Result<(), AllocError>
     ensures { OnOk result (text.new.items ≡ sentences.with_lack lack.now text.old.items) }
 {
@@ -130,7 +129,7 @@ pub fn put_lack(text: &mut Vec<u8>, lack: &DeviceLack) -> Result<(), AllocError>
     }
 }
 
-// Puts what a number means, and what to do.
+// Appends what a number means, and what to do.
 fn put_meaning(text: &mut Vec<u8>, before: &[u8], meaning: &Meaning) -> Result<(), AllocError>
     ensures { OnOk result (text.new.items
         ≡ sentences.with_meaning before.now meaning.now text.old.items) }
@@ -140,7 +139,7 @@ fn put_meaning(text: &mut Vec<u8>, before: &[u8], meaning: &Meaning) -> Result<(
     put(text, b"\n")
 }
 
-// What a device lacks of which an event was refused, where that says more than the number.
+// Returns what the device lacks after this refusal, if that says more than the number.
 fn lack_by(event: &Event, why: Refusal) -> Option<Lack>
     ensures { result ≡ sentences.lack_by event.now why }
 {
@@ -151,8 +150,8 @@ fn lack_by(event: &Event, why: Refusal) -> Option<Lack>
     }
 }
 
-/// Puts a line that says what it means that an event of a device was refused, and what to do. Want of memory leaves a part of
-/// it.
+/// Appends a line that explains why an event of a device was refused, and what to do. If memory
+/// runs out, a part of it remains.
 pub fn put_refusal(
     text: &mut Vec<u8>,
     device: &Option<Name>,
@@ -179,7 +178,8 @@ pub fn put_refusal(
     }
 }
 
-/// Puts a line that says why a reading of a meter was held, and what to do. Want of memory leaves a part of it.
+/// Appends a line that explains why a reading of a meter was rejected, and what to do. If memory
+/// runs out, a part of it remains.
 pub fn put_held(text: &mut Vec<u8>, meter: &Name, cause: Cause) -> Result<(), AllocError>
     ensures { sentences.PutsHeld meter.now cause text.old.items text.new.items result }
 {

@@ -1,21 +1,21 @@
-//! Which numbers were told to people.
+//! The numbers that were last reported to people.
 ghost use Rattle.std.specs.Prelude.{◌≡◌};
 ghost use Rattle.run_status.specs.Advice.Told as specs;
 
 use office_events::Name;
 use std::alloc::{AllocError, Global};
 
-/// Of how many devices and meters it is known what was told.
+/// The most devices and meters whose last number is kept.
 pub const MOST_TOLD: usize = 512;
 
-/// Of what a number is told.
+/// What a number is about.
 #[derive(Clone, Copy, Debug, PartialEq, Eq)]
 pub enum Topic {
     /// Why the connection of a device was refused.
     Connection,
-    /// Why another event of a device was refused, or of what is no one device's.
+    /// Why another event was refused, of a device or of no single device.
     Round,
-    /// Why a reading of a meter was held.
+    /// Why a reading of a meter was rejected.
     Meter,
 }
 
@@ -23,7 +23,7 @@ impl Topic {
     ghost use Rattle.std.specs.Prelude.{◌≡◌};
     ghost use Rattle.run_status.specs.Advice.Told.{topic_number};
 
-    // Its number, by which two are compared.
+    // The number by which topics are compared.
     fn number(self) -> u8
         ensures { result ≡ topic_number self }
     {
@@ -35,7 +35,7 @@ impl Topic {
     }
 }
 
-/// A number that was told of a device or a meter; 0 where none was.
+/// The number that was last reported about a device or a meter, or 0 for none.
 #[derive(Clone, Copy, Debug, PartialEq, Eq)]
 pub struct ToldNumber {
     pub topic: Topic,
@@ -43,7 +43,7 @@ pub struct ToldNumber {
     pub number: u8,
 }
 
-// Whether two names are the same, or neither is one.
+// Compares two names. Two missing names are the same.
 fn is_same_name(a: &Option<Name>, b: &Option<Name>) -> bool
     ensures { result ≡ specs.is_same_name a.now b.now }
 {
@@ -59,7 +59,7 @@ impl ToldNumber {
     ghost use Rattle.std.specs.Prelude.{◌≡◌};
     ghost use Rattle.run_status.specs.Advice.Told as specs;
 
-    // Whether it is of the same topic, and the same device or meter.
+    // Returns whether both are about the same topic of the same device or meter.
     fn is_of_same(&self, other: &ToldNumber) -> bool
         ensures { result ≡ specs.are_of_same self.now other.now }
     {
@@ -67,7 +67,8 @@ impl ToldNumber {
     }
 }
 
-/// What was told last of each device and meter, so that nothing is told twice in a row.
+/// The number that was last reported about each device and meter. It prevents reporting the same
+/// number twice in a row.
 #[derive(Drop)]
 pub struct Told {
     pub numbers: Vec<ToldNumber>,
@@ -77,7 +78,7 @@ impl Told {
     ghost use Rattle.std.specs.Prelude.{◌≡◌, [], is_ok};
     ghost use Rattle.run_status.specs.Advice.Told as specs;
 
-    /// Nothing was told.
+    /// Makes an empty record.
     pub fn new(alloc: Global) -> Told
         ensures { result.numbers.items ≡ [] }
     {
@@ -86,14 +87,14 @@ impl Told {
         }
     }
 
-    // Where the same device or meter stands.
+    // Returns the index of the same topic, device or meter.
     fn place_of(&self, told: &ToldNumber) -> Option<usize>
         ensures { result ≡ specs.place_of told.now self.now.numbers.items }
     {
         self.numbers.iter().position(|one| one.is_of_same(told))
     }
 
-    // One more device or meter, where there is memory.
+    // Adds a device or meter, if there is memory.
     fn push(&mut self, topic: Topic, name: Option<Name>, number: u8) -> Result<(), AllocError>
         ensures { self.new.numbers.items
             ≡ specs.pushed (is_ok result) (specs.told_number topic name number)
@@ -107,14 +108,14 @@ impl Told {
         Ok(())
     }
 
-    // One more device or meter. It answers whether there was room.
+    // Adds a device or meter. Returns whether there was room.
     fn add(&mut self, told: ToldNumber) -> bool
         ensures { specs.Adds told self.old.numbers.items self.new.numbers.items result }
     {
         self.numbers.len() < MOST_TOLD && self.push(told.topic, told.name, told.number).is_ok()
     }
 
-    // Another number is told at a place. It answers whether it is another.
+    // Replaces the number at an index. Returns whether the number is a different one.
     fn change(&mut self, place: usize, told: ToldNumber) -> bool
         ensures { specs.Changes place told self.old.numbers.items self.new.numbers.items result }
     {
@@ -128,8 +129,10 @@ impl Told {
         true
     }
 
-    /// Whether a number is to be told of a device or a meter: another was told last, or none. It counts as told then. Of a
-    /// device or meter for which there is no room nothing is told.
+    /// Returns whether to report a number about a device or meter, and records it as reported.
+    ///
+    /// The number is reported if the last one about the same topic was another, or there was none.
+    /// Nothing is reported about a device or meter for which there is no room.
     pub fn tell(&mut self, told: ToldNumber) -> bool
         ensures { specs.TellsNumber told self.old.numbers.items self.new.numbers.items result }
     {
@@ -139,7 +142,7 @@ impl Told {
         }
     }
 
-    /// All is well with a device or a meter: what is wrong next is told again.
+    /// Records that a device or meter works, so that its next problem is reported again.
     pub fn forget(&mut self, topic: Topic, name: Option<Name>)
         ensures { specs.Forgets topic name self.old.numbers.items self.new.numbers.items }
     {

@@ -1,4 +1,4 @@
-//! How a device stands after an event that was fed for it.
+//! The state of a device after an event of it.
 ghost use Rattle.std.specs.Prelude.{◌≡◌};
 ghost use Rattle.std.specs.List.{list_any};
 ghost use Rattle.run_status.specs.Monitor.Watching as watching;
@@ -6,7 +6,7 @@ ghost use Rattle.run_status.specs.Monitor.Watching as watching;
 use crate::status::DeviceState;
 use office_events::{Answer, Event, Name, Note, Refusal};
 
-/// A device that is not connected.
+/// Returns the state of a device that is not connected.
 pub(crate) fn unconnected(name: Option<Name>) -> DeviceState
     ensures { result ≡ watching.unconnected name }
 {
@@ -33,7 +33,6 @@ fn has_reading(notes: &[Note]) -> bool
     notes.iter().any(|note| is_reading(note))
 }
 
-// Whether a device is connected, after an event that was accepted or refused.
 fn is_connected(before: bool, event: &Event, answer: Result<Answer, Refusal>) -> bool
     ensures { result ≡ watching.is_connected before event.now answer }
 {
@@ -48,7 +47,7 @@ fn is_connected(before: bool, event: &Event, answer: Result<Answer, Refusal>) ->
     }
 }
 
-/// The device after it.
+/// Returns the state of the device after an event.
 pub(crate) fn followed(
     state: DeviceState,
     at: u64,

@@ -1,33 +1,32 @@
-//! Lines that wait to be written.
+//! A queue of lines to write.
 ghost use Rattle.std.specs.Prelude.{◌≡◌, OnOk};
 ghost use Rattle.run_status.specs.Monitor.Queues as queues;
 
 use crate::status::{put, put_number};
 use std::alloc::{AllocError, Global};
 
-/// How many bytes may wait, unless they were put at once.
+/// The most bytes in the queue, unless a single text is longer.
 pub const MOST_WAITING: usize = 65_536;
 
-/// Lines that wait to be written. Those that come where there is no room are dropped and counted, until all that waits was
-/// written.
+/// A queue of lines to write. If there is no room, it drops and counts lines until all waiting ones
+/// are written.
 #[derive(Drop)]
 pub struct LineQueue {
-    /// What was put since nothing waited.
+    /// The bytes that were added since the queue was last empty.
     pub bytes: Vec<u8>,
     /// How many of these bytes were written.
     pub written: usize,
-    /// How many lines were dropped, as far as that was not told.
+    /// How many dropped lines were not reported yet.
     pub dropped: u64,
 }
 
-// How many lines a text has.
 fn count_lines(text: &[u8]) -> u64
     ensures { result ≡ queues.line_count text.now }
 {
     text.iter().filter(|byte| **byte == b'\n').count() as u64
 }
 
-// Puts how many lines were dropped up to a moment.
+// Appends a line with the number of lines that were dropped until `at`.
 fn put_dropped(text: &mut Vec<u8>, at: u64, dropped: u64) -> Result<(), AllocError>
     ensures { OnOk result (text.new.items ≡ queues.with_dropped at dropped text.old.items) }
 {
@@ -39,7 +38,7 @@ fn put_dropped(text: &mut Vec<u8>, at: u64, dropped: u64) -> Result<(), AllocErr
 impl LineQueue {
     ghost use Rattle.std.specs.Prelude.{◌≡◌, []};
 
-    /// Nothing waits.
+    /// Makes an empty queue.
     pub fn new(alloc: Global) -> LineQueue
         ensures bytes { result.bytes.items ≡ [] }
         ensures written { result.written ≡ 0 }
@@ -58,14 +57,13 @@ impl LineQueue {
     ghost use Rattle.run_status.specs.Monitor.Queues as queues;
     ghost use Rattle.run_status.specs.Monitor.Queues.{queue_of};
 
-    // Whether all that was put was written.
     fn is_written(&self) -> bool
         ensures { result ≡ queues.is_written (queue_of self.now) }
     {
         self.bytes.len() <= self.written
     }
 
-    // Lets what was written whole go.
+    // Empties the queue if all its bytes were written.
     fn empty(&mut self)
         ensures { queue_of self.new ≡ queues.emptied (queue_of self.old) }
     {
@@ -75,14 +73,14 @@ impl LineQueue {
         }
     }
 
-    // Counts lines as dropped.
     fn leave_out(&mut self, lines: &[u8])
         ensures { queue_of self.new ≡ queues.left_out lines.now (queue_of self.old) }
     {
         self.dropped = self.dropped.saturating_add(count_lines(lines));
     }
 
-    // Whether there is room for lines.
+    // Returns whether there is room for lines. After a drop there is none until the drop is
+    // reported.
     fn has_room(&self, lines: &[u8]) -> bool
         ensures { result ≡ queues.has_room lines.now (queue_of self.now) }
     {
@@ -90,7 +88,7 @@ impl LineQueue {
         self.dropped == 0 && (self.bytes.is_empty() || fits)
     }
 
-    // Puts lines after what was put, or counts them as dropped.
+    // Adds lines at the end, or counts them as dropped.
     fn put_after(&mut self, lines: &[u8])
         ensures { queues.PutsAfter lines.now (queue_of self.old) (queue_of self.new) }
     {
@@ -104,7 +102,8 @@ impl LineQueue {
         }
     }
 
-    /// Puts lines, each with its end. Where there is no room for all of them, or no memory, they are dropped and counted.
+    /// Adds complete lines. If there is no room for all of them, or no memory, they are dropped and
+    /// counted.
     pub fn put(&mut self, lines: &[u8])
         ensures { queues.Puts lines.now (queue_of self.old) (queue_of self.new) }
     {
@@ -112,8 +111,8 @@ impl LineQueue {
         self.put_after(lines);
     }
 
-    /// Puts a line that tells how many were dropped up to this moment, once all that waited was written. Where there is no
-    /// memory for it, it is told later.
+    /// Adds a line with the number of lines that were dropped until `at`, once all waiting lines
+    /// were written. If there is no memory for the line, it is added later.
     pub fn tell_dropped(&mut self, at: u64)
         ensures { queues.TellsDropped at (queue_of self.old) (queue_of self.new) }
     {
@@ -127,14 +126,14 @@ impl LineQueue {
         }
     }
 
-    /// What waits.
+    /// Returns the bytes to write.
     pub fn waiting(&self) -> &[u8]
         ensures { result.now ≡ queues.waiting_in (queue_of self.now) }
     {
         self.bytes.get(self.written..).unwrap_or(&[])
     }
 
-    /// So many bytes more were written.
+    /// Records that `count` more bytes were written.
     pub fn advance(&mut self, count: usize)
         ensures bytes { self.new.bytes ≡ self.old.bytes }
         ensures written { self.new.written ≡ min (self.old.written + count) (2 ^ 64 - 1) }

@@ -1,4 +1,4 @@
-//! Lines that a person reads.
+//! The lines that a run prints for people.
 ghost use Rattle.std.specs.Prelude.{◌≡◌, OnOk};
 ghost use Rattle.run_status.specs.Monitor.Lines as lines;
 
@@ -7,7 +7,8 @@ use office_events::{Answer, Event, Name, Note, Refusal};
 use poll_core::Closing;
 use std::alloc::AllocError;
 
-/// Puts a moment and a name, and `-` for a name that no device can have. Want of memory leaves a part of the text.
+/// Appends a timestamp and a name, or `-` for a name that no device can have. If memory runs out, a
+/// part of the text remains.
 pub fn put_head(text: &mut Vec<u8>, at: u64, name: &Option<Name>) -> Result<(), AllocError>
     ensures { OnOk result (text.new.items ≡ lines.with_head at name.now text.old.items) }
 {
@@ -18,7 +19,7 @@ pub fn put_head(text: &mut Vec<u8>, at: u64, name: &Option<Name>) -> Result<(), 
     }
 }
 
-// Puts that a device came or went.
+// Appends the line of a connection that began or ended.
 fn put_event(
     text: &mut Vec<u8>,
     at: u64,
@@ -48,7 +49,7 @@ fn put_event(
     }
 }
 
-// Puts an event of a device that was accepted, or that it was refused.
+// Appends the line of a device's event that was accepted or refused.
 fn put_answered(
     text: &mut Vec<u8>,
     at: u64,
@@ -69,7 +70,7 @@ fn put_answered(
     }
 }
 
-// Puts a reading that was held, and why.
+// Appends the line of a rejected reading, with its cause.
 fn put_note(text: &mut Vec<u8>, at: u64, name: &Option<Name>, note: &Note) -> Result<(), AllocError>
     ensures { OnOk result (text.new.items ≡ lines.with_note at name.now note.now text.old.items) }
 {
@@ -101,8 +102,10 @@ fn put_notes(
     Ok(())
 }
 
-/// Puts the lines of an event that was fed for a device: that it came or went, or that the office refused, and each reading
-/// that was held. A poll has no line. Want of memory leaves a part of the text.
+/// Appends the lines of an event of a device.
+///
+/// There is a line for a connection that began or ended, for a refusal, and for each rejected
+/// reading. A poll has no line. If memory runs out, a part of the text remains.
 pub fn put_lines(
     text: &mut Vec<u8>,
     at: u64,
@@ -118,7 +121,8 @@ pub fn put_lines(
     put_notes(text, at, name, notes)
 }
 
-/// Puts how many polls of a round were answered, how many were silent, and how many ended otherwise.
+/// Appends the line of a round: how many of its polls were answered, timed out (`silent`), or ended
+/// otherwise (`failed`).
 pub fn put_sum(
     text: &mut Vec<u8>,
     at: u64,

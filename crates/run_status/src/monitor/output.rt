@@ -1,10 +1,9 @@
-//! What is to be sent to a device.
+//! The frames to send to a device.
 ghost use Rattle.std.specs.Prelude.{◌≡◌};
 ghost use Rattle.run_status.specs.Monitor.Output as sending;
 
 use office_events::Event;
 
-// Whether it tells that a connection has ended.
 fn is_end(event: &Event) -> bool
     ensures { result ≡ sending.is_end event.now }
 {
@@ -18,7 +17,7 @@ fn is_end(event: &Event) -> bool
     }
 }
 
-/// Puts frames after what is to be sent, where there is memory; what is left once a connection has ended is not sent.
+/// Queues frames, if there is memory. The end of a connection drops those that were not sent.
 #[tactic(auto, using(crate::proofs::MonitorLemmas::Queues::put_or_not))]
 pub(crate) fn put_frames(queue: &mut Vec<u8>, event: &Event, frames: &[u8])
     ensures { sending.IsPut event.now frames.now queue.old.items queue.new.items }

@@ -1,4 +1,4 @@
-//! The monitor of a run: counts, how each device stands, and the frames that are to be sent to each.
+//! The observer of a run's events.
 use crate::monitor::device_state::{followed, unconnected};
 use crate::monitor::output::put_frames;
 use crate::status::{Counts, DeviceState};
@@ -6,14 +6,14 @@ use office_events::{Answer, Event, Name, Note, Observer, Refusal};
 use std::alloc::{AllocError, Global};
 use std::mem;
 
-/// What is kept of what an office is fed.
+/// An observer that keeps counts, the state of each device, and the frames to send.
 #[derive(Drop)]
 pub struct RunMonitor {
     alloc: Global,
     pub counts: Counts,
-    /// How each device stands, by its place.
+    /// The state of each device, by slot.
     pub states: Vec<DeviceState>,
-    /// What is to be sent to each.
+    /// The bytes to send to each device, by slot.
     pub outgoing: Vec<Vec<u8>>,
 }
 
@@ -23,7 +23,7 @@ impl RunMonitor {
     ghost use Rattle.run_status.specs.Monitor.Output.{IsSentTo, queues_of, taken_at};
     ghost use Rattle.run_status.specs.Monitor.Watching.{unconnected};
 
-    /// A monitor for devices of these names, of which none is connected.
+    /// Makes a monitor for devices of these names. None of them is connected.
     pub fn new(alloc: Global, names: &[Option<Name>]) -> Result<RunMonitor, AllocError>
         ensures counts { IfOk result (λ monitor. monitor.counts ≡ nothing) }
         ensures states { IfOk result (λ monitor. monitor.states.items ≡ map unconnected names.now) }
@@ -43,8 +43,8 @@ impl RunMonitor {
         })
     }
 
-    /// Takes what is to be sent to a device, in order. Frames for which there was no memory are not among it; their polls
-    /// end silent.
+    /// Removes and returns the bytes to send to the device of a slot, in order. Frames for which
+    /// memory ran out are missing, and their polls time out.
     #[tactic(auto, using(crate::proofs::MonitorLemmas::Queues::taken_there, crate::proofs::MonitorLemmas::Queues::taken_nowhere))]
     pub fn take_outgoing(&mut self, place: usize) -> Vec<u8>
         ensures taken { result.items ≡ taken_at place (queues_of self.old) }
@@ -58,7 +58,7 @@ impl RunMonitor {
         Vec::new(self.alloc)
     }
 
-    // Frames are to be sent to a device.
+    // Queues frames for the device of a slot.
     #[tactic(auto, using(crate::proofs::MonitorLemmas::Queues::sent_at, crate::proofs::MonitorLemmas::Queues::sent_nowhere))]
     fn send(&mut self, place: usize, event: &Event, frames: &[u8])
         ensures counts { self.new.counts ≡ self.old.counts }
@@ -76,7 +76,7 @@ impl RunMonitor {
     ghost use Rattle.std.specs.Prelude.{◌≡◌};
     ghost use Rattle.run_status.specs.Monitor.Watching.{counted, followed_at};
 
-    // What was answered and told is counted.
+    // Counts a refusal and the notifications of an event.
     fn count(&mut self, answer: Result<Answer, Refusal>, notes: &[Note])
         ensures counts { self.new.counts ≡ counted answer notes.now self.old.counts }
         ensures states { self.new.states ≡ self.old.states }
@@ -88,7 +88,7 @@ impl RunMonitor {
         self.counts.note_all(notes);
     }
 
-    // The device of a place stands after an event that was fed for it.
+    // Updates the state of the device of a slot after an event.
     fn follow(
         &mut self,
         place: usize,

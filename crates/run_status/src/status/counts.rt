@@ -1,20 +1,20 @@
-//! What a run counts: polls by outcome, readings, held readings by cause, refusals.
+//! The counts of a run: polls by outcome, readings, rejected readings by cause, refusals.
 use energy_core::Cause;
 use office_events::Note;
 use poll_core::Outcome;
 
-/// What was counted. Each count stays at 2^64 - 1.
+/// The counts of a run. Each stops at 2^64 - 1.
 #[derive(Clone, Copy, Debug, PartialEq, Eq)]
 pub struct Counts {
-    /// Polls that ended, by how they did.
+    /// Polls that ended, by outcome.
     pub answered: u64,
     pub exceptions: u64,
     pub silent: u64,
     pub malformed: u64,
     pub lost: u64,
-    /// Readings that were accepted.
+    /// Accepted readings.
     pub readings: u64,
-    /// Readings that were held, by their cause; that of the number 1 first.
+    /// Rejected readings by cause. The cause with number 1 comes first.
     pub held: [u64; 8],
     /// Events that the office refused.
     pub refusals: u64,
@@ -24,7 +24,7 @@ impl Counts {
     ghost use Rattle.std.specs.Prelude.{◌≡◌};
     ghost use Rattle.run_status.specs.Status.Counts as counting;
 
-    /// Nothing was counted.
+    /// Makes counts that are all 0.
     pub fn new() -> Counts
         ensures { result ≡ counting.nothing }
     {
@@ -40,7 +40,7 @@ impl Counts {
         }
     }
 
-    // A poll has ended.
+    // Counts a poll that ended.
     fn end(&mut self, outcome: Outcome)
         ensures { self.new ≡ counting.ended outcome self.old }
     {
@@ -53,7 +53,7 @@ impl Counts {
         }
     }
 
-    // A reading was held.
+    // Counts a rejected reading.
     fn hold(&mut self, cause: Cause)
         ensures { self.new ≡ counting.held_for cause self.old }
     {
@@ -61,7 +61,6 @@ impl Counts {
         self.held[place] = self.held[place].saturating_add(1);
     }
 
-    // The office has told this.
     fn note(&mut self, note: &Note)
         ensures { self.new ≡ counting.noted note.now self.old }
     {
@@ -72,7 +71,7 @@ impl Counts {
         }
     }
 
-    /// The office has told all of this.
+    /// Counts all notifications of the office.
     pub fn note_all(&mut self, notes: &[Note])
         ensures { self.new ≡ counting.noted_all notes.now self.old }
     {
@@ -81,7 +80,7 @@ impl Counts {
         }
     }
 
-    /// The office has refused an event.
+    /// Counts an event that the office refused.
     pub fn refuse(&mut self)
         ensures { self.new ≡ counting.refused self.old }
     {

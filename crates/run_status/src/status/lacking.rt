@@ -1,4 +1,4 @@
-//! What devices lack, in `/status`.
+//! What devices lack, as JSON of `/status`.
 ghost use Rattle.std.specs.Prelude.{◌≡◌, OnOk};
 ghost use Rattle.run_status.specs.Status.LackingText as json;
 
@@ -7,7 +7,6 @@ use crate::status::pieces::{put, put_word};
 use office_events::Register;
 use std::alloc::AllocError;
 
-// Puts the device, after what stands before it.
 fn put_device(text: &mut Vec<u8>, before: &[u8], lack: &DeviceLack) -> Result<(), AllocError>
     ensures { OnOk result (text.new.items ≡ json.with_device before.now text.old.items lack.now) }
 {
@@ -17,7 +16,6 @@ fn put_device(text: &mut Vec<u8>, before: &[u8], lack: &DeviceLack) -> Result<()
     }
 }
 
-// Puts what a register of it lacks.
 fn put_register(text: &mut Vec<u8>, before: &[u8], register: &Register) -> Result<(), AllocError>
     ensures { OnOk result (text.new.items
         ≡ json.with_register before.now text.old.items register.now) }
@@ -26,7 +24,6 @@ fn put_register(text: &mut Vec<u8>, before: &[u8], register: &Register) -> Resul
     put(text, b"\"}")
 }
 
-// Puts what the device lacks.
 fn put_what(text: &mut Vec<u8>, lack: &Lack) -> Result<(), AllocError>
     ensures { OnOk result (text.new.items ≡ json.with_what text.old.items lack.now) }
 {
@@ -47,7 +44,6 @@ fn put_what(text: &mut Vec<u8>, lack: &Lack) -> Result<(), AllocError>
     }
 }
 
-// Puts a lack, after what stands before it.
 fn put_lack(text: &mut Vec<u8>, before: &[u8], lack: &DeviceLack) -> Result<(), AllocError>
     ensures { OnOk result (text.new.items ≡ json.with_lack before.now text.old.items lack.now) }
 {
@@ -55,7 +51,7 @@ fn put_lack(text: &mut Vec<u8>, before: &[u8], lack: &DeviceLack) -> Result<(), 
     put_what(text, &lack.lack)
 }
 
-// Puts lacks, each after a comma.
+// Appends lacks, each after a comma.
 fn put_more_lacks(text: &mut Vec<u8>, lacks: &[DeviceLack]) -> Result<(), AllocError>
     ensures { OnOk result (text.new.items ≡ json.with_more_lacks text.old.items lacks.now) }
 {
@@ -65,7 +61,7 @@ fn put_more_lacks(text: &mut Vec<u8>, lacks: &[DeviceLack]) -> Result<(), AllocE
     Ok(())
 }
 
-// Puts lacks, with a comma from the second on.
+// Appends lacks, with a comma from the second on.
 fn put_each(text: &mut Vec<u8>, lacks: &[DeviceLack]) -> Result<(), AllocError>
     ensures { OnOk result (text.new.items ≡ json.with_each text.old.items lacks.now) }
 {
@@ -78,7 +74,7 @@ fn put_each(text: &mut Vec<u8>, lacks: &[DeviceLack]) -> Result<(), AllocError>
     }
 }
 
-/// Puts what devices lack, as a member of an object.
+/// Appends what devices lack, as a member of an object.
 pub(crate) fn put_lacks(text: &mut Vec<u8>, lacks: &[DeviceLack]) -> Result<(), AllocError>
     ensures { OnOk result (text.new.items ≡ json.with_lacks text.old.items lacks.now) }
 {

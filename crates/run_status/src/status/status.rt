@@ -9,8 +9,8 @@ use crate::status::pieces::{put, put_number, put_word};
 use office_events::Name;
 use std::alloc::AllocError;
 
-/// A device, whether it is connected, and the moment of its latest reading that was accepted, in seconds since 1970-01-01
-/// UTC.
+/// The state of a device: whether it is connected, and the time of its latest accepted reading, in
+/// seconds since 1970-01-01 UTC.
 #[derive(Clone, Copy, Debug, PartialEq, Eq)]
 pub struct DeviceState {
     pub name: Option<Name>,
@@ -18,7 +18,7 @@ pub struct DeviceState {
     pub latest: Option<u64>,
 }
 
-/// Puts the bytes of a device's name.
+/// Appends `before` and the name of a device. A device without a valid name has none.
 pub fn put_name(text: &mut Vec<u8>, before: &[u8], device: &DeviceState) -> Result<(), AllocError>
     ensures { OnOk result (text.new.items ≡ json.with_name text.old.items before.now device.now) }
 {
@@ -37,7 +37,6 @@ fn put_latest(text: &mut Vec<u8>, device: &DeviceState) -> Result<(), AllocError
     }
 }
 
-// Puts a device, after what stands before it.
 fn put_device(text: &mut Vec<u8>, before: &[u8], device: &DeviceState) -> Result<(), AllocError>
     ensures { OnOk result (text.new.items ≡ json.with_device before.now text.old.items device.now) }
 {
@@ -51,7 +50,7 @@ fn put_device(text: &mut Vec<u8>, before: &[u8], device: &DeviceState) -> Result
     put(text, b"}")
 }
 
-// Puts devices, each after a comma.
+// Appends devices, each after a comma.
 fn put_more_devices(text: &mut Vec<u8>, devices: &[DeviceState]) -> Result<(), AllocError>
     ensures { OnOk result (text.new.items ≡ json.with_more_devices text.old.items devices.now) }
 {
@@ -97,7 +96,7 @@ fn put_held(text: &mut Vec<u8>, held: &[u64; 8]) -> Result<(), AllocError>
     put_number(text, b",\"not_below_range\":", held[7])
 }
 
-/// Puts the status at the end of a text, as JSON. Want of memory leaves a part of it.
+/// Appends the status as JSON. If memory runs out, a part of it remains.
 pub fn put_status(
     text: &mut Vec<u8>,
     counts: &Counts,

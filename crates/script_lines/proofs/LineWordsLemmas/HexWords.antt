@@ -1,4 +1,4 @@
--- Words that are pairs of hex digits, and those that are not.
+-- Words that are pairs of hexadecimal digits, and words that are not.
 use Rattle.std.proofs.Common.{◌≡◌, ℕ, ◌≤◌, Option, ◌%◌, ◌&&◌, Bool, true, false, List, length, None, refl, sym, ◌∙◌, arith}
 use Rattle.std.specs.Prelude.{if◌then◌else◌, nat_le, IsSome, Result, Ok, Err}
 use Rattle.std.specs.List.{list_all}

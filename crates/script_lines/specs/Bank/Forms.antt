@@ -1,4 +1,5 @@
--- The forms of the lines that set up a stand-in device: what the words of each line spell, one after the other.
+-- The forms of the lines that set up a simulated device: the fields that the words of each line
+-- spell, in order.
 use Rattle.std.specs.Prelude.{ℕ, ◌≤◌, List, [], ◌∷◌, codes}
 use Rattle.mb_device.specs.declared.kinds.Kind.{Kind}
 use Rattle.mb_device.specs.declared.kinds.Kind.TheVariants as kind
@@ -8,12 +9,14 @@ use Rattle.script_lines.specs.declared.bank.bank.BankLine.TheVariants as line
 use Rattle.mb_device.specs.declared.trick.Trick.{Trick}
 use Rattle.mb_device.specs.declared.trick.Trick.TheVariants as trick
 
+-- The name of a kind of addresses.
 abbrev pub kind_word : Kind → List ℕ
 kind_word kind.Coil = codes "coil"
 kind_word kind.Discrete = codes "discrete"
 kind_word kind.Holding = codes "holding"
 kind_word kind.Input = codes "input"
 
+-- The fields of a fault.
 abbrev pub trick_form : Trick → List Field
 trick_form trick.Drop = Word (codes "drop") ∷ []
 trick_form trick.Twice = Word (codes "twice") ∷ []
@@ -23,6 +26,7 @@ trick_form trick.Unit = Word (codes "unit") ∷ []
 trick_form trick.Garble = Word (codes "garble") ∷ []
 trick_form (trick.Cut count) = Word (codes "cut") ∷ Of Number count ∷ []
 
+-- The fields of a line.
 abbrev pub bank_form : BankLine → List Field
 bank_form (line.Area area) =
     Word (codes "area") ∷ Word (kind_word area.kind) ∷ Of Number area.start ∷ Of Number area.count
@@ -32,16 +36,17 @@ bank_form (line.Set cell) =
     ∷ []
 bank_form (line.Trick frame trick) = Word (codes "trick") ∷ Of Number frame ∷ trick_form trick
 
--- a part of a frame, which has at most 260 bytes
+-- The bytes that a cut response keeps are less than a frame, which has at most 260 bytes.
 abbrev pub IsPart : Trick → Type 0
 IsPart (trick.Cut count) = count ≤ 259
 IsPart trick = Unit {0}
 
+-- The fault of the line is possible.
 abbrev pub CanBe : BankLine → Type 0
 CanBe (line.Trick frame trick) = IsPart trick
 CanBe line = Unit {0}
 
--- These words are the line.
+-- The words are those of the line.
 pub record IsBankLine (words : List (List ℕ)) (line : BankLine) : Type 0 where
   pub form : Spell words (bank_form line)
   pub can : CanBe line

@@ -1,9 +1,9 @@
--- What reading a line of a stand-in answers.
+-- The result of parsing a line of a simulated device.
 use Rattle.std.specs.Prelude.{◌≡◌, ℕ, List, Option, Some, None}
 use Rattle.script_lines.specs.Bank.Forms.{IsBankLine}
 use Rattle.script_lines.specs.declared.bank.bank.BankLine.{BankLine}
 
--- the line that the words are, and no other, or none where they are none
+-- The line that the words spell, which is the only one, or None if they spell no line.
 abbrev pub ReadsBank : List (List ℕ) → Option BankLine → Type 0
 ReadsBank words (Some line) =
     IsBankLine words line × ((other : BankLine) → IsBankLine words other → other ≡ line)

@@ -1,12 +1,12 @@
--- What one word of a line spells.
+-- The value of one word of a line.
 use Rattle.std.specs.Prelude.{◌≡◌, ℕ, ℤ, List, [], ◌∷◌, Option, Some, None, option_map}
 use Rattle.energy_core.specs.declared.limits.TheConstants.{MAX_RANGE}
 use Rattle.office_events.specs.declared.commands.GivenScale.{GivenScale}
 use Rattle.script_lines.specs.LineWords.Values.{bytes_of, name_of, number_of, scale_of, signed_of}
 
--- what kind of thing a word spells
+-- The kind of value that a word spells.
 pub data Kind : Type 0 where
-  -- a name, or none where it is no name of the office's
+  -- A name. It is None if the office accepts no such name.
   AnyName : Kind
   Number : Kind
   Signed : Kind
@@ -15,6 +15,7 @@ pub data Kind : Type 0 where
   Range : Kind
   Moment : Kind
 
+-- The values of each kind.
 abbrev pub Value : Kind → Type 0
 Value AnyName = Option (List ℕ)
 Value Number = ℕ
@@ -24,7 +25,7 @@ Value Hex = List ℕ
 Value Range = ℕ
 Value Moment = Option ℕ
 
--- what a word spells
+-- The value that a word spells.
 abbrev pub spelled : (kind : Kind) → List ℕ → Option (Value kind)
 spelled AnyName word = name_of word
 spelled Number word = number_of word
@@ -34,7 +35,8 @@ spelled Hex word = bytes_of word
 spelled Range word = number_of word
 spelled Moment word = option_map Some (number_of word)
 
--- What a word says that is missing, where it may be: no bytes, the range of an acc32 counter, no moment.
+-- The value of a missing last word, if it may be missing: no bytes, the range of an acc32 counter,
+-- or no timestamp.
 abbrev pub missing : (kind : Kind) → Option (Value kind)
 missing AnyName = None
 missing Number = None
@@ -44,37 +46,40 @@ missing Hex = Some []
 missing Range = Some MAX_RANGE
 missing Moment = Some None
 
--- a word of a line: itself, or what it spells
+-- A field of a line: a fixed word, or a value of some kind.
 pub data Field : Type 0 where
   Word : List ℕ → Field
   Of : (kind : Kind) → Value kind → Field
 
+-- The word spells the field.
 abbrev pub Spells : List ℕ → Field → Type 0
 Spells word (Word text) = word ≡ text
 Spells word (Of kind value) = spelled kind word ≡ Some value
 
+-- The word of the field may be missing.
 abbrev pub IsMissing : Field → Type 0
 IsMissing (Word text) = ⊥
 IsMissing (Of kind value) = missing kind ≡ Some value
 
--- each word spells its field, and the words of the last fields may be missing
+-- Each word spells its field. The words of the last fields may be missing.
 abbrev pub Spell : List (List ℕ) → List Field → Type 0
 Spell [] [] = Unit {0}
 Spell [] (field ∷ fields) = IsMissing field × Spell [] fields
 Spell (word ∷ words) [] = ⊥
 Spell (word ∷ words) (field ∷ fields) = Spells word field × Spell words fields
 
--- goes on with a value, where there is one
+-- Continues with a value, if there is one.
 infixl 10 ◌>>=◌
 abbrev pub ◌>>=◌ : {X Y : Type 0} → Option X → (X → Option Y) → Option Y
 None >>= goes_on = None
 Some x >>= goes_on = goes_on x
 
--- the value of the first word and the words after it
+-- The value of the first word, and the words after it.
 abbrev pub first_value : (kind : Kind) → List (List ℕ) → Option (Value kind × List (List ℕ))
 first_value kind [] = option_map (λ value. (value, [])) (missing kind)
 first_value kind (word ∷ words) = option_map (λ value. (value, words)) (spelled kind word)
 
+-- No word is left.
 abbrev pub nothing_more : List (List ℕ) → Option (Unit {0})
 nothing_more [] = Some tt
 nothing_more (word ∷ words) = None

@@ -1,19 +1,19 @@
--- Words that stand for something.
+-- Tables of words with a meaning.
 use Rattle.std.specs.Prelude.{ℕ, if◌then◌else◌, List, [], ◌∷◌, Option, Some, None, find, option_map}
 use Rattle.std.specs.Borrow.{Bor}
 use Rattle.std.specs.Str.{bytes_eq}
 
--- what a word stands for in a table of words, if it is one of them
+-- The meaning of a word in a table, if the table has it.
 abbrev pub meaning_in : {T : Type 0} → List (List ℕ × T) → List ℕ → Option T
 meaning_in [] word = None
 meaning_in (entry ∷ table) word =
     if bytes_eq entry.0 word then Some entry.1 else meaning_in table word
 
--- an entry of such a table
+-- An entry of a table of borrowed words.
 abbrev pub entry_of : {T : Type 0} → Bor (List ℕ) × T → List ℕ × T
 entry_of entry = (entry.0.now, entry.1)
 
--- what is found of the same, in a table of texts that are lent
+-- The meaning of a word in a table of borrowed words.
 abbrev pub found_in : {T : Type 0} → List (Bor (List ℕ) × T) → List ℕ → Option T
 found_in table word =
     option_map (λ entry. entry.1) (find (λ entry. bytes_eq entry.0.now word) table)

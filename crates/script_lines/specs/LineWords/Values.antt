@@ -1,4 +1,4 @@
--- What words spell.
+-- The values that words spell.
 use Rattle.std.specs.Prelude.{◌≡◌, ℕ, ℤ, Vec, pos, neg_ℤ, [], ◌∷◌, option_and_then, option_map, ◌%◌, ◌==◌, nat_le, Bool, ◌&&◌, if◌then◌else◌, List, length, Some, None}
 use Rattle.std.specs.declared.option.Option.{Option}
 use Rattle.std.specs.List.{list_all}
@@ -9,44 +9,45 @@ use Rattle.office_events.specs.declared.commands.GivenScale.{GivenScale}
 use Rattle.office_events.specs.declared.commands.GivenScale.TheVariants.{Fixed, Register}
 use Rattle.hex.specs.Hex.{decode_of, is_hex_digit}
 
--- no number of a script is greater than 2 ^ 63 - 1
+-- The number, if it is at most 2^63 - 1. No number of a script is greater.
 abbrev pub not_past : ℕ → Option ℕ
 not_past number = if nat_le number 9223372036854775807 then Some number else None
 
--- a number: one to nineteen digits, of at most 2 ^ 63 - 1
+-- A number of one to nineteen digits, at most 2^63 - 1.
 abbrev pub number_of : List ℕ → Option ℕ
 number_of word = option_and_then not_past (number_of_digits 19 word)
 
--- pairs of hex digits, in either case
+-- Pairs of hexadecimal digits of either case.
 abbrev pub is_paired : List ℕ → Bool
 is_paired word = length word % 2 == 0 && list_all is_hex_digit word
 
--- the bytes that pairs of hex digits spell: one to 65,536 of them
+-- The bytes that pairs of hexadecimal digits spell: 1 to 65,536 of them.
 abbrev pub bytes_of : List ℕ → Option (List ℕ)
 bytes_of word =
     if nat_le 1 (length word) && nat_le (length word) 131072 then result_ok (decode_of word)
     else None
 
--- the bytes found are those that the word spells; none are, where it spells none
+-- The result is the bytes that the word spells, or None if it spells none.
 abbrev pub SpellsBytes : {Z : Type 0} → (word : List ℕ) → (found : Option (Vec ℕ Z)) → Type 0
 SpellsBytes word found = option_map (λ bytes. bytes.items) found ≡ bytes_of word
 
--- a name is any word of one byte or more, though it may be none that the office knows
+-- A name is any word that is not empty. The inner value is None if the office accepts no such name.
 abbrev pub name_of : List ℕ → Option (Option (List ℕ))
 name_of [] = None
 name_of (byte ∷ bytes) = Some (named (byte ∷ bytes))
 
+-- The negative number.
 abbrev pub negative : ℕ → ℤ
 negative n = neg_ℤ (pos n)
 
--- a number, before which `-` may stand
+-- A number that may follow a `-`.
 abbrev pub signed_of : List ℕ → Option ℤ
 signed_of [] = None
 signed_of (byte ∷ bytes) =
     if byte == 45 then option_map negative (number_of bytes)
     else option_map pos (number_of (byte ∷ bytes))
 
--- `@` and the address of a register, or a fixed scale
+-- `@` and the address of a register, or a fixed scale.
 abbrev pub scale_of : List ℕ → Option GivenScale
 scale_of [] = None
 scale_of (byte ∷ bytes) =

@@ -3,16 +3,16 @@ use Rattle.std.specs.Prelude.{◌≡◌, ℕ, ◌==◌, List, [], ◌∷◌, Mat
 use Rattle.std.specs.Borrow.{Bor}
 use Rattle.std.specs.List.{slice_split}
 
--- what stands between the spaces of a line
+-- The words between the spaces of a line.
 abbrev pub words_of : List ℕ → List (List ℕ)
 words_of line = slice_split (λ byte. byte == 32) line
 
--- the words of a line that is left, if one is
+-- The words of the rest of a line, if there is a rest.
 abbrev pub words_left : Option (List ℕ) → List (List ℕ)
 words_left None = []
 words_left (Some line) = words_of line
 
--- the first word was taken, and the others stay; nothing is taken where no word is left
+-- The first word was removed, and the others stay. Nothing is removed if no word is left.
 abbrev pub TakesFirst : (words : List (List ℕ)) → (taken : Option (Bor (List ℕ)))
     → (rest : List (List ℕ)) → Type 0
 TakesFirst words taken rest =

@@ -1,7 +1,7 @@
-//! The lines of a stand-in device. Numbers are as they were written, up to 2^63 - 1.
+//! The lines of a simulated device. Numbers are as written, up to 2^63 - 1.
 use mb_device::{Kind, Trick};
 
-/// Addresses of one kind that it has: `count` of them from `start` on.
+/// An area of the register map: `count` addresses of one kind, from `start` on.
 #[derive(Clone, Copy, Debug, PartialEq, Eq)]
 pub struct GivenArea {
     pub kind: Kind,
@@ -9,7 +9,7 @@ pub struct GivenArea {
     pub count: u64,
 }
 
-/// What it holds at an address.
+/// The value at an address.
 #[derive(Clone, Copy, Debug, PartialEq, Eq)]
 pub struct GivenCell {
     pub kind: Kind,
@@ -17,11 +17,11 @@ pub struct GivenCell {
     pub value: u64,
 }
 
-/// A line that sets up a stand-in device.
+/// A line that sets up a simulated device.
 #[derive(Clone, Copy, Debug, PartialEq, Eq)]
 pub enum BankLine {
     Area(GivenArea),
     Set(GivenCell),
-    /// What becomes of the answer to a frame; frames are numbered from 1.
+    /// A fault to inject into the response to a frame. Frames are numbered from 1.
     Trick { frame: u64, trick: Trick },
 }

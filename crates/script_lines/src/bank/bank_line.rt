@@ -1,4 +1,4 @@
-//! Reading a line of a stand-in device.
+//! Parses a line of a simulated device.
 ghost use Rattle.std.specs.Prelude.{◌≡◌};
 ghost use Rattle.script_lines.specs.Bank.BankLine as said;
 ghost use Rattle.script_lines.specs.LineWords.Words.{words_of};
@@ -7,7 +7,7 @@ use crate::bank::bank::{BankLine, GivenArea, GivenCell};
 use crate::line_words::{Words, meaning_in, next_number, nothing_more};
 use mb_device::{Kind, Trick};
 
-/// The most bytes of a frame that are a part of one.
+/// The most bytes of an incomplete frame.
 const MOST_CUT: u64 = 259;
 
 const KINDS: &[(&str, Kind)] = &[
@@ -17,7 +17,7 @@ const KINDS: &[(&str, Kind)] = &[
     ("input", Kind::Input),
 ];
 
-// The tricks that one word says.
+// The faults with a name of one word.
 const TRICKS: &[(&str, Trick)] = &[
     ("drop", Trick::Drop),
     ("twice", Trick::Twice),
@@ -30,7 +30,7 @@ const TRICKS: &[(&str, Trick)] = &[
 impl BankLine {
     ghost use Rattle.script_lines.specs.Bank.Seen.{ReadsBank};
 
-    /// The line that a text spells.
+    /// Parses a line.
     pub fn read(line: &[u8]) -> Option<BankLine>
         ensures { ReadsBank (words_of line.now) result }
     {

@@ -1,4 +1,4 @@
-//! What the next word of a line spells.
+//! The value of the next word of a line.
 ghost use Rattle.std.specs.Prelude.{◌≡◌, option_map};
 ghost use Rattle.script_lines.specs.LineWords.Fields.{AnyName, Number, Signed, Scale, Range, Moment, first_value, nothing_more};
 ghost use Rattle.script_lines.specs.LineWords.Values.{name_of, scale_of, signed_of};
@@ -8,7 +8,7 @@ use crate::line_words::words::Words;
 use energy_core::MAX_RANGE;
 use office_events::{GivenScale, Name};
 
-// Any word: the name that it is, or none where the office knows no such names. An empty word is none.
+// Parses any word that is not empty. The inner value is `None` if the office accepts no such name.
 fn any_name(word: &[u8]) -> Option<Option<Name>>
     ensures { result ≡ name_of word.now }
 {
@@ -18,7 +18,7 @@ fn any_name(word: &[u8]) -> Option<Option<Name>>
     }
 }
 
-// A number, before which `-` may stand.
+// Parses a number that may follow a `-`.
 fn signed_number(word: &[u8]) -> Option<i64>
     ensures { result ≡ signed_of word.now }
 {
@@ -34,7 +34,7 @@ fn signed_number(word: &[u8]) -> Option<i64>
     }
 }
 
-// `@` and the address of a register, or a fixed scale.
+// Parses `@` and the address of a register, or a fixed scale.
 fn given_scale(word: &[u8]) -> Option<GivenScale>
     ensures { result ≡ scale_of word.now }
 {
@@ -44,35 +44,36 @@ fn given_scale(word: &[u8]) -> Option<GivenScale>
     }
 }
 
-/// The name that the next word is, or none where it is no name.
+/// Parses the next word as a name. The inner value is `None` if the office accepts no such name.
 pub fn next_name(words: &mut Words<'_>) -> Option<Option<Name>>
     ensures { option_map (λ name. (name, words.new)) result ≡ first_value AnyName words.old }
 {
     any_name(words.next_word()?)
 }
 
-/// The number that the next word is.
+/// Parses the next word as a number.
 pub fn next_number(words: &mut Words<'_>) -> Option<u64>
     ensures { option_map (λ number. (number, words.new)) result ≡ first_value Number words.old }
 {
     number(words.next_word()?)
 }
 
-/// The number, before which `-` may stand, that the next word is.
+/// Parses the next word as a number that may follow a `-`.
 pub fn next_signed(words: &mut Words<'_>) -> Option<i64>
     ensures { option_map (λ number. (number, words.new)) result ≡ first_value Signed words.old }
 {
     signed_number(words.next_word()?)
 }
 
-/// The scale that the next word tells.
+/// Parses the next word as a scale.
 pub fn next_scale(words: &mut Words<'_>) -> Option<GivenScale>
     ensures { option_map (λ scale. (scale, words.new)) result ≡ first_value Scale words.old }
 {
     given_scale(words.next_word()?)
 }
 
-/// The range of a meter, which may be missing.
+/// Parses the next word as the range of a counter. A missing word means the range of an `acc32`
+/// counter.
 pub fn next_range(words: &mut Words<'_>) -> Option<u64>
     ensures { option_map (λ range. (range, words.new)) result ≡ first_value Range words.old }
 {
@@ -82,7 +83,7 @@ pub fn next_range(words: &mut Words<'_>) -> Option<u64>
     }
 }
 
-/// A moment, which may be missing.
+/// Parses the next word as a timestamp. A missing word means no timestamp.
 pub fn next_moment(words: &mut Words<'_>) -> Option<Option<u64>>
     ensures { option_map (λ moment. (moment, words.new)) result ≡ first_value Moment words.old }
 {
@@ -92,7 +93,7 @@ pub fn next_moment(words: &mut Words<'_>) -> Option<Option<u64>>
     }
 }
 
-/// No word is left.
+/// Succeeds if no word is left.
 pub fn nothing_more(words: &mut Words<'_>) -> Option<()>
     ensures { result ≡ nothing_more words.old }
 {

@@ -1,8 +1,8 @@
-//! Words that stand for something.
+//! Tables of words with a meaning.
 ghost use Rattle.std.specs.Prelude.{◌≡◌, map};
 ghost use Rattle.script_lines.specs.LineWords.Meanings.{entry_of, found_in, meaning_in};
 
-// What the first entry with this word stands for.
+// Finds the meaning of a word in a table, by its first entry with the word.
 fn found_in<T: Copy>(table: &[(&'static str, T)], word: &[u8]) -> Option<T>
     ensures { result ≡ found_in table.now word.now }
 {
@@ -12,7 +12,7 @@ fn found_in<T: Copy>(table: &[(&'static str, T)], word: &[u8]) -> Option<T>
         .map(|entry| entry.1)
 }
 
-/// What a word stands for in a table, if it is one of the table's words.
+/// Returns the meaning of a word in a table, if the table has it.
 pub(crate) fn meaning_in<T: Copy>(table: &[(&'static str, T)], word: &[u8]) -> Option<T>
     ensures { result ≡ meaning_in (map entry_of table.now) word.now }
 {

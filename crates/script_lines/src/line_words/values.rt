@@ -1,4 +1,4 @@
-//! What words spell.
+//! The values that words spell.
 ghost use Rattle.std.specs.Prelude.{◌≡◌, ◌≤◌, IfOk, IfSome, IsErr, IsSome};
 ghost use Rattle.std.specs.List.{list_all};
 ghost use Rattle.hex.specs.Hex.{is_hex_digit};
@@ -7,16 +7,16 @@ ghost use Rattle.script_lines.specs.LineWords.Values.{SpellsBytes, bytes_of, is_
 use std::alloc::{AllocError, Global};
 use sun_points::number_of_digits;
 
-/// The greatest number that a word spells.
+/// The greatest number that a word may spell.
 const GREATEST: u64 = 9_223_372_036_854_775_807;
 
 /// The most digits of a number.
 const MOST_DIGITS: usize = 19;
 
-/// The most hex digits of a word.
+/// The most hexadecimal digits of a word.
 const MOST_HEX_DIGITS: usize = 131_072;
 
-/// The number that a word of one to nineteen digits spells, up to 2^63 - 1.
+/// Parses a number of one to nineteen digits, up to 2^63 - 1.
 pub fn number(word: &[u8]) -> Option<u64>
     ensures value { result ≡ number_of word.now }
     ensures most { IfSome result (λ value. value ≤ 9223372036854775807) }
@@ -25,7 +25,7 @@ pub fn number(word: &[u8]) -> Option<u64>
     if value <= GREATEST { Some(value) } else { None }
 }
 
-/// The bytes that a word of hex digits spells, in either case: one to 65,536 whole bytes.
+/// Parses hexadecimal digits of either case: 1 to 65,536 bytes.
 #[tactic(auto, using(crate::proofs::LineWordsLemmas::HexWords::no_bytes, crate::proofs::LineWordsLemmas::HexWords::hex_spells))]
 pub fn hex_bytes(alloc: Global, word: &[u8]) -> Result<Option<Vec<u8>>, AllocError>
     ensures value { IfOk result (SpellsBytes word.now) }
@@ -43,7 +43,7 @@ pub fn hex_bytes(alloc: Global, word: &[u8]) -> Result<Option<Vec<u8>>, AllocErr
     }
 }
 
-// Whether a word is pairs of hex digits.
+// Returns whether a word consists of pairs of hexadecimal digits.
 fn is_hex(word: &[u8]) -> bool
     ensures { result ≡ is_paired word.now }
 {

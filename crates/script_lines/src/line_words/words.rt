@@ -3,11 +3,11 @@ ghost use Rattle.std.specs.Prelude.{◌≡◌, ◌==◌, position};
 
 use std::marker::Model;
 
-/// What stands between the spaces of a line, one at a time. Where two spaces stand side by side, or one
-/// at either end, there is an empty word.
+/// The words of a line, one at a time. Each space ends a word. So there is an empty word between
+/// two adjacent spaces, and beside a space at either end of the line.
 #[derive(Debug, Drop)]
 pub struct Words<'a> {
-    // What is left of the line, less a space before it; none once the last word was taken.
+    // The rest of the line after the last word and its space. `None` after the last word.
     rest: Option<&'a [u8]>,
 }
 
@@ -23,12 +23,14 @@ impl<'a> Model for Words<'a> {
 impl<'a> Words<'a> {
     ghost use Rattle.script_lines.specs.LineWords.Words.{TakesFirst, words_of};
 
+    /// Makes the words of a line.
     pub fn of(line: &'a [u8]) -> Self
         ensures { result ≡ words_of line.now }
     {
         Words { rest: Some(line) }
     }
 
+    /// Removes and returns the first word, if a word is left.
     pub fn next_word(&mut self) -> Option<&'a [u8]>
         ensures { TakesFirst self.old result self.new }
     {

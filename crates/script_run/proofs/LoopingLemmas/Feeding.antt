@@ -31,7 +31,7 @@ use Rattle.script_run.specs.declared.looping.answers.Came.{Came}
 appended_none : (o m o' : Option (List ℕ)) (text : List ℕ) → Appends o m text → Appends m o' [] → Appends o o' text
 appended_none o m o' text first second = subst (λ (t : List ℕ). Appends o o' t) (append-nil text) (Appends-trans o m o' text [] first second)
 
--- The office has replied, and the script stands after it.
+-- The office has answered, and the script has its next stage.
 pub record Replied (past : History) (at : ℕ) (e : Event) (reply : Result Answer Refusal) (office office' : Office ListBooks)
     : Type 0 where
   pub is : IsReply (stage_of past office) at e reply
@@ -64,7 +64,7 @@ was_fed past at e reply office office' accepted text o o' replied accepts same a
   stands = replied.stands;
 }
 
--- a part of what was told was written
+-- A part of the output was written.
 pub was_begun : (past : History) (at : ℕ) (e : Event) (reply : Result Answer Refusal) (office office' : Office ListBooks) (accepted : Bool)
     (text : List ℕ) (o o' : Option (List ℕ)) → Replied past at e reply office office' → accepted ≡ is_ok reply
     → text ≡ fed_text past at e reply → GotPart text o o'
@@ -89,7 +89,7 @@ was_printed past at e reply office office' text replied same = record {
   stands = replied.stands;
 }
 
--- what came back so far, by so many takes, was accepted
+-- What arrived so far, by `takes` reads, was accepted.
 pub record FedSoFar (takes : ℕ) (device : Option (List ℕ)) (at : ℕ) (past : History) (office office' : Office ListBooks)
     (o o' : Option (List ℕ)) : Type 0 where
   pub brought : List Came
@@ -144,7 +144,7 @@ fed_ok takes device at past office office' o m o' most so ok = record {
   stands = so.stands;
 }
 
--- `ok` was not written whole
+-- Not all of `ok` was written.
 pub fed_part : (takes : ℕ) (device : Option (List ℕ)) (at : ℕ) (past : History) (office office' : Office ListBooks) (o m o' : Option (List ℕ))
     → takes ≤ most_takes → FedSoFar takes device at past office office' o m → GotPart (codes "ok\n") m o'
     → Begins (λ printed. (stays : Bool) × (next : Stage) × AnswersPrint device at (stage_of past office) printed next) o o'
@@ -161,7 +161,7 @@ fed_part takes device at past office office' o m o' most so got =
     } in
     inr (so.printed ++ codes "ok\n", (true, stage_of so.after office', prints), part_after o m o' so.printed (codes "ok\n") so.appended got)
 
--- `ok` was written, or a part of it
+-- All of `ok` was written, or a part of it.
 pub fed_end : (r : Result Bool Error) (takes : ℕ) (device : Option (List ℕ)) (at : ℕ) (office office' : Office ListBooks) (o m o' : Option (List ℕ))
     → takes ≤ most_takes → ((past : History) → Stands ledger_of past office → FedSoFar takes device at past office office' o m)
     → GotText r (codes "ok\n") m o'
@@ -171,7 +171,7 @@ fed_end (Ok stays) takes device at office office' o m o' most so got = λ past s
 fed_end (Err error) takes device at office office' o m o' most so got = λ past stands.
     fed_part takes device at past office office' o m o' most (so past stands) got
 
--- what came was told in part
+-- A part of the output for what arrived was written.
 pub fed_broken : (takes : ℕ) (device : Option (List ℕ)) (at : ℕ) (past : History) (came : Came) (e : Event) (office mid : Office ListBooks)
     (o m o' : Option (List ℕ)) → takes + 1 ≤ most_takes → (so : FedSoFar takes device at past office mid o m) → e ≡ fed device came
     → Begins (λ printed. (ok : Bool) × (next : Stage) × FedPrints (stage_of so.after mid) at e ok printed next) m o'
@@ -236,7 +236,7 @@ fed_refused takes device at past came e accepted office mid office' o m o' most 
       stands = done.stands;
     }
 
--- what was started is printed, and nothing comes back
+-- The output of a start whose responses print nothing.
 abbrev pub StartBegins : (at : ℕ) → (device : Option (List ℕ)) → Event → History → Office ListBooks → Maps → Bool → (o o' : Option (List ℕ)) → Type 0
 StartBegins at device e past office maps connected o o' =
     Begins (λ printed. (done : Unit {0}) × (next : LoopStage)
@@ -254,7 +254,7 @@ answers_none device at now = record {
   text = refl;
 }
 
--- what was started was printed, or a part of it
+-- The output of a start was written, or a part of it.
 pub start_begun : (at : ℕ) (device : Option (List ℕ)) (e : Event) (given : Answer) (past : History) (office mid : Office ListBooks) (maps : Maps)
     (connected : Bool) (o o' : Option (List ℕ)) → Replied past at e (Ok given) office mid → GotPart (reply_text past at e (Ok given)) o o'
     → StartBegins at device e past office maps connected o o'
@@ -270,7 +270,7 @@ start_begun at device e given past office mid maps connected o o' replied got =
     } in
     inr (text, (tt, next, prints), part_of_longer o o' (reply_text past at e (Ok given)) (codes "ok\n") got)
 
--- so it was, and then what came back in part
+-- The output of a start was written, and then a part of that of its responses.
 start_broken : (at : ℕ) (device : Option (List ℕ)) (e : Event) (given : Answer) (past : History) (office mid : Office ListBooks) (maps maps' : Maps)
     (connected : Bool) (o m o' : Option (List ℕ)) → Replied past at e (Ok given) office mid → Appends o m (reply_text past at e (Ok given))
     → Exchanged maps maps'
@@ -292,7 +292,7 @@ start_broken at device e given past office mid maps maps' connected o m o' repli
     } in
     inr (text, (tt, end, prints), part_after o m o' (reply_text past at e (Ok given)) printed appended got)
 
--- what was started is printed, and then what comes back
+-- The output of a start was written, and then that of its responses.
 pub started : (at : ℕ) (device : Option (List ℕ)) (e : Event) (given : Answer) (office mid office' : Office ListBooks) (maps maps' : Maps)
     (connected : Bool) (o m o' : Option (List ℕ)) (r : Result (Unit {0}) Error)
     → ((past : History) → Stands ledger_of past office
@@ -330,7 +330,7 @@ not_started past at device e why office office' maps connected o o' replied = re
   stands = replied.stands;
 }
 
--- nothing comes back where there is no connection
+-- A device without a connection has no responses.
 pub only_ok : (device : Option (List ℕ)) (at : ℕ) (office : Office ListBooks) (o o' : Option (List ℕ)) (r : Result (Unit {0}) Error)
     → GotText r (codes "ok\n") o o' → Carries r (λ done now printed next. AnswersPrint device at now printed next) office office o o'
 only_ok device at office o o' (Ok done) ok = λ past stands. fed_ok 0 device at past office office o o o' (omega arith) (none_fed device at past office o stands) ok

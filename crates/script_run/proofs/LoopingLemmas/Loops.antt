@@ -1,4 +1,4 @@
--- The lines of a loop, one after the other.
+-- The lines of a loop in order.
 use Rattle.std.proofs.Common.{◌≡◌, ◌⊎◌, inl, inr, ℕ, Bool, false, Option, ap, ◌∙◌, List, [], ◌∷◌, ◌++◌, refl, sym, subst, append_assoc, append-nil, arith, ◌<◌, ◌≤◌, length}
 use Rattle.std.specs.Io.KnownBytes.{Appends}
 use Rattle.std.proofs.KnownBytes.{Appends-nil, Appends-trans}
@@ -29,13 +29,13 @@ use Rattle.script_run.specs.Replaying.Scripts.{no_office}
 use Rattle.script_run.specs.Replaying.TextRun.{Writes}
 use Rattle.sun_points.specs.Writing.{GotPart}
 
--- Whatever the rest of the lines prints from here, all of them print it after what was printed before; and so where the run
--- is broken off.
+-- All lines print what was printed so far, and then what the remaining lines print. The same is
+-- true of an interrupted run.
 pub record SoFar (begin : LoopStage) (all : List Line) (now : LoopStage) (lines : List Line) (printed : List ℕ) : Type 0 where
   pub prints : (rest : List ℕ) (status : ExitStatus) → LoopPrints now lines rest status → LoopPrints begin all (printed ++ rest) status
   pub begins : (part : List ℕ) → LoopBegins now lines part → LoopBegins begin all (printed ++ part)
 
--- some lines were carried out: what they printed, and where the loop stands
+-- Some lines were executed: their output, and the state of the loop after them.
 pub record Ran (begin : LoopStage) (all lines : List Line) (output : Option (List ℕ)) (here : LoopState) : Type 0 where
   pub printed : List ℕ
   pub past : History
@@ -97,7 +97,7 @@ begun_line : (begin : LoopStage) (all lines left : List Line) (first : Line) (ou
 begun_line begin all lines left first output here part at ran begins =
     ran.so_far.begins part (subst (λ (ls : List Line). LoopBegins (stage_on ran.past here) ls part) (sym at) (inl begins))
 
--- how a wrong line ends a run
+-- A wrong line ends a run.
 pub stopped : (status : ExitStatus) (past : History) (all lines left : List Line) (bad : Line) (from here : LoopState) (m o' : Option (List ℕ))
     → lines ≡ bad ∷ left → AreWrong here.connected (words_of bad.text) × Appends here.output m [] → TellsText (bad_line bad.number) status m o'
     → Ran (stage_on past from) all lines from.output here
@@ -116,7 +116,7 @@ stopped Failed past all lines left bad from here m o' at wrong (part, unwritten,
       (inr (bad_line bad.number, (unwritten, whole), inl (wrong.0, refl))),
 )
 
--- how a run ends in which a line was broken off
+-- An interrupted line ends a run.
 pub broken : (past : History) (all lines left : List Line) (first : Line) (from here : LoopState) (o' : Option (List ℕ))
     → lines ≡ first ∷ left → (ran : Ran (stage_on past from) all lines from.output here)
     → Begins (λ printed. (next : LoopStage) × WordsPrint (words_of first.text) (stage_on ran.past here) printed next) here.output o'
@@ -132,7 +132,7 @@ broken past all lines left first from here o' at ran (inr (printed, (next, print
   begun_line (stage_on past from) all lines left first from.output here part at ran (inr (printed, (unwritten, whole), inr (next, prints))),
 )
 
--- a text from its beginning
+-- A text from its beginning.
 pub text_from : (status : ExitStatus) (zone : Zone) (past : History) (text : List ℕ) (office : Office ListBooks) (maps : Maps) (o o' : Option (List ℕ))
     → AreUnset maps → stage_of past office ≡ beginning zone → Stands ledger_of past office → LinesRun status text (loop_state office maps false o) o'
     → TextRuns zone text status o o'
@@ -156,11 +156,11 @@ not_opened Refused why zone text o o' is told = (refused_line why, told, inl (ap
 not_opened Failed why zone text o o' is (part, unwritten, whole, written) =
     (part, written, inl (unwritten, ap refused_line (sym is) ∙ whole))
 
--- nothing was run
+-- Nothing was run.
 pub nothing_run : (zone : Zone) (text : List ℕ) (o : Option (List ℕ)) → TextRuns zone text Failed o o
 nothing_run zone text o = ([], Appends-nil o, inl (no_office, refl))
 
--- an input that is a text, or too long for one
+-- An input that is a text, or too long.
 short_prints : (zone : Zone) (input printed : List ℕ) (status : ExitStatus) → length input ≤ most_bytes → TextPrints zone input printed status
     → InputPrints zone input printed status
 short_prints zone input printed status short prints =
@@ -182,7 +182,7 @@ text_ran zone text input status o o' same short runs =
 none_begun : (zone : Zone) (input : List ℕ) → InputBegins zone input []
 none_begun zone input = record { long = λ long. (too_long, refl); text = λ short. inl (no_office, refl) }
 
--- an input that was not read
+-- An input that was not read.
 pub unread_ran : (zone : Zone) (input : List ℕ) (status : ExitStatus) (o o' : Option (List ℕ)) → EndsUnread input status o o'
     → InputRuns zone input status o o'
 unread_ran zone input Fine o o' (inl long) = absurd long.1

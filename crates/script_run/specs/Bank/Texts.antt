@@ -1,4 +1,4 @@
--- What the lines of a text set up, and what is printed of it.
+-- What the lines of a text set up, and what they print.
 use Rattle.std.specs.Prelude.{◌≡◌, ◌⊎◌, ◌<◌, ◌≤◌, ℕ, Bool, true, false, List, [], ◌∷◌, ◌++◌, length, Ok, Err}
 use Rattle.std.specs.declared.result.Result.{Result}
 use Rattle.script_lines.specs.Bank.Forms.{IsBankLine}
@@ -13,16 +13,16 @@ use Rattle.script_lines.specs.LineWords.Words.{words_of}
 use Rattle.script_run.specs.Bank.Settings.{Setting, after_line, takes}
 use Rattle.script_run.specs.Replaying.Lines.{BeginsText}
 
--- nothing is printed of a line that the bank takes
+-- A line that the register map accepts prints nothing.
 abbrev pub taken_text : Bool → List ℕ
 taken_text true = []
 taken_text false = refused_line Limit
 
--- a line that has none of the forms
+-- The line has none of the forms.
 pub record IsBad (bad : Line) : Type 0 where
   pub none : (said : BankLine) → IsBankLine (words_of bad.text) said → ⊥
 
--- The lines are carried out one after the other, up to one that is none: that ends it, and prints its number.
+-- The lines are executed in order. A bad line prints its number, and ends the run.
 abbrev pub SetsUp : Setting → List Line → (printed : List ℕ) → (ended : Result Setting ExitStatus)
     → Type 0
 SetsUp now [] printed ended = (printed ≡ []) × (ended ≡ Ok now)
@@ -32,7 +32,7 @@ SetsUp now (first ∷ lines) printed ended =
     × ((rest : List ℕ) × (printed ≡ taken_text (takes now.maps said) ++ rest)
     × SetsUp (after_line now said) lines rest ended))
 
--- What is there of what a line prints: nothing, or a part of it.
+-- The output of a line so far: nothing, or a part of it.
 abbrev pub LineBegins : Setting → Line → (part : List ℕ) → Type 0
 LineBegins now first part =
     (part ≡ [])
@@ -40,7 +40,7 @@ LineBegins now first part =
     ⊎ ((said : BankLine) × IsBankLine (words_of first.text) said
     × BeginsText part (taken_text (takes now.maps said))))
 
--- What is there where setting up was broken off: what some first lines print, and the beginning of what the next one prints.
+-- The output of an interrupted run: that of some first lines, and a beginning of the next line's.
 abbrev pub SetUpBegins : Setting → List Line → (part : List ℕ) → Type 0
 SetUpBegins now [] part = part ≡ []
 SetUpBegins now (first ∷ lines) part =
@@ -49,13 +49,13 @@ SetUpBegins now (first ∷ lines) part =
     × ((rest : List ℕ) × (part ≡ taken_text (takes now.maps said) ++ rest)
     × SetUpBegins (after_line now said) lines rest))
 
--- an input sets up what its lines do, where it isn't too long
+-- An input sets up what its lines do, unless it is too long.
 pub record InputSetsUp (now : Setting) (input printed : List ℕ)
     (ended : Result Setting ExitStatus) : Type 0 where
   pub long : most_bytes < length input → (printed ≡ too_long) × (ended ≡ Err Refused)
   pub lines : length input ≤ most_bytes → SetsUp now (speaking_lines input) printed ended
 
--- so far as it goes, where it is broken off
+-- The output of an interrupted run of an input.
 pub record InputBegins (now : Setting) (input part : List ℕ) : Type 0 where
   pub long : most_bytes < length input → BeginsText part too_long
   pub lines : length input ≤ most_bytes → SetUpBegins now (speaking_lines input) part

@@ -1,4 +1,4 @@
--- What a line of a loop prints, and where the loop stands then.
+-- What a line of a loop prints, and the stage of the loop after it.
 use Rattle.std.specs.Prelude.{◌≡◌, ◌⊎◌, ◌++◌, ℕ, Bool, true, false, List, Option, Some, None, Result, Ok, Err, codes}
 use Rattle.script_lines.specs.Bank.Forms.{IsBankLine}
 use Rattle.script_lines.specs.declared.bank.bank.BankLine.{BankLine}
@@ -26,27 +26,30 @@ use Rattle.script_run.specs.Looping.Answers.{AnswersPrint}
 use Rattle.mb_device.specs.StandIn.Exchanges.{Exchanged}
 use Rattle.script_run.specs.Looping.Standings.{LoopStage}
 
--- An area and a trick stand before the first line that connects.
+-- An area or a fault to inject is allowed only before the first line that connects.
 abbrev pub MayStand : (connected : Bool) → BankLine → Type 0
 MayStand connected (bank.Area area) = connected ≡ false
 MayStand connected (bank.Set cell) = Unit {0}
 MayStand connected (bank.Trick frame trick) = connected ≡ false
 
+-- The line of the simulator is not allowed here.
 abbrev pub MayNotStand : (connected : Bool) → BankLine → Type 0
 MayNotStand connected (bank.Area area) = connected ≡ true
 MayNotStand connected (bank.Set cell) = ⊥
 MayNotStand connected (bank.Trick frame trick) = connected ≡ true
 
+-- What a line of the simulator prints.
 abbrev pub taken_text : Bool → List ℕ
 taken_text true = codes "ok\n"
 taken_text false = refused_line refusal.Limit
 
+-- The register map after a line of the simulator.
 abbrev pub maps_with : Maps → BankLine → Maps
 maps_with maps (bank.Area area) = with_area maps area
 maps_with maps (bank.Set cell) = with_cell maps cell
 maps_with maps (bank.Trick frame trick) = maps
 
--- A line of the bank prints whether the bank takes it.
+-- A line of the simulator prints whether the register map accepts it.
 pub record BankPrints (said : BankLine) (now : LoopStage) (printed : List ℕ) (next : LoopStage)
     : Type 0 where
   pub stands : MayStand now.connected said
@@ -55,12 +58,13 @@ pub record BankPrints (said : BankLine) (now : LoopStage) (printed : List ℕ) (
   pub maps : next.maps ≡ maps_with now.maps said
   pub connected : next.connected ≡ now.connected
 
--- The stand-in has no part in it.
+-- The simulator stays as it is.
 pub record StandsBy (now next : LoopStage) : Type 0 where
   pub maps : next.maps ≡ now.maps
   pub connected : next.connected ≡ now.connected
 
--- Where a start is accepted, what was started is printed, its frames go to the stand-in, and what comes back is fed.
+-- If the office accepts a start, the output is what was started. The frames are sent to the
+-- simulator, and its responses are fed.
 abbrev pub Started : Result Answer Refusal → (at : ℕ) → (device : Option (List ℕ)) → Event
     → (now : LoopStage)
     → (printed : List ℕ) → (next : LoopStage) → Type 0
@@ -72,6 +76,7 @@ Started (Err why) at device e now printed next =
     (printed ≡ refused_line why) × (next.script ≡ after_reply now.script at e (Err why))
     × (next.maps ≡ now.maps)
 
+-- A start prints the office's answer, and what its responses print.
 pub record StartsPrint (at : ℕ) (device : Option (List ℕ)) (e : Event) (now : LoopStage)
     (printed : List ℕ) (next : LoopStage) : Type 0 where
   pub reply : Result Answer Refusal
@@ -79,13 +84,13 @@ pub record StartsPrint (at : ℕ) (device : Option (List ℕ)) (e : Event) (now 
   pub started : Started reply at device e now printed next
   pub connected : next.connected ≡ now.connected
 
--- any other event prints the office's reply
+-- Any other event prints the office's answer.
 pub record PlainPrints (at : ℕ) (e : Event) (now : LoopStage) (printed : List ℕ) (next : LoopStage)
     : Type 0 where
   pub prints : EventPrints now.script at e printed next.script
   pub by : StandsBy now next
 
--- so does a connection, and from then on a line has asked for one
+-- A connection prints the office's answer. From then on, a line has asked for a connection.
 pub record ConnectPrints (at : ℕ) (e : Event) (now : LoopStage) (printed : List ℕ)
     (next : LoopStage)
     : Type 0 where
@@ -93,17 +98,18 @@ pub record ConnectPrints (at : ℕ) (e : Event) (now : LoopStage) (printed : Lis
   pub maps : next.maps ≡ now.maps
   pub connected : next.connected ≡ true
 
--- the device of whose plan a command starts reads
+-- The device whose round a command starts.
 abbrev pub round_of : Command → Option (Option (List ℕ))
 round_of (command.StartRound round) = Some round.device
 round_of other = None
 
+-- A command prints the office's answer. If it starts a round, the responses print more.
 abbrev pub CommandPrints : (round : Option (Option (List ℕ))) → (at : ℕ) → Event → (now : LoopStage)
     → (printed : List ℕ) → (next : LoopStage) → Type 0
 CommandPrints (Some device) at e now printed next = StartsPrint at device e now printed next
 CommandPrints None at e now printed next = PlainPrints at e now printed next
 
--- A line has no bytes of a device: they are the stand-in's.
+-- A line may not have the bytes of a device: they are the simulator's.
 abbrev pub HappensPrints : (at : ℕ) → Event → (now : LoopStage) → (printed : List ℕ)
     → (next : LoopStage) → Type 0
 HappensPrints at (event.Connected device) now printed next =
@@ -117,11 +123,12 @@ HappensPrints at (event.Command asked) now printed next =
 HappensPrints at (event.Asked asked) now printed next =
     PlainPrints at (event.Asked asked) now printed next
 
+-- The event is the bytes of a device.
 abbrev pub IsBytes : Event → Type 0
 IsBytes (event.Bytes device piece) = Unit {0}
 IsBytes other = ⊥
 
--- A start prints so where its numbers are registers that can be read, and else that it is refused.
+-- A start prints what was started if one read can have its registers, otherwise a refusal.
 abbrev pub ReadPrints : (at : ℕ) → GivenStart → (now : LoopStage) → (printed : List ℕ)
     → (next : LoopStage) → Type 0
 ReadPrints at start now printed next =
@@ -130,26 +137,29 @@ ReadPrints at start now printed next =
     ⊎ ((IsSpan start.function start.address start.count → ⊥)
     × IsRefused now.script printed next.script × StandsBy now next)
 
--- a line that a script prints alike
+-- The line prints the same as in a script without a simulator.
 pub record AlikePrints (said : ScriptLine) (now : LoopStage) (printed : List ℕ) (next : LoopStage)
     : Type 0 where
   pub prints : LinePrints now.script said printed next.script
   pub by : StandsBy now next
 
+-- What a script line prints.
 abbrev pub SaidPrints : ScriptLine → (now : LoopStage) → (printed : List ℕ) → (next : LoopStage)
     → Type 0
 SaidPrints (line.Event at e) now printed next = HappensPrints at e now printed next
 SaidPrints (line.Start at start) now printed next = ReadPrints at start now printed next
 SaidPrints said now printed next = AlikePrints said now printed next
 
+-- The line is that of a device's bytes.
 abbrev pub SaysBytes : ScriptLine → Type 0
 SaysBytes (line.Event at e) = IsBytes e
 SaysBytes other = ⊥
 
+-- The words are no line of the simulator.
 abbrev pub IsNoBankLine : List (List ℕ) → Type 0
 IsNoBankLine words = (said : BankLine) → IsBankLine words said → ⊥
 
--- Words that are a line of the bank or of a script, carried out.
+-- The words are a line of the simulator or of a script, which was executed.
 abbrev pub WordsPrint : List (List ℕ) → (now : LoopStage) → (printed : List ℕ) → (next : LoopStage)
     → Type 0
 WordsPrint words now printed next =
@@ -157,7 +167,7 @@ WordsPrint words now printed next =
     ⊎ (IsNoBankLine words × (said : ScriptLine) × IsLine words said
     × SaidPrints said now printed next)
 
--- Words that are none, or may not stand where they do.
+-- The words are no line, or a line that is not allowed here.
 abbrev pub AreWrong : (connected : Bool) → List (List ℕ) → Type 0
 AreWrong connected words =
     ((said : BankLine) × IsBankLine words said × MayNotStand connected said)

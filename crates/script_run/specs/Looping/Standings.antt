@@ -1,4 +1,4 @@
--- Where a loop stands, and what it has written.
+-- The stage of a loop, and what it has written.
 use Rattle.std.specs.Prelude.{◌≡◌, ◌⊎◌, ℕ, Bool, List, [], Option, Result, Ok, Err}
 use Rattle.std.specs.Io.KnownBytes.{Appends}
 use Rattle.mb_device.specs.Maps.{Maps}
@@ -11,29 +11,32 @@ use Rattle.script_run.specs.Replaying.TextRun.{stage_of}
 use Rattle.script_run.specs.Replaying.Stages.{Stage}
 use Rattle.sun_points.specs.Writing.{GotPart}
 
--- Where the script stands, what the stand-in holds, and whether a line has asked for a connection.
+-- The stage of the script, the simulator's register map, and whether a line has asked for a
+-- connection.
 pub record LoopStage : Type 0 where
   pub script : Stage
   pub maps : Maps
   pub connected : Bool
 
--- what a run is under way with, and what was written
+-- The state of a run, and the written bytes.
 pub record LoopState : Type 0 where
   pub office : Office ListBooks
   pub maps : Maps
   pub connected : Bool
   pub output : Option (List ℕ)
 
+-- The state of a run, from its parts.
 abbrev pub loop_state : Office ListBooks → Maps → (connected : Bool)
     → (output : Option (List ℕ)) → LoopState
 loop_state office maps connected output =
     record { office = office; maps = maps; connected = connected; output = output }
 
+-- The stage of a loop after what the office accepted.
 abbrev pub stage_on : History → LoopState → LoopStage
 stage_on past here =
     record { script = stage_of past here.office; maps = here.maps; connected = here.connected }
 
--- This was printed, and the office stands after it.
+-- This was printed, and the office matches what it accepted.
 pub record CarriedOut (Prints : LoopStage → List ℕ → LoopStage → Type 0) (past : History)
     (from to : LoopState)
     : Type 0 where
@@ -43,14 +46,14 @@ pub record CarriedOut (Prints : LoopStage → List ℕ → LoopStage → Type 0)
   pub appended : Appends from.output to.output printed
   pub stands : Stands ledger_of after to.office
 
--- What is there of what is printed where it was broken off: nothing, or a beginning of it.
+-- The output of an interrupted run: nothing, or a beginning of it.
 abbrev pub Begins : (Prints : List ℕ → Type 0) → (output output' : Option (List ℕ)) → Type 0
 Begins Prints output output' =
     Appends output output' []
     ⊎ ((printed : List ℕ) × Prints printed × GotPart printed output output')
 
--- Whoever asks carries it out, after every past after which the office stood; or the writer, memory or a connection failed,
--- and it was broken off. Where the office stands then is not said.
+-- The call executed the line, for every history that the office matches. Otherwise the writer,
+-- memory or a connection failed, and the line was interrupted. The stage is not defined then.
 abbrev pub CarriesOut : {X E : Type 0} → Result X E → (X → LoopStage → List ℕ → LoopStage → Type 0)
     → (from to : LoopState) → Type 0
 CarriesOut (Ok x) Prints from to =
@@ -60,7 +63,7 @@ CarriesOut {X = X} (Err error) Prints from to =
     → Begins (λ printed. (x : X) × (next : LoopStage) × Prints x (stage_on past from) printed next)
     from.output to.output
 
--- So it is where only the script goes on.
+-- The same for calls that change only the script's stage.
 pub record Carried (Prints : Stage → List ℕ → Stage → Type 0) (past : History)
     (office office' : Office ListBooks) (output output' : Option (List ℕ)) : Type 0 where
   pub printed : List ℕ
@@ -69,6 +72,7 @@ pub record Carried (Prints : Stage → List ℕ → Stage → Type 0) (past : Hi
   pub appended : Appends output output' printed
   pub stands : Stands ledger_of after office'
 
+-- The same for calls that change only the script's stage, by their result.
 abbrev pub Carries : {X E : Type 0} → Result X E → (X → Stage → List ℕ → Stage → Type 0)
     → (office office' : Office ListBooks) → (output output' : Option (List ℕ)) → Type 0
 Carries (Ok x) Prints office office' output output' =

@@ -1,4 +1,4 @@
--- How a run of a loop goes: what was written, and where it stands.
+-- How a run of a loop goes: what was written, and its stage.
 use Rattle.std.specs.Prelude.{◌≡◌, ℕ, Bool, true, false, List, [], Option, Result, Ok, Err}
 use Rattle.std.specs.Io.KnownBytes.{Appends}
 use Rattle.std.specs.declared.io.Error.{Error}
@@ -16,7 +16,7 @@ use Rattle.script_run.specs.Looping.Standings.{Begins, CarriedOut, CarriesOut, L
 use Rattle.script_run.specs.Replaying.TextRun.{Writes}
 use Rattle.sun_points.specs.Writing.{GotPart}
 
--- A line was carried out, or is wrong, or was broken off.
+-- The line was executed, is wrong, or was interrupted.
 abbrev pub LineRuns : Result Bool Error → (Prints : LoopStage → List ℕ → LoopStage → Type 0)
     → (Wrong : Type 0)
     → (from to : LoopState) → Type 0
@@ -28,24 +28,24 @@ LineRuns (Err error) Prints Wrong from to =
     → Begins (λ printed. (next : LoopStage) × Prints (stage_on past from) printed next)
     from.output to.output
 
--- A line was carried out as its words have it, or they are none that may stand where the run is.
+-- The line was executed as its words say. Otherwise the words are no line that is allowed here.
 abbrev pub WordsRun : Result Bool Error → (words : List (List ℕ)) → (from to : LoopState) → Type 0
 WordsRun result words from to =
     LineRuns result (WordsPrint words) (AreWrong from.connected words) from to
 
--- A start of reads was carried out: it was refused, or what came back from the stand-in was fed.
+-- A start of reads was executed. It was refused, or the simulator's responses were fed.
 abbrev pub StartRuns : {X E : Type 0} → Result X E → (at : ℕ) → (device : Option (List ℕ)) → Event
     → (from to : LoopState) → Type 0
 StartRuns result at device e from to =
     CarriesOut result (λ done now printed next. StartsPrint at device e now printed next) from to
 
--- a text that ends a run was written, or a part of it, since the writer failed
+-- A text that ends a run was written, or a part of it if the writer failed.
 abbrev pub TellsText : (text : List ℕ) → ExitStatus → (output output' : Option (List ℕ)) → Type 0
 TellsText text Fine output output' = ⊥
 TellsText text Refused output output' = Appends output output' text
 TellsText text Failed output output' = GotPart text output output'
 
--- lines that were run from a desk
+-- Lines were run from a state.
 abbrev pub LinesRun : ExitStatus → (text : List ℕ) → (from : LoopState)
     → (output' : Option (List ℕ)) → Type 0
 LinesRun status text from output' =
@@ -53,11 +53,13 @@ LinesRun status text from output' =
     → Writes (LoopPrints (stage_on past from) (speaking_lines text))
     (LoopBegins (stage_on past from) (speaking_lines text)) status from.output output'
 
+-- The run of a text.
 abbrev pub TextRuns : Zone → (text : List ℕ) → ExitStatus
     → (output output' : Option (List ℕ)) → Type 0
 TextRuns zone text status output output' =
     Writes (TextPrints zone text) (TextBegins zone text) status output output'
 
+-- The run of an input.
 abbrev pub InputRuns : Zone → (input : List ℕ) → ExitStatus → (output output' : Option (List ℕ))
     → Type 0
 InputRuns zone input status output output' =

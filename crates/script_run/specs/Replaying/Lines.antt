@@ -1,4 +1,4 @@
--- What a line of a script prints, and where the script stands then.
+-- What a line of a script prints, and the script's stage after it.
 use Rattle.std.specs.Prelude.{◌≡◌, ◌⊎◌, ℕ, List, [], ◌++◌}
 use Rattle.command_io.specs.Lines.{Line}
 use Rattle.script_lines.specs.Forms.{IsLine}
@@ -10,6 +10,7 @@ use Rattle.script_run.specs.Replaying.Events.{EventPrints, ListPrints, StartPrin
 use Rattle.script_run.specs.Replaying.Asked.{DaysPrint, IntervalsPrint, MeterPrints, PollPrints}
 use Rattle.script_text.specs.AnswerText.{bad_line}
 
+-- What a line of a script prints.
 abbrev pub LinePrints : Stage → ScriptLine → (printed : List ℕ) → (next : Stage) → Type 0
 LinePrints now (line.Event at e) printed next = EventPrints now at e printed next
 LinePrints now (line.List at list) printed next = ListPrints now at list printed next
@@ -19,23 +20,23 @@ LinePrints now (line.Intervals name) printed next = IntervalsPrint now name prin
 LinePrints now (line.Days name) printed next = DaysPrint now name printed next
 LinePrints now (line.Poll number) printed next = PollPrints number now printed next
 
--- Words that are a line of a script, carried out.
+-- The words are a line of a script, which was executed.
 pub record WordsPrint (now : Stage) (words : List (List ℕ)) (printed : List ℕ) (next : Stage)
     : Type 0 where
   pub said : ScriptLine
   pub is : IsLine words said
   pub prints : LinePrints now said printed next
 
--- A line that has none of the forms prints its number.
+-- A line without a form prints its number.
 pub record BadPrints (bad : Line) (printed : List ℕ) : Type 0 where
   pub none : (said : ScriptLine) → IsLine (words_of bad.text) said → ⊥
   pub text : printed ≡ bad_line bad.number
 
--- a text, as far as it goes, of which the rest is not there
+-- A beginning of a text.
 abbrev pub BeginsText : (part text : List ℕ) → Type 0
 BeginsText part text = (rest : List ℕ) × (text ≡ part ++ rest)
 
--- What is there of what a line prints: nothing, or a part of it.
+-- The output of a line so far: nothing, or a part of it.
 abbrev pub LineBegins : Stage → Line → (part : List ℕ) → Type 0
 LineBegins now first part =
     (part ≡ []) ⊎ ((printed : List ℕ) × BeginsText part printed

@@ -1,4 +1,4 @@
-//! What lines have set up.
+//! A simulated device that lines have set up.
 ghost use Rattle.std.specs.Prelude.{◌≡◌, IfOk, OnErr};
 ghost use Rattle.script_run.specs.Bank.Settings as setting;
 
@@ -7,7 +7,7 @@ use script_lines::{BankLine, GivenArea, GivenCell};
 use std::alloc::{AllocError, Global};
 use std::marker::Model;
 
-/// A stand-in: what it holds, and what becomes of its answers.
+/// A simulated device: its register map and its injected faults.
 #[derive(Drop)]
 pub struct Setup {
     bank: Bank,
@@ -22,15 +22,16 @@ impl Model for Setup {
     ghost view = { λ s. record { maps = s.bank; tricks = s.tricks.items } };
 }
 
-/// A stand-in, taken apart.
+/// The parts of a simulated device.
 #[derive(Drop)]
 pub struct SetupParts {
     pub bank: Bank,
-    /// The first trick with the number of a frame is played on its answer.
+    /// The faults to inject, by the number of a frame. The first with the number of a frame is
+    /// injected into its response.
     pub tricks: Vec<(u64, Trick)>,
 }
 
-// An area of the bank with these numbers, where there can be one.
+// Returns the area with these numbers, if there can be one.
 fn area_of(given: GivenArea) -> Option<Area>
     ensures { result ≡ setting.area_of given }
 {
@@ -49,7 +50,7 @@ fn area_of(given: GivenArea) -> Option<Area>
 impl Setup {
     ghost use Rattle.script_run.specs.Bank.Settings.{IsUnset, after_area, after_cell, after_line, takes, takes_area, takes_cell};
 
-    /// A stand-in that has no addresses yet, and plays no tricks.
+    /// Makes a simulated device without addresses and without faults.
     pub fn new(alloc: Global) -> Result<Setup, AllocError>
         ensures { IfOk result IsUnset }
     {
@@ -60,6 +61,7 @@ impl Setup {
         })
     }
 
+    /// Splits the device into its parts.
     pub fn into_parts(self) -> SetupParts
         ensures bank { result.bank ≡ self.maps }
         ensures tricks { result.tricks.items ≡ self.tricks }
@@ -68,7 +70,7 @@ impl Setup {
         SetupParts { bank, tricks }
     }
 
-    // Adds an area, where the bank takes it.
+    // Adds an area, if the register map accepts it.
     fn add_area(&mut self, given: GivenArea) -> bool
         ensures taken { result ≡ takes_area self.old.maps given }
         ensures after { self.new ≡ after_area self.old given }
@@ -76,7 +78,7 @@ impl Setup {
         add_in(&mut self.bank, given)
     }
 
-    /// Keeps a value, and says whether the bank has the address and takes the value.
+    /// Stores a value. Returns whether the register map has the address and accepts the value.
     pub fn set_cell(&mut self, given: GivenCell) -> bool
         ensures taken { result ≡ takes_cell self.old.maps given }
         ensures after { self.new ≡ after_cell self.old given }
@@ -92,8 +94,8 @@ impl Setup {
         Ok(())
     }
 
-    /// Carries out a line, and says whether the bank takes it; one that it does not take changes nothing. Tricks are
-    /// always taken.
+    /// Executes a line. Returns whether the register map accepts it; a refused line changes
+    /// nothing. A fault to inject is always accepted.
     pub fn carry_out(&mut self, line: &BankLine) -> Result<bool, AllocError>
         ensures taken { IfOk result (λ taken. taken ≡ takes self.old.maps line.now) }
         ensures after { IfOk result (λ taken. self.new ≡ after_line self.old line.now) }
@@ -110,7 +112,7 @@ impl Setup {
     }
 }
 
-/// A bank that has no addresses.
+/// Makes a register map without addresses.
 pub fn empty_bank(alloc: Global) -> Result<Bank, AllocError>
     ensures { IfOk result setting.AreUnset }
 {
@@ -120,7 +122,7 @@ pub fn empty_bank(alloc: Global) -> Result<Bank, AllocError>
     }
 }
 
-/// Adds an area to a bank, with all values 0, and says whether the bank takes it.
+/// Adds an area of values that are 0 to a register map. Returns whether the map accepts it.
 pub fn add_in(bank: &mut Bank, given: GivenArea) -> bool
     ensures taken { result ≡ setting.takes_area bank.old given }
     ensures after { bank.new ≡ setting.with_area bank.old given }
@@ -131,7 +133,7 @@ pub fn add_in(bank: &mut Bank, given: GivenArea) -> bool
     }
 }
 
-/// Keeps a value in a bank, and says whether the bank has the address and takes the value.
+/// Stores a value in a register map. Returns whether the map has the address and accepts the value.
 pub fn set_in(bank: &mut Bank, given: GivenCell) -> bool
     ensures taken { result ≡ setting.takes_cell bank.old given }
     ensures after { bank.new ≡ setting.with_cell bank.old given }

@@ -1,4 +1,4 @@
-//! What comes back from the stand-in.
+//! Feeds the responses of the simulator to the office.
 ghost use Rattle.std.specs.Prelude.{codes};
 ghost use Rattle.script_run.specs.Looping.Answers.{AnswersPrint, FedPrints};
 ghost use Rattle.script_run.specs.Looping.Standings.{Carries};
@@ -15,7 +15,7 @@ use std::alloc::{AllocError, Global};
 use std::io::{self, Write};
 use sun_points::Sink;
 
-/// What came back from the stand-in.
+/// What arrived from the simulator.
 #[derive(Drop)]
 pub(crate) enum Came {
     Piece(Piece),
@@ -34,7 +34,6 @@ impl Came {
         }
     }
 
-    // What the office is fed of it.
     fn into_event(self, device: &Option<Name>) -> Event
         ensures { result ≡ fed device.now self }
     {
@@ -45,7 +44,7 @@ impl Came {
     }
 }
 
-// What the near end of a connection brings, unless it is idle.
+// Reads the near end of a connection once. Returns `None` after a timeout.
 fn next_came<L: Link>(alloc: Global, near: &mut L) -> Result<Option<Came>, AllocError> {
     let mut piece = [0; MAX_ADU];
     match near.take(&mut piece) {
@@ -59,7 +58,7 @@ fn next_came<L: Link>(alloc: Global, near: &mut L) -> Result<Option<Came>, Alloc
     }
 }
 
-// Feeds an event, and prints its notes, or why it is refused; says whether it was accepted.
+// Feeds an event, and prints its notifications or its refusal. Returns whether it was accepted.
 fn feed<W: Write>(
     office: &mut Office<ListBooks>,
     at: u64,
@@ -82,8 +81,8 @@ fn feed<W: Write>(
     }
 }
 
-/// Feeds what the near end of a device's connection brings until it is idle, and prints the notes and `ok`, or the first
-/// refusal; says whether the connection stays.
+/// Feeds what arrives at the near end of a device's connection until a read times out. Prints the
+/// notifications and `ok`, or the first refusal. Returns whether the connection stays.
 pub(crate) fn feed_answers<L: Link, W: Write>(
     alloc: Global,
     office: &mut Office<ListBooks>,
@@ -112,7 +111,7 @@ pub(crate) fn feed_answers<L: Link, W: Write>(
     end_well(true, output)
 }
 
-// Prints `ok`, and says whether the connection stays.
+// Prints `ok`, and returns whether the connection stays.
 fn end_well<W: Write>(stays: bool, output: &mut W) -> io::Result<bool>
     ensures { GotText result (codes "ok\n") (W.contents output.old) (W.contents output.new) }
 {
@@ -122,7 +121,6 @@ fn end_well<W: Write>(stays: bool, output: &mut W) -> io::Result<bool>
     }
 }
 
-/// Writes `ok`.
 pub(crate) fn write_ok<W: Write>(output: &mut W) -> io::Result<()>
     ensures { GotText result (codes "ok\n") (W.contents output.old) (W.contents output.new) }
 {

@@ -1,4 +1,4 @@
-//! Lines, carried out.
+//! Executes the lines of a loop.
 ghost use Rattle.std.specs.Prelude.{◌≡◌, true, false};
 ghost use Rattle.script_run.specs.Bank.Settings as setting;
 ghost use Rattle.script_run.specs.Looping.Lines as form;
@@ -23,17 +23,17 @@ use script_text::write_refusal;
 use std::alloc::Global;
 use std::io::{self, ErrorKind, Write};
 
-/// What a run is under way with.
+/// The state of a run.
 #[derive(Drop)]
 pub(crate) struct Run<'t, L: Link + Drop> {
     pub(crate) office: Office<ListBooks>,
     pub(crate) bank: Bank,
     pub(crate) wires: Wires<'t, L>,
-    /// A line has asked for a connection.
+    /// Whether a line has asked for a connection.
     pub(crate) connected: bool,
 }
 
-/// Carries a line out, and says whether it is one.
+/// Executes a line. Returns whether it is one of the lines that are allowed here.
 pub(crate) fn run_line<C: Connects, W: Write>(
     alloc: Global,
     run: &mut Run<'_, C::End>,
@@ -55,7 +55,7 @@ pub(crate) fn run_line<C: Connects, W: Write>(
     }
 }
 
-// Whether a line of the bank may stand here.
+// Returns whether a line of the simulator is allowed here.
 fn may_stand(connected: bool, said: &BankLine) -> bool
     ensures yes { result ≡ true → form.MayStand connected said.now }
     ensures no { result ≡ false → form.MayNotStand connected said.now }
@@ -67,7 +67,8 @@ fn may_stand(connected: bool, said: &BankLine) -> bool
     }
 }
 
-// Hands a line to the bank, and says whether it takes it. A trick is played from the start of a connection on.
+// Gives a line to the register map, and returns whether the map accepts it. A fault is injected
+// from the start of a connection on.
 fn take_line(bank: &mut Bank, said: &BankLine) -> bool
     ensures taken { result ≡ setting.takes bank.old said.now }
     ensures after { bank.new ≡ form.maps_with bank.old said.now }
@@ -79,7 +80,7 @@ fn take_line(bank: &mut Bank, said: &BankLine) -> bool
     }
 }
 
-// Writes whether the bank has taken a line.
+// Prints whether the register map accepted a line.
 fn tell_taken<W: Write>(taken: bool, output: &mut W) -> io::Result<()>
     ensures { GotText result (form.taken_text taken)
         (W.contents output.old) (W.contents output.new) }
@@ -91,7 +92,7 @@ fn tell_taken<W: Write>(taken: bool, output: &mut W) -> io::Result<()>
     }
 }
 
-// Carries a line of the bank out, and says whether it may stand here.
+// Executes a line of the simulator. Returns whether it is allowed here.
 fn run_bank_line<L: Link + Drop, W: Write>(
     run: &mut Run<'_, L>,
     said: &BankLine,
@@ -109,7 +110,7 @@ fn run_bank_line<L: Link + Drop, W: Write>(
     Ok(true)
 }
 
-// Carries a line of the script out, and says whether it may stand here.
+// Executes a script line. Returns whether it is allowed here.
 fn run_script_line<C: Connects, W: Write>(
     alloc: Global,
     run: &mut Run<'_, C::End>,
@@ -147,7 +148,7 @@ fn run_script_line<C: Connects, W: Write>(
     }
 }
 
-// Carries out a line that a script carries out alike.
+// Executes a script line as a script without a simulator does.
 fn carry_alike<L: Link + Drop, W: Write>(
     alloc: Global,
     run: &mut Run<'_, L>,
@@ -161,7 +162,7 @@ fn carry_alike<L: Link + Drop, W: Write>(
     carry_out(alloc, &mut run.office, said, output)
 }
 
-// Carries an event out, and says whether it may stand here.
+// Executes an event. Returns whether it is allowed here.
 fn run_event<C: Connects, W: Write>(
     alloc: Global,
     run: &mut Run<'_, C::End>,
@@ -207,7 +208,7 @@ fn run_event<C: Connects, W: Write>(
     }
 }
 
-// The device of whose plan a command starts reads.
+// Returns the device whose round a command starts.
 fn round_of(command: &Command) -> Option<Option<Name>>
     ensures { result ≡ form.round_of command.now }
 {
@@ -227,7 +228,7 @@ fn round_of(command: &Command) -> Option<Option<Name>>
     }
 }
 
-// Carries a command out, which may start reads of a device's plan.
+// Executes a command, which may start a round.
 fn run_command<L: Link + Drop, W: Write>(
     alloc: Global,
     run: &mut Run<'_, L>,
@@ -255,7 +256,7 @@ fn run_command<L: Link + Drop, W: Write>(
     }
 }
 
-// Starts a read, where its numbers are registers that can be read.
+// Starts a read, if one read can have its registers.
 fn run_start<L: Link + Drop, W: Write>(
     alloc: Global,
     run: &mut Run<'_, L>,

@@ -5,7 +5,7 @@ use std::io;
 use std::net::{Net, OpenListener, OpenStream, SocketAddr, TcpListener, TcpStream};
 use std::time::Duration;
 
-/// How many milliseconds an end waits for bytes before it is idle.
+/// The milliseconds after which a read times out.
 const WAIT: u64 = 20;
 
 /// A listener on the loopback network, and connections to it.
@@ -17,7 +17,7 @@ pub struct Loopback<'r, R: Net> {
 }
 
 impl<'r, R: Net> Loopback<'r, R> {
-    /// A listener on a port that the system chooses.
+    /// Opens a listener on a port that the system chooses.
     pub fn new(net: &'r R) -> io::Result<Loopback<'r, R>> {
         let listener = TcpListener::bind(net, "127.0.0.1:0")?;
         let address = listener.local_addr()?;

@@ -1,4 +1,4 @@
-//! Lines that ask the stand-in for something.
+//! Executes the lines that use the simulator.
 ghost use Rattle.std.specs.Prelude.{Bool};
 ghost use Rattle.office_events.specs.declared.events.Event.TheVariants as event;
 ghost use Rattle.script_run.specs.Looping.Answers.{AnswersPrint};
@@ -17,7 +17,8 @@ use script_text::{write_accepted, write_refusal};
 use std::alloc::Global;
 use std::io::{self, Write};
 
-/// A read or a round is started. Where it is accepted its frames go to the stand-in, and what comes back is fed.
+/// Starts a read or a round. If the office accepts it, its frames are sent to the simulator, and
+/// the responses are fed.
 pub(crate) fn start<L: Link + Drop, W: Write>(
     alloc: Global,
     office: &mut Office<ListBooks>,
@@ -42,7 +43,6 @@ pub(crate) fn start<L: Link + Drop, W: Write>(
     }
 }
 
-// How many reads were started.
 fn count_of(answer: &Answer) -> u64 {
     match *answer {
         Answer::Started { count, .. } => count,
@@ -50,7 +50,7 @@ fn count_of(answer: &Answer) -> u64 {
     }
 }
 
-// Feeds what comes back to a device's end, if it has a connection.
+// Feeds the responses on a device's connection, if it has one.
 fn bring_answers<L: Link + Drop, W: Write>(
     alloc: Global,
     office: &mut Office<ListBooks>,
@@ -75,7 +75,7 @@ fn bring_answers<L: Link + Drop, W: Write>(
     }
 }
 
-/// A device is connected, and its connection to the stand-in made.
+/// Connects a device: feeds the event, and makes a connection to the simulator.
 pub(crate) fn connect<C: Connects, W: Write>(
     office: &mut Office<ListBooks>,
     wires: &mut Wires<'_, C::End>,
@@ -97,7 +97,7 @@ pub(crate) fn connect<C: Connects, W: Write>(
     }
 }
 
-/// A device is gone, and its connection to the stand-in with it.
+/// Ends the connection of a device, also to the simulator.
 pub(crate) fn leave<L: Link + Drop, W: Write>(
     office: &mut Office<ListBooks>,
     wires: &mut Wires<'_, L>,

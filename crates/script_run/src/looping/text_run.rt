@@ -1,4 +1,4 @@
-//! Running a script.
+//! Runs a script over simulated devices.
 ghost use Rattle.std.specs.Prelude.{IfSome};
 ghost use Rattle.script_run.specs.Bank.Settings as setting;
 ghost use Rattle.script_run.specs.Looping.TextRun.{InputRuns, LinesRun, TellsText, TextRuns};
@@ -19,11 +19,16 @@ use script_text::{write_bad_line, write_refusal};
 use std::alloc::{AllocError, Global};
 use std::io::{Read, Write};
 
-/// Runs a script over an office in memory whose devices are all a stand-in in this process, as `replay`
-/// runs one. Lines of a bank may stand among those of the script: they print `ok`, or `refused 12` where the bank does not
-/// take them; `area` and `trick` stand before the first line that connects. A line that connects a device makes a
-/// connection of it to the stand-in; what a line starts is sent, answered and fed at once, and the notes of that and `ok`
-/// are printed after what was started. A line with bytes of a device is none.
+/// Runs a script over an office in memory whose devices are all one simulator in this process.
+///
+/// It executes lines as [`replay`](crate::replay) does, except for these:
+///
+/// - Lines of a simulator may come between script lines. They print `ok`, or `refused 12` if the
+///   register map refuses them. `area` and `trick` must come before the first line that connects.
+/// - A line that connects a device also makes a connection to the simulator.
+/// - If a line starts reads, their frames are sent, answered and fed at once. The notifications and
+///   `ok` follow what was started.
+/// - A line with the bytes of a device is a bad line.
 pub fn loop_text<R: Read, C: Connects, W: Write>(
     alloc: Global,
     zone: Zone,
@@ -40,7 +45,7 @@ pub fn loop_text<R: Read, C: Connects, W: Write>(
     }
 }
 
-// The tricks of a text, up to its first line that connects.
+// Returns the faults to inject: those of a text's lines before the first that connects.
 fn tricks_in(alloc: Global, text: &[u8]) -> Result<Vec<(u64, Trick)>, AllocError> {
     let mut tricks = Vec::new(alloc);
     let mut lines = InputLines::of(text);
@@ -58,7 +63,6 @@ fn tricks_in(alloc: Global, text: &[u8]) -> Result<Vec<(u64, Trick)>, AllocError
     Ok(tricks)
 }
 
-// Whether a line connects a device.
 fn connects_device(alloc: Global, line: &[u8]) -> Result<bool, AllocError> {
     match ScriptLine::read(alloc, line) {
         Ok(ScriptLine::Event { event, .. }) => Ok(matches!(&event, Event::Connected(_))),
@@ -67,7 +71,7 @@ fn connects_device(alloc: Global, line: &[u8]) -> Result<bool, AllocError> {
     }
 }
 
-// Runs the lines of a text over an office that is opened at moment 0.
+// Runs the lines of a text over an office that is opened at timestamp 0.
 fn run_text<C: Connects, W: Write>(
     alloc: Global,
     zone: Zone,
@@ -86,7 +90,7 @@ fn run_text<C: Connects, W: Write>(
     run_opened(alloc, zone, text, bank, &tricks, connects, output)
 }
 
-// Runs them with a bank that has no addresses yet.
+// Runs the lines with a register map without addresses.
 fn run_opened<C: Connects, W: Write>(
     alloc: Global,
     zone: Zone,
@@ -113,7 +117,7 @@ fn run_opened<C: Connects, W: Write>(
     }
 }
 
-// Writes why there is no office.
+// Prints why there is no office.
 fn tell_refused<W: Write>(why: Refusal, output: &mut W) -> ExitStatus
     ensures { TellsText (refused_line why) result (W.contents output.old) (W.contents output.new) }
 {
@@ -123,7 +127,6 @@ fn tell_refused<W: Write>(why: Refusal, output: &mut W) -> ExitStatus
     }
 }
 
-// Writes the number of a line that is wrong.
 fn tell_bad<W: Write>(number: u64, output: &mut W) -> ExitStatus
     ensures { TellsText (bad_line number) result (W.contents output.old) (W.contents output.new) }
 {
@@ -133,7 +136,6 @@ fn tell_bad<W: Write>(number: u64, output: &mut W) -> ExitStatus
     }
 }
 
-// Runs lines one after the other.
 fn run_lines<C: Connects, W: Write>(
     alloc: Global,
     run: &mut Run<'_, C::End>,

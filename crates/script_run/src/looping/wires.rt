@@ -1,4 +1,4 @@
-//! Connections of devices to the stand-in.
+//! Connections of devices to the simulator.
 ghost use Rattle.std.specs.Prelude.{◌<◌, ◌≤◌, IfSome, length};
 ghost use Rattle.mb_device.specs.StandIn.Exchanges.{Exchanged};
 
@@ -8,25 +8,26 @@ use office_events::Name;
 use std::alloc::{AllocError, Global};
 use std::io;
 
-/// How many takes there are for a start, and how many turns of the stand-in.
+/// The most reads of a connection for a start, and the most turns of the simulator.
 pub(crate) const MOST_TAKES: u32 = 100_000;
 
-/// The two ends of a connection: what is given to one the other takes.
+/// The two ends of a connection. Each reads what is written to the other.
 #[derive(Drop)]
 pub struct Ends<L: Link + Drop> {
     pub near: L,
     pub far: L,
 }
 
-/// Makes connections to the stand-in.
+/// Makes connections to the simulator.
 pub trait Connects {
     type End: Link + Drop;
 
-    /// A new connection to the stand-in: its two ends.
+    /// Makes a connection, and returns its two ends.
     fn connect(&mut self) -> io::Result<Ends<Self::End>>;
 }
 
-/// A device's connection to the stand-in, which plays its tricks on it. Once the stand-in has left it there is no far end.
+/// The connection of a device to the simulator, which injects its faults on it. Without a far end,
+/// the simulator has closed it.
 #[derive(Drop)]
 pub(crate) struct Wire<'t, L: Link + Drop> {
     device: Option<Name>,
@@ -42,7 +43,8 @@ pub(crate) struct Wires<'t, L: Link + Drop> {
     all: Vec<Wire<'t, L>>,
 }
 
-// A turn of the stand-in, and how many frames it answered; none where it leaves the connection.
+// Lets the simulator take a turn. Returns how many frames it answered, or `None` if it closes the
+// connection.
 fn answer_turn<L: Link>(server: &mut Server<'_>, far: &mut L, bank: &mut Bank) -> Option<u64>
     ensures carried_out { Exchanged bank.old bank.new }
     ensures few { IfSome result (λ answered. answered ≤ 260) }
@@ -53,8 +55,8 @@ fn answer_turn<L: Link>(server: &mut Server<'_>, far: &mut L, bank: &mut Bank) -
     }
 }
 
-// Answers what has come to the far end, until so many frames were answered or it is idle; says whether the connection
-// stays.
+// Answers what arrives at the far end, until `count` frames were answered or a read times out.
+// Returns whether the connection stays.
 fn answer<L: Link>(server: &mut Server<'_>, far: &mut L, count: u64, bank: &mut Bank) -> bool
     ensures { Exchanged bank.old bank.new }
 {
@@ -72,7 +74,8 @@ fn answer<L: Link>(server: &mut Server<'_>, far: &mut L, count: u64, bank: &mut 
 }
 
 impl<'t, L: Link + Drop> Wire<'t, L> {
-    // Gives frames to the stand-in, which answers so many. It leaves a connection that fails.
+    // Sends frames to the simulator, which answers `count` of them. A connection that fails is
+    // closed.
     fn send(&mut self, frames: &[u8], count: u64, bank: &mut Bank)
         ensures { Exchanged bank.old bank.new }
     {
@@ -90,7 +93,7 @@ impl<'t, L: Link + Drop> Wire<'t, L> {
 }
 
 impl<'t, L: Link + Drop> Wires<'t, L> {
-    /// No connections yet.
+    /// Makes a value without connections.
     pub(crate) fn new(alloc: Global, tricks: &'t [(u64, Trick)]) -> Wires<'t, L> {
         Wires {
             tricks,
@@ -98,7 +101,7 @@ impl<'t, L: Link + Drop> Wires<'t, L> {
         }
     }
 
-    /// A device has a new connection, in place of one that it had.
+    /// Gives a device a new connection. It replaces an earlier one.
     pub(crate) fn connect(
         &mut self,
         device: &Option<Name>,
@@ -115,28 +118,28 @@ impl<'t, L: Link + Drop> Wires<'t, L> {
         Ok(())
     }
 
-    /// A device has no connection any more.
+    /// Removes the connection of a device.
     pub(crate) fn drop_wire(&mut self, device: &Option<Name>) {
         if let Some(place) = self.place_of(device) {
             let _gone = self.all.swap_remove(place);
         }
     }
 
-    /// Which connection is the device's.
+    /// Returns the index of a device's connection.
     pub(crate) fn place_of(&self, device: &Option<Name>) -> Option<usize>
         ensures { IfSome result (λ place. place < length self.now.all.items) }
     {
         self.all.iter().position(|wire| wire.device == *device)
     }
 
-    /// The near end of a connection.
+    /// Returns the near end of a connection.
     pub(crate) fn near(&mut self, place: usize) -> &mut L
         requires { place < length self.old.all.items }
     {
         &mut self.all[place].near
     }
 
-    /// Gives frames of a device to the stand-in, which answers so many.
+    /// Sends frames of a device to the simulator, which answers `count` of them.
     pub(crate) fn send(&mut self, device: &Option<Name>, frames: &[u8], count: u64, bank: &mut Bank)
         ensures { Exchanged bank.old bank.new }
     {

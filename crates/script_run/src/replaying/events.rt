@@ -1,4 +1,4 @@
-//! Events.
+//! Executes events and commands.
 ghost use Rattle.std.specs.Prelude.{◌++◌, flat_map};
 ghost use Rattle.office_events.specs.declared.refusals.Refusal.TheVariants as refusal;
 ghost use Rattle.memory_books.specs.Listed.{ledger_of};
@@ -18,7 +18,7 @@ use script_text::{write_accepted, write_faults, write_refusal};
 use std::alloc::Global;
 use std::io::{self, ErrorKind, Write};
 
-/// Feeds what comes to the office, and prints its answer.
+/// Feeds an event to the office, and prints its answer.
 pub fn feed<W: Write>(
     office: &mut Office<ListBooks>,
     at: u64,
@@ -34,7 +34,7 @@ pub fn feed<W: Write>(
     }
 }
 
-/// A read is started, where its numbers are registers that can be read.
+/// Starts a read, if one read can have its registers.
 pub(crate) fn feed_start<W: Write>(
     office: &mut Office<ListBooks>,
     at: u64,
@@ -59,7 +59,7 @@ pub(crate) fn feed_start<W: Write>(
     }
 }
 
-/// A point list is put, where its rows have no faults.
+/// Stores a point list, if its rows have no faults.
 pub(crate) fn feed_list<W: Write>(
     alloc: Global,
     office: &mut Office<ListBooks>,
@@ -87,7 +87,7 @@ pub(crate) fn feed_list<W: Write>(
     }
 }
 
-// A line for each faulty row, and then that the list is refused.
+// Prints a line for each faulty row, and the refusal of the list.
 fn refuse_list<W: Write>(rows: &[FaultyRow], output: &mut W) -> io::Result<()>
     ensures { GotText result (flat_map text.fault_line rows.now ++ text.refused_line refusal.Limit)
         (W.contents output.old) (W.contents output.new) }

@@ -1,4 +1,4 @@
-//! A line of a script, carried out.
+//! Executes a line of a script.
 ghost use Rattle.memory_books.specs.Listed.{ledger_of};
 ghost use Rattle.office_rules.specs.History.{History};
 ghost use Rattle.office_core.specs.Standing.{Stands};
@@ -15,7 +15,7 @@ use script_text::write_bad_line;
 use std::alloc::Global;
 use std::io::{self, Write};
 
-/// Carries out a line, and prints its answer.
+/// Executes a line, and prints its answer.
 pub fn carry_out<W: Write>(
     alloc: Global,
     office: &mut Office<ListBooks>,
@@ -37,7 +37,7 @@ pub fn carry_out<W: Write>(
     }
 }
 
-/// Carries out the line of a text, or says how the run ends.
+/// Executes a line of a text, or returns the status that ends the run.
 pub(crate) fn run_line<W: Write>(
     alloc: Global,
     office: &mut Office<ListBooks>,

@@ -1,4 +1,4 @@
-//! Questions.
+//! Executes queries.
 ghost use Rattle.script_run.specs.Replaying.Asked.{DaysPrint, IntervalsPrint, MeterPrints, PollPrints};
 ghost use Rattle.script_run.specs.Replaying.Asked.{last_line};
 ghost use Rattle.script_run.specs.Replaying.TextRun.{CarriesOut};
@@ -11,7 +11,7 @@ use office_events::{Name, Refusal};
 use script_text::{write_end, write_meter, write_poll, write_refusal};
 use std::io::{self, ErrorKind, Write};
 
-/// Where a meter stands.
+/// Prints the row of a meter.
 pub(crate) fn tell_meter<W: Write>(
     office: &mut Office<ListBooks>,
     name: &Option<Name>,
@@ -26,7 +26,7 @@ pub(crate) fn tell_meter<W: Write>(
     }
 }
 
-/// How a poll ended.
+/// Prints the outcome of a poll.
 pub(crate) fn tell_poll<W: Write>(
     office: &mut Office<ListBooks>,
     number: u64,
@@ -41,7 +41,7 @@ pub(crate) fn tell_poll<W: Write>(
     }
 }
 
-/// The energy of a meter by quarter hours.
+/// Prints the energy of a meter by quarter hour.
 pub(crate) fn tell_intervals<W: Write>(
     office: &mut Office<ListBooks>,
     meter: &Option<Name>,
@@ -58,7 +58,7 @@ pub(crate) fn tell_intervals<W: Write>(
     write_last(told, rows.count, rows.output)
 }
 
-/// The energy of a register by civil days.
+/// Prints the energy of a register by civil day.
 pub(crate) fn tell_days<W: Write>(
     office: &mut Office<ListBooks>,
     register: &Option<Name>,
@@ -75,7 +75,7 @@ pub(crate) fn tell_days<W: Write>(
     write_last(told, rows.count, rows.output)
 }
 
-// How many rows there were, or why there are no more.
+// Prints the number of rows, or the refusal that ended them.
 fn write_last<W: Write>(told: Result<(), Refusal>, count: u64, output: &mut W) -> io::Result<()>
     ensures { GotText result (last_line count told)
         (W.contents output.old) (W.contents output.new) }

@@ -1,4 +1,4 @@
-//! Running a script.
+//! Runs a script over an office in memory.
 ghost use Rattle.std.specs.Prelude.{IfSome};
 ghost use Rattle.script_run.specs.Replaying.TextRun.{Replays};
 
@@ -8,18 +8,21 @@ use interval_core::Zone;
 use std::alloc::Global;
 use std::io::{Read, Write};
 
-/// How a run ended, and the writer that it was given.
+/// The exit status of a run, and the writer that it was given.
 #[derive(Drop)]
 pub struct Replayed<W> {
     pub status: ExitStatus,
     pub output: W,
 }
 
-/// Runs a script over an office in memory, which is opened at moment 0 and tells days by the clocks of the
-/// zone, and prints the answer of each line. `refused N` is an answer, and the script goes on; a line that
-/// is none prints `bad line N` and ends the run. An input of more than 4,194,304 bytes prints `too long`
-/// alone. The input is read whole before its first line is carried out; what is printed is given out in
-/// pieces of some 8 KiB, and at the end.
+/// Runs a script over an office in memory, and prints the answer of each line. The office is opened
+/// at timestamp 0, and its days are those of the zone.
+///
+/// `refused N` is an answer, and the script continues. A line without a form prints `bad line N`
+/// and ends the run. An input of more than 4,194,304 bytes prints only `too long`.
+///
+/// The complete input is read before its first line is executed. Output is written in pieces of
+/// some 8 KiB, and at the end.
 pub fn replay<R: Read, W: Write>(alloc: Global, zone: Zone, input: &mut R, output: W) -> Replayed<W>
     ensures { IfSome (R.remaining input.old)
         (λ all. Replays zone all result.status (W.contents output) (W.contents result.output)) }

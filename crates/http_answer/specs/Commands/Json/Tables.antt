@@ -5,10 +5,11 @@ use Rattle.serde_json.specs.Find.{get}
 use Rattle.http_answer.specs.declared.commands.json.body.BodyFault.{BodyFault}
 use Rattle.http_answer.specs.Commands.Json.Members.{Member, Text, Whole, Natural, Optional, fault_in, have_kinds, have_negative, is_below_zero, whole}
 
--- the fault of a body that wants these members
+-- The fault of a body that requires these members.
 abbrev pub fault_of : List Member → Data → Option BodyFault
 fault_of members d = fault_in (have_kinds members d) (have_negative members d)
 
+-- The members of a device.
 abbrev pub device_members : List Member
 device_members =
     record { name = codes "name"; want = Text }
@@ -17,7 +18,7 @@ device_members =
     ∷ record { name = codes "window"; want = Natural }
     ∷ []
 
--- beside these a register has a scale: exactly one of `fixed` and `scale_at`
+-- The members of a register. It also has a scale: exactly one of `fixed` and `scale_at`.
 abbrev pub register_members : List Member
 register_members =
     record { name = codes "name"; want = Text }
@@ -26,20 +27,23 @@ register_members =
     ∷ record { name = codes "address"; want = Natural }
     ∷ []
 
--- one of the two stands there, and is a number
+-- Exactly one of the two members exists, and it is a number.
 abbrev pub has_scale : Data → Bool
 has_scale d =
     (is_some (whole (codes "fixed") d) && is_none (get (codes "scale_at") d))
     || (is_none (get (codes "fixed") d) && is_some (whole (codes "scale_at") d))
 
+-- The fault of a register's scale.
 abbrev pub scale_fault : Data → Option BodyFault
 scale_fault d = fault_in (has_scale d) (is_below_zero (whole (codes "scale_at") d))
 
+-- The fault of a register's body.
 abbrev pub register_fault : Data → Option BodyFault
 register_fault d =
     fault_in (have_kinds register_members d && has_scale d)
     (have_negative register_members d || is_below_zero (whole (codes "scale_at") d))
 
+-- The members of an installation.
 abbrev pub install_members : List Member
 install_members =
     record { name = codes "meter"; want = Text }
@@ -49,18 +53,21 @@ install_members =
     ∷ record { name = codes "range"; want = Optional }
     ∷ []
 
+-- The members of an exchange.
 abbrev pub exchange_members : List Member
 exchange_members =
     record { name = codes "last"; want = Natural }
     ∷ record { name = codes "rolls"; want = Natural }
     ∷ install_members
 
+-- The members of a reset.
 abbrev pub reset_members : List Member
 reset_members =
     record { name = codes "before"; want = Natural }
     ∷ record { name = codes "after"; want = Natural }
     ∷ []
 
+-- The members of a rescaling.
 abbrev pub rescale_members : List Member
 rescale_members =
     record { name = codes "before"; want = Natural }
@@ -68,6 +75,7 @@ rescale_members =
     ∷ record { name = codes "sf"; want = Whole }
     ∷ []
 
+-- The members of a reading by hand.
 abbrev pub manual_members : List Member
 manual_members =
     record { name = codes "raw"; want = Natural }
@@ -75,11 +83,13 @@ manual_members =
     ∷ record { name = codes "at"; want = Optional }
     ∷ []
 
+-- The members of a closing.
 abbrev pub close_members : List Member
 close_members =
     record { name = codes "raw"; want = Natural }
     ∷ record { name = codes "rolls"; want = Natural }
     ∷ []
 
+-- The members of a void.
 abbrev pub void_members : List Member
 void_members = record { name = codes "place"; want = Natural } ∷ []

@@ -1,4 +1,4 @@
-//! A body as a value of JSON.
+//! A body as a JSON value.
 ghost use Rattle.std.specs.Prelude.{◌≡◌, ◌≢◌, ◌<◌, IfOk, IsUtf8, Some, None, length};
 ghost use Rattle.serde_json.specs.View.{view};
 ghost use Rattle.serde_json.specs.Read.{read};
@@ -9,17 +9,17 @@ use std::error::Error;
 use std::fmt;
 use std::fmt::{Display, Formatter};
 
-/// What a body holds.
+/// The JSON value of a body.
 pub type Body = Value;
 
-/// Why a body is no command's.
+/// Why a body gives no command.
 #[derive(Clone, Copy, Debug, PartialEq, Eq)]
 pub enum BodyFault {
-    /// It is no JSON, or a member that is wanted is missing or of another kind.
+    /// The body is no JSON, or a required member is missing or has the wrong type.
     Malformed,
-    /// All members are there, and a number is negative that must not be.
+    /// All members exist, and a number that must not be negative is negative.
     Negative,
-    /// Memory was refused.
+    /// Out of memory.
     Memory,
 }
 
@@ -36,7 +36,7 @@ impl Display for BodyFault {
 
 impl Error for BodyFault {}
 
-/// The value that the bytes of a body spell.
+/// Parses the bytes of a body as JSON (RFC 8259).
 pub fn body_of(alloc: Global, bytes: &[u8]) -> Result<Body, BodyFault>
     ensures utf8 { IfOk result (λ body. IsUtf8 bytes.now) }
     ensures spelled { IfOk result (λ body. read bytes.now ≡ Some (view body)) }

@@ -19,9 +19,9 @@ pub struct DeviceBody<'b> {
 /// Where the scale of a register comes from.
 #[derive(Clone, Copy, Debug, PartialEq, Eq)]
 pub enum Scale {
-    /// It is this one, by the member `fixed`.
+    /// The member `fixed` gives the scale.
     Fixed(i64),
-    /// The device tells it at this address, by the member `scale_at`.
+    /// The device holds the scale at the address that the member `scale_at` gives.
     At(u64),
 }
 
@@ -35,7 +35,7 @@ pub struct RegisterBody<'b> {
     pub scale: Scale,
 }
 
-/// The device that a body describes.
+/// Reads the device that a body describes.
 pub fn device_in(body: &Body) -> Result<DeviceBody<'_>, BodyFault>
     ensures { Reads (fault_of device_members (view body.now)) (IsDevice (view body.now)) result }
 {
@@ -51,7 +51,7 @@ pub fn device_in(body: &Body) -> Result<DeviceBody<'_>, BodyFault>
     })
 }
 
-// The scale of a register: exactly one of two members stands there.
+// Reads the scale of a register. Exactly one of its two members must exist.
 fn scale_in(body: &Body) -> Result<Scale, BodyFault>
     ensures { Reads (scale_fault (view body.now)) (IsScale (view body.now)) result }
 {
@@ -66,7 +66,7 @@ fn scale_in(body: &Body) -> Result<Scale, BodyFault>
     Ok(Scale::At(natural(address)?))
 }
 
-/// The register that a body describes.
+/// Reads the register that a body describes.
 pub fn register_in(body: &Body) -> Result<RegisterBody<'_>, BodyFault>
     ensures { Reads (register_fault (view body.now)) (IsRegister (view body.now)) result }
 {

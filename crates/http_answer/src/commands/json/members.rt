@@ -1,4 +1,4 @@
-//! Members by name.
+//! Members of a JSON object, by name.
 ghost use Rattle.std.specs.Prelude.{◌≡◌, true, false, pos, option_map, is_some, IfOk, IfErr, Some};
 ghost use Rattle.std.specs.Prelude.{None};
 ghost use Rattle.serde_json.specs.View.{view};
@@ -8,14 +8,13 @@ ghost use Rattle.http_answer.specs.Commands.Json.Members.{is_below_zero, is_of_k
 use crate::commands::json::body::BodyFault;
 use serde_json::Value;
 
-// Whether a member stands there, of whatever kind.
+// Returns whether a member exists, of any type.
 pub(crate) fn has_member(body: &Value, name: &str) -> bool
     ensures { result ≡ is_some (get name.now (view body.now)) }
 {
     body.get(name).is_some()
 }
 
-// The text of a member.
 pub(crate) fn text<'b>(body: &'b Value, name: &str) -> Result<&'b str, BodyFault>
     ensures found { IfOk result (λ s. text name.now (view body.now) ≡ Some s.now) }
     ensures none { IfErr result (λ e. text name.now (view body.now) ≡ None) }
@@ -27,7 +26,7 @@ pub(crate) fn text<'b>(body: &'b Value, name: &str) -> Result<&'b str, BodyFault
     }
 }
 
-// The number of a member.
+// Returns the integer of a member.
 pub(crate) fn whole(body: &Value, name: &str) -> Result<i64, BodyFault>
     ensures found { IfOk result (λ n. whole name.now (view body.now) ≡ Some n) }
     ensures none { IfErr result (λ e. whole name.now (view body.now) ≡ None) }
@@ -39,7 +38,7 @@ pub(crate) fn whole(body: &Value, name: &str) -> Result<i64, BodyFault>
     }
 }
 
-// The number of a member that may lack.
+// Returns the integer of an optional member.
 pub(crate) fn optional(body: &Value, name: &str) -> Result<Option<i64>, BodyFault>
     ensures found { IfOk result (λ o. whole name.now (view body.now) ≡ o) }
     ensures kind { IfOk result (λ o. is_of_kind Optional name.now (view body.now) ≡ true) }
@@ -53,7 +52,7 @@ pub(crate) fn optional(body: &Value, name: &str) -> Result<Option<i64>, BodyFaul
     }
 }
 
-// A number that must not be negative.
+// Converts a number that must not be negative.
 pub(crate) fn natural(number: i64) -> Result<u64, BodyFault>
     ensures found { IfOk result (λ n. number ≡ pos n) }
     ensures negative { IfErr result (λ e. is_below_zero (Some number) ≡ true) }
@@ -66,7 +65,7 @@ pub(crate) fn natural(number: i64) -> Result<u64, BodyFault>
     }
 }
 
-// The same where there may be none.
+// Converts an optional number that must not be negative.
 pub(crate) fn natural_or_none(number: Option<i64>) -> Result<Option<u64>, BodyFault>
     ensures found { IfOk result (λ o. number ≡ option_map (λ n. pos n) o) }
     ensures negative { IfErr result (λ e. is_below_zero number ≡ true) }

@@ -8,7 +8,7 @@ ghost use Rattle.http_answer.specs.Commands.Json.Commands.{IsExchange, IsInstall
 use crate::commands::json::body::{Body, BodyFault};
 use crate::commands::json::members::{natural, natural_or_none, optional, text, whole};
 
-/// A meter that is installed.
+/// A new meter, with its first reading.
 #[derive(Clone, Copy, Debug, PartialEq, Eq)]
 pub struct InstallBody<'b> {
     pub meter: &'b str,
@@ -18,7 +18,7 @@ pub struct InstallBody<'b> {
     pub range: Option<u64>,
 }
 
-/// What the meter before showed last, how often it turned over since its last reading, and the meter after it.
+/// The last reading of the old meter, its rollovers since the reading before, and the new meter.
 #[derive(Clone, Copy, Debug, PartialEq, Eq)]
 pub struct ExchangeBody<'b> {
     pub last: u64,
@@ -26,14 +26,14 @@ pub struct ExchangeBody<'b> {
     pub install: InstallBody<'b>,
 }
 
-/// What a meter showed before and after it was reset.
+/// The counter of a meter before and after a reset.
 #[derive(Clone, Copy, Debug, PartialEq, Eq)]
 pub struct ResetBody {
     pub before: u64,
     pub after: u64,
 }
 
-/// What a meter showed before and after its scale changed, and its scale from then on.
+/// The counter of a meter before and after a change of scale, and the new scale.
 #[derive(Clone, Copy, Debug, PartialEq, Eq)]
 pub struct RescaleBody {
     pub before: u64,
@@ -41,7 +41,7 @@ pub struct RescaleBody {
     pub sf: i64,
 }
 
-/// The installation that a body describes.
+/// Reads the installation that a body describes.
 pub fn install_in(body: &Body) -> Result<InstallBody<'_>, BodyFault>
     ensures { Reads (fault_of install_members (view body.now)) (IsInstall (view body.now)) result }
 {
@@ -59,7 +59,7 @@ pub fn install_in(body: &Body) -> Result<InstallBody<'_>, BodyFault>
     })
 }
 
-/// The exchange that a body describes.
+/// Reads the exchange that a body describes.
 pub fn exchange_in(body: &Body) -> Result<ExchangeBody<'_>, BodyFault>
     ensures { Reads (fault_of exchange_members (view body.now))
         (IsExchange (view body.now)) result }
@@ -76,7 +76,7 @@ pub fn exchange_in(body: &Body) -> Result<ExchangeBody<'_>, BodyFault>
     }
 }
 
-/// The reset that a body describes.
+/// Reads the reset that a body describes.
 pub fn reset_in(body: &Body) -> Result<ResetBody, BodyFault>
     ensures { Reads (fault_of reset_members (view body.now)) (IsReset (view body.now)) result }
 {
@@ -88,7 +88,7 @@ pub fn reset_in(body: &Body) -> Result<ResetBody, BodyFault>
     })
 }
 
-/// The rescaling that a body describes.
+/// Reads the rescaling that a body describes.
 pub fn rescale_in(body: &Body) -> Result<RescaleBody, BodyFault>
     ensures { Reads (fault_of rescale_members (view body.now)) (IsRescale (view body.now)) result }
 {

@@ -1,4 +1,4 @@
-//! The bodies that book by hand, close and void.
+//! The bodies of readings by hand, closings and voids.
 ghost use Rattle.serde_json.specs.View.{view};
 ghost use Rattle.http_answer.specs.Commands.Json.Members.{Reads};
 ghost use Rattle.http_answer.specs.Commands.Json.Tables.{close_members, fault_of, manual_members, void_members};
@@ -7,7 +7,7 @@ ghost use Rattle.http_answer.specs.Commands.Json.Commands.{IsClose, IsManual, Is
 use crate::commands::json::body::{Body, BodyFault};
 use crate::commands::json::members::{natural, natural_or_none, optional, whole};
 
-/// A reading by hand, and its moment where that is not the command's.
+/// A reading by hand, with its timestamp if that is not the command's.
 #[derive(Clone, Copy, Debug, PartialEq, Eq)]
 pub struct ManualBody {
     pub raw: u64,
@@ -15,20 +15,20 @@ pub struct ManualBody {
     pub at: Option<u64>,
 }
 
-/// What a meter showed last, and how often it turned over since its last reading.
+/// The last reading of a meter, and its rollovers since the reading before.
 #[derive(Clone, Copy, Debug, PartialEq, Eq)]
 pub struct CloseBody {
     pub raw: u64,
     pub rolls: u64,
 }
 
-/// The place of the entry that is voided.
+/// The sequence number of the entry to void.
 #[derive(Clone, Copy, Debug, PartialEq, Eq)]
 pub struct VoidBody {
     pub place: u64,
 }
 
-/// The reading by hand that a body describes.
+/// Reads the reading by hand that a body describes.
 pub fn manual_in(body: &Body) -> Result<ManualBody, BodyFault>
     ensures { Reads (fault_of manual_members (view body.now)) (IsManual (view body.now)) result }
 {
@@ -42,7 +42,7 @@ pub fn manual_in(body: &Body) -> Result<ManualBody, BodyFault>
     })
 }
 
-/// The closing that a body describes.
+/// Reads the closing that a body describes.
 pub fn close_in(body: &Body) -> Result<CloseBody, BodyFault>
     ensures { Reads (fault_of close_members (view body.now)) (IsClose (view body.now)) result }
 {
@@ -54,7 +54,7 @@ pub fn close_in(body: &Body) -> Result<CloseBody, BodyFault>
     })
 }
 
-/// The void that a body describes.
+/// Reads the void that a body describes.
 pub fn void_in(body: &Body) -> Result<VoidBody, BodyFault>
     ensures { Reads (fault_of void_members (view body.now)) (IsVoid (view body.now)) result }
 {
