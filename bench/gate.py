@@ -30,38 +30,45 @@ PARTS = ("proof", "tests", "edits")
 APART = 60
 PAGE = """# What the gate costs
 
-`rt ci` proves everything from nothing, and nothing lands that takes it longer than the time CI has, three hours. So whatever comes next has to find its room
-first. `bench/gate.sh --page --log FILE` makes this page of what `bench/watch.py FILE` noted while the gate ran.
+`rt ci` proves everything from nothing. CI ends a run after three hours, so a new capability must
+first find its room. `bench/gate.sh --page --log FILE` writes this page from the log of
+`bench/watch.py FILE`, which ran beside the gate.
 
-- **A crate pays its front end**: 10 to 20 s low down, and a minute or two high up, where the types of the books and of SQLite are read, whatever it has in it.
-- **A crate of tests pays for the whole program that it is built of** besides: one test that asks an empty database a question takes 171 s of a busy
-  processor. So the tests of one level stand in one crate.
-- **A function costs** 1.4 s low down and 3 s high up; a line of a test 0.65 s. Dear is a `?`, a branch that drops all that lives: 0.4 s beside a vector or two in a
-  small crate, where `.expect(rt, "..")` cost a tenth of a second; 30 to 50 s in a test that had more than three beside offices and connections, and 79 s in a
-  function that added 14 routes to a router of its own. Where another function has the `?`, and borrows what is dropped, they cost little: those took 6 s. So tests
-  expect what they build. Comparisons of tuples are dear, long literals are not: a static of 59 tuples of four texts costs 2.5 s. In a small crate, as the second and
-  third of three copies, an `assert_eq!` of two options cost 2 s and `assert!` of the same by `==` 1 s; a match on a tuple of an answer and an option 4 to 5 s, nested
-  matches 1.7 s, and one with a closure 2.6 s.
-- **A call of a function that is generic over books or files, for a type of these,** costs each function that makes it 3 s (books in memory), 5 to 15 s
-  (in a database in memory) or 15 to 30 s (in files), and under 1 s where the caller is generic too. So what is done over books is one generic function,
-  which one place calls for their type: `stored_office` had nine such calls in one function, which took 125 s for these alone.
-- **By steps**, over a whole gate on 2026-11-28, by the clock of each process: seven tenths pass from a check's first step to its last, of which the borrow check takes half, `Tie` a sixth and proofs
-  a seventh; a tenth passes before the first, and two after the last and in what links and builds.
-- **An edit** in `must-fail/` costs 20 to 50 s, and the first one of a crate the crate's proof again; in `tests/edits/` it costs the gate nothing, and
-  `tests/edits.sh` 9 s.
-- **A crate should have** under 90 functions and 1,500 lines, no `#[test]` that a crate of tests can hold, and at most 8 edits in `must-fail/`.
-- **The lists of `crates.txt` are short**: a crate lists the libraries that its sources, definitions and proofs name, and no others; the kit finds those
-  below. `tests/unnamed.py` tells entries that can go.
+- **A crate pays its front end**: 10 to 20 s for a low crate, one or two minutes for a high one,
+  which reads the types of the store and of SQLite.
+- **A crate of tests also pays for the program that it links**: one test that queries an empty
+  database takes 171 s of a busy processor. So one crate holds the tests of one level.
+- **A function costs** 1.4 s in a low crate and 3 s in a high one; a line of a test costs 0.65 s.
+- **Early returns are expensive**: a `?` drops all living values. It costs 0.4 s beside a vector or
+  two, and 30 to 50 s in a test with several offices and connections. `.expect(rt, "..")` costs
+  0.1 s. A `?` is cheap in a function of its own that borrows these values.
+- **Comparisons of tuples are expensive, long literals are cheap**: a static of 59 tuples of four
+  texts costs 2.5 s. `assert_eq!` of two options costs 2 s, `assert!` of the same with `==` 1 s. A
+  match on a tuple of an answer and an option costs 4 to 5 s, nested matches cost 1.7 s.
+- **A call of a function that is generic over a store, for one type of store**, costs its caller 3 s
+  (a store in memory), 5 to 15 s (a database in memory) or 15 to 30 s (files). It costs under 1 s
+  where the caller is generic too. So one generic function does the work, and one place calls it
+  for a type.
+- **By steps**, over a whole gate on 2026-11-28: 70 % of a check's time passes between its first
+  step and its last. The borrow check takes half of these, `Tie` a sixth and proofs a seventh. A
+  tenth passes before the first step, and two tenths after the last, and in linking and building.
+- **A mutant** in `must-fail/` costs 20 to 50 s, and the first mutant of a crate also the crate's
+  proof. In `tests/edits/` a mutant costs the gate nothing, and `tests/edits.sh` 9 s.
+- **A crate should have** fewer than 90 functions and 1,500 lines, no `#[test]` that a crate of
+  tests can hold, and at most 8 mutants in `must-fail/`.
+- **The lists of `crates.txt` are short**: a crate lists the libraries that its sources, definitions
+  and proofs name. The kit finds the libraries below. `tests/unnamed.py` lists superfluous entries.
 
-`bench/functions.sh NAME` tells which functions of a check are dear, at which of their steps, and what it pays before the first; without a name, which steps of all
-checks that run, so of a gate.
-`bench/ci.py --minutes PROCESSORS` plays the gate's schedule over this page, and tells how long it takes on so many.
+`bench/functions.sh NAME` lists the expensive functions of a check, and their expensive steps.
+Without a name it lists the steps of all running checks. `bench/ci.py --minutes PROCESSORS`
+simulates the gate's schedule over this page, and prints the minutes on so many processors.
 
 ## By crate
 
-{machine}, {wall} minutes by the clock from the first process to the last. Processor seconds of each part, which a processor that others share counts up to twice,
-and the most memory that one process of it held, in GB. A blank was not measured. The number of edits is in brackets; their seconds hold the crate's proof, with
-which they begin.
+{machine}, {wall} minutes by the clock from the first process to the last. The columns are processor
+seconds of each part, and the most memory of one of its processes, in GB. A shared processor counts
+up to twice. A blank was not measured. The number of mutants is in brackets; their seconds include
+the crate's proof.
 
 {table}
 """
