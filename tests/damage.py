@@ -123,7 +123,7 @@ def names(office):
     ran = office.run("report", "--db", "line\nfeed.db", "--register", "main")
     check("a line feed in a name is escaped", refused(ran, "line\\x0afeed.db: "), ran)
     ran = office.run("serve", "--db", "office.db", "--port", "1", "--connections", "1", "--host-name", "")
-    check("an empty host name", (ran.returncode, b"not the name of a host" in ran.stderr) == (2, True), ran)
+    check("an empty host name", (ran.returncode, b"not a host name" in ran.stderr) == (2, True), ran)
     ran = office.run("serve", "--db", "office.db", "--port", "1", "--connections", "1", "--host-name", "a b")
     check("a host name with a space", ran.returncode == 2, ran)
 
@@ -192,7 +192,7 @@ def bounds(office):
         it.write(b"seal 2\n")
         it.truncate(3 << 30)
     ran = office.run("audit", "--db", "office.db", "--against", "long.seal")
-    check("a seal of 3 GB is none", (ran.returncode, b"no seal" in ran.stderr) == (2, True), ran)
+    check("a seal of 3 GB is none", (ran.returncode, b"not a seal" in ran.stderr) == (2, True), ran)
 
 
 def main():
