@@ -9,7 +9,7 @@ use std::time::Duration;
 
 /// A link over a socket. `new` sets a timeout of one second, `waiting` sets the caller's.
 ///
-/// A read that times out returns `Took::Idle`. A write that times out fails, and so does any call
+/// A read that times out returns `Took::Idle`. A write that times out fails, as does any call
 /// that a signal interrupts.
 #[derive(Drop)]
 pub struct SocketLink<S: Drop> {
